@@ -1,0 +1,5 @@
+pub mod Words
+pub mod Bytes
+pub mod Keywords
+pub mod Entries
+pub mod Pieces

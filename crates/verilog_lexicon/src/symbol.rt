@@ -1,0 +1,22 @@
+/// A symbol of one byte.
+#[derive(Clone, Copy, Debug, Drop, PartialEq, Eq)]
+pub enum Symbol {
+    /// `(`
+    LeftParenthesis,
+    /// `)`
+    RightParenthesis,
+    /// `[`
+    LeftBracket,
+    /// `]`
+    RightBracket,
+    /// `:`
+    Colon,
+    /// `,`
+    Comma,
+    /// `;`
+    Semicolon,
+    /// `.`
+    Dot,
+    /// `=`
+    Equals,
+}

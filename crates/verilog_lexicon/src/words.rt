@@ -1,0 +1,348 @@
+ghost use Rattle.std.specs.Prelude.{◌≡◌, ℕ, ◌+◌, ◌^◌, ◌<◌, ◌≤◌, List, [], ◌∷◌, ◌++◌, length, take, drop, slice_get, IfOk, OnErr, OnOk};
+ghost use Rattle.std.specs.Option.{option_copied};
+ghost use Rattle.verilog_lexicon.specs.Keywords.{name_word};
+ghost use Rattle.verilog_lexicon.specs.Words.{WordText, with_word, spanned, place_in, plain, front, name_in, reserved_in, number_in, const_in, symbol_of};
+ghost use Rattle.verilog_lexicon.specs.Entries.{word_of, spanned_of, list_of, ends_at, AreKept};
+ghost use Rattle.verilog_lexicon.specs.declared.words.Entry.{Entry};
+
+use crate::keywords::reserved_of;
+use crate::reserved::Reserved;
+use crate::symbol::Symbol;
+use crate::word::{Spanned, Word};
+use edge_io::{OutOfMemory, Text};
+use std::alloc::Global;
+use std::marker::Model;
+use std::mem::size_of;
+
+// What a word is; a name by the offset of its bytes among those of all names.
+#[derive(Clone, Copy, Debug, Drop)]
+enum Mark {
+    Name { from: u32 },
+    EscapedName { from: u32 },
+    Reserved(Reserved),
+    Number(u32),
+    Const(bool),
+    Symbol(Symbol),
+}
+
+#[derive(Clone, Copy, Debug, Drop)]
+struct Entry {
+    at: u32,
+    len: u32,
+    mark: Mark,
+}
+
+// An entry takes 16 bytes.
+const _: () = prove!(size_of::<Entry>() == 16);
+
+/// The words of a text in order, with their places, and the text's length. It takes 16 bytes a word beside the bytes of the
+/// names. Words that begin past the first 4 GiB of a text, or whose names take more, aren't kept: they are answered with
+/// `OutOfMemory`.
+#[derive(Drop)]
+pub struct Words {
+    names: Vec<u8>,
+    entries: Vec<Entry>,
+    end: u64,
+}
+
+impl Model for Words {
+    ghost Value = { WordText };
+
+    ghost view = { λ w. record { list = list_of w.names.items w.entries.items; end = w.end } };
+
+    ghost invariant = { λ w. AreKept w.names.items w.entries.items };
+}
+
+impl Mark {
+    fn reserved(self) -> Option<Reserved>
+        ensures { (names : List ℕ) (len : ℕ) → result ≡ reserved_in (word_of names len self) }
+    {
+        match self {
+            Mark::Reserved(reserved) => Some(reserved),
+            Mark::Name { .. }
+            | Mark::EscapedName { .. }
+            | Mark::Number(_)
+            | Mark::Const(_)
+            | Mark::Symbol(_) => None,
+        }
+    }
+
+    fn number(self) -> Option<u32>
+        ensures { (names : List ℕ) (len : ℕ) → result ≡ number_in (word_of names len self) }
+    {
+        match self {
+            Mark::Number(value) => Some(value),
+            Mark::Name { .. }
+            | Mark::EscapedName { .. }
+            | Mark::Reserved(_)
+            | Mark::Const(_)
+            | Mark::Symbol(_) => None,
+        }
+    }
+
+    fn constant(self) -> Option<bool>
+        ensures { (names : List ℕ) (len : ℕ) → result ≡ const_in (word_of names len self) }
+    {
+        match self {
+            Mark::Const(value) => Some(value),
+            Mark::Name { .. }
+            | Mark::EscapedName { .. }
+            | Mark::Reserved(_)
+            | Mark::Number(_)
+            | Mark::Symbol(_) => None,
+        }
+    }
+
+    fn symbol(self) -> Option<Symbol>
+        ensures { (names : List ℕ) (len : ℕ) → result ≡ symbol_of (word_of names len self) }
+    {
+        match self {
+            Mark::Symbol(symbol) => Some(symbol),
+            Mark::Name { .. }
+            | Mark::EscapedName { .. }
+            | Mark::Reserved(_)
+            | Mark::Number(_)
+            | Mark::Const(_) => None,
+        }
+    }
+}
+
+fn entry_at(entries: &[Entry], number: usize) -> Option<Entry>
+    ensures { result ≡ slice_get entries.now number }
+{
+    entries.get(number).copied()
+}
+
+// The bytes of the name that an entry is.
+fn name_of(names: &[u8], entry: Entry) -> Option<&[u8]>
+    requires { ends_at entry.len entry.mark ≤ length names.now }
+    ensures { option_copied result ≡ name_in (word_of names.now entry.len entry.mark) }
+{
+    match entry.mark {
+        Mark::Name { from } => {
+            let rest = &names[from as usize..];
+            Some(&rest[..entry.len as usize])
+        }
+        Mark::EscapedName { from } => {
+            let rest = &names[from as usize..];
+            Some(&rest[..entry.len.saturating_sub(2) as usize])
+        }
+        Mark::Reserved(_) | Mark::Number(_) | Mark::Const(_) | Mark::Symbol(_) => None,
+    }
+}
+
+// Adds an entry.
+#[tactic(auto, using(crate::proofs::Entries::kept_push, crate::proofs::Entries::list_push))]
+fn push_entry(entries: &mut Vec<Entry>, mark: Mark, at: u64, len: u32) -> Result<(), OutOfMemory>
+    ensures kept { (names : List ℕ) → ends_at len mark ≤ length names
+        → AreKept names entries.old.items → AreKept names entries.new.items }
+    ensures ok { OnOk result ((names : List ℕ) → list_of names entries.new.items
+        ≡ list_of names entries.old.items ++ spanned (word_of names len mark) at len ∷ []) }
+    ensures err { OnErr result (entries.new.items ≡ entries.old.items) }
+{
+    let Ok(at) = u32::try_from(at) else {
+        return Err(OutOfMemory);
+    };
+    entries.push(Entry { at, len, mark })?;
+    Ok(())
+}
+
+// Adds a name's bytes, and answers where they begin.
+fn push_bytes(names: &mut Vec<u8>, name: &[u8]) -> Result<u32, OutOfMemory>
+    ensures there { IfOk result (λ from. take (length name.now) (drop from names.new.items) ≡ name.now) }
+    ensures room { IfOk result (λ from. from + length name.now ≤ length names.new.items) }
+    ensures kept { (entries : List Entry) → AreKept names.old.items entries
+        → AreKept names.new.items entries }
+    ensures same { (entries : List Entry) → AreKept names.old.items entries
+        → list_of names.new.items entries ≡ list_of names.old.items entries }
+{
+    let Ok(from) = u32::try_from(names.len()) else {
+        return Err(OutOfMemory);
+    };
+    names.extend_from_slice(name)?;
+    Ok(from)
+}
+
+fn copy_of(alloc: Global, names: &[u8], entry: Entry) -> Result<Spanned, OutOfMemory>
+    requires { ends_at entry.len entry.mark ≤ length names.now }
+    ensures { IfOk result (λ w. w ≡ spanned_of names.now entry) }
+{
+    let word = match entry.mark {
+        Mark::Reserved(reserved) => Word::Reserved(reserved),
+        Mark::Number(value) => Word::Number(value),
+        Mark::Const(value) => Word::Const(value),
+        Mark::Symbol(symbol) => Word::Symbol(symbol),
+        Mark::Name { from } => {
+            let rest = &names[from as usize..];
+            Word::Name(Text::from_bytes(alloc, &rest[..entry.len as usize])?)
+        }
+        Mark::EscapedName { from } => {
+            let rest = &names[from as usize..];
+            let count = entry.len.saturating_sub(2);
+            Word::Name(Text::from_bytes(alloc, &rest[..count as usize])?)
+        }
+    };
+    Ok(Spanned {
+        word,
+        at: u64::from(entry.at),
+        len: entry.len,
+    })
+}
+
+impl Words {
+    /// No words of an empty text; it takes no memory.
+    pub fn new(alloc: Global) -> Words
+        ensures { result ≡ record { list = []; end = 0 } }
+    {
+        Words {
+            names: Vec::new(alloc),
+            entries: Vec::new(alloc),
+            end: 0,
+        }
+    }
+
+    /// Adds what a simple name's bytes are: a reserved word, or a name.
+    #[tactic(auto, unfolding(crate::specs::Keywords::name_word))]
+    pub fn push_name(&mut self, name: &[u8], at: u64) -> Result<(), OutOfMemory>
+        requires { length name.now < 2 ^ 32 }
+        ensures ok { OnOk result (self.new
+            ≡ with_word self.old (spanned (name_word name.now) at (length name.now))) }
+        ensures err { OnErr result (self.new ≡ self.old) }
+    {
+        let len = name.len() as u32;
+        match reserved_of(name) {
+            Some(reserved) => push_entry(&mut self.entries, Mark::Reserved(reserved), at, len),
+            None => {
+                let from = push_bytes(&mut self.names, name)?;
+                push_entry(&mut self.entries, Mark::Name { from }, at, len)
+            }
+        }
+    }
+
+    /// Adds a name that was escaped, which takes two bytes more in the text.
+    pub fn push_escaped_name(&mut self, name: &[u8], at: u64) -> Result<(), OutOfMemory>
+        requires { length name.now + 2 < 2 ^ 32 }
+        ensures ok { OnOk result (self.new
+            ≡ with_word self.old (spanned (Word.Name name.now) at (length name.now + 2))) }
+        ensures err { OnErr result (self.new ≡ self.old) }
+    {
+        let len = name.len() as u32 + 2;
+        let from = push_bytes(&mut self.names, name)?;
+        push_entry(&mut self.entries, Mark::EscapedName { from }, at, len)
+    }
+
+    /// Adds a number, which takes `len` bytes in the text.
+    pub fn push_number(&mut self, value: u32, at: u64, len: u32) -> Result<(), OutOfMemory>
+        ensures ok { OnOk result (self.new ≡ with_word self.old (spanned (Word.Number value) at len)) }
+        ensures err { OnErr result (self.new ≡ self.old) }
+    {
+        push_entry(&mut self.entries, Mark::Number(value), at, len)
+    }
+
+    /// Adds a constant.
+    pub fn push_constant(&mut self, value: bool, at: u64) -> Result<(), OutOfMemory>
+        ensures ok { OnOk result (self.new ≡ with_word self.old (spanned (Word.Const value) at 4)) }
+        ensures err { OnErr result (self.new ≡ self.old) }
+    {
+        push_entry(&mut self.entries, Mark::Const(value), at, 4)
+    }
+
+    /// Adds a symbol.
+    pub fn push_symbol(&mut self, symbol: Symbol, at: u64) -> Result<(), OutOfMemory>
+        ensures ok { OnOk result (self.new ≡ with_word self.old (spanned (Word.Symbol symbol) at 1)) }
+        ensures err { OnErr result (self.new ≡ self.old) }
+    {
+        push_entry(&mut self.entries, Mark::Symbol(symbol), at, 1)
+    }
+
+    /// Says how long the text is.
+    pub fn set_end(&mut self, end: u64)
+        ensures { self.new ≡ record { list = self.old.list; end = end } }
+    {
+        self.end = end;
+    }
+
+    /// The count of words.
+    pub fn len(&self) -> usize
+        ensures { result ≡ length self.now.list }
+    {
+        self.entries.len()
+    }
+
+    /// The text's length.
+    pub fn end(&self) -> u64
+        ensures { result ≡ self.now.end }
+    {
+        self.end
+    }
+
+    /// The offset of the word of this number; the text's length where there is none, as for the count of words.
+    pub fn place_of(&self, number: usize) -> u64
+        ensures { result ≡ place_in self.now number }
+    {
+        match entry_at(self.entries.as_slice(), number) {
+            Some(entry) => u64::from(entry.at),
+            None => self.end,
+        }
+    }
+
+    /// The reserved word that the word of this number is.
+    pub fn reserved_at(&self, number: usize) -> Option<Reserved>
+        ensures { result ≡ front reserved_in (drop number (plain self.now.list)) }
+    {
+        match entry_at(self.entries.as_slice(), number) {
+            Some(entry) => entry.mark.reserved(),
+            None => None,
+        }
+    }
+
+    /// The value of the number that the word of this number is.
+    pub fn number_at(&self, number: usize) -> Option<u32>
+        ensures { result ≡ front number_in (drop number (plain self.now.list)) }
+    {
+        match entry_at(self.entries.as_slice(), number) {
+            Some(entry) => entry.mark.number(),
+            None => None,
+        }
+    }
+
+    /// The value of the constant that the word of this number is.
+    pub fn constant_at(&self, number: usize) -> Option<bool>
+        ensures { result ≡ front const_in (drop number (plain self.now.list)) }
+    {
+        match entry_at(self.entries.as_slice(), number) {
+            Some(entry) => entry.mark.constant(),
+            None => None,
+        }
+    }
+
+    /// The symbol that the word of this number is.
+    pub fn symbol_at(&self, number: usize) -> Option<Symbol>
+        ensures { result ≡ front symbol_of (drop number (plain self.now.list)) }
+    {
+        match entry_at(self.entries.as_slice(), number) {
+            Some(entry) => entry.mark.symbol(),
+            None => None,
+        }
+    }
+
+    /// The name that the word of this number is.
+    pub fn name_at(&self, number: usize) -> Option<&[u8]>
+        ensures { option_copied result ≡ front name_in (drop number (plain self.now.list)) }
+    {
+        match entry_at(self.entries.as_slice(), number) {
+            Some(entry) => name_of(self.names.as_slice(), entry),
+            None => None,
+        }
+    }
+
+    /// The word of this number, copied.
+    pub fn get(&self, alloc: Global, number: usize) -> Result<Option<Spanned>, OutOfMemory>
+        ensures { IfOk result (λ w. w ≡ slice_get self.now.list number) }
+    {
+        match entry_at(self.entries.as_slice(), number) {
+            Some(entry) => Ok(Some(copy_of(alloc, self.names.as_slice(), entry)?)),
+            None => Ok(None),
+        }
+    }
+}
