@@ -1,0 +1,5 @@
+pub mod Values
+pub mod Outcome
+pub mod Complete
+pub mod Sound
+pub mod Feeding

@@ -1,0 +1,93 @@
+ghost use Rattle.std.specs.Prelude.{◌≡◌, length};
+ghost use Rattle.verilog_lexicon.specs.Bytes as bytes;
+ghost use Rattle.verilog_words.specs.Machine as machine;
+
+use crate::mode::Directive;
+use verilog_lexicon::Symbol;
+use verilog_lexicon::keywords::is_name_byte;
+
+// Tests of one byte.
+
+pub fn is_blank(b: u8) -> bool
+    ensures { result ≡ bytes.is_blank b }
+{
+    b == b' ' || b == b'\t' || b == b'\n' || b == b'\r' || b == 12
+}
+
+pub fn is_digit(b: u8) -> bool
+    ensures { result ≡ bytes.is_digit b }
+{
+    b'0' <= b && b <= b'9'
+}
+
+pub fn clings(b: u8) -> bool
+    ensures { result ≡ bytes.clings b }
+{
+    is_name_byte(b) || b == b'\''
+}
+
+pub fn is_escaped_byte(b: u8) -> bool
+    ensures { result ≡ bytes.is_escaped_byte b }
+{
+    33 <= b && b <= 126
+}
+
+pub fn is_base(b: u8) -> bool
+    ensures { result ≡ bytes.is_base b }
+{
+    b == b'b'
+        || b == b'B'
+        || b == b'o'
+        || b == b'O'
+        || b == b'd'
+        || b == b'D'
+        || b == b'h'
+        || b == b'H'
+}
+
+/// The symbol of a byte, other than `(`.
+pub fn symbol_with(b: u8) -> Option<Symbol>
+    ensures { result ≡ machine.symbol_with b }
+{
+    match b {
+        b')' => Some(Symbol::RightParenthesis),
+        b'[' => Some(Symbol::LeftBracket),
+        b']' => Some(Symbol::RightBracket),
+        b':' => Some(Symbol::Colon),
+        b',' => Some(Symbol::Comma),
+        b';' => Some(Symbol::Semicolon),
+        b'.' => Some(Symbol::Dot),
+        b'=' => Some(Symbol::Equals),
+        _ => None,
+    }
+}
+
+/// The directive whose name begins with this byte.
+pub fn directive_with(b: u8) -> Option<Directive>
+    ensures { result ≡ machine.directive_with b }
+{
+    match b {
+        b't' => Some(Directive::Timescale),
+        b'd' => Some(Directive::DefaultNettype),
+        b'c' => Some(Directive::Celldefine),
+        b'e' => Some(Directive::Endcelldefine),
+        _ => None,
+    }
+}
+
+/// Whether the byte goes on in the directive's name, of which as many bytes came as are pending.
+pub fn goes_on(directive: Directive, pending: &[u8], b: u8) -> bool
+    ensures { result ≡ machine.goes_on directive pending.now b }
+{
+    match directive.name().get(pending.len()) {
+        Some(wanted) => *wanted == b,
+        None => false,
+    }
+}
+
+/// Whether the directive's name is whole.
+pub fn is_whole(directive: Directive, pending: &[u8]) -> bool
+    ensures { result ≡ machine.is_whole directive pending.now }
+{
+    directive.name().len() <= pending.len()
+}
