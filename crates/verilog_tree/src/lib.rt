@@ -1,0 +1,10 @@
+// Trees of structural Verilog modules, what words spell them, and their canonical text.
+// Contracts above cite `SpellsModule`, `SpellsText`, `IsTree` and `canonical` of specs/.
+// IEEE Std 1364-2001: modules and ports, data types, gate-level modelling, continuous assignments.
+#![tactic(auto)]
+
+pub mod tree;
+
+pub use tree::{
+    Bit, Dir, Gate, GateKind, Instance, Item, Link, Module, Operand, Port, Range, Wire,
+};
