@@ -1,0 +1,13 @@
+// How a module is read from its words: reading functions on lists, and the laws that tie them to the words of written modules.
+// The parser's contracts cite `source_at` and the laws of specs/.
+// IEEE Std 1364-2001: modules and ports, gate-level modelling, continuous assignments.
+#![tactic(auto)]
+
+pub mod heads;
+pub mod laws;
+
+pub use heads::{ItemHead, dir_of, item_head_of};
+pub use laws::{
+    faults_at_fault_word, faults_spell_nothing, reads_each_source, reads_only_sources,
+    spells_one_source,
+};
