@@ -1,0 +1,7 @@
+pub mod Cuts
+pub mod Atoms
+pub mod Parts
+pub mod Written
+pub mod Lines
+pub mod SpelledWords
+pub mod SpelledTrees

@@ -1,0 +1,65 @@
+// Names and numbers as they stand in a text.
+ghost use Rattle.std.specs.Prelude.{◌≡◌, ◌++◌, OnOk};
+ghost use Rattle.std.specs.Fmt.{decimal};
+ghost use Rattle.std.specs.List.{list_all};
+ghost use Rattle.verilog_lexicon.specs.Bytes as bytes;
+ghost use Rattle.verilog_tree.specs.Canonical as text_of;
+
+use edge_io::{OutOfMemory, Text};
+use verilog_lexicon::keywords::reserved_of;
+
+fn is_letter(byte: u8) -> bool
+    ensures { result ≡ bytes.is_letter byte }
+{
+    matches!(byte, b'A'..=b'Z' | b'a'..=b'z' | b'_')
+}
+
+fn is_name_byte(byte: u8) -> bool
+    ensures { result ≡ bytes.is_name_byte byte }
+{
+    is_letter(byte) || matches!(byte, b'0'..=b'9' | b'$')
+}
+
+fn are_name_bytes(name: &[u8]) -> bool
+    ensures { result ≡ list_all bytes.is_name_byte name.now }
+{
+    name.iter().all(|byte| is_name_byte(*byte))
+}
+
+fn is_simple_name(name: &[u8]) -> bool
+    ensures { result ≡ bytes.is_simple_name name.now }
+{
+    match name {
+        [] => false,
+        [first, ..] => is_letter(*first) && are_name_bytes(name),
+    }
+}
+
+fn is_plain(name: &[u8]) -> bool
+    ensures { result ≡ text_of.is_plain name.now }
+{
+    is_simple_name(name) && reserved_of(name).is_none()
+}
+
+/// Adds a name: as it is, or escaped with its blank.
+pub fn put_name(text: &mut Text, name: &[u8]) -> Result<(), OutOfMemory>
+    ensures { OnOk result (text.new ≡ text.old ++ text_of.name_text name.now) }
+{
+    if is_plain(name) {
+        return text.append(name);
+    }
+    text.push(b'\\')?;
+    text.append(name)?;
+    text.push(b' ')
+}
+
+/// Adds a number in decimal, without leading zeros.
+#[tactic(auto, using(std::proofs::lemmas::Fmt::decimal_step, std::proofs::lemmas::Fmt::decimal_digit, std::proofs::lemmas::List::append_assoc))]
+pub fn put_number(text: &mut Text, number: u32) -> Result<(), OutOfMemory>
+    ensures { OnOk result (text.new ≡ text.old ++ decimal number) }
+{
+    if number >= 10 {
+        put_number(text, number / 10)?;
+    }
+    text.push(b'0' + (number % 10) as u8)
+}

@@ -1,0 +1,39 @@
+ghost use Rattle.std.specs.Prelude.{◌≡◌, ◌++◌, ℕ, List, IfOk, OnOk};
+ghost use Rattle.verilog_tree.specs.Canonical.{canonical};
+ghost use Rattle.verilog_tree.specs.IsTree.{IsTree};
+ghost use Rattle.verilog_tree.specs.Texts.{SpellsText};
+
+use crate::items::put_items;
+use crate::names::put_name;
+use crate::ports::{put_ports, put_wires};
+use edge_io::{OutOfMemory, Text};
+use std::alloc::Global;
+use verilog_tree::Module;
+
+fn put_module(text: &mut Text, tree: &Module) -> Result<(), OutOfMemory>
+    ensures { OnOk result (text.new ≡ text.old ++ canonical tree.now) }
+{
+    text.append(b"module ")?;
+    put_name(text, tree.name.as_bytes())?;
+    text.push(b' ')?;
+    put_ports(text, tree.ports.as_slice())?;
+    put_wires(text, tree.wires.as_slice())?;
+    put_items(text, tree.items.as_slice())?;
+    text.append(b"endmodule\n")
+}
+
+/// The canonical text of a module. A tree that some text spells is spelled by its canonical text too.
+pub fn print_module(alloc: Global, tree: &Module) -> Result<Text, OutOfMemory>
+    ensures text { IfOk result (λ text. text ≡ canonical tree.now) }
+    ensures spells { IsTree tree.now → IfOk result (λ text. SpellsText text tree.now) }
+
+    // Just the trees that keep the conditions are spelled by a text.
+    ensures spelled { (bytes : List ℕ) → SpellsText bytes tree.now → IsTree tree.now }
+{
+    let mut text = Text::new(alloc);
+    put_module(&mut text, tree)?;
+    Ok(text)
+}
+
+#[cfg(test)]
+mod tests;
