@@ -1,0 +1,4 @@
+pub mod Values
+pub mod Knowledge
+pub mod Known
+pub mod Joined
