@@ -1,0 +1,67 @@
+-- A contained cell means in a netlist what it means by itself.
+use Rattle.std.proofs.Common.{◌≡◌, ℕ, zero, suc, ◌+◌, ◌<◌, ◌≤◌, ◌⊎◌, List, [], ◌∷◌, ◌++◌, Option, if◌then◌else◌, true, false, inl, inr, arith}
+use Rattle.std.specs.Prelude.{Some, None, slice_get, count_by, is_some, IsSome}
+use Rattle.std.proofs.lemmas.Bool.Decides.{leb_tells}
+use Rattle.std.proofs.lemmas.List.Sums.{sum_by-cons}
+use Rattle.netlist_model.specs.Lists.{CellView, NetlistView, live_cell, cell_count}
+use Rattle.netlist_model.specs.Contained.{Has, HasCells}
+use Rattle.netlist_laws.specs.Contained.{ContainedCellHolds, ContainedFlopsStep, DenseNumbers}
+
+-- a cell by its place in the list that is contained
+pub has_at : (N : NetlistView) (cells : List CellView) → HasCells N cells → (k : ℕ) (cell : CellView) → slice_get cells k ≡ Some cell → Has N cell
+has_at N [] h k cell e = absurd (cc)
+has_at N (c ∷ cells) h zero cell e = let same : c ≡ cell = cc in rw same at h.0
+has_at N (c ∷ cells) h (suc k) cell e = has_at N cells h.1 k cell e
+
+-- the front and the back of a list that is contained are contained
+pub has_cells-front : (N : NetlistView) (xs ys : List CellView) → HasCells N (xs ++ ys) → HasCells N xs
+has_cells-front N [] ys h = tt
+has_cells-front N (x ∷ xs) ys h = (h.0, has_cells-front N xs ys h.1)
+
+pub has_cells-back : (N : NetlistView) (xs ys : List CellView) → HasCells N (xs ++ ys) → HasCells N ys
+has_cells-back N [] ys h = h
+has_cells-back N (x ∷ xs) ys h = has_cells-back N xs ys h.1
+
+pub contained_cell_holds : ContainedCellHolds
+contained_cell_holds N given state value cell net meets has output inside =
+    meets.cells has.number (record cell { name = has.name }) net (record { live = has.live; output = output }) inside
+
+pub contained_flops_step : ContainedFlopsStep
+contained_flops_step N cell kind has flop = record {
+  start = λ given value state h. h.each has.number (record cell { name = has.name }) kind has.live flop;
+  step = λ before after state next h. h.each has.number (record cell { name = has.name }) kind has.live flop;
+}
+
+count_by-live : (c : CellView) (places : List (Option CellView)) → count_by is_some (Some c ∷ places) ≡ 1 + count_by is_some places
+count_by-live c places = sum_by-cons (λ (x : Option CellView). if is_some x then 1 else 0) (Some c) places
+
+count_by-empty : (places : List (Option CellView)) → count_by is_some (None ∷ places) ≡ count_by is_some places
+count_by-empty places = let e = sum_by-cons (λ (x : Option CellView). if is_some x then 1 else 0) None places in omega arith
+
+-- a live cell counts
+one_counts : (places : List (Option CellView)) (j : ℕ) → IsSome (live_cell (slice_get places j)) → 0 < count_by is_some places
+one_counts [] j some = absurd (let h : false ≡ true = some in cc)
+one_counts (None ∷ places) zero some = absurd (let h : false ≡ true = some in cc)
+one_counts (Some c ∷ places) zero some = omega (arith, count_by-live c places)
+one_counts (None ∷ places) (suc j) some = let h = one_counts places j some in omega (arith, count_by-empty places)
+one_counts (Some c ∷ places) (suc j) some = omega (arith, count_by-live c places)
+
+-- so many live cells in front, and one more behind them
+more_count : (n : ℕ) (places : List (Option CellView)) (j : ℕ) → ((i : ℕ) → i < n → IsSome (live_cell (slice_get places i))) → n ≤ j
+    → IsSome (live_cell (slice_get places j)) → n < count_by is_some places
+more_count zero places j front h some = one_counts places j some
+more_count (suc n) [] j front h some = absurd (let h : false ≡ true = some in cc)
+more_count (suc n) (None ∷ places) j front h some = absurd (let h : false ≡ true = front 0 (omega arith) in cc)
+more_count (suc n) (Some c ∷ places) zero front h some = absurd (omega arith)
+more_count (suc n) (Some c ∷ places) (suc j) front h some =
+    let rest = more_count n places j (λ i less. front (suc i) (omega arith)) (omega arith) some in omega (arith, count_by-live c places)
+
+below_or_not : (i n : ℕ) → (i < n) ⊎ (n ≤ i)
+below_or_not i n = elim (leb_tells n i) [ inl h ↦ inr h.1 | inr h ↦ inl h.1 ]
+
+pub dense_numbers : DenseNumbers
+dense_numbers N dense i some =
+    elim (below_or_not i (cell_count N)) [
+      | inl less ↦ less
+      | inr least ↦ absurd (let more = more_count (cell_count N) N.cells i dense least some in omega arith)
+    ]

@@ -1,0 +1,15 @@
+pub mod Search
+pub mod Carried
+pub mod Once
+pub mod Exists
+pub mod Pins
+pub mod Controls
+pub mod Flops
+pub mod Moments
+pub mod Repeats
+pub mod Runs
+pub mod Knowledge
+pub mod Contained
+pub mod Example
+pub mod Ports
+pub mod Ordered

@@ -1,0 +1,8 @@
+pub mod Settle
+pub mod Controls
+pub mod Runs
+pub mod Knowledge
+pub mod Contained
+pub mod Example
+pub mod Ports
+pub mod Ordered

@@ -1,0 +1,46 @@
+-- A start and a list of legal events have exactly one run, and an event that repeats the present value changes nothing in it.
+use Rattle.std.specs.Prelude.{◌≡◌, ℕ, suc, ◌≤◌, List, length, slice_get, Some, All}
+use Rattle.signal_values.specs.declared.Sig.{Sig}
+use Rattle.signal_values.specs.declared.PinSig.{PinSig}
+use Rattle.netlist_model.specs.Lists.{NetlistView}
+use Rattle.netlist_model.specs.Cones.{IsControlNet, IsControlPort}
+use Rattle.netlist_model.specs.Formed.{IsWellFormed}
+use Rattle.netlist_model.specs.Runs.{Moment, PinEvent, IsKnownPin, FlopsStart, FlopsStep, IsLegal, IsRun}
+use Rattle.netlist_laws.specs.Settle.{SamePins, SameFlops}
+
+-- own: what clocks, clears or presets flip-flops is the same
+abbrev pub SameControlNets : NetlistView → (ℕ → Sig) → (ℕ → Sig) → Type 0
+SameControlNets N v v' = (net : ℕ) → IsControlNet N net → v net ≡ v' net
+
+-- own: of the nets, a start hangs on control nets alone
+abbrev pub FlopsStartOnce : Type 0
+FlopsStartOnce = (N : NetlistView) (given given' value value' state state' : ℕ → Sig) → SameFlops N given given' → SameControlNets N value value'
+    → FlopsStart N given value state → FlopsStart N given' value' state' → SameFlops N state state'
+
+-- own: of the nets after it, a step hangs on control nets alone
+abbrev pub FlopsStepOnce : Type 0
+FlopsStepOnce = (N : NetlistView) (before before' after after' state state' next next' : ℕ → Sig) → ((net : ℕ) → before net ≡ before' net)
+    → SameControlNets N after after' → SameFlops N state state' → FlopsStep N before after state next → FlopsStep N before' after' state' next' → SameFlops N next next'
+
+-- own: two moments have the same pins, the same flip-flops and the same nets
+pub record SameMoment (N : NetlistView) (m m' : Moment) : Type 0 where
+  pub pins : SamePins N m.pins m'.pins
+  pub flops : SameFlops N m.state m'.state
+  pub value : (net : ℕ) → m.value net ≡ m'.value net
+
+-- own: from any pins that give control ports 0 or 1, any values of the flip-flops and any legal events there is a run
+abbrev pub RunExists : Type 0
+RunExists = (N : NetlistView) → IsWellFormed N → (pins : ℕ → PinSig) (given : ℕ → Sig) (events : List PinEvent)
+    → ((net : ℕ) → IsControlPort N net → IsKnownPin (pins net)) → All (IsLegal N) events
+    → (moment : ℕ → Moment) × IsRun N given events moment × ((net : ℕ) → (moment 0).pins net ≡ pins net)
+
+-- own: and no other: two runs from the same pins and flip-flops by the same events are the same at each moment
+abbrev pub RunOnce : Type 0
+RunOnce = (N : NetlistView) (given given' : ℕ → Sig) (events : List PinEvent) (moment moment' : ℕ → Moment) → IsWellFormed N
+    → IsRun N given events moment → IsRun N given' events moment' → SamePins N (moment 0).pins (moment' 0).pins → SameFlops N given given'
+    → (t : ℕ) → t ≤ length events → SameMoment N (moment t) (moment' t)
+
+-- own: in every run an event that gives a pin the value that it has changes nothing
+abbrev pub RepeatsChangeNothing : Type 0
+RepeatsChangeNothing = (N : NetlistView) (given : ℕ → Sig) (events : List PinEvent) (moment : ℕ → Moment) → IsWellFormed N → IsRun N given events moment
+    → (t : ℕ) (event : PinEvent) → slice_get events t ≡ Some event → event.value ≡ (moment t).pins event.net → SameMoment N (moment t) (moment (suc t))
