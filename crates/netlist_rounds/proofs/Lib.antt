@@ -1,0 +1,6 @@
+pub mod Rising
+pub mod Fixed
+pub mod Made
+pub mod Stepped
+pub mod RunSoFar
+pub mod Sound
