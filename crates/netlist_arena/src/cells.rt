@@ -1,0 +1,168 @@
+ghost use Rattle.std.specs.Prelude.{◌≡◌, ◌-◌, ◌<◌, ◌≤◌, ◌↔◌, [], ◌∷◌, ◌++◌, length, option_map, Some, IfOk, IfSome, OnErr, IsSome, IsTrue, MatchOption, ⊤, is_ok, if◌then◌else◌};
+ghost use Rattle.cell_library.specs.Gates.{Takes};
+ghost use Rattle.netlist_model.specs.Lists.{CellView, cell_at};
+ghost use Rattle.netlist_arena.specs.Arena.{HasNoGap};
+ghost use Rattle.netlist_arena.specs.Arena.{live_count, AreFeedsBelow, IsFeedBelow, IsNetBelow, IsPlaceBelow};
+ghost use Rattle.netlist_arena.specs.Adds.{CanDrive, AddsCell};
+ghost use Rattle.netlist_arena.specs.Looks.{IsLive, feed_at};
+
+use crate::room::push_reserved;
+use crate::{Cell, Netlist};
+use cell_library::Kind;
+use edge_io::OutOfMemory;
+use netlist_model::{CellId, Feed, Name, NetId};
+use smallvec::SmallVec;
+
+impl Netlist {
+    /// Adds a cell of at most four operands, which takes one spare cell.
+    #[tactic(auto, using(crate::proofs::Growth::adds_last))]
+    pub fn add_cell(
+        &mut self,
+        kind: Kind,
+        name: Option<Name>,
+        feeds: &[Feed],
+        output: Option<NetId>,
+    ) -> CellId
+        requires room { 0 < self.old.spare.cells }
+        requires few { length feeds.now ≤ 4 }
+        requires count { Takes kind (length feeds.now) }
+        requires feeds { AreFeedsBelow (length self.old.lists.nets) feeds.now }
+        requires output { CanDrive self.old.lists output }
+        ensures added { AddsCell self.old.lists self.new.lists result.0
+            (record { kind = kind; name = name; feeds = feeds.now; output = output }) }
+        ensures spare { self.new.spare ≡ record self.old.spare { cells = self.old.spare.cells - 1 } }
+    {
+        match SmallVec::from_slice(self.alloc, feeds) {
+            Ok(feeds) => self.push_cell(Cell {
+                kind,
+                name,
+                feeds,
+                output,
+            }),
+            Err(_) => unreachable!(),
+        }
+    }
+
+    /// Adds a cell of any count of operands, which takes one spare cell and, past four operands, memory. Without
+    /// memory nothing changes.
+    #[tactic(auto, using(crate::proofs::Growth::adds_last))]
+    pub fn add_wide_cell(
+        &mut self,
+        kind: Kind,
+        name: Option<Name>,
+        feeds: &[Feed],
+        output: Option<NetId>,
+    ) -> Result<CellId, OutOfMemory>
+        requires room { 0 < self.old.spare.cells }
+        requires count { Takes kind (length feeds.now) }
+        requires feeds { AreFeedsBelow (length self.old.lists.nets) feeds.now }
+        requires output { CanDrive self.old.lists output }
+        ensures added { IfOk result (λ id. AddsCell self.old.lists self.new.lists id.0
+            (record { kind = kind; name = name; feeds = feeds.now; output = output })) }
+        ensures err { OnErr result (self.new.lists ≡ self.old.lists) }
+        ensures spare { self.new.spare ≡ (if is_ok result then record self.old.spare { cells = self.old.spare.cells - 1 }
+            else self.old.spare) }
+    {
+        let feeds = SmallVec::from_slice(self.alloc, feeds)?;
+        Ok(self.push_cell(Cell {
+            kind,
+            name,
+            feeds,
+            output,
+        }))
+    }
+
+    // Puts a cell after the others.
+    fn push_cell(&mut self, cell: Cell) -> CellId
+        requires room { 0 < self.old.spare.cells }
+        requires below { IsPlaceBelow (length self.old.lists.nets) (Some cell) }
+        requires free { CanDrive self.old.lists cell.output }
+        ensures id { result.0 ≡ length self.old.lists.cells }
+        ensures lists { self.new.lists ≡ record self.old.lists { cells = self.old.lists.cells ++ Some cell ∷ [] } }
+        ensures spare { self.new.spare ≡ record self.old.spare { cells = self.old.spare.cells - 1 } }
+    {
+        let id = CellId(self.cells.len() as u32);
+        push_reserved(&mut self.cells, Some(cell));
+        self.live += 1;
+        self.spare_cells -= 1;
+        id
+    }
+
+    // The live cell with this number.
+    #[tactic(auto, using(crate::proofs::Growth::place_at))]
+    pub(crate) fn cell(&self, id: CellId) -> &Cell
+        requires { IsLive self.now.lists id.0 }
+        ensures found { cell_at self.now.lists id.0 ≡ Some result.now }
+        ensures below { IsPlaceBelow (length self.now.lists.nets) (Some result.now) }
+    {
+        match &self.cells[id.0 as usize] {
+            Some(cell) => cell,
+            None => unreachable!(),
+        }
+    }
+
+    /// How many cells there are; a cell that was removed doesn't count.
+    #[tactic(auto, using(crate::proofs::Growth::live_count_dense))]
+    pub fn cell_count(&self) -> u32
+        ensures count { result ≡ live_count self.now.lists.cells }
+        ensures dense { HasNoGap self.now.lists → result ≡ length self.now.lists.cells }
+    {
+        self.live
+    }
+
+    /// Whether a cell has this number.
+    pub fn is_live(&self, cell: CellId) -> bool
+        ensures { IsTrue result ↔ IsLive self.now.lists cell.0 }
+    {
+        match self.cells.get(cell.0 as usize) {
+            Some(place) => place.is_some(),
+            None => false,
+        }
+    }
+
+    /// The kind of a cell.
+    pub fn kind(&self, cell: CellId) -> Kind
+        requires { IsLive self.now.lists cell.0 }
+        ensures { option_map (λ (found : CellView). found.kind) (cell_at self.now.lists cell.0) ≡ Some result }
+    {
+        self.cell(cell).kind
+    }
+
+    /// The name of a cell, if it has one.
+    pub fn cell_name(&self, cell: CellId) -> Option<Name>
+        requires { IsLive self.now.lists cell.0 }
+        ensures { option_map (λ (found : CellView). found.name) (cell_at self.now.lists cell.0) ≡ Some result }
+    {
+        self.cell(cell).name
+    }
+
+    /// The net that a cell drives, if it is connected.
+    pub fn output(&self, cell: CellId) -> Option<NetId>
+        requires { IsLive self.now.lists cell.0 }
+        ensures value { option_map (λ (found : CellView). found.output) (cell_at self.now.lists cell.0) ≡ Some result }
+        ensures below { MatchOption result ⊤ (IsNetBelow (length self.now.lists.nets)) }
+    {
+        self.cell(cell).output
+    }
+
+    /// How many operands a cell has: one of the counts that its kind takes.
+    #[tactic(auto, using(crate::proofs::Growth::takes_few))]
+    pub fn feed_count(&self, cell: CellId) -> u32
+        requires { IsLive self.now.lists cell.0 }
+        ensures takes { IfSome (cell_at self.now.lists cell.0) (λ found. Takes found.kind result) }
+        ensures count { option_map (λ (found : CellView). length found.feeds) (cell_at self.now.lists cell.0) ≡ Some result }
+    {
+        let found = self.cell(cell);
+        found.feeds.len() as u32
+    }
+
+    /// An operand of a cell, by its place.
+    #[tactic(auto, using(crate::proofs::Laid::feed_below))]
+    pub fn feed(&self, cell: CellId, place: u32) -> Feed
+        requires { IsSome (feed_at self.now.lists cell.0 place) }
+        ensures value { feed_at self.now.lists cell.0 place ≡ Some result }
+        ensures below { IsFeedBelow (length self.now.lists.nets) result }
+    {
+        self.cell(cell).feeds.as_slice()[place as usize]
+    }
+}

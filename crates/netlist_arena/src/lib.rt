@@ -1,0 +1,150 @@
+// An arena that holds a netlist: adding ports, nets and cells, moving what is connected, and looking.
+// Contracts cite specs/Arena.antt, specs/Adds.antt and specs/Moves.antt: each call is its substitution on the lists.
+// IEEE 1364: module instances and ports, gate level modelling; the numbering and the room are own.
+#![tactic(auto)]
+
+ghost use Rattle.std.specs.Prelude.{◌≡◌, [], length};
+
+mod cells;
+mod copies;
+mod drivers;
+mod moves;
+mod nets;
+mod ports;
+mod readers;
+mod room;
+#[cfg(test)]
+mod tests;
+
+use cell_library::Kind;
+use netlist_model::{Dir, Feed, Name, NetId, Range};
+pub use room::ReserveFault;
+use smallvec::SmallVec;
+use std::alloc::Global;
+use std::marker::Model;
+
+// A port has at least one bit: the net of the leftmost, and then those of the others.
+#[derive(Drop)]
+struct Port {
+    name: Name,
+    dir: Dir,
+    range: Option<Range>,
+    first: NetId,
+    rest: Vec<NetId>,
+}
+
+impl Model for Port {
+    ghost use Rattle.std.specs.Prelude.{◌∷◌};
+    ghost use Rattle.netlist_model.specs.Lists.{PortView};
+
+    ghost Value = { PortView };
+
+    ghost view = { λ p. record {
+      name = p.name;
+      dir = p.dir;
+      range = p.range;
+      nets = p.first ∷ p.rest.items;
+    } };
+}
+
+#[derive(Drop)]
+struct Net {
+    name: Name,
+    index: Option<u32>,
+}
+
+impl Model for Net {
+    ghost use Rattle.netlist_model.specs.Lists.{NetView};
+
+    ghost Value = { NetView };
+
+    ghost view = { λ n. record { name = n.name; index = n.index } };
+}
+
+#[derive(Drop)]
+struct Cell {
+    kind: Kind,
+    name: Option<Name>,
+    feeds: SmallVec<Feed, 4>,
+    output: Option<NetId>,
+}
+
+impl Model for Cell {
+    ghost use Rattle.std.specs.Prelude.{length};
+    ghost use Rattle.cell_library.specs.Gates.{Takes};
+    ghost use Rattle.netlist_model.specs.Lists.{CellView};
+
+    ghost Value = { CellView };
+
+    ghost view = { λ c. record {
+      kind = c.kind;
+      name = c.name;
+      feeds = c.feeds.items;
+      output = c.output;
+    } };
+
+    ghost invariant = { λ c. Takes c.kind (length c.feeds.items) };
+}
+
+/// A netlist, with room for what will be added. The number of a net or a port is its place in its list. A cell
+/// keeps its number until it is removed.
+#[derive(Drop)]
+pub struct Netlist {
+    ports: Vec<Port>,
+    // How many bits the ports have.
+    pins: u32,
+    spare_pins: u32,
+    nets: Vec<Net>,
+    spare_nets: u32,
+    cells: Vec<Option<Cell>>,
+    // How many cells are live.
+    live: u32,
+    spare_cells: u32,
+    alloc: Global,
+}
+
+impl Model for Netlist {
+    ghost use Rattle.std.specs.Prelude.{◌≡◌, ◌+◌, ◌<◌, ◌^◌, length, vec_len, vec_capacity, All};
+    ghost use Rattle.netlist_arena.specs.Arena.{ArenaView, HasRoom, IsPlaceBelow, IsPortBelow, HasSingleDrivers, live_count, bit_count};
+    ghost use Rattle.netlist_arena.specs.Walks.{walks_from};
+
+    ghost Value = { ArenaView };
+
+    ghost view = { λ n. record {
+      lists = record { ports = n.ports.items; nets = n.nets.items; cells = n.cells.items };
+      spare = record { cells = n.spare_cells; nets = n.spare_nets; port_bits = n.spare_pins };
+      walks = walks_from n.cells.items 0 (length n.nets.items);
+    } };
+
+    ghost invariant = { λ n. record {
+      port_room : HasRoom (vec_len n.ports) n.spare_pins (vec_capacity n.ports);
+      pin_room : n.pins + n.spare_pins < 2 ^ 32;
+      net_room : HasRoom (vec_len n.nets) n.spare_nets (vec_capacity n.nets);
+      cell_room : HasRoom (vec_len n.cells) n.spare_cells (vec_capacity n.cells);
+      pins_are : n.pins ≡ bit_count n.ports.items;
+      live_are : n.live ≡ live_count n.cells.items;
+      ports_below : All (IsPortBelow (length n.nets.items)) n.ports.items;
+      cells_below : All (IsPlaceBelow (length n.nets.items)) n.cells.items;
+      driven_once : HasSingleDrivers n.cells.items;
+    } };
+}
+
+impl Netlist {
+    /// An empty netlist, which takes no memory and has no room.
+    pub fn new(alloc: Global) -> Netlist
+        ensures lists { result.lists ≡ record { ports = []; nets = []; cells = [] } }
+        ensures spare { result.spare ≡ record { cells = 0; nets = 0; port_bits = 0 } }
+    {
+        Netlist {
+            ports: Vec::new(alloc),
+            pins: 0,
+            spare_pins: 0,
+            nets: Vec::new(alloc),
+            spare_nets: 0,
+            cells: Vec::new(alloc),
+            live: 0,
+            spare_cells: 0,
+            alloc,
+        }
+    }
+}
