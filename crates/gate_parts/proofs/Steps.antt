@@ -1,0 +1,203 @@
+-- How a netlist grows, one net or one cell after another.
+use Rattle.std.proofs.Common.{◌≡◌, ◌≢◌, ℕ, suc, zero, ◌+◌, ◌-◌, ◌<◌, ◌≤◌, ◌&&◌, List, [], ◌∷◌, ◌++◌, length, map, take, get_or, refl, sym, ◌∙◌, arith, ap, Option, Some, None, Bool, true, false, IsTrue, append_assoc, length-append, length-take, inl, inr}
+use Rattle.std.specs.Option.{IsSome}
+use Rattle.std.specs.List.{list_all}
+use Rattle.std.proofs.lemmas.List.{append-nil, take_more, map-append}
+use Rattle.std.proofs.lemmas.List.Elements.{All-push, All-nil, All-cons}
+use Rattle.std.proofs.lemmas.Bool.{cases_lt, cases_eq}
+use Rattle.netlist_model.specs.declared.NetId.{NetId}
+use Rattle.netlist_model.specs.declared.Name.TheVariants.{Added}
+use Rattle.netlist_model.specs.declared.Feed.{Feed}
+use Rattle.netlist_model.specs.Lists.{NetView, CellView, NetlistView, cell_at, direction, IsUndriven}
+use Rattle.netlist_arena.specs.Arena.{HasNoGap}
+use Rattle.netlist_arena.specs.Arena.{ArenaView, SpareView, IsFeedBelow, AreFeedsBelow}
+use Rattle.netlist_arena.specs.Adds.{with_net, IsFree, AddsCell}
+use Rattle.gate_parts.specs.declared.Gate.{Gate}
+use Rattle.gate_parts.specs.declared.Pin.{Pin}
+use Rattle.gate_parts.specs.declared.Pins.TheVariants.{Four}
+use Rattle.gate_parts.specs.Parts.{gate_cell, cells_from, added_nets, takes_few, pins_of, is_sound_gate, is_sound_pin}
+use Rattle.cell_library.specs.Gates.{operand_count_of}
+use Rattle.gate_parts.specs.Appended.{Appended}
+
+pub length-added_nets : (first count : ℕ) → length (added_nets first count) ≡ count
+length-added_nets first zero = refl
+length-added_nets first (suc count) = ap (λ (n : ℕ). suc n) (length-added_nets (suc first) count)
+
+pub added_nets-add : (first m n : ℕ) → added_nets first (m + n) ≡ added_nets first m ++ added_nets (first + m) n
+added_nets-add first zero n = let a : 0 + n ≡ n = omega arith in let b : first + 0 ≡ first = omega arith in rw (a, b) refl
+added_nets-add first (suc m) n =
+    let a : suc m + n ≡ suc (m + n) = omega arith in
+    let b : suc first + m ≡ first + suc m = omega arith in
+    let rest = rw b at (added_nets-add (suc first) m n) in
+    rw (a, rest) refl
+
+pub appended_count : (old new : ArenaView) (count : ℕ) (part : List CellView) → Appended old new count part → length new.lists.nets ≡ length old.lists.nets + count
+appended_count old new count part h = ap length h.net_list ∙ simp (length-append, length-added_nets)
+
+pub length-cells_after : (old new : ArenaView) (count : ℕ) (part : List CellView) → Appended old new count part → length new.lists.cells ≡ length old.lists.cells + length part
+length-cells_after old new count part h = ap length h.cells ∙ go old.lists.cells part
+  where
+    length_map : (part : List CellView) → length (map (λ (cell : CellView). Some cell) part) ≡ length part
+    length_map [] = refl
+    length_map (cell ∷ cells) = ap (λ (n : ℕ). suc n) (length_map cells)
+
+    go : (cells : List (Option CellView)) (part : List CellView) → length (cells ++ map (λ cell. Some cell) part) ≡ length cells + length part
+    go cells part = let e = length_map part in let f = length-append cells (map (λ (cell : CellView). Some cell) part) in omega arith
+
+pub appended_none : (a : ArenaView) → Appended a a 0 []
+appended_none a = record {
+  ports = refl;
+  net_list = sym (append-nil a.lists.nets);
+  cells = sym (append-nil a.lists.cells);
+  net_room = omega arith;
+  cell_room = omega arith;
+  bit_room = refl;
+}
+
+pub appended_more : (a b c : ArenaView) (m n : ℕ) (xs ys : List CellView) → Appended a b m xs → Appended b c n ys → Appended a c (m + n) (xs ++ ys)
+appended_more a b c m n xs ys h k = record {
+  ports = k.ports ∙ h.ports;
+  net_list = let e = appended_count a b m xs h in rw (k.net_list, e, h.net_list, append_assoc, added_nets-add (length a.lists.nets) m n) refl;
+  cells = rw (k.cells, h.cells, append_assoc, map-append (λ (cell : CellView). Some cell) xs ys) refl;
+  net_room = let e = h.net_room in let f = k.net_room in omega arith;
+  cell_room = let e = h.cell_room in let f = k.cell_room in let g = length-append xs ys in omega arith;
+  bit_room = k.bit_room ∙ h.bit_room;
+}
+
+-- one net more
+pub net_step : (M M' : ArenaView) → M'.lists ≡ with_net (record { name = Added (length M.lists.nets); index = None }) M.lists → M'.spare ≡ record M.spare { nets = M.spare.nets - 1 }
+    → 0 < M.spare.nets → Appended M M' 1 []
+net_step M M' grown used room = record {
+  ports = ap (λ (N : NetlistView). N.ports) grown;
+  net_list = ap (λ (N : NetlistView). N.nets) grown;
+  cells = ap (λ (N : NetlistView). N.cells) grown ∙ sym (append-nil M.lists.cells);
+  net_room = let e : M'.spare.nets ≡ M.spare.nets - 1 = ap (λ (S : SpareView). S.nets) used in omega arith;
+  cell_room = let e : M'.spare.cells ≡ M.spare.cells = ap (λ (S : SpareView). S.cells) used in omega arith;
+  bit_room = ap (λ (S : SpareView). S.port_bits) used;
+}
+
+-- a net that was free stays free where a net is added
+pub free_with_net : (net : NetView) (M M' : NetlistView) (n : ℕ) → M' ≡ with_net net M → IsFree M n → IsFree M' n
+free_with_net net M M' n grown free =
+    let there : IsFree (with_net net M) n = record { undriven = free.undriven; outside = free.outside } in rw grown there
+
+-- a net that was added is free
+pub free_new : (M : NetlistView) (n : ℕ) → IsUndriven M n → direction M.ports n ≡ None → IsFree M n
+free_new M n undriven inside = record { undriven = undriven; outside = λ e. cc }
+
+-- one net more, and each new one free
+pub nets_free : (N M M' : ArenaView) (count : ℕ) (n : NetId) → Appended N M count [] → Appended N M' (count + 1) [] → n.0 ≡ length M.lists.nets
+    → IsUndriven M'.lists n.0 → direction M'.lists.ports n.0 ≡ None → (net : NetView) → M'.lists ≡ with_net net M.lists
+    → ((k : ℕ) → length N.lists.nets ≤ k → k < length M.lists.nets → IsFree M.lists k)
+    → (k : ℕ) → length N.lists.nets ≤ k → k < length M'.lists.nets → IsFree M'.lists k
+nets_free N M M' count n before after is undriven inside net grown free k low high =
+    let c1 = appended_count N M count [] before in
+    let c2 = appended_count N M' (count + 1) [] after in
+    elim (cases_lt k (length M.lists.nets)) [
+      | inl below ↦ free_with_net net M.lists M'.lists k grown (free k low below)
+      | inr past ↦ (let same : n.0 ≡ k = omega arith in rw same at (free_new M'.lists n.0 undriven inside))
+    ]
+
+-- one cell more
+pub cell_step : (M M' : ArenaView) (number : ℕ) (cell : CellView) → AddsCell M.lists M'.lists number cell → M'.spare ≡ record M.spare { cells = M.spare.cells - 1 } → 0 < M.spare.cells
+    → HasNoGap M.lists → Appended M M' 0 (cell ∷ [])
+cell_step M M' number cell added used room dense = record {
+  ports = added.ports;
+  net_list = added.nets ∙ sym (append-nil M.lists.nets);
+  cells = (added.last dense).1;
+  net_room = let e : M'.spare.nets ≡ M.spare.nets = ap (λ (S : SpareView). S.nets) used in omega arith;
+  cell_room = let e : M'.spare.cells ≡ M.spare.cells - 1 = ap (λ (S : SpareView). S.cells) used in omega arith;
+  bit_room = ap (λ (S : SpareView). S.port_bits) used;
+}
+
+pub dense_step : (M M' : NetlistView) (number : ℕ) (cell : CellView) → AddsCell M M' number cell → HasNoGap M → HasNoGap M'
+dense_step M M' number cell added dense = rw (added.last dense).1 (All-push (λ (place : Option CellView). IsSome place) M.cells (Some cell) dense refl)
+
+-- a net that was free stays free where a cell on another net is added
+pub free_step : (M M' : NetlistView) (number out n : ℕ) (cell : CellView) → AddsCell M M' number cell → cell.output ≡ Some (record { 0 = out }) → n ≢ out
+    → IsFree M n → IsFree M' n
+free_step M M' number out n cell added output differ free = record {
+  undriven = λ i found here drives.
+      elim (cases_eq i number) [
+        | inl same ↦ (let at : cell_at M' i ≡ Some cell = rw same added.added in
+            let is : cell ≡ found = cc in
+            let num : Option NetId → ℕ = λ o. elim o [ None ↦ 0 | Some net ↦ net.0 ] in
+            let outs : Some (record { 0 = out }) ≡ Some (record { 0 = n }) = sym output ∙ ap (λ (c : CellView). c.output) is ∙ drives in
+            absurd (differ (sym (ap num outs))))
+        | inr other ↦ free.undriven i found (sym (added.others i other) ∙ here) drives
+      ];
+  outside = rw added.ports free.outside;
+}
+
+-- one gate more
+pub cells_more : (first : ℕ) (given : List Feed) (number net : ℕ) (gates : List Gate) (gate : Gate)
+    → cells_from first given number net (gates ++ gate ∷ []) ≡ cells_from first given number net gates ++ gate_cell first given (number + length gates) (net + length gates) gate ∷ []
+cells_more first given number net [] gate = let e : number + 0 ≡ number = omega arith in let f : net + 0 ≡ net = omega arith in rw (e, f) refl
+cells_more first given number net (g ∷ gates) gate =
+    let e : suc number + length gates ≡ number + suc (length gates) = omega arith in
+    let f : suc net + length gates ≡ net + suc (length gates) = omega arith in
+    let rest = rw (e, f) at (cells_more first given (suc number) (suc net) gates gate) in
+    ap (λ cells. gate_cell first given number net g ∷ cells) rest
+
+pub length-cells_from : (first : ℕ) (given : List Feed) (number net : ℕ) (gates : List Gate) → length (cells_from first given number net gates) ≡ length gates
+length-cells_from first given number net [] = refl
+length-cells_from first given number net (g ∷ gates) = ap (λ (n : ℕ). suc n) (length-cells_from first given (suc number) (suc net) gates)
+
+pub both_true : (a b : Bool) → IsTrue (a && b) → IsTrue a × IsTrue b
+both_true true true h = (h, h)
+both_true true false h = absurd (grind arith)
+both_true false b h = absurd (grind arith)
+
+-- each gate of a sound table is sound
+pub sound_at : (count given : ℕ) (gates : List Gate) (k : ℕ) (d : Gate) → IsTrue (list_all (is_sound_gate count given) gates) → k < length gates → IsTrue (is_sound_gate count given (get_or gates k d))
+sound_at count given [] k d sound below = absurd (omega arith)
+sound_at count given (g ∷ gates) zero d sound below = (both_true _ _ sound).0
+sound_at count given (g ∷ gates) (suc k) d sound below = sound_at count given gates k d (both_true _ _ sound).1 (omega arith)
+
+-- the last two of four pins of a sound gate are sound
+pub last_pins_sound : (count given : ℕ) (gate : Gate) (a b c d : Pin) → gate.pins ≡ Four a b c d → IsTrue (is_sound_gate count given gate)
+    → IsTrue (is_sound_pin count given c) × IsTrue (is_sound_pin count given d)
+last_pins_sound count given gate a b c d is sound =
+    let split = both_true (takes_few (operand_count_of gate.kind) (length (pins_of gate.pins))) (list_all (is_sound_pin count given) (pins_of gate.pins)) sound in
+    let all = rw is at split.1 in
+    let later = (both_true _ _ (both_true _ _ all).1).1 in
+    ((both_true _ _ later).0, (both_true _ _ (both_true _ _ later).1).0)
+
+pub three_below : (nets : ℕ) (a b c : Feed) → IsFeedBelow nets a → IsFeedBelow nets b → IsFeedBelow nets c → AreFeedsBelow nets (a ∷ b ∷ c ∷ [])
+three_below nets a b c x y z =
+    All-cons (IsFeedBelow nets) a (b ∷ c ∷ []) x (All-cons (IsFeedBelow nets) b (c ∷ []) y (All-cons (IsFeedBelow nets) c [] z (All-nil (IsFeedBelow nets))))
+
+pub four_below : (nets : ℕ) (a b c d : Feed) → IsFeedBelow nets a → IsFeedBelow nets b → IsFeedBelow nets c → IsFeedBelow nets d → AreFeedsBelow nets (a ∷ b ∷ c ∷ d ∷ [])
+four_below nets a b c d w x y z = All-cons (IsFeedBelow nets) a (b ∷ c ∷ d ∷ []) w (three_below nets b c d x y z)
+
+-- room for one cell is left while gates are left
+pub cell_left : (N M : ArenaView) (count first : ℕ) (given : List Feed) (number net k : ℕ) (gates : List Gate) → Appended N M count (cells_from first given number net (take k gates))
+    → k < length gates → length gates ≤ N.spare.cells → 0 < M.spare.cells
+cell_left N M count first given number net k gates added below room =
+    let taken = length-cells_from first given number net (take k gates) in
+    let here = length-take {A = Gate} k gates in
+    let used = added.cell_room in
+    omega arith
+
+pub part_step : (N M M' : ArenaView) (given : List Feed) (gates : List Gate) (k f out : ℕ) (d : Gate) → f ≡ length N.lists.nets → out ≡ f + k → k < length gates
+    → Appended N M (length gates) (cells_from (length N.lists.nets) given (length N.lists.cells) (length N.lists.nets) (take k gates))
+    → Appended M M' 0 (gate_cell f given (length M.lists.cells) out (get_or gates k d) ∷ [])
+    → Appended N M' (length gates) (cells_from (length N.lists.nets) given (length N.lists.cells) (length N.lists.nets) (take (k + 1) gates))
+part_step N M M' given gates k f out d first output below before step =
+    let gate = get_or gates k d in
+    let n = length N.lists.nets in
+    let number = length N.lists.cells in
+    let front = cells_from n given number n (take k gates) in
+    let taken : length (take k gates) ≡ k = omega (arith, length-take {A = Gate} k gates) in
+    let cells : length M.lists.cells ≡ number + length (take k gates) =
+    length-cells_after N M (length gates) front before ∙ ap (λ (m : ℕ). number + m) (length-cells_from n given number n (take k gates)) in
+    let net : out ≡ n + length (take k gates) = omega arith in
+    let more : cells_from n given number n (take (k + 1) gates) ≡ front ++ gate_cell n given (number + length (take k gates)) (n + length (take k gates)) gate ∷ [] =
+    rw (take_more gates k d below) (cells_more n given number n (take k gates) gate) in
+    let zero_more : length gates + 0 ≡ length gates = omega arith in
+    let there = rw (first, cells, net) at step in
+    let both = rw zero_more at (appended_more N M M' (length gates) 0 front (gate_cell n given (number + length (take k gates)) (n + length (take k gates)) gate ∷ []) before there) in
+    rw more both
+
+pub dense_kept : (N M : ArenaView) (count : ℕ) → Appended N M count [] → HasNoGap N.lists → HasNoGap M.lists
+dense_kept N M count added dense = let e : M.lists.cells ≡ N.lists.cells = added.cells ∙ append-nil N.lists.cells in rw e dense

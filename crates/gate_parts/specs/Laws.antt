@@ -1,0 +1,45 @@
+-- What was added to a netlist stays there, and what its flip-flops do.
+use Rattle.std.specs.Prelude.{◌≡◌, ℕ, false, List, Some}
+use Rattle.signal_values.specs.declared.Sig.{Sig}
+use Rattle.cell_library.specs.declared.FlopKind.{FlopKind}
+use Rattle.cell_library.specs.declared.Kind.TheVariants.{Flop}
+use Rattle.cell_library.specs.Flops.{flop_next, flop_start}
+use Rattle.netlist_model.specs.declared.Feed.{Feed}
+use Rattle.netlist_model.specs.Lists.{CellView, NetlistView, direction}
+use Rattle.netlist_model.specs.Settled.{feed_values, follows_pin, IsSettled}
+use Rattle.netlist_model.specs.Runs.{Moment, PinEvent, IsStart, IsStep}
+use Rattle.netlist_model.specs.Contained.{HasCells, Has}
+use Rattle.netlist_arena.specs.Arena.{ArenaView}
+use Rattle.gate_parts.specs.Appended.{Appended, Grows}
+
+-- own: the netlist contains the cells that were added to it
+abbrev pub AppendedIsThere : Type 0
+AppendedIsThere = (old new : ArenaView) (count : ℕ) (part : List CellView) → Appended old new count part → HasCells new.lists part
+
+-- own: a netlist to which a part is added grows
+abbrev pub AppendedGrows : Type 0
+AppendedGrows = (old new : ArenaView) (count : ℕ) (part : List CellView) → Appended old new count part → Grows old.lists new.lists
+
+-- own: what a netlist contains, it contains when it has grown
+abbrev pub GrowthKeeps : Type 0
+GrowthKeeps = (old new : NetlistView) (part : List CellView) → Grows old new → HasCells old part → HasCells new part
+
+-- own: a flip-flop of these operands drives a net that is no pin's
+pub record FlopOn (N : NetlistView) (kind : FlopKind) (feeds : List Feed) (net : ℕ) : Type 0 where
+  pub cell : CellView
+  pub has : Has N cell
+  pub kind_is : cell.kind ≡ Flop kind
+  pub feeds_are : cell.feeds ≡ feeds
+  pub output : cell.output ≡ Some (record { 0 = net })
+  pub inside : follows_pin (direction N.ports net) ≡ false
+
+-- own: at a start the net of a flip-flop has the cleared or preset value where RN or SN is 0, else some given one
+abbrev pub FlopStarts : Type 0
+FlopStarts = (N : NetlistView) (kind : FlopKind) (feeds : List Feed) (net : ℕ) → FlopOn N kind feeds net → (given : ℕ → Sig) (m : Moment) → IsStart N given m
+    → (other : Sig) × (m.value net ≡ flop_start kind (feed_values m.value feeds) other)
+
+-- own: a step takes the net of a flip-flop to the next value, from the operands before and after it
+abbrev pub FlopSteps : Type 0
+FlopSteps = (N : NetlistView) (kind : FlopKind) (feeds : List Feed) (net : ℕ) → FlopOn N kind feeds net → (event : PinEvent) (m m' : Moment)
+    → IsSettled N m.pins m.state m.value → IsStep N event m m'
+    → m'.value net ≡ flop_next kind (feed_values m.value feeds) (feed_values m'.value feeds) (m.value net)

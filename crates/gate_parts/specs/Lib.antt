@@ -1,0 +1,4 @@
+pub mod Parts
+pub mod Appended
+pub mod Levels
+pub mod Laws

@@ -1,0 +1,168 @@
+// Parts of a chip, each a constant table of gates, and the call that adds one to a netlist.
+// Contracts cite specs/Parts.antt for the cells of a table and specs/Appended.antt for what was added.
+// Own: tables of gates in the terms of IEEE 1364's gate level modelling.
+#![tactic(auto)]
+
+ghost use Rattle.std.specs.Prelude.{◌≡◌, ◌≢◌, ℕ, ◌+◌, ◌<◌, ◌≤◌, ◌^◌, [], ◌∷◌, length, IsTrue, Some};
+ghost use Rattle.cell_library.specs.Gates.{Takes};
+ghost use Rattle.netlist_arena.specs.Arena.{IsFeedBelow, AreFeedsBelow, HasNoGap};
+ghost use Rattle.netlist_arena.specs.Adds.{IsFree};
+ghost use Rattle.gate_parts.specs.Parts.{feed_of, gate_cell, part_cells, is_sound_pin, is_sound_gate, is_sound};
+ghost use Rattle.gate_parts.specs.Appended.{Appended};
+
+mod laws;
+#[cfg(test)]
+mod tests;
+
+use cell_library::Kind;
+pub use laws::{
+    appended_grows, appended_is_there, flop_starts, flop_steps, growth_keeps, levels_number,
+};
+use netlist_arena::Netlist;
+use netlist_model::{Feed, Name, NetId};
+
+/// What a gate of a table reads: the net of another gate of the table, or something that is handed in, by its place.
+#[derive(Clone, Copy, Debug)]
+pub enum Pin {
+    Own(u8),
+    Given(u8),
+}
+
+/// The operands of a gate in order.
+#[derive(Clone, Copy, Debug)]
+pub enum Pins {
+    One(Pin),
+    Two(Pin, Pin),
+    Three(Pin, Pin, Pin),
+    Four(Pin, Pin, Pin, Pin),
+}
+
+/// A gate of a table. It drives the net of its own place.
+#[derive(Clone, Copy, Debug)]
+pub struct Gate {
+    pub kind: Kind,
+    pub pins: Pins,
+}
+
+/// Adds the gates of a table to a dense netlist, each with the net that it drives, and answers the first of these nets. The new nets
+/// and cells follow those that are there, in the order of the gates, under their numbers as names.
+pub fn add_part(netlist: &mut Netlist, gates: &[Gate], given: &[Feed]) -> NetId
+    requires dense { HasNoGap netlist.old.lists }
+    requires nets { length gates.now ≤ netlist.old.spare.nets }
+    requires cells { length gates.now ≤ netlist.old.spare.cells }
+    requires small { length gates.now ≤ 256 }
+    requires sound { IsTrue (is_sound gates.now (length given.now)) }
+    requires given { AreFeedsBelow (length netlist.old.lists.nets) given.now }
+    ensures first { result.0 ≡ length netlist.old.lists.nets }
+    ensures added { Appended netlist.old netlist.new (length gates.now)
+        (part_cells gates.now given.now (length netlist.old.lists.nets) (length netlist.old.lists.cells)) }
+    ensures dense { HasNoGap netlist.new.lists }
+{
+    let count = gates.len() as u32;
+    add_nets(netlist, count);
+    let first = netlist.net_count() - count;
+    for (k, gate) in gates.iter().enumerate() {
+        add_gate(netlist, first, count, given, gate, NetId(first + k as u32));
+    }
+    NetId(first)
+}
+
+// Adds nets that no cell drives.
+fn add_nets(netlist: &mut Netlist, count: u32)
+    requires { count ≤ netlist.old.spare.nets }
+    ensures added { Appended netlist.old netlist.new count [] }
+    ensures free { (net : ℕ) → length netlist.old.lists.nets ≤ net → net < length netlist.new.lists.nets
+        → IsFree netlist.new.lists net }
+{
+    for _ in 0..count {
+        let name = Name::Added(netlist.net_count());
+        let _net = netlist.add_net(name, None);
+    }
+}
+
+// Adds the cell of one gate, of a table of so many gates.
+#[tactic(auto, using(crate::proofs::Steps::three_below, crate::proofs::Steps::four_below))]
+fn add_gate(
+    netlist: &mut Netlist,
+    first: u32,
+    count: u32,
+    given: &[Feed],
+    gate: &Gate,
+    output: NetId,
+)
+    requires dense { HasNoGap netlist.old.lists }
+    requires fits { first + count < 2 ^ 32 }
+    requires cells { 0 < netlist.old.spare.cells }
+    requires sound { IsTrue (is_sound_gate count (length given.now) gate.now) }
+    requires own { first + count ≤ length netlist.old.lists.nets }
+    requires given { AreFeedsBelow (length netlist.old.lists.nets) given.now }
+    requires there { output.0 < length netlist.old.lists.nets }
+    requires free { IsFree netlist.old.lists output.0 }
+    ensures added { Appended netlist.old netlist.new 0
+        (gate_cell first given.now (length netlist.old.lists.cells) output.0 gate.now ∷ []) }
+    ensures dense { HasNoGap netlist.new.lists }
+    ensures free { (net : ℕ) → net ≢ output.0 → IsFree netlist.old.lists net → IsFree netlist.new.lists net }
+{
+    match gate.pins {
+        Pins::One(a) => {
+            let feeds = [feed(first, count, given, a)];
+            add_feeds(netlist, gate.kind, &feeds, output);
+        }
+        Pins::Two(a, b) => {
+            let feeds = [feed(first, count, given, a), feed(first, count, given, b)];
+            add_feeds(netlist, gate.kind, &feeds, output);
+        }
+        Pins::Three(a, b, c) => {
+            let feeds = [
+                feed(first, count, given, a),
+                feed(first, count, given, b),
+                feed(first, count, given, c),
+            ];
+            add_feeds(netlist, gate.kind, &feeds, output);
+        }
+        Pins::Four(a, b, c, d) => {
+            let feeds = [
+                feed(first, count, given, a),
+                feed(first, count, given, b),
+                feed(first, count, given, c),
+                feed(first, count, given, d),
+            ];
+            add_feeds(netlist, gate.kind, &feeds, output);
+        }
+    }
+}
+
+// The operand of a pin.
+fn feed(first: u32, count: u32, given: &[Feed], pin: Pin) -> Feed
+    requires fits { first + count < 2 ^ 32 }
+    requires sound { IsTrue (is_sound_pin count (length given.now) pin) }
+    ensures value { result ≡ feed_of first given.now pin }
+    ensures below { (nets : ℕ) → first + count ≤ nets → AreFeedsBelow nets given.now → IsFeedBelow nets result }
+{
+    match pin {
+        Pin::Own(k) => Feed::Net(NetId(first + u32::from(k))),
+        Pin::Given(k) => given[k as usize],
+    }
+}
+
+// Adds a cell under its number as name.
+fn add_feeds(netlist: &mut Netlist, kind: Kind, feeds: &[Feed], output: NetId)
+    requires dense { HasNoGap netlist.old.lists }
+    requires cells { 0 < netlist.old.spare.cells }
+    requires few { length feeds.now ≤ 4 }
+    requires takes { Takes kind (length feeds.now) }
+    requires feeds { AreFeedsBelow (length netlist.old.lists.nets) feeds.now }
+    requires there { output.0 < length netlist.old.lists.nets }
+    requires free { IsFree netlist.old.lists output.0 }
+    ensures added { Appended netlist.old netlist.new 0 (record {
+      kind = kind;
+      name = Some (Name.Added (length netlist.old.lists.cells));
+      feeds = feeds.now;
+      output = Some output;
+    } ∷ []) }
+    ensures dense { HasNoGap netlist.new.lists }
+    ensures free { (net : ℕ) → net ≢ output.0 → IsFree netlist.old.lists net → IsFree netlist.new.lists net }
+{
+    let name = Name::Added(netlist.cell_count());
+    let _cell = netlist.add_cell(kind, Some(name), feeds, Some(output));
+}
