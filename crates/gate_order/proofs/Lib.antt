@@ -1,0 +1,4 @@
+pub mod WalkSteps
+pub mod WalkRecords
+pub mod Rows
+pub mod Acyclic

@@ -1,0 +1,5 @@
+pub mod Graph
+pub mod Rows
+pub mod State
+pub mod Walk
+pub mod Fault

@@ -1,0 +1,16 @@
+// Orders the vertices of a graph so that each stands after those that it reads, or names a cycle.
+// Contracts cite specs/Graph.antt: what an order of a graph is, and what a cycle of it.
+// Own: no chapter of a standard speaks of it.
+#![tactic(auto)]
+
+pub mod fault;
+pub mod graph;
+pub mod order;
+mod walk;
+
+pub use fault::OrderFault;
+pub use graph::Graph;
+pub use order::order_of;
+
+#[cfg(test)]
+mod tests;
