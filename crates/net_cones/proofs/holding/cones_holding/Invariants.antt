@@ -1,0 +1,5 @@
+use Rattle.net_cones.proofs.Forward.{IsFound}
+use Rattle.net_cones.proofs.holding.cones_holding.Given as goal
+
+abbrev pub invariant-loop-vertex : goal.invariant-loop-vertex
+invariant-loop-vertex l = IsFound l.graph l.order l.marks l.found.items l.vertex-index
