@@ -1,0 +1,27 @@
+-- Words that have the form of a command.
+use Rattle.std.proofs.Common.{◌≡◌, ℕ, ◌<◌, ◌≤◌, ◌||◌, Bool, true, List, [], ◌∷◌, length, map, get_or, refl, sym, ap, ◌∙◌, arith, eqb, codes, string_bytes}
+use Rattle.std.specs.List.{list_any}
+use Rattle.std.specs.Cmp.Lexicographic.{pointwise, bytes_decides}
+use Rattle.std.specs.declared.string.String.{String}
+use Rattle.std.specs.declared.alloc.Global.{Global}
+
+-- a test of each image
+pub list_any-map : {X Y : Type 0} (test : Y → Bool) (f : X → Y) (xs : List X) → list_any test (map f xs) ≡ list_any (λ x. test (f x)) xs
+list_any-map test f [] = refl
+list_any-map test f (x ∷ xs) = ap (λ (b : Bool). test (f x) || b) (list_any-map test f xs)
+
+-- a list of three elements, read by their places
+pub three_are : {X : Type 0} (ws : List X) (a b c : X) → 3 ≤ length ws → length ws < 4 → a ≡ get_or ws 0 a → b ≡ get_or ws 1 b → c ≡ get_or ws 2 c → ws ≡ a ∷ b ∷ c ∷ []
+three_are [] a b c long short i j k = absurd (omega arith)
+three_are (x ∷ []) a b c long short i j k = absurd (omega arith)
+three_are (x ∷ y ∷ []) a b c long short i j k = absurd (omega arith)
+three_are (x ∷ y ∷ z ∷ []) a b c long short i j k = cc (i, j, k)
+three_are (x ∷ y ∷ z ∷ w ∷ ws) a b c long short i j k = absurd (omega arith)
+
+-- three words of which the first is `canon`
+pub canon_words : (words : List (List ℕ)) (ws : List (String Global)) (a b c : String Global) (x y z : List ℕ) → map string_bytes ws ≡ words → ws ≡ a ∷ b ∷ c ∷ []
+    → x ≡ string_bytes a → y ≡ string_bytes b → z ≡ string_bytes c → true ≡ pointwise eqb x (codes "canon") → words ≡ codes "canon" ∷ y ∷ z ∷ []
+canon_words words ws a b c x y z seen are xa yb zc same =
+    sym seen ∙ ap (map string_bytes) are
+    ∙ ap (λ (l : List ℕ). l ∷ string_bytes b ∷ string_bytes c ∷ []) (sym xa ∙ (bytes_decides x (codes "canon")).0 (sym same))
+    ∙ ap (λ (l : List ℕ). codes "canon" ∷ l ∷ string_bytes c ∷ []) (sym yb) ∙ ap (λ (l : List ℕ). codes "canon" ∷ y ∷ l ∷ []) (sym zc)

@@ -1,0 +1,5 @@
+pub mod Commands
+pub mod Faults
+pub mod Canon
+pub mod TextFaults
+pub mod Causes
