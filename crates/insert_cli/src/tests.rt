@@ -1,5 +1,7 @@
+// Worked examples of `canon`, over a shelf and a sink in memory.
 use crate::{Status, WordList, run_tool};
-use edge_io::{MemShelf, MemSink, NeverFails};
+use edge_io::{MemShelf, MemSink, NeverFails, OutOfMemory, Shelf, Sink, Text};
+use std::alloc::Global;
 use std::test::Fail;
 
 const WORKED: &[u8] = b"module m(input a,b, output y); // and\nand g(y,a,b); endmodule";
@@ -7,191 +9,172 @@ const WORKED: &[u8] = b"module m(input a,b, output y); // and\nand g(y,a,b); end
 const CANONICAL: &[u8] =
     b"module m (\n  input a,\n  input b,\n  output y\n);\n  and g (y, a, b);\nendmodule\n";
 
-// Words, the text under `in`, and what comes: the status, the sink's line, and the text under `out`.
-#[derive(Drop)]
-struct Case {
-    words: &'static [&'static str],
-    input: &'static [u8],
-    status: Status,
-    line: &'static [u8],
-    written: Option<&'static [u8]>,
+fn word_list(alloc: Global, words: &[&str]) -> Result<WordList, OutOfMemory> {
+    let mut list = WordList::new(alloc);
+    for word in words {
+        list.push(word)?;
+    }
+    Ok(list)
 }
 
-const fn refused(
-    words: &'static [&'static str],
-    input: &'static [u8],
-    status: Status,
-    line: &'static [u8],
-) -> Case {
-    Case {
-        words,
-        input,
-        status,
-        line,
-        written: None,
+// A shelf with this text under `in` and room under `out`, whose call of this number fails.
+fn shelf_with(alloc: Global, input: &[u8], failing: u64) -> Result<MemShelf, OutOfMemory> {
+    let mut shelf = MemShelf::new(alloc);
+    shelf.place("in", input)?;
+    shelf.make_room("out", 1000)?;
+    shelf.fail_call(failing)?;
+    Ok(shelf)
+}
+
+fn sink_with(alloc: Global, room: u64) -> Result<MemSink, OutOfMemory> {
+    let mut sink = MemSink::new(alloc);
+    sink.make_room(room)?;
+    Ok(sink)
+}
+
+fn ended<S: Shelf, O: Sink>(
+    alloc: Global,
+    words: &[&str],
+    shelf: &mut S,
+    out: &mut O,
+) -> Option<Status> {
+    match word_list(alloc, words) {
+        Ok(list) => Some(run_tool(alloc, &list, shelf, out)),
+        Err(OutOfMemory) => None,
     }
 }
 
+// Whether the command ends so, and the sink and the shelf then have these texts.
+fn gives(
+    alloc: Global,
+    words: &[&str],
+    input: &[u8],
+    status: Status,
+    line: &[u8],
+    written: Option<&[u8]>,
+) -> Result<bool, OutOfMemory> {
+    let mut shelf = shelf_with(alloc, input, 99)?;
+    let mut sink = sink_with(alloc, 1000)?;
+    let end = ended(alloc, words, &mut shelf, &mut sink);
+    Ok(end == Some(status) && sink.given() == line && shelf.written_of("out") == written)
+}
+
 #[test]
-fn canon_gives_each_answer(rt: HostRuntime) -> Result<(), Fail> {
-    let canon = &["canon", "in", "out"];
-    let cases = [
-        Case {
-            words: canon,
-            input: WORKED,
-            status: Status::Done,
-            line: b"",
-            written: Some(CANONICAL),
-        },
-        Case {
-            words: canon,
-            input: b"module m(); endmodule",
-            status: Status::Done,
-            line: b"",
-            written: Some(b"module m ();\nendmodule\n"),
-        },
-        refused(canon, b"", Status::Refused, b"BadSyntax 0 0\n"),
-        refused(
-            canon,
-            b"module m(input a",
-            Status::Refused,
-            b"BadSyntax 16 5\n",
-        ),
-        refused(
-            canon,
+fn a_module_is_written_in_its_canonical_text(rt: HostRuntime) -> Result<(), Fail> {
+    let canon = ["canon", "in", "out"];
+    assert!(rt;
+        gives(
+            rt.alloc(),
+            &canon,
+            WORKED,
+            Status::Done,
+            b"",
+            Some(CANONICAL)
+        )?
+    );
+    let empty = b"module m(); endmodule".as_slice();
+    let text = b"module m ();\nendmodule\n".as_slice();
+    assert!(rt; gives(rt.alloc(), &canon, empty, Status::Done, b"", Some(text))?);
+    Ok(())
+}
+
+#[test]
+fn a_refused_text_has_its_line_and_writes_nothing(rt: HostRuntime) -> Result<(), Fail> {
+    let rows: [(&[u8], &[u8]); 3] = [
+        (b"", b"BadSyntax 0 0\n"),
+        (b"module m(input a", b"BadSyntax 16 5\n"),
+        (
             b"module m(output y); buf(y,1'b2); endmodule",
-            Status::Refused,
             b"BadWord 29\n",
         ),
-        refused(
-            &["canon", "other", "out"],
-            b"",
-            Status::ReadFault,
-            b"ReadFault other\n",
-        ),
-        refused(
-            &["canon", "in", "full"],
-            WORKED,
-            Status::WriteFault,
-            b"WriteFault full\n",
-        ),
-        refused(
-            &["canon", "in", "in"],
-            WORKED,
-            Status::Usage,
-            b"SameName in\n",
-        ),
-        refused(&["canon", "-x", "out"], WORKED, Status::Usage, b"Usage\n"),
-        refused(&["insert", "in", "out"], WORKED, Status::Usage, b"Usage\n"),
-        refused(&["canon", "in"], WORKED, Status::Usage, b"Usage\n"),
-        refused(&[], WORKED, Status::Usage, b"Usage\n"),
     ];
-    for case in cases {
-        let mut words = WordList::new(rt.alloc());
-        for word in case.words {
-            words.push(word)?;
-        }
-        let mut shelf = MemShelf::new(rt.alloc());
-        shelf.place("in", case.input)?;
-        shelf.make_room("out", 1000)?;
-        shelf.make_room("full", 10)?;
-        let mut sink = MemSink::new(rt.alloc());
-        sink.make_room(1000)?;
-        let status = run_tool(rt.alloc(), &words, &mut shelf, &mut sink);
-        assert_eq!(rt; status, case.status, "{:?}", case.words);
-        assert_eq!(rt; sink.given(), case.line, "{:?}", case.words);
-        assert_eq!(rt; shelf.written_of("out"), case.written, "{:?}", case.words);
-        assert_eq!(rt; shelf.held_of("in"), Some(case.input), "{:?}", case.words);
+    for (text, line) in rows {
+        assert!(rt;
+            gives(
+                rt.alloc(),
+                &["canon", "in", "out"],
+                text,
+                Status::Refused,
+                line,
+                None
+            )?
+        );
     }
     Ok(())
 }
 
 #[test]
-fn a_call_that_fails_is_told_and_leaves_a_front(rt: HostRuntime) -> Result<(), Fail> {
-    // The number of the shelf's call that fails, the line, the status, and what is written then.
-    let cases: [(u64, Status, &[u8], Option<&[u8]>); 4] = [
-        (0, Status::ReadFault, b"ReadFault in\n", None),
-        (1, Status::ReadFault, b"ReadFault in\n", None),
-        (2, Status::WriteFault, b"WriteFault out\n", None),
-        (3, Status::WriteFault, b"WriteFault out\n", Some(b"")),
+fn wrong_words_are_told_before_any_file_is_read(rt: HostRuntime) -> Result<(), Fail> {
+    let rows: [(&[&str], &[u8]); 4] = [
+        (&["canon", "in", "in"], b"SameName in\n"),
+        (&["canon", "-x", "out"], b"Usage\n"),
+        (&["insert", "in", "out"], b"Usage\n"),
+        (&["canon", "in"], b"Usage\n"),
     ];
-    for (number, status, line, written) in cases {
-        let mut words = WordList::new(rt.alloc());
-        for word in ["canon", "in", "out"] {
-            words.push(word)?;
-        }
-        let mut shelf = MemShelf::new(rt.alloc());
-        shelf.place("in", WORKED)?;
-        shelf.make_room("out", 1000)?;
-        shelf.fail_call(number)?;
-        let mut sink = MemSink::new(rt.alloc());
-        sink.make_room(1000)?;
-        assert_eq!(rt;
-            run_tool(rt.alloc(), &words, &mut shelf, &mut sink),
-            status,
-            "call {number}"
-        );
-        assert_eq!(rt; sink.given(), line, "call {number}");
-        assert_eq!(rt; shelf.written_of("out"), written, "call {number}");
-        // A sink that takes no more gets a front of the line, and the status stays.
-        let mut narrow = MemSink::new(rt.alloc());
-        narrow.make_room(4)?;
-        let mut again = MemShelf::new(rt.alloc());
-        again.place("in", WORKED)?;
-        again.make_room("out", 1000)?;
-        again.fail_call(number)?;
-        assert_eq!(rt;
-            run_tool(rt.alloc(), &words, &mut again, &mut narrow),
-            status,
-            "call {number}"
-        );
-        assert_eq!(rt; Some(narrow.given()), line.get(..4), "call {number}");
+    for (words, line) in rows {
+        assert!(rt; gives(rt.alloc(), words, WORKED, Status::Usage, line, None)?);
     }
+    Ok(())
+}
+
+// The status where the shelf's call of this number fails, with a sink of this room, if the line is so.
+fn ends_at_call(
+    alloc: Global,
+    failing: u64,
+    room: u64,
+    line: &[u8],
+) -> Result<Option<Status>, OutOfMemory> {
+    let mut shelf = shelf_with(alloc, WORKED, failing)?;
+    let mut sink = sink_with(alloc, room)?;
+    let end = ended(alloc, &["canon", "in", "out"], &mut shelf, &mut sink);
+    if sink.given() != line {
+        return Ok(None);
+    }
+    Ok(end)
+}
+
+#[test]
+fn a_call_that_fails_is_told(rt: HostRuntime) -> Result<(), Fail> {
+    let rows: [(u64, Status, &[u8]); 3] = [
+        (0, Status::ReadFault, b"ReadFault in\n"),
+        (2, Status::WriteFault, b"WriteFault out\n"),
+        (3, Status::WriteFault, b"WriteFault out\n"),
+    ];
+    for (number, status, line) in rows {
+        assert!(rt; ends_at_call(rt.alloc(), number, 1000, line)? == Some(status));
+    }
+    assert!(rt; ends_at_call(rt.alloc(), 0, 4, b"Read")? == Some(Status::ReadFault));
     Ok(())
 }
 
 #[test]
 fn canon_is_done_where_nothing_fails(rt: HostRuntime) -> Result<(), Fail> {
-    let mut words = WordList::new(rt.alloc());
-    for word in ["canon", "in", "out"] {
-        words.push(word)?;
-    }
     let mut shelf = NeverFails::new(rt.alloc());
     shelf.place("in", WORKED)?;
     let mut sink = NeverFails::new(rt.alloc());
-    assert_eq!(rt;
-        run_tool(rt.alloc(), &words, &mut shelf, &mut sink),
-        Status::Done
-    );
+    let end = ended(rt.alloc(), &["canon", "in", "out"], &mut shelf, &mut sink);
+    assert!(rt; end == Some(Status::Done));
     Ok(())
+}
+
+// A module and blanks after it, of this length.
+fn blanks_after(alloc: Global, length: usize) -> Result<Text, OutOfMemory> {
+    let mut text = Text::from_bytes(alloc, b"module m(); endmodule")?;
+    for _ in text.len()..length {
+        text.push(b' ')?;
+    }
+    Ok(text)
 }
 
 #[test]
 fn a_text_may_fill_the_limit_and_not_pass_it(rt: HostRuntime) -> Result<(), Fail> {
-    let mut words = WordList::new(rt.alloc());
-    for word in ["canon", "in", "out"] {
-        words.push(word)?;
-    }
-    let mut text = edge_io::Text::from_bytes(rt.alloc(), b"module m(); endmodule")?;
-    let blanks = [b' '; 4096];
-    while text.len() + blanks.len() <= 16_777_216 {
-        text.append(&blanks)?;
-    }
-    while text.len() < 16_777_216 {
-        text.push(b' ')?;
-    }
-    for (status, line) in [
-        (Status::Done, b"".as_slice()),
-        (Status::Refused, b"TooLong in\n"),
-    ] {
-        let mut shelf = MemShelf::new(rt.alloc());
-        shelf.place("in", text.as_bytes())?;
-        shelf.make_room("out", 1000)?;
-        let mut sink = MemSink::new(rt.alloc());
-        sink.make_room(1000)?;
-        assert_eq!(rt; run_tool(rt.alloc(), &words, &mut shelf, &mut sink), status);
-        assert_eq!(rt; sink.given(), line);
-        text.push(b' ')?;
+    let rows: [(usize, Status); 2] = [(16_777_216, Status::Done), (16_777_217, Status::Refused)];
+    for (length, status) in rows {
+        let text = blanks_after(rt.alloc(), length)?;
+        let mut shelf = shelf_with(rt.alloc(), text.as_bytes(), 999)?;
+        let mut sink = sink_with(rt.alloc(), 1000)?;
+        let end = ended(rt.alloc(), &["canon", "in", "out"], &mut shelf, &mut sink);
+        assert!(rt; end == Some(status));
     }
     Ok(())
 }
