@@ -1,4 +1,5 @@
-// The cells that a netlist may hold: the primitive gates, `assign` and seven library cells.
+// The cells that a netlist may hold: the primitive gates, `assign` and seven library cells. Beside them the names that
+// plans, devices and test logic share: instructions, boundary cells, their functions, patterns.
 // The contracts cite specs/Gates.antt, specs/Flops.antt and specs/Library.antt.
 // IEEE 1364, the chapter on gate level modelling; the library cells, and `assign` as a `buf`, are own.
 #![tactic(auto)]
@@ -9,6 +10,9 @@ ghost use Rattle.cell_library.specs.Library.{kind_named, port_named};
 ghost use Rattle.cell_library.specs.Laws.{GatesKeepOrder, ThreeStateGatesKeepOrder, FlopsKeepOrder, KnownOperandsKnownOutput, NamesAreExact};
 ghost use Rattle.signal_values.specs.Values.{sig_and, sig_or, sig_xor};
 
+mod codes;
+
+pub use codes::{Bits, BoundaryKind, Function, Instr, Opcode};
 use signal_values::{PinSig, Sig, and, drive, mux, not, or, xor};
 
 /// What a cell computes. A `Bufif0` or `Bufif1` drives its net only while it is enabled.
