@@ -3,7 +3,7 @@
 use Rattle.std.specs.Prelude.{ℕ, List, [], ◌∷◌, map, find, Option, Some, None, option_and_then, unwrap_or, false}
 use Rattle.std.specs.Option.{option_map}
 use Rattle.std.specs.Str.{bytes_eq}
-use Rattle.verilog_tree.specs.declared.tree.Bit.{Bit}
+use Rattle.std.specs.Borrow.{Bor}
 use Rattle.verilog_tree.specs.declared.tree.Operand.{Operand}
 use Rattle.verilog_tree.specs.declared.tree.Operand.TheVariants as operand
 use Rattle.verilog_tree.specs.declared.tree.GateKind.{GateKind}
@@ -38,6 +38,11 @@ pub record NamedCell : Type 0 where
   pub name : Option (List ℕ)
   pub feeds : List Feed
   pub output : Option NetId
+
+-- the bytes of a borrowed name
+abbrev pub bytes_of : Option (Bor (List ℕ)) → Option (List ℕ)
+bytes_of None = None
+bytes_of (Some name) = Some name.now
 
 abbrev pub feed_of : List (List ℕ × Declared) → Operand → Feed
 feed_of names (operand.Bit bit) = Net (net_of names bit)

@@ -1,6 +1,6 @@
 -- The netlist that a module denotes, with names in bytes; and when a netlist with a table of names is that one.
 -- IEEE Std 1364-2001: modules and ports, data types, gate-level modelling.
-use Rattle.std.specs.Prelude.{◌≡◌, ℕ, ◌+◌, List, [], ◌∷◌, map, Option, Some, None, slice_get, option_and_then}
+use Rattle.std.specs.Prelude.{◌≡◌, ℕ, ◌+◌, List, [], ◌∷◌, map, Option, Some, None, slice_get}
 use Rattle.std.specs.Option.{option_map}
 use Rattle.verilog_tree.specs.declared.tree.Module.{Module}
 use Rattle.verilog_tree.specs.declared.tree.Port.{Port}

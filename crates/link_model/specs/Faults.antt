@@ -1,6 +1,6 @@
 -- When each fault of linking stands: a test at one place, and the first place along the text or along the nets.
 -- IEEE Std 1364-2001: data types, gate-level modelling, module instances. The limits, and what three-state nets may do, are own.
-use Rattle.std.specs.Prelude.{ℕ, zero, suc, ◌+◌, ◌-◌, ◌^◌, ◌==◌, ◌&&◌, ◌||◌, not, nat_le, nat_lt, min, Bool, true, false, List, [], ◌∷◌, ◌++◌, map, length, count_by, sum_by, find, Option, Some, None, is_some, is_none, if◌then◌else◌, option_and_then}
+use Rattle.std.specs.Prelude.{ℕ, ◌-◌, ◌^◌, ◌==◌, ◌&&◌, not, nat_le, nat_lt, min, Bool, true, false, List, [], ◌∷◌, ◌++◌, map, length, count_by, Option, Some, None, is_none, if◌then◌else◌, option_and_then}
 use Rattle.std.specs.List.{flat_map, filter_map, enumerate_from, list_any}
 use Rattle.std.specs.Option.{option_map, option_map_or}
 use Rattle.std.specs.Str.{bytes_eq}
@@ -12,7 +12,6 @@ use Rattle.verilog_tree.specs.declared.tree.Range.{Range}
 use Rattle.verilog_tree.specs.declared.tree.Operand.{Operand}
 use Rattle.verilog_tree.specs.declared.tree.Operand.TheVariants as operand
 use Rattle.verilog_tree.specs.declared.tree.Link.{Link}
-use Rattle.verilog_tree.specs.declared.tree.Gate.{Gate}
 use Rattle.verilog_tree.specs.declared.tree.Instance.{Instance}
 use Rattle.verilog_tree.specs.declared.tree.Item.{Item}
 use Rattle.verilog_tree.specs.declared.tree.Item.TheVariants as item
@@ -32,7 +31,7 @@ use Rattle.link_model.specs.declared.fault.BitName.{BitName}
 use Rattle.link_model.specs.declared.fault.LinkFault.{LinkFault}
 use Rattle.link_model.specs.declared.fault.LinkFault.TheVariants as fault
 use Rattle.link_model.specs.Lists.{or_else, first_in, repeated}
-use Rattle.link_model.specs.Nets.{NetDeclaration, Declared, NamedNet, declared_nets, declared_names, declared_as, nets_in, width, bits_in, port_nets, is_within}
+use Rattle.link_model.specs.Nets.{Declared, NamedNet, declared_nets, declared_names, declared_as, nets_in, width, bits_in, port_nets, is_within}
 use Rattle.link_model.specs.Cells.{NamedCell, cell_of}
 
 -- Too many.
@@ -241,9 +240,9 @@ is_inout None = false
 abbrev pub inout_not_tristate : List NamedCell → ℕ × NamedNet → Option LinkFault
 inout_not_tristate cells net = if is_inout net.1.dir && not (is_driven_by_bufif cells net.0) then Some (fault.InoutNotTristate (bit_name net.1)) else None
 
--- the first net of a module that the test finds
-abbrev pub first_net : (List NamedCell → ℕ × NamedNet → Option LinkFault) → Module → Option LinkFault
-first_net test m = first_in (test (map (cell_of (declared_names m)) m.items)) (enumerate_from 0 (nets_in (declared_nets m)))
+-- the first net that the test finds
+abbrev pub first_net : (List NamedCell → ℕ × NamedNet → Option LinkFault) → List NamedNet → List NamedCell → Option LinkFault
+first_net test nets cells = first_in (test cells) (enumerate_from 0 nets)
 
 -- The first fault of those that come before Loop, in their order.
 
@@ -257,20 +256,28 @@ instance_faults m =
 abbrev pub bit_faults : Module → Option LinkFault
 bit_faults m = or_else (first_bit name_unknown m) (first_bit bit_outside m)
 
-abbrev pub driver_faults : Module → Option LinkFault
-driver_faults m =
-    or_else (first_net two_drivers m)
-    (or_else (first_net input_driven m)
-    (or_else (first_net not_driven m)
-    (or_else (first_net tristate_inside m)
-    (or_else (first_net tristate_read m)
-    (first_net inout_not_tristate m)))))
-
-abbrev pub early_fault : Module → Option LinkFault
-early_fault m =
+-- the first fault of counts, names, bits and instances: where there is none, the module denotes a netlist
+abbrev pub text_fault : Module → Option LinkFault
+text_fault m =
     or_else (too_many_in m)
     (or_else (name_twice m)
     (or_else (bit_faults m)
     (or_else (instance_faults m)
-    (or_else (first_in (item_width (declared_names m)) m.items)
-    (driver_faults m)))))
+    (first_in (item_width (declared_names m)) m.items))))
+
+-- the first fault of drivers: where there is none, each net has the drivers that it may have
+abbrev pub driver_fault : List NamedNet → List NamedCell → Option LinkFault
+driver_fault nets cells =
+    or_else (first_net two_drivers nets cells)
+    (or_else (first_net input_driven nets cells)
+    (or_else (first_net not_driven nets cells)
+    (or_else (first_net tristate_inside nets cells)
+    (or_else (first_net tristate_read nets cells)
+    (first_net inout_not_tristate nets cells)))))
+
+-- the cells of a module
+abbrev pub cells_in : Module → List NamedCell
+cells_in m = map (cell_of (declared_names m)) m.items
+
+abbrev pub early_fault : Module → Option LinkFault
+early_fault m = or_else (text_fault m) (driver_fault (nets_in (declared_nets m)) (cells_in m))
