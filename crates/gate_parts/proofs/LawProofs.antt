@@ -1,5 +1,6 @@
 -- What was added stays, and what a flip-flop does.
-use Rattle.std.proofs.Common.{◌≡◌, ℕ, suc, zero, List, [], ◌∷◌, ◌++◌, length, map, refl, sym, ◌∙◌, arith, ap, Option, Some, append_assoc}
+use Rattle.std.proofs.Common.{◌≡◌, ℕ, suc, ◌+◌, ◌-◌, List, [], ◌∷◌, refl, ◌∙◌, arith, ap, None, Some, inl, inr}
+use Rattle.std.proofs.lemmas.Bool.{cases_lt}
 use Rattle.std.specs.List.{slice_get}
 use Rattle.signal_values.specs.declared.Sig.{Sig}
 use Rattle.cell_library.specs.declared.Kind.{Kind}
@@ -7,36 +8,40 @@ use Rattle.cell_library.specs.declared.Kind.TheVariants.{Flop}
 use Rattle.cell_library.specs.declared.FlopKind.{FlopKind}
 use Rattle.cell_library.specs.Flops.{flop_next, flop_start}
 use Rattle.netlist_model.specs.declared.Feed.{Feed}
-use Rattle.netlist_model.specs.Lists.{CellView, NetlistView, live_cell}
+use Rattle.netlist_model.specs.Lists.{CellView, NetlistView, cell_at, cell_count}
 use Rattle.netlist_model.specs.Settled.{feed_values, cell_value, Meets}
 use Rattle.netlist_model.specs.Contained.{HasCells}
-use Rattle.gate_parts.specs.Appended.{Grows}
+use Rattle.netlist_arena.specs.Arena.{ArenaView}
+use Rattle.netlist_arena.proofs.Puts.{dense_past}
+use Rattle.gate_parts.specs.Appended.{Appended, Grows}
 use Rattle.gate_parts.specs.Laws.{AppendedIsThere, AppendedGrows, GrowthKeeps, FlopOn, FlopStarts, FlopSteps}
 use Rattle.gate_parts.proofs.Steps.{appended_count}
 
-live_kept : (xs ys : List (Option CellView)) (i : ℕ) (cell : CellView) → live_cell (slice_get xs i) ≡ Some cell → live_cell (slice_get (xs ++ ys) i) ≡ Some cell
-live_kept [] ys i cell at = absurd (cc)
-live_kept (x ∷ xs) ys zero cell at = at
-live_kept (x ∷ xs) ys (suc i) cell at = live_kept xs ys i cell at
-
-live_seam : (front rest : List (Option CellView)) (cell : CellView) → live_cell (slice_get (front ++ Some cell ∷ rest) (length front)) ≡ Some cell
-live_seam [] rest cell = refl
-live_seam (x ∷ xs) rest cell = live_seam xs rest cell
-
-has_from : (N : NetlistView) (front : List (Option CellView)) (part : List CellView) → N.cells ≡ front ++ map (λ cell. Some cell) part → HasCells N part
-has_from N front [] is = tt
-has_from N front (cell ∷ cells) is = (
-  record { number = length front; name = cell.name; live = rw is (live_seam front (map (λ (c : CellView). Some c) cells) cell) },
-  has_from N (front ++ Some cell ∷ []) cells (is ∙ sym (append_assoc front (Some cell ∷ []) (map (λ (c : CellView). Some c) cells))),
+has_from : (N : NetlistView) (first : ℕ) (part : List CellView) → ((k : ℕ) → cell_at N (first + k) ≡ slice_get part k) → HasCells N part
+has_from N first [] at = tt
+has_from N first (cell ∷ cells) at = (
+  record { number = first; name = cell.name; live = let e : first + 0 ≡ first = omega arith in rw e at (at 0) },
+  has_from N (suc first) cells (λ k. let e : first + suc k ≡ suc first + k = omega arith in rw e at (at (suc k))),
 )
 
 pub appended_there : AppendedIsThere
-appended_there = λ old new count part added. has_from new.lists old.lists.cells part added.cells
+appended_there = λ old new count part added. has_from new.lists (cell_count old.lists) part added.added
+
+-- a cell of a dense netlist has a number below the count
+kept_at : (old new : ArenaView) (count : ℕ) (part : List CellView) → Appended old new count part → (number : ℕ) (cell : CellView) → cell_at old.lists number ≡ Some cell
+    → cell_at new.lists number ≡ Some cell
+kept_at old new count part added number cell at =
+    elim (cases_lt number (cell_count old.lists)) [
+      | inl below ↦ added.kept number below ∙ at
+      | inr past ↦ (let k : ℕ = number - cell_count old.lists in
+          let e : cell_count old.lists + k ≡ number = omega arith in
+          let none : cell_at old.lists number ≡ None = rw e at (dense_past old.lists k added.dense) in absurd (cc))
+    ]
 
 pub grows_appended : AppendedGrows
 grows_appended = λ old new count part added. record {
   nets = let e = appended_count old new count part added in omega arith;
-  cells = λ number cell at. rw added.cells (live_kept old.lists.cells (map (λ (c : CellView). Some c) part) number cell at);
+  cells = kept_at old new count part added;
 }
 
 kept : (old new : NetlistView) (part : List CellView) → Grows old new → HasCells old part → HasCells new part

@@ -1,17 +1,21 @@
 -- How a netlist grows, one net or one cell after another.
-use Rattle.std.proofs.Common.{◌≡◌, ◌≢◌, ℕ, suc, zero, ◌+◌, ◌-◌, ◌<◌, ◌≤◌, ◌&&◌, List, [], ◌∷◌, ◌++◌, length, map, take, get_or, refl, sym, ◌∙◌, arith, ap, Option, Some, None, Bool, true, false, IsTrue, append_assoc, length-append, length-take, inl, inr}
+use Rattle.std.proofs.Common.{◌≡◌, ◌≢◌, ℕ, suc, zero, ◌+◌, ◌-◌, ◌<◌, ◌≤◌, ◌&&◌, List, [], ◌∷◌, ◌++◌, length, take, get_or, refl, sym, ◌∙◌, arith, ap, Option, Some, None, Bool, true, false, IsTrue, append_assoc, length-append, length-take, inl, inr}
 use Rattle.std.specs.Option.{IsSome}
-use Rattle.std.specs.List.{list_all}
-use Rattle.std.proofs.lemmas.List.{append-nil, take_more, map-append}
-use Rattle.std.proofs.lemmas.List.Elements.{All-push, All-nil, All-cons}
+use Rattle.std.specs.List.{list_all, slice_get}
+use Rattle.std.proofs.lemmas.List.{append-nil, take_more}
+use Rattle.std.proofs.lemmas.List.Elements.{All-nil, All-cons}
 use Rattle.std.proofs.lemmas.Bool.{cases_lt, cases_eq}
+use Rattle.cell_library.specs.declared.Kind.{Kind}
 use Rattle.netlist_model.specs.declared.NetId.{NetId}
+use Rattle.netlist_model.specs.declared.Name.{Name}
 use Rattle.netlist_model.specs.declared.Name.TheVariants.{Added}
 use Rattle.netlist_model.specs.declared.Feed.{Feed}
-use Rattle.netlist_model.specs.Lists.{NetView, CellView, NetlistView, cell_at, direction, IsUndriven}
-use Rattle.netlist_arena.specs.Arena.{HasNoGap}
+use Rattle.netlist_model.specs.Lists.{NetView, CellView, NetlistView, cell_at, cell_count, direction, IsUndriven}
+use Rattle.netlist_model.specs.Contained.{IsDense}
 use Rattle.netlist_arena.specs.Arena.{ArenaView, SpareView, IsFeedBelow, AreFeedsBelow}
 use Rattle.netlist_arena.specs.Adds.{with_net, IsFree, AddsCell}
+use Rattle.netlist_arena.proofs.Walking.{slice_get-append_left, slice_get-append_right}
+use Rattle.netlist_arena.proofs.Puts.{dense_past}
 use Rattle.gate_parts.specs.declared.Gate.{Gate}
 use Rattle.gate_parts.specs.declared.Pin.{Pin}
 use Rattle.gate_parts.specs.declared.Pins.TheVariants.{Four}
@@ -34,21 +38,41 @@ added_nets-add first (suc m) n =
 pub appended_count : (old new : ArenaView) (count : ℕ) (part : List CellView) → Appended old new count part → length new.lists.nets ≡ length old.lists.nets + count
 appended_count old new count part h = ap length h.net_list ∙ simp (length-append, length-added_nets)
 
-pub length-cells_after : (old new : ArenaView) (count : ℕ) (part : List CellView) → Appended old new count part → length new.lists.cells ≡ length old.lists.cells + length part
-length-cells_after old new count part h = ap length h.cells ∙ go old.lists.cells part
-  where
-    length_map : (part : List CellView) → length (map (λ (cell : CellView). Some cell) part) ≡ length part
-    length_map [] = refl
-    length_map (cell ∷ cells) = ap (λ (n : ℕ). suc n) (length_map cells)
+-- a netlist that grew at its end is dense
+is_there : (part : List CellView) (k : ℕ) → k < length part → IsSome (slice_get part k)
+is_there [] k below = absurd (omega arith)
+is_there (cell ∷ cells) zero below = refl
+is_there (cell ∷ cells) (suc k) below = is_there cells k (omega arith)
 
-    go : (cells : List (Option CellView)) (part : List CellView) → length (cells ++ map (λ cell. Some cell) part) ≡ length cells + length part
-    go cells part = let e = length_map part in let f = length-append cells (map (λ (cell : CellView). Some cell) part) in omega arith
+pub dense_after : (old new : ArenaView) (count : ℕ) (part : List CellView) → Appended old new count part → IsDense new.lists
+dense_after old new count part h i below =
+    let counted = h.counted in
+    elim (cases_lt i (cell_count old.lists)) [
+      | inl low ↦ rw (h.kept i low) (h.dense i low)
+      | inr past ↦ (let k : ℕ = i - cell_count old.lists in
+          let e : cell_count old.lists + k ≡ i = omega arith in
+          let at : cell_at new.lists i ≡ slice_get part k = rw e at (h.added k) in
+          rw at (is_there part k (omega arith)))
+    ]
 
-pub appended_none : (a : ArenaView) → Appended a a 0 []
-appended_none a = record {
+-- the same cells
+pub same_cells : (old new : ArenaView) → IsDense old.lists → new.lists.cells ≡ old.lists.cells
+    → (cell_count new.lists ≡ cell_count old.lists + 0) × ((number : ℕ) → number < cell_count old.lists → cell_at new.lists number ≡ cell_at old.lists number)
+    × ((k : ℕ) → cell_at new.lists (cell_count old.lists + k) ≡ None)
+same_cells old new dense same = (
+  (let e : cell_count old.lists + 0 ≡ cell_count old.lists = omega arith in rw (e, same) refl),
+  λ number below. rw same refl,
+  λ k. rw same (dense_past old.lists k dense),
+)
+
+pub appended_none : (a : ArenaView) → IsDense a.lists → Appended a a 0 []
+appended_none a is_dense = record {
   ports = refl;
   net_list = sym (append-nil a.lists.nets);
-  cells = sym (append-nil a.lists.cells);
+  dense = is_dense;
+  counted = (same_cells a a is_dense refl).0;
+  kept = (same_cells a a is_dense refl).1;
+  added = (same_cells a a is_dense refl).2;
   net_room = omega arith;
   cell_room = omega arith;
   bit_room = refl;
@@ -58,7 +82,17 @@ pub appended_more : (a b c : ArenaView) (m n : ℕ) (xs ys : List CellView) → 
 appended_more a b c m n xs ys h k = record {
   ports = k.ports ∙ h.ports;
   net_list = let e = appended_count a b m xs h in rw (k.net_list, e, h.net_list, append_assoc, added_nets-add (length a.lists.nets) m n) refl;
-  cells = rw (k.cells, h.cells, append_assoc, map-append (λ (cell : CellView). Some cell) xs ys) refl;
+  dense = h.dense;
+  counted = let e = h.counted in let f = k.counted in let g = length-append xs ys in omega arith;
+  kept = λ number below. let e = h.counted in k.kept number (omega arith) ∙ h.kept number below;
+  added = λ j. let e = h.counted in
+      elim (cases_lt j (length xs)) [
+        | inl low ↦ k.kept (cell_count a.lists + j) (omega arith) ∙ h.added j ∙ sym (slice_get-append_left xs ys j low)
+        | inr past ↦ (let i : ℕ = j - length xs in
+            let here : cell_count b.lists + i ≡ cell_count a.lists + j = omega arith in
+            let there : length xs + i ≡ j = omega arith in
+            (rw here at (k.added i)) ∙ (rw there at (sym (slice_get-append_right xs ys i))))
+      ];
   net_room = let e = h.net_room in let f = k.net_room in omega arith;
   cell_room = let e = h.cell_room in let f = k.cell_room in let g = length-append xs ys in omega arith;
   bit_room = k.bit_room ∙ h.bit_room;
@@ -66,11 +100,14 @@ appended_more a b c m n xs ys h k = record {
 
 -- one net more
 pub net_step : (M M' : ArenaView) → M'.lists ≡ with_net (record { name = Added (length M.lists.nets); index = None }) M.lists → M'.spare ≡ record M.spare { nets = M.spare.nets - 1 }
-    → 0 < M.spare.nets → Appended M M' 1 []
-net_step M M' grown used room = record {
+    → 0 < M.spare.nets → IsDense M.lists → Appended M M' 1 []
+net_step M M' grown used room is_dense = record {
   ports = ap (λ (N : NetlistView). N.ports) grown;
   net_list = ap (λ (N : NetlistView). N.nets) grown;
-  cells = ap (λ (N : NetlistView). N.cells) grown ∙ sym (append-nil M.lists.cells);
+  dense = is_dense;
+  counted = (same_cells M M' is_dense (ap (λ (N : NetlistView). N.cells) grown)).0;
+  kept = (same_cells M M' is_dense (ap (λ (N : NetlistView). N.cells) grown)).1;
+  added = (same_cells M M' is_dense (ap (λ (N : NetlistView). N.cells) grown)).2;
   net_room = let e : M'.spare.nets ≡ M.spare.nets - 1 = ap (λ (S : SpareView). S.nets) used in omega arith;
   cell_room = let e : M'.spare.cells ≡ M.spare.cells = ap (λ (S : SpareView). S.cells) used in omega arith;
   bit_room = ap (λ (S : SpareView). S.port_bits) used;
@@ -100,18 +137,29 @@ nets_free N M M' count n before after is undriven inside net grown free k low hi
 
 -- one cell more
 pub cell_step : (M M' : ArenaView) (number : ℕ) (cell : CellView) → AddsCell M.lists M'.lists number cell → M'.spare ≡ record M.spare { cells = M.spare.cells - 1 } → 0 < M.spare.cells
-    → HasNoGap M.lists → Appended M M' 0 (cell ∷ [])
-cell_step M M' number cell added used room dense = record {
-  ports = added.ports;
-  net_list = added.nets ∙ sym (append-nil M.lists.nets);
-  cells = (added.last dense).1;
+    → IsDense M.lists → Appended M M' 0 (cell ∷ [])
+cell_step M M' number cell adds used room is_dense = record {
+  ports = adds.ports;
+  net_list = adds.nets ∙ sym (append-nil M.lists.nets);
+  dense = is_dense;
+  counted = adds.count;
+  kept = λ other below. let last = adds.last is_dense in adds.others other (λ e. omega arith);
+  added = λ k. added_at k;
   net_room = let e : M'.spare.nets ≡ M.spare.nets = ap (λ (S : SpareView). S.nets) used in omega arith;
   cell_room = let e : M'.spare.cells ≡ M.spare.cells - 1 = ap (λ (S : SpareView). S.cells) used in omega arith;
   bit_room = ap (λ (S : SpareView). S.port_bits) used;
 }
+  where
+    added_at : (k : ℕ) → cell_at M'.lists (cell_count M.lists + k) ≡ slice_get (cell ∷ []) k
+    added_at zero = let last = adds.last is_dense in let e : cell_count M.lists + 0 ≡ number = omega arith in rw e adds.added
+    added_at (suc k) = let last = adds.last is_dense in adds.others (cell_count M.lists + suc k) (λ e. omega arith) ∙ dense_past M.lists (suc k) is_dense
 
-pub dense_step : (M M' : NetlistView) (number : ℕ) (cell : CellView) → AddsCell M M' number cell → HasNoGap M → HasNoGap M'
-dense_step M M' number cell added dense = rw (added.last dense).1 (All-push (λ (place : Option CellView). IsSome place) M.cells (Some cell) dense refl)
+-- one cell more, under its number as name
+pub named_step : (M M' : ArenaView) (number : ℕ) (name : Name) (kind : Kind) (feeds : List Feed) (output : Option NetId) → name ≡ Added (cell_count M.lists)
+    → AddsCell M.lists M'.lists number (record { kind = kind; name = Some name; feeds = feeds; output = output }) → M'.spare ≡ record M.spare { cells = M.spare.cells - 1 }
+    → 0 < M.spare.cells → IsDense M.lists → Appended M M' 0 (record { kind = kind; name = Some (Added (cell_count M.lists)); feeds = feeds; output = output } ∷ [])
+named_step M M' number name kind feeds output is adds used room is_dense =
+    rw (← is) (cell_step M M' number (record { kind = kind; name = Some name; feeds = feeds; output = output }) adds used room is_dense)
 
 -- a net that was free stays free where a cell on another net is added
 pub free_step : (M M' : NetlistView) (number out n : ℕ) (cell : CellView) → AddsCell M M' number cell → cell.output ≡ Some (record { 0 = out }) → n ≢ out
@@ -180,17 +228,17 @@ cell_left N M count first given number net k gates added below room =
     omega arith
 
 pub part_step : (N M M' : ArenaView) (given : List Feed) (gates : List Gate) (k f out : ℕ) (d : Gate) → f ≡ length N.lists.nets → out ≡ f + k → k < length gates
-    → Appended N M (length gates) (cells_from (length N.lists.nets) given (length N.lists.cells) (length N.lists.nets) (take k gates))
-    → Appended M M' 0 (gate_cell f given (length M.lists.cells) out (get_or gates k d) ∷ [])
-    → Appended N M' (length gates) (cells_from (length N.lists.nets) given (length N.lists.cells) (length N.lists.nets) (take (k + 1) gates))
+    → Appended N M (length gates) (cells_from (length N.lists.nets) given (cell_count N.lists) (length N.lists.nets) (take k gates))
+    → Appended M M' 0 (gate_cell f given (cell_count M.lists) out (get_or gates k d) ∷ [])
+    → Appended N M' (length gates) (cells_from (length N.lists.nets) given (cell_count N.lists) (length N.lists.nets) (take (k + 1) gates))
 part_step N M M' given gates k f out d first output below before step =
     let gate = get_or gates k d in
     let n = length N.lists.nets in
-    let number = length N.lists.cells in
+    let number = cell_count N.lists in
     let front = cells_from n given number n (take k gates) in
     let taken : length (take k gates) ≡ k = omega (arith, length-take {A = Gate} k gates) in
-    let cells : length M.lists.cells ≡ number + length (take k gates) =
-    length-cells_after N M (length gates) front before ∙ ap (λ (m : ℕ). number + m) (length-cells_from n given number n (take k gates)) in
+    let cells : cell_count M.lists ≡ number + length (take k gates) =
+    before.counted ∙ ap (λ (m : ℕ). number + m) (length-cells_from n given number n (take k gates)) in
     let net : out ≡ n + length (take k gates) = omega arith in
     let more : cells_from n given number n (take (k + 1) gates) ≡ front ++ gate_cell n given (number + length (take k gates)) (n + length (take k gates)) gate ∷ [] =
     rw (take_more gates k d below) (cells_more n given number n (take k gates) gate) in
@@ -198,6 +246,3 @@ part_step N M M' given gates k f out d first output below before step =
     let there = rw (first, cells, net) at step in
     let both = rw zero_more at (appended_more N M M' (length gates) 0 front (gate_cell n given (number + length (take k gates)) (n + length (take k gates)) gate ∷ []) before there) in
     rw more both
-
-pub dense_kept : (N M : ArenaView) (count : ℕ) → Appended N M count [] → HasNoGap N.lists → HasNoGap M.lists
-dense_kept N M count added dense = let e : M.lists.cells ≡ N.lists.cells = added.cells ∙ append-nil N.lists.cells in rw e dense

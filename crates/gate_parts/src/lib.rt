@@ -5,7 +5,9 @@
 
 ghost use Rattle.std.specs.Prelude.{◌≡◌, ◌≢◌, ℕ, ◌+◌, ◌<◌, ◌≤◌, ◌^◌, [], ◌∷◌, length, IsTrue, Some};
 ghost use Rattle.cell_library.specs.Gates.{Takes};
-ghost use Rattle.netlist_arena.specs.Arena.{IsFeedBelow, AreFeedsBelow, HasNoGap};
+ghost use Rattle.netlist_model.specs.Lists.{cell_count};
+ghost use Rattle.netlist_model.specs.Contained.{IsDense};
+ghost use Rattle.netlist_arena.specs.Arena.{IsFeedBelow, AreFeedsBelow};
 ghost use Rattle.netlist_arena.specs.Adds.{IsFree};
 ghost use Rattle.gate_parts.specs.Parts.{feed_of, gate_cell, part_cells, is_sound_pin, is_sound_gate, is_sound};
 ghost use Rattle.gate_parts.specs.Appended.{Appended};
@@ -47,7 +49,7 @@ pub struct Gate {
 /// Adds the gates of a table to a dense netlist, each with the net that it drives, and answers the first of these nets. The new nets
 /// and cells follow those that are there, in the order of the gates, under their numbers as names.
 pub fn add_part(netlist: &mut Netlist, gates: &[Gate], given: &[Feed]) -> NetId
-    requires dense { HasNoGap netlist.old.lists }
+    requires dense { IsDense netlist.old.lists }
     requires nets { length gates.now ≤ netlist.old.spare.nets }
     requires cells { length gates.now ≤ netlist.old.spare.cells }
     requires small { length gates.now ≤ 256 }
@@ -55,8 +57,8 @@ pub fn add_part(netlist: &mut Netlist, gates: &[Gate], given: &[Feed]) -> NetId
     requires given { AreFeedsBelow (length netlist.old.lists.nets) given.now }
     ensures first { result.0 ≡ length netlist.old.lists.nets }
     ensures added { Appended netlist.old netlist.new (length gates.now)
-        (part_cells gates.now given.now (length netlist.old.lists.nets) (length netlist.old.lists.cells)) }
-    ensures dense { HasNoGap netlist.new.lists }
+        (part_cells gates.now given.now (length netlist.old.lists.nets) (cell_count netlist.old.lists)) }
+    ensures dense { IsDense netlist.new.lists }
 {
     let count = gates.len() as u32;
     add_nets(netlist, count);
@@ -69,7 +71,8 @@ pub fn add_part(netlist: &mut Netlist, gates: &[Gate], given: &[Feed]) -> NetId
 
 // Adds nets that no cell drives.
 fn add_nets(netlist: &mut Netlist, count: u32)
-    requires { count ≤ netlist.old.spare.nets }
+    requires dense { IsDense netlist.old.lists }
+    requires room { count ≤ netlist.old.spare.nets }
     ensures added { Appended netlist.old netlist.new count [] }
     ensures free { (net : ℕ) → length netlist.old.lists.nets ≤ net → net < length netlist.new.lists.nets
         → IsFree netlist.new.lists net }
@@ -90,7 +93,7 @@ fn add_gate(
     gate: &Gate,
     output: NetId,
 )
-    requires dense { HasNoGap netlist.old.lists }
+    requires dense { IsDense netlist.old.lists }
     requires fits { first + count < 2 ^ 32 }
     requires cells { 0 < netlist.old.spare.cells }
     requires sound { IsTrue (is_sound_gate count (length given.now) gate.now) }
@@ -99,8 +102,8 @@ fn add_gate(
     requires there { output.0 < length netlist.old.lists.nets }
     requires free { IsFree netlist.old.lists output.0 }
     ensures added { Appended netlist.old netlist.new 0
-        (gate_cell first given.now (length netlist.old.lists.cells) output.0 gate.now ∷ []) }
-    ensures dense { HasNoGap netlist.new.lists }
+        (gate_cell first given.now (cell_count netlist.old.lists) output.0 gate.now ∷ []) }
+    ensures dense { IsDense netlist.new.lists }
     ensures free { (net : ℕ) → net ≢ output.0 → IsFree netlist.old.lists net → IsFree netlist.new.lists net }
 {
     match gate.pins {
@@ -147,7 +150,7 @@ fn feed(first: u32, count: u32, given: &[Feed], pin: Pin) -> Feed
 
 // Adds a cell under its number as name.
 fn add_feeds(netlist: &mut Netlist, kind: Kind, feeds: &[Feed], output: NetId)
-    requires dense { HasNoGap netlist.old.lists }
+    requires dense { IsDense netlist.old.lists }
     requires cells { 0 < netlist.old.spare.cells }
     requires few { length feeds.now ≤ 4 }
     requires takes { Takes kind (length feeds.now) }
@@ -156,13 +159,20 @@ fn add_feeds(netlist: &mut Netlist, kind: Kind, feeds: &[Feed], output: NetId)
     requires free { IsFree netlist.old.lists output.0 }
     ensures added { Appended netlist.old netlist.new 0 (record {
       kind = kind;
-      name = Some (Name.Added (length netlist.old.lists.cells));
+      name = Some (Name.Added (cell_count netlist.old.lists));
       feeds = feeds.now;
       output = Some output;
     } ∷ []) }
-    ensures dense { HasNoGap netlist.new.lists }
+    ensures dense { IsDense netlist.new.lists }
     ensures free { (net : ℕ) → net ≢ output.0 → IsFree netlist.old.lists net → IsFree netlist.new.lists net }
 {
-    let name = Name::Added(netlist.cell_count());
+    let name = next_cell_name(netlist);
     let _cell = netlist.add_cell(kind, Some(name), feeds, Some(output));
+}
+
+// The name of the cell that is added next.
+fn next_cell_name(netlist: &Netlist) -> Name
+    ensures { result ≡ Name.Added (cell_count netlist.now.lists) }
+{
+    Name::Added(netlist.cell_count())
 }

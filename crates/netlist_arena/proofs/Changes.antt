@@ -14,7 +14,7 @@ use Rattle.netlist_arena.specs.Arena.{IsFeedBelow, IsNetBelow, IsPlaceBelow, IsP
 use Rattle.netlist_arena.specs.Looks.{feed_at}
 use Rattle.netlist_arena.specs.Moves.{with_feed, connected, moved_feed, with_moved_feeds, moved_output, with_moved_output}
 
-abbrev one_if_live : Option CellView → ℕ
+abbrev pub one_if_live : Option CellView → ℕ
 one_if_live place = cond (is_some place) 1 0
 
 -- the bits of one port more

@@ -1,10 +1,8 @@
 -- What is new in a netlist that grew: a net that nothing names, and a cell with a number of its own.
-use Rattle.std.proofs.Common.{◌≡◌, ℕ, suc, zero, ◌<◌, ◌≤◌, List, [], ◌∷◌, ◌++◌, length, refl, sym, ◌∙◌, arith, ap, Option, Some, None, true, false, cond}
-use Rattle.std.specs.Option.{is_some, IsSome, MatchOption}
+use Rattle.std.proofs.Common.{◌≡◌, ℕ, suc, zero, ◌<◌, ◌≤◌, List, [], ◌∷◌, refl, arith, Option, Some, None, false}
+use Rattle.std.specs.Option.{MatchOption}
 use Rattle.std.specs.List.{All, slice_get}
 use Rattle.std.proofs.lemmas.List.Elements.{All-head, All-tail}
-use Rattle.std.proofs.lemmas.List.Sums.{sum_by-cons}
-use Rattle.std.proofs.lemmas.Option.{slice_get_past}
 use Rattle.cell_library.specs.declared.Kind.{Kind}
 use Rattle.cell_library.specs.declared.Kind.TheVariants.{And, Or, Nand, Nor, Xor, Xnor, Buf, Not, Bufif0, Bufif1, Assign, Mux2, Flop}
 use Rattle.cell_library.specs.declared.ResetTo.{ResetTo}
@@ -12,9 +10,7 @@ use Rattle.cell_library.specs.declared.ResetTo.TheVariants.{Nothing, Zero as ToZ
 use Rattle.cell_library.specs.Gates.{Takes, flop_operand_count}
 use Rattle.netlist_model.specs.declared.NetId.{NetId}
 use Rattle.netlist_model.specs.Lists.{PortView, CellView, NetlistView, live_cell, is_among, direction, IsUndriven}
-use Rattle.netlist_arena.specs.Arena.{IsNetBelow, IsPlaceBelow, IsPortBelow, live_count}
-use Rattle.netlist_arena.specs.Adds.{AddsCell}
-use Rattle.netlist_arena.proofs.Places.{slice_get-push_last, slice_get-push_other}
+use Rattle.netlist_arena.specs.Arena.{IsNetBelow, IsPlaceBelow, IsPortBelow}
 
 -- a live cell names nets that are there
 pub place_at : (n : ℕ) (cells : List (Option CellView)) (i : ℕ) (cell : CellView) → All (IsPlaceBelow n) cells → live_cell (slice_get cells i) ≡ Some cell → IsPlaceBelow n (Some cell)
@@ -46,28 +42,6 @@ direction_past (p ∷ ps) n net below past =
     let out = among_below n net p.nets head.there past in
     let rest = direction_past ps n net (All-tail (IsPortBelow n) p ps below) past in
     rw out rest
-
--- a cell at the end of the list has a number of its own
-pub adds_last : (old new : NetlistView) (number : ℕ) (cell : CellView) → new ≡ record old { cells = old.cells ++ Some cell ∷ [] } → number ≡ length old.cells
-    → AddsCell old new number cell
-adds_last old new number cell grown numbered =
-    let cells : new.cells ≡ old.cells ++ Some cell ∷ [] = ap (λ (N : NetlistView). N.cells) grown in
-    record {
-      ports = ap (λ (N : NetlistView). N.ports) grown;
-      nets = ap (λ (N : NetlistView). N.nets) grown;
-      fresh = let past : slice_get old.cells number ≡ None = slice_get_past old.cells number (omega arith) in ap live_cell past;
-      added = rw (cells, numbered) (ap live_cell (slice_get-push_last old.cells (Some cell)));
-      others = λ other differ. rw cells (ap live_cell (slice_get-push_other old.cells (Some cell) other (λ e. differ (e ∙ sym numbered))));
-      last = λ _. (numbered, cells);
-    }
-
--- in a dense netlist each place has a live cell
-pub live_count_dense : (cells : List (Option CellView)) → All (λ place. IsSome place) cells → live_count cells ≡ length cells
-live_count_dense [] dense = refl
-live_count_dense (None ∷ ps) dense = let no : false ≡ true = All-head (λ (place : Option CellView). IsSome place) None ps dense in cc
-live_count_dense (Some cell ∷ ps) dense =
-    let rest = live_count_dense ps (All-tail (λ (place : Option CellView). IsSome place) (Some cell) ps dense) in
-    let count = sum_by-cons (λ (place : Option CellView). cond (is_some place) 1 0) (Some cell) ps in omega (arith, rest, count)
 
 -- no kind takes more than 256 operands
 pub takes_few : (kind : Kind) (count : ℕ) → Takes kind count → count ≤ 256

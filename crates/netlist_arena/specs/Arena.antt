@@ -1,5 +1,5 @@
 -- An arena as contracts see it, and what always holds of one.
-use Rattle.std.specs.Prelude.{◌≡◌, ℕ, ◌+◌, ◌<◌, ◌≤◌, ◌^◌, List, length, slice_get, Option, Some, None, is_some, IsSome, MatchOption, All, ⊤, count_by, sum_by}
+use Rattle.std.specs.Prelude.{◌≡◌, ℕ, ◌+◌, ◌<◌, ◌≤◌, ◌^◌, List, length, slice_get, Option, Some, None, is_some, MatchOption, All, ⊤, count_by, sum_by}
 use Rattle.netlist_model.specs.declared.NetId.{NetId}
 use Rattle.netlist_model.specs.declared.Feed.{Feed}
 use Rattle.netlist_model.specs.declared.Feed.TheVariants.{Net, Const}
@@ -26,10 +26,6 @@ live_count cells = count_by is_some cells
 -- own: how many bits the ports have together
 abbrev pub bit_count : List PortView → ℕ
 bit_count ports = sum_by (λ (port : PortView). length port.nets) ports
-
--- own: each number of the list has its cell, so the numbers are those from 0 to the count less one
-abbrev pub HasNoGap : NetlistView → Type 0
-HasNoGap N = All (λ place. IsSome place) N.cells
 
 -- own: so many elements and spare ones fit the capacity, and their numbers fit an identity
 abbrev pub HasRoom : ℕ → ℕ → ℕ → Type 0

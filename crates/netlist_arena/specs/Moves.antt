@@ -1,9 +1,9 @@
 -- The substitutions on the lists.
-use Rattle.std.specs.Prelude.{ℕ, ◌==◌, map, slice_get, slice_set, Option, Some, None, option_map, if◌then◌else◌}
+use Rattle.std.specs.Prelude.{◌≡◌, ◌≢◌, ℕ, ◌+◌, ◌==◌, map, slice_get, slice_set, Option, Some, None, option_map, if◌then◌else◌}
 use Rattle.netlist_model.specs.declared.NetId.{NetId}
 use Rattle.netlist_model.specs.declared.Feed.{Feed}
 use Rattle.netlist_model.specs.declared.Feed.TheVariants.{Net, Const}
-use Rattle.netlist_model.specs.Lists.{CellView, NetlistView, live_cell}
+use Rattle.netlist_model.specs.Lists.{CellView, NetlistView, live_cell, cell_at, cell_count}
 
 -- own: the cell with this operand at a place
 abbrev pub with_feed : ℕ → Feed → CellView → CellView
@@ -40,6 +40,10 @@ with_moved_output from to cell = record cell { output = moved_output from to cel
 abbrev pub moved_driver : NetId → NetId → NetlistView → NetlistView
 moved_driver from to N = record N { cells = map (option_map (with_moved_output from to)) N.cells }
 
--- own: the lists without one cell; the others keep their numbers
-abbrev pub without_cell : ℕ → NetlistView → NetlistView
-without_cell number N = record N { cells = slice_set N.cells number None }
+-- own: one cell less; the others keep their numbers
+pub record RemovesCell (old new : NetlistView) (number : ℕ) : Type 0 where
+  pub ports : new.ports ≡ old.ports
+  pub nets : new.nets ≡ old.nets
+  pub gone : cell_at new number ≡ None
+  pub others : (other : ℕ) → other ≢ number → cell_at new other ≡ cell_at old other
+  pub count : cell_count new + 1 ≡ cell_count old

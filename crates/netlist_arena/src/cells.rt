@@ -1,9 +1,8 @@
-ghost use Rattle.std.specs.Prelude.{◌≡◌, ◌-◌, ◌<◌, ◌≤◌, ◌↔◌, [], ◌∷◌, ◌++◌, length, option_map, Some, IfOk, IfSome, OnErr, IsSome, IsTrue, MatchOption, ⊤, is_ok, if◌then◌else◌};
+ghost use Rattle.std.specs.Prelude.{◌≡◌, ◌+◌, ◌-◌, ◌^◌, ◌<◌, ◌≤◌, ◌↔◌, None, slice_get, vec_len, vec_capacity, length, option_map, Some, IfOk, IfSome, OnErr, IsSome, IsTrue, MatchOption, ⊤, is_ok, if◌then◌else◌};
 ghost use Rattle.cell_library.specs.Gates.{Takes};
-ghost use Rattle.netlist_model.specs.Lists.{CellView, cell_at};
-ghost use Rattle.netlist_arena.specs.Arena.{HasNoGap};
-ghost use Rattle.netlist_arena.specs.Arena.{live_count, AreFeedsBelow, IsFeedBelow, IsNetBelow, IsPlaceBelow};
-ghost use Rattle.netlist_arena.specs.Adds.{CanDrive, AddsCell};
+ghost use Rattle.netlist_model.specs.Lists.{CellView, cell_at, cell_count};
+ghost use Rattle.netlist_arena.specs.Arena.{AreFeedsBelow, IsFeedBelow, IsNetBelow, IsPlaceBelow};
+ghost use Rattle.netlist_arena.specs.Adds.{CanDrive, AddsCell, PutsCell};
 ghost use Rattle.netlist_arena.specs.Looks.{IsLive, feed_at};
 
 use crate::room::push_reserved;
@@ -15,7 +14,6 @@ use smallvec::SmallVec;
 
 impl Netlist {
     /// Adds a cell of at most four operands, which takes one spare cell.
-    #[tactic(auto, using(crate::proofs::Growth::adds_last))]
     pub fn add_cell(
         &mut self,
         kind: Kind,
@@ -33,7 +31,7 @@ impl Netlist {
         ensures spare { self.new.spare ≡ record self.old.spare { cells = self.old.spare.cells - 1 } }
     {
         match SmallVec::from_slice(self.alloc, feeds) {
-            Ok(feeds) => self.push_cell(Cell {
+            Ok(feeds) => self.place_cell(Cell {
                 kind,
                 name,
                 feeds,
@@ -45,7 +43,6 @@ impl Netlist {
 
     /// Adds a cell of any count of operands, which takes one spare cell and, past four operands, memory. Without
     /// memory nothing changes.
-    #[tactic(auto, using(crate::proofs::Growth::adds_last))]
     pub fn add_wide_cell(
         &mut self,
         kind: Kind,
@@ -64,7 +61,7 @@ impl Netlist {
             else self.old.spare) }
     {
         let feeds = SmallVec::from_slice(self.alloc, feeds)?;
-        Ok(self.push_cell(Cell {
+        Ok(self.place_cell(Cell {
             kind,
             name,
             feeds,
@@ -72,20 +69,18 @@ impl Netlist {
         }))
     }
 
-    // Puts a cell after the others.
-    fn push_cell(&mut self, cell: Cell) -> CellId
+    // Puts a cell in a place of its own.
+    fn place_cell(&mut self, cell: Cell) -> CellId
         requires room { 0 < self.old.spare.cells }
         requires below { IsPlaceBelow (length self.old.lists.nets) (Some cell) }
         requires free { CanDrive self.old.lists cell.output }
-        ensures id { result.0 ≡ length self.old.lists.cells }
-        ensures lists { self.new.lists ≡ record self.old.lists { cells = self.old.lists.cells ++ Some cell ∷ [] } }
+        ensures added { AddsCell self.old.lists self.new.lists result.0 cell }
         ensures spare { self.new.spare ≡ record self.old.spare { cells = self.old.spare.cells - 1 } }
     {
-        let id = CellId(self.cells.len() as u32);
-        push_reserved(&mut self.cells, Some(cell));
+        let number = put_cell(&mut self.cells, self.live, cell);
         self.live += 1;
         self.spare_cells -= 1;
-        id
+        CellId(number)
     }
 
     // The live cell with this number.
@@ -102,10 +97,8 @@ impl Netlist {
     }
 
     /// How many cells there are; a cell that was removed doesn't count.
-    #[tactic(auto, using(crate::proofs::Growth::live_count_dense))]
     pub fn cell_count(&self) -> u32
-        ensures count { result ≡ live_count self.now.lists.cells }
-        ensures dense { HasNoGap self.now.lists → result ≡ length self.now.lists.cells }
+        ensures { result ≡ cell_count self.now.lists }
     {
         self.live
     }
@@ -164,5 +157,32 @@ impl Netlist {
         ensures below { IsFeedBelow (length self.now.lists.nets) result }
     {
         self.cell(cell).feeds.as_slice()[place as usize]
+    }
+}
+
+// Puts a cell in the place of this number where that is empty, else after the others, and answers its number.
+fn put_cell(cells: &mut Vec<Option<Cell>>, free: u32, cell: Cell) -> u32
+    requires room { vec_len cells.old < vec_capacity cells.old }
+    requires numbers { vec_len cells.old + 1 < 2 ^ 32 }
+    ensures puts { PutsCell cells.old.items cells.new.items free result cell }
+    ensures len { vec_len cells.new ≤ vec_len cells.old + 1 }
+    ensures capacity { vec_capacity cells.old ≤ vec_capacity cells.new }
+{
+    if is_empty_at(cells, free) {
+        cells[free as usize] = Some(cell);
+        return free;
+    }
+    let number = cells.len() as u32;
+    push_reserved(cells, Some(cell));
+    number
+}
+
+// Whether there is a place of this number, and it is empty.
+fn is_empty_at(cells: &[Option<Cell>], number: u32) -> bool
+    ensures { IsTrue result ↔ (slice_get cells.now number ≡ Some None) }
+{
+    match cells.get(number as usize) {
+        Some(place) => place.is_none(),
+        None => false,
     }
 }

@@ -1,11 +1,11 @@
-ghost use Rattle.std.specs.Prelude.{◌≡◌, ◌<◌, length, map, option_map, Some, None, IsSome, IfSome, vec_len, vec_capacity};
+ghost use Rattle.std.specs.Prelude.{◌≡◌, ◌<◌, length, map, option_map, Some, None, IsSome, IfSome, slice_set, vec_len, vec_capacity};
 ghost use Rattle.netlist_model.specs.declared.NetId.{NetId as NetNumber};
 ghost use Rattle.netlist_model.specs.Lists.{CellView, cell_at, IsUndriven};
 ghost use Rattle.netlist_model.specs.Formed.{IsDriven};
 ghost use Rattle.netlist_arena.specs.Arena.{IsFeedBelow};
 ghost use Rattle.netlist_arena.specs.Adds.{IsFree};
 ghost use Rattle.netlist_arena.specs.Looks.{IsLive, feed_at};
-ghost use Rattle.netlist_arena.specs.Moves.{with_feed, connected, moved_feed, with_moved_feeds, moved_readers, moved_output, with_moved_output, moved_driver, without_cell};
+ghost use Rattle.netlist_arena.specs.Moves.{with_feed, connected, moved_feed, with_moved_feeds, moved_readers, moved_output, with_moved_output, moved_driver, RemovesCell};
 
 use crate::{Cell, Netlist};
 use netlist_model::{CellId, Feed, NetId};
@@ -45,15 +45,14 @@ impl Netlist {
     }
 
     /// Removes a cell, and its output is undriven. The others keep their numbers.
-    #[tactic(auto, using(crate::proofs::Changes::live_count_removed))]
     pub fn remove_cell(&mut self, cell: CellId)
         requires { IsLive self.old.lists cell.0 }
-        ensures lists { self.new.lists ≡ without_cell cell.0 self.old.lists }
+        ensures removed { RemovesCell self.old.lists self.new.lists cell.0 }
         ensures undriven { (found : CellView) (net : NetNumber) → cell_at self.old.lists cell.0 ≡ Some found
             → found.output ≡ Some net → IsUndriven self.new.lists net.0 }
         ensures spare { self.new.spare ≡ self.old.spare }
     {
-        empty_place(&mut self.cells[cell.0 as usize]);
+        empty_place(&mut self.cells, cell);
         self.live -= 1;
     }
 }
@@ -68,10 +67,14 @@ fn connect_place(place: &mut Option<Cell>, at: u32, feed: Feed)
     }
 }
 
-fn empty_place(place: &mut Option<Cell>)
-    ensures { place.new ≡ None }
+// Empties a place, and the others stay.
+fn empty_place(cells: &mut Vec<Option<Cell>>, cell: CellId)
+    requires { cell.0 < vec_len cells.old }
+    ensures items { cells.new.items ≡ slice_set cells.old.items cell.0 None }
+    ensures len { vec_len cells.new ≡ vec_len cells.old }
+    ensures capacity { vec_capacity cells.new ≡ vec_capacity cells.old }
 {
-    *place = None;
+    cells[cell.0 as usize] = None;
 }
 
 fn moved_to(feed: Feed, from: NetId, to: NetId) -> Feed

@@ -109,3 +109,19 @@ fn two_hundred_thousand_cells_in_seconds(rt: HostRuntime) -> Result<(), Fail> {
     assert_eq!(rt; netlist.cell_count(), 200_000);
     Ok(())
 }
+
+#[test]
+fn a_cell_takes_the_number_of_the_last_that_was_removed(rt: HostRuntime) -> Result<(), Fail> {
+    let mut netlist = Netlist::new(rt.alloc());
+    netlist.reserve(4, 1, 0)?;
+    let a = netlist.add_net(Name::Original(0), None);
+    let first = netlist.add_cell(Kind::Buf, None, &[Feed::Net(a)], None);
+    let last = netlist.add_cell(Kind::Not, None, &[Feed::Net(a)], None);
+    netlist.remove_cell(last);
+    let again = netlist.add_cell(Kind::And, None, &[Feed::Net(a), Feed::Net(a)], None);
+    let next = netlist.add_cell(Kind::Buf, None, &[Feed::Net(a)], None);
+    assert_eq!(rt; first, CellId(0));
+    assert_eq!(rt; again, CellId(1));
+    assert_eq!(rt; next, CellId(2));
+    Ok(())
+}
