@@ -1,13 +1,17 @@
-// A library with one function.
+// Cuts a BSDL text into words as its bytes come.
+// The contracts cite `words_of`, `Begins` and `IsPlace` (bsdl_lexicon, specs/Pieces.antt), and `Fed` (specs/Fed.antt).
+// IEEE Std 1149.1-2001, the annex on BSDL; VHDL-93, lexical elements.
 #![tactic(auto)]
 
-ghost use Rattle.std.specs.Prelude.{◌≡◌};
-ghost use Rattle.bsdl_words.specs.Echo.{echo_of};
+mod classes;
+mod cutter;
+mod fault;
+mod integers;
+mod mode;
 
-// The `ensures` clause is the contract: what `echo` returns is `echo_of` of its argument, a definition
-// in `specs/Echo.antt`, which a caller's clause can cite too.
-pub fn echo(x: usize) -> usize
-    ensures { result ≡ echo_of x }
-{
-    x
-}
+pub use bsdl_lexicon::{BsdlReader, BsdlSpanned, BsdlSymbol, BsdlToken, BsdlWords};
+pub use cutter::BsdlCutter;
+pub use fault::BsdlWordFault;
+
+#[cfg(test)]
+mod tests;
