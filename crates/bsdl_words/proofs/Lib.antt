@@ -1,1 +1,5 @@
 pub mod Values
+pub mod Outcome
+pub mod Complete
+pub mod Begun
+pub mod Sound
