@@ -3,3 +3,4 @@ pub mod Outcome
 pub mod Complete
 pub mod Begun
 pub mod Sound
+pub mod Feeding

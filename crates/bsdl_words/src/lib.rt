@@ -8,10 +8,12 @@ mod cutter;
 mod fault;
 mod integers;
 mod mode;
+mod whole;
 
 pub use bsdl_lexicon::{BsdlReader, BsdlSpanned, BsdlSymbol, BsdlToken, BsdlWords};
 pub use cutter::BsdlCutter;
 pub use fault::BsdlWordFault;
+pub use whole::cut;
 
 #[cfg(test)]
 mod tests;
