@@ -5,11 +5,7 @@ use std::alloc::Global;
 use std::test::Fail;
 
 fn fault_place(alloc: Global, text: &[u8]) -> Option<u64> {
-    let mut cutter = BsdlCutter::new(alloc);
-    if let Err(BsdlWordFault::BsdlWord { place }) = cutter.feed(text) {
-        return Some(place);
-    }
-    match cutter.finish() {
+    match cut(alloc, text) {
         Err(BsdlWordFault::BsdlWord { place }) => Some(place),
         Err(BsdlWordFault::OutOfMemory) | Ok(_) => None,
     }
@@ -25,12 +21,13 @@ fn faults_stand_at_the_first_byte_that_cannot_follow(rt: HostRuntime) {
         (b"1234567890;".as_slice(), 10),
         (b"1234567890".as_slice(), 10),
         (b"1234567890123456789012345678901".as_slice(), 30),
+        (b"1234567890123456789012345678.5e1".as_slice(), 31),
+        (b"1234567890123456789012345678.5e+".as_slice(), 31),
+        (b"1234567890123456789012345678.51e".as_slice(), 31),
         (b"12.".as_slice(), 3),
         (b"12.a".as_slice(), 3),
         (b"12a".as_slice(), 2),
-        (b"12_".as_slice(), 2),
         (b"1.5e".as_slice(), 4),
-        (b"1.5e+".as_slice(), 5),
         (b"1.5e+-".as_slice(), 5),
         (b"1.5f".as_slice(), 3),
         (b"-".as_slice(), 1),
@@ -45,17 +42,62 @@ fn faults_stand_at_the_first_byte_that_cannot_follow(rt: HostRuntime) {
 }
 
 #[test]
-fn what_can_follow_is_cut(rt: HostRuntime) {
+fn what_can_follow_is_cut(rt: HostRuntime) -> Result<(), Fail> {
     let rows = [
-        b"1.5.6".as_slice(),
-        b"a.5".as_slice(),
-        b"\"a\"\"b\"".as_slice(),
-        b"123456789012345678901234567890.5".as_slice(),
-        b"1.5E-3:=:-- =".as_slice(),
-        b" \t\r\n\x0c".as_slice(),
-        b"".as_slice(),
+        (b"1.5.6".as_slice(), 3),
+        (b"a.5".as_slice(), 3),
+        (b"\"a\"\"b\"".as_slice(), 2),
+        (b"123456789012345678901234567890.5".as_slice(), 1),
+        (b"1.5E-3:=:-- =".as_slice(), 3),
+        (b" \t\r\n\x0c--".as_slice(), 0),
+        (b"".as_slice(), 0),
     ];
-    for text in rows {
-        assert_eq!(rt; fault_place(rt.alloc(), text), None);
+    for (text, count) in rows {
+        let words = cut(rt.alloc(), text)?;
+        assert_eq!(rt; words.len(), count);
+        assert_eq!(rt; words.end, text.len() as u64);
     }
+    Ok(())
+}
+
+#[test]
+fn a_name_has_at_most_255_bytes(rt: HostRuntime) -> Result<(), Fail> {
+    let mut text = Text::new(rt.alloc());
+    for _ in 0..254 {
+        text.push(b'a')?;
+    }
+    assert_eq!(rt; fault_place(rt.alloc(), text.as_bytes()), None);
+    text.push(b'_')?;
+    assert_eq!(rt; fault_place(rt.alloc(), text.as_bytes()), Some(254));
+    Ok(())
+}
+
+#[test]
+fn words_go_on_in_the_next_piece(rt: HostRuntime) -> Result<(), Fail> {
+    let mut cutter = BsdlCutter::new(rt.alloc());
+    for piece in [b"use STD_11".as_slice(), b"49_1:", b"=04", b"2--\n\"a", b"b\""] {
+        cutter.feed(piece)?;
+    }
+    let words = cutter.finish()?;
+    let mut reader = BsdlReader::new(&words);
+    assert_eq!(rt; reader.take_key(b"USE"), true);
+    assert!(rt; reader.take_name().unwrap_or(b"".as_slice()) == b"STD_1149_1".as_slice());
+    assert_eq!(rt; reader.take_becomes(), true);
+    assert_eq!(rt; reader.take_integer(), Some(42));
+    assert!(rt; reader.take_quoted().unwrap_or(b"".as_slice()) == b"ab".as_slice());
+    assert_eq!(rt; words.place_of(4), 22);
+    Ok(())
+}
+
+#[test]
+fn a_refusal_is_answered_again(rt: HostRuntime) {
+    let mut cutter = BsdlCutter::new(rt.alloc());
+    let refusal = Err(BsdlWordFault::BsdlWord { place: 1 });
+    assert_eq!(rt; cutter.feed(b"a?"), refusal);
+    assert_eq!(rt; cutter.feed(b"b"), refusal);
+    let last = match cutter.finish() {
+        Err(BsdlWordFault::BsdlWord { place }) => Some(place),
+        Err(BsdlWordFault::OutOfMemory) | Ok(_) => None,
+    };
+    assert_eq!(rt; last, Some(1));
 }
