@@ -9,7 +9,7 @@ use Rattle.bsdl_lexicon.specs.declared.symbol.BsdlSymbol.{BsdlSymbol}
 use Rattle.bsdl_lexicon.specs.declared.symbol.BsdlSymbol.TheVariants.{LeftParenthesis, RightParenthesis, Colon, Semicolon, Comma, Ampersand, Dot}
 use Rattle.bsdl_lexicon.specs.Bytes.{is_blank, is_letter, is_digit, is_letter_or_digit, is_name_byte, clings, is_exponent_mark, is_sign, is_quotable}
 use Rattle.bsdl_lexicon.specs.Words.{spanned, symbol_byte}
-use Rattle.bsdl_lexicon.specs.Pieces.{Piece, blank, comment, identifier, integer, real, quoted, symbol, becomes, spelling, IsPiece, Ends, EndsSymbol, IsOneLine, IsFirst, NotFirst, HasSingleUnderscores, AreDigits, IsPower, IsExponent, IsReal, text_of, ArePieces, word_at, words_from}
+use Rattle.bsdl_lexicon.specs.Pieces.{Piece, blank, comment, identifier, integer, real, quoted, symbol, becomes, spelling, IsPiece, Ends, EndsSymbol, IsOneLine, IsFirst, NotFirst, HasSingleUnderscores, AreDigits, IsPower, IsExponent, text_of, ArePieces, word_at, words_from}
 use Rattle.bsdl_words.specs.declared.mode.Mode.TheVariants as in_
 use Rattle.bsdl_words.specs.declared.mode.Mode.{Mode}
 use Rattle.bsdl_words.specs.Machine.{state, between, with_name, with_integer, with_real, with_quoted, with_colon, with_becomes}

@@ -1,5 +1,5 @@
 use Rattle.std.proofs.Common.{◌≡◌, ℕ, ◌+◌, ◌<◌, ◌≤◌, List, [], ◌∷◌, ◌++◌, length, Option, Some, None, Bool, true, false, cond, refl, sym, ap, subst, ◌∙◌, arith, append_assoc, length-append, IsTrue, not, ◌==◌, inl, inr}
-use Rattle.std.specs.Prelude.{nat_lt, nat_le, option_and_then, ◌⊎◌}
+use Rattle.std.specs.Prelude.{nat_lt, nat_le, option_and_then}
 use Rattle.std.specs.List.{AllByRecursion}
 use Rattle.std.proofs.lemmas.Bool.{ltb-true, leb-true}
 use Rattle.std.proofs.lemmas.Bool.Decides.{nat_tests}
@@ -11,12 +11,12 @@ use Rattle.bsdl_lexicon.specs.declared.symbol.BsdlSymbol.{BsdlSymbol}
 use Rattle.bsdl_lexicon.specs.declared.symbol.BsdlSymbol.TheVariants.{LeftParenthesis, RightParenthesis, Colon, Semicolon, Comma, Ampersand, Dot}
 use Rattle.bsdl_lexicon.specs.Bytes.{is_blank, is_letter, is_digit, is_letter_or_digit, is_name_byte, clings, is_exponent_mark, is_sign, is_quotable}
 use Rattle.bsdl_lexicon.specs.Words.{spanned, symbol_byte}
-use Rattle.bsdl_lexicon.specs.Pieces.{Piece, blank, comment, identifier, integer, real, quoted, symbol, becomes, spelling, IsPiece, Ends, EndsSymbol, IsOneLine, IsIdentifier, IsReal, NotFirst, word_at, CutFrom}
+use Rattle.bsdl_lexicon.specs.Pieces.{Piece, blank, comment, identifier, integer, real, quoted, symbol, becomes, spelling, IsPiece, Ends, EndsSymbol, IsOneLine, IsIdentifier, IsReal, word_at, CutFrom}
 use Rattle.bsdl_words.specs.declared.mode.Mode.{Mode}
 use Rattle.bsdl_words.specs.declared.mode.Mode.TheVariants as in_
 use Rattle.bsdl_words.specs.Machine.{State, state, between, symbol_with, real_ends, with_name, with_integer, with_real, with_quoted, with_colon, with_becomes}
-use Rattle.bsdl_words.proofs.Outcome.{outcome, and_then_cond, and_then_map, bytes_nil, words_nil}
-use Rattle.bsdl_words.proofs.Begun.{all_push, name_push, underscore_push, digits_push, Pointed, Fractioned, Marked, Signed, Powered, pointed, fraction_first, fraction_push, marked, signed, power_first, power_signed, power_push, real_of_fraction, real_of_power}
+use Rattle.bsdl_words.proofs.Outcome.{outcome, and_then_cond, and_then_map, words_nil}
+use Rattle.bsdl_words.proofs.Begun.{all_push, name_push, underscore_push, Pointed, Fractioned, Marked, Signed, Powered, pointed, fraction_first, fraction_push, marked, signed, power_first, power_signed, power_push, real_of_fraction, real_of_power}
 
 -- What the bytes of the piece that was begun are.
 

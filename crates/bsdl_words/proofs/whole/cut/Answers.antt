@@ -1,8 +1,5 @@
-use Rattle.std.proofs.Common.{◌≡◌, ℕ, List, [], length}
+use Rattle.std.proofs.Common.{[]}
 use Rattle.std.proofs.lemmas.Result.{IfOk-weaker, IfErr-weaker, err_from_is_err_and}
-use Rattle.bsdl_lexicon.specs.declared.token.BsdlSpanned.{BsdlSpanned}
-use Rattle.bsdl_lexicon.specs.Pieces.{words_of}
-use Rattle.bsdl_words.specs.Fed.{IsEndFault}
 use Rattle.bsdl_words.proofs.Feeding.{fault_whole}
 use Rattle.bsdl_words.proofs.whole.cut.Goals as goal
 

@@ -1,4 +1,4 @@
-use Rattle.std.proofs.Common.{ℕ, ◌∙◌, Some, ap, sym, subst}
+use Rattle.std.proofs.Common.{ℕ, subst}
 use Rattle.bsdl_words.specs.Fed.{state_of, StepFault}
 use Rattle.bsdl_words.specs.Machine.{end}
 use Rattle.std.proofs.lemmas.Option.{same_Some}
