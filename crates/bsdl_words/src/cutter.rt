@@ -28,7 +28,7 @@ pub struct BsdlCutter {
 }
 
 impl BsdlCutter {
-    ghost use Rattle.bsdl_words.specs.Machine.{State, state, between, begin, in_comment, name_goes, real_ends, step, end, with_name, with_integer, with_real, with_quoted, with_colon, with_becomes};
+    ghost use Rattle.bsdl_words.specs.Machine.{begin, in_comment, name_goes, real_ends, step, end, with_name, with_integer, with_real, with_quoted, with_colon, with_becomes};
     ghost use Rattle.bsdl_words.specs.Fed.{state_of, refusal_of, Steps, Closes, Fed, IsFault, IsEndFault, EndsAs};
     ghost use Rattle.bsdl_lexicon.specs.Pieces.{Begins, words_of};
     ghost use Rattle.bsdl_lexicon.specs.Words.{spanned};
