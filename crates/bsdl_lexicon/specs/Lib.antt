@@ -1,0 +1,5 @@
+pub mod Bytes
+pub mod Names
+pub mod Reserved
+pub mod Words
+pub mod Pieces
