@@ -18,6 +18,11 @@ use Rattle.bsdl_device.specs.Shape.{mode_word, stop_word}
 use Rattle.bsdl_device.specs.Instructions.{instruction_word, is_instruction}
 use Rattle.bsdl_device.specs.Grammar.{cell_word, function_word, safe_word, bit_word}
 
+-- pieces, one behind the other
+unfoldable pub pieces : List (List ℕ) → List ℕ
+pieces [] = []
+pieces (piece ∷ more) = piece ++ pieces more
+
 -- parts with these bytes between them
 abbrev pub each_after : {A : Type 0} → List ℕ → (A → List ℕ) → List A → List ℕ
 each_after between text xs = flat_map (λ x. between ++ text x) xs
@@ -26,12 +31,12 @@ abbrev pub separated_text : {A : Type 0} → List ℕ → (A → List ℕ) → L
 separated_text between text [] = []
 separated_text between text (x ∷ xs) = text x ++ each_after between text xs
 
--- each part as a string on a line of its own, with a comma in it and `&` behind it, but for the last
-abbrev pub strings_text : {A : Type 0} → (A → List ℕ) → List A → List ℕ
-strings_text text xs = codes "    \"" ++ separated_text (codes ",\" &\n    \"") text xs ++ codes "\";\n"
+-- between two strings: a comma in the first, `&` behind it, and the second on a line of its own
+abbrev pub next_string : List ℕ
+next_string = pieces (codes ",\" &\n    \"" ∷ [])
 
 -- the last bits of a number, so many
-abbrev pub bits_text : ℕ → ℕ → List ℕ
+unfoldable pub bits_text : ℕ → ℕ → List ℕ
 bits_text zero value = []
 bits_text (suc len) value = bits_text len (value / 2) ++ (48 + value % 2) ∷ []
 
@@ -40,119 +45,188 @@ pattern_text bits = bits_text bits.len bits.value
 
 -- Ports.
 
--- `bit`, or `bit_vector(left to right)`, or with `downto` where left is greater than right
-abbrev pub type_text : Option PortRange → List ℕ
+-- `to`, or `downto` where left is greater than right
+unfoldable pub direction_text : PortRange → List ℕ
+direction_text r = if nat_le r.left r.right then codes " to " else codes " downto "
+
+-- `left to right`
+unfoldable pub bounds_text : PortRange → List ℕ
+bounds_text r = decimal r.left ++ direction_text r ++ decimal r.right
+
+unfoldable pub vector_text : List ℕ
+vector_text = codes "bit_vector("
+
+-- `bit`, or `bit_vector(left to right)`
+unfoldable pub type_text : Option PortRange → List ℕ
 type_text None = codes "bit"
-type_text (Some r) = codes "bit_vector(" ++ decimal r.left ++ (if nat_le r.left r.right then codes " to " else codes " downto ") ++ decimal r.right ++ codes ")"
+type_text (Some r) = vector_text ++ bounds_text r ++ codes ")"
+
+-- `    name : mode `
+unfoldable pub named_text : List ℕ → List ℕ → List ℕ
+named_text name mode_name = pieces (codes "    " ∷ name ∷ codes " : " ∷ mode_name ∷ codes " " ∷ [])
 
 -- `    name : mode type`
-abbrev pub port_text : DevPort → List ℕ
-port_text p = codes "    " ++ p.name ++ codes " : " ++ mode_word p.mode ++ codes " " ++ type_text p.range
+unfoldable pub port_text : DevPort → List ℕ
+port_text p = named_text p.name (mode_word p.mode) ++ type_text p.range
 
-abbrev pub ports_text : List DevPort → List ℕ
-ports_text ports = codes "  port (\n" ++ separated_text (codes ";\n") port_text ports ++ codes "\n  );\n"
+unfoldable pub ports_text : List DevPort → List ℕ
+ports_text ports = separated_text (codes ";\n") port_text ports
 
 -- The pin map.
 
+-- the pins with commas between them
+unfoldable pub pin_list_text : List (List ℕ) → List ℕ
+pin_list_text pins = separated_text (codes ",") (λ pin. pin) pins
+
 -- the pin of a scalar, or the pins of a vector in parentheses
-abbrev pub pins_text : Option PortRange → List (List ℕ) → List ℕ
-pins_text None pins = separated_text (codes ",") (λ pin. pin) pins
-pins_text (Some r) pins = codes "(" ++ separated_text (codes ",") (λ pin. pin) pins ++ codes ")"
+unfoldable pub pins_text : Option PortRange → List (List ℕ) → List ℕ
+pins_text None pins = pin_list_text pins
+pins_text (Some r) pins = codes "(" ++ pin_list_text pins ++ codes ")"
 
 -- `port:pins`
-abbrev pub pin_entry_text : DevPort → List ℕ
+unfoldable pub pin_entry_text : DevPort → List ℕ
 pin_entry_text p = p.name ++ codes ":" ++ pins_text p.range p.pins
 
--- Attributes.
+unfoldable pub pin_map_text : List DevPort → List ℕ
+pin_map_text ports = separated_text next_string pin_entry_text ports
 
--- `  attribute kind of entity : entity is`
-abbrev pub attribute_text : List ℕ → List ℕ → List ℕ
-attribute_text kind entity = codes "  attribute " ++ kind ++ codes " of " ++ entity ++ codes " : entity is"
+-- The head of the file.
+
+unfoldable pub entity_text : List ℕ → List ℕ → List ℕ
+entity_text entity package_name = pieces (
+    codes "entity " ∷ entity ∷ codes " is\n  generic (PHYSICAL_PIN_MAP : string := \"" ∷ package_name ∷ codes "\");\n  port (\n" ∷ []
+    )
+
+unfoldable pub conformance_text : List ℕ → List ℕ → List ℕ
+conformance_text entity package_name = pieces (
+    codes "\n  );\n  use STD_1149_1_2001.all;\n  attribute COMPONENT_CONFORMANCE of " ∷ entity ∷ codes " : entity is \"STD_1149_1_2001\";\n  attribute PIN_MAP of "
+    ∷ entity ∷ codes " : entity is PHYSICAL_PIN_MAP;\n  constant " ∷ package_name ∷ codes " : PIN_MAP_STRING :=\n    \"" ∷ []
+    )
+
+-- the entity up to the pin map
+unfoldable pub head_text : Device → List ℕ
+head_text d = entity_text d.entity d.«package» ++ ports_text d.ports ++ conformance_text d.entity d.«package» ++ pin_map_text d.ports
+
+-- The test access port.
 
 -- the name of the port at a place
-abbrev pub port_name : List DevPort → ℕ → List ℕ
+unfoldable pub port_name : List DevPort → ℕ → List ℕ
 port_name ports place = option_map_or (λ (p : DevPort). p.name) (slice_get ports place) []
 
--- `  attribute kind of port : signal is`
-abbrev pub signal_text : List ℕ → List ℕ → List ℕ
-signal_text kind port = codes "  attribute " ++ kind ++ codes " of " ++ port ++ codes " : signal is "
+unfoldable pub scan_in_text : List ℕ → List ℕ
+scan_in_text name = pieces (codes "\";\n  attribute TAP_SCAN_IN of " ∷ name ∷ codes " : signal is true;\n" ∷ [])
 
-abbrev pub tap_text : Device → List ℕ
+unfoldable pub scan_mode_text : List ℕ → List ℕ
+scan_mode_text name = pieces (codes "  attribute TAP_SCAN_MODE of " ∷ name ∷ codes " : signal is true;\n" ∷ [])
+
+unfoldable pub scan_out_text : List ℕ → List ℕ
+scan_out_text name = pieces (codes "  attribute TAP_SCAN_OUT of " ∷ name ∷ codes " : signal is true;\n" ∷ [])
+
+unfoldable pub scan_reset_text : List ℕ → List ℕ
+scan_reset_text name = pieces (codes "  attribute TAP_SCAN_RESET of " ∷ name ∷ codes " : signal is true;\n" ∷ [])
+
+-- TCK, its frequency and where it may stop
+unfoldable pub scan_clock_text : List ℕ → List ℕ → List ℕ → List ℕ
+scan_clock_text name frequency stop_name = pieces (codes "  attribute TAP_SCAN_CLOCK of " ∷ name ∷ codes " : signal is (" ∷ frequency ∷ codes ", " ∷ stop_name ∷ codes ");\n" ∷ [])
+
+unfoldable pub tap_text : Device → List ℕ
 tap_text d =
-    signal_text (codes "TAP_SCAN_IN") (port_name d.ports d.tdi) ++ codes "true;\n"
-    ++ signal_text (codes "TAP_SCAN_MODE") (port_name d.ports d.tms) ++ codes "true;\n"
-    ++ signal_text (codes "TAP_SCAN_OUT") (port_name d.ports d.tdo) ++ codes "true;\n"
-    ++ signal_text (codes "TAP_SCAN_RESET") (port_name d.ports d.trst) ++ codes "true;\n"
-    ++ signal_text (codes "TAP_SCAN_CLOCK") (port_name d.ports d.tck) ++ codes "(" ++ d.clock ++ codes ", " ++ stop_word d.stop ++ codes ");\n"
+    scan_in_text (port_name d.ports d.tdi) ++ scan_mode_text (port_name d.ports d.tms) ++ scan_out_text (port_name d.ports d.tdo)
+    ++ scan_reset_text (port_name d.ports d.trst) ++ scan_clock_text (port_name d.ports d.tck) d.clock (stop_word d.stop)
 
 -- Instructions.
 
+-- `  attribute kind of entity : entity is`, and what comes before and after it
+unfoldable pub attribute_text : List ℕ → List ℕ → List ℕ → List ℕ → List ℕ
+attribute_text before kind entity behind = pieces (before ∷ codes "  attribute " ∷ kind ∷ codes " of " ∷ entity ∷ codes " : entity is" ∷ behind ∷ [])
+
 -- `INSTRUCTION (bits)`
-abbrev pub opcode_text : Opcode → List ℕ
+unfoldable pub opcode_text : Opcode → List ℕ
 opcode_text o = instruction_word o.instr ++ codes " (" ++ pattern_text o.bits ++ codes ")"
 
--- version, part, manufacturer and bit 0, each a string
-abbrev pub idcode_text : List ℕ → ℕ → List ℕ
-idcode_text entity code =
-    attribute_text (codes "IDCODE_REGISTER") entity ++ codes "\n    \"" ++ bits_text 4 (code / 2 ^ 28) ++ codes "\" & \"" ++ bits_text 16 (code / 2 ^ 12)
-    ++ codes "\" & \"" ++ bits_text 11 (code / 2) ++ codes "\" & \"" ++ bits_text 1 code ++ codes "\";\n"
+unfoldable pub opcodes_text : List Opcode → List ℕ
+opcodes_text opcodes = separated_text next_string opcode_text opcodes
 
-abbrev pub has_opcode : List Opcode → Instr → Bool
+-- between two strings on one line
+abbrev pub and_string : List ℕ
+and_string = codes "\" & \""
+
+-- version, part, manufacturer and bit 0, each a string
+unfoldable pub code_text : ℕ → List ℕ
+code_text code = bits_text 4 (code / 2 ^ 28) ++ and_string ++ bits_text 16 (code / 2 ^ 12) ++ and_string ++ bits_text 11 (code / 2) ++ and_string ++ bits_text 1 code
+
+-- the code, where the device has one
+unfoldable pub idcode_text : List ℕ → Option ℕ → List ℕ
+idcode_text entity None = []
+idcode_text entity (Some code) = attribute_text (codes "\";\n") (codes "IDCODE_REGISTER") entity (codes "\n    \"") ++ code_text code
+
+unfoldable pub has_opcode : List Opcode → Instr → Bool
 has_opcode opcodes i = list_any (λ (o : Opcode). is_instruction i o.instr) opcodes
 
 -- those of the instructions that the device has
-abbrev pub instructions_text : List Opcode → List Instr → List ℕ
+unfoldable pub instructions_text : List Opcode → List Instr → List ℕ
 instructions_text opcodes list = separated_text (codes ", ") instruction_word (filter (has_opcode opcodes) list)
 
--- the registers with their instructions; the identification register only where the device has IDCODE
-abbrev pub access_text : List Opcode → List ℕ
+-- the identification register, where the device has IDCODE
+unfoldable pub device_id_text : List Opcode → List ℕ
+device_id_text opcodes = if has_opcode opcodes instr.Idcode then pieces (codes "),\" &\n    \"DEVICE_ID (IDCODE" ∷ []) else []
+
+unfoldable pub boundary_access_text : List ℕ
+boundary_access_text = codes "BOUNDARY ("
+
+unfoldable pub bypass_access_text : List ℕ
+bypass_access_text = codes "),\" &\n    \"BYPASS ("
+
+-- the registers with their instructions
+unfoldable pub access_text : List Opcode → List ℕ
 access_text opcodes =
-    codes "    \"BOUNDARY (" ++ instructions_text opcodes (instr.Extest ∷ instr.Sample ∷ instr.Preload ∷ [])
-    ++ codes "),\" &\n    \"BYPASS (" ++ instructions_text opcodes (instr.Bypass ∷ instr.Highz ∷ instr.Clamp ∷ [])
-    ++ (if has_opcode opcodes instr.Idcode then codes "),\" &\n    \"DEVICE_ID (IDCODE)\";\n" else codes ")\";\n")
+    boundary_access_text ++ instructions_text opcodes (instr.Extest ∷ instr.Sample ∷ instr.Preload ∷ [])
+    ++ bypass_access_text ++ instructions_text opcodes (instr.Bypass ∷ instr.Highz ∷ instr.Clamp ∷ [])
+    ++ device_id_text opcodes
+
+unfoldable pub registers_text : Device → List ℕ
+registers_text d =
+    attribute_text [] (codes "INSTRUCTION_LENGTH") d.entity (codes " ") ++ decimal d.length
+    ++ attribute_text (codes ";\n") (codes "INSTRUCTION_OPCODE") d.entity (codes "\n    \"") ++ opcodes_text d.opcodes
+    ++ attribute_text (codes "\";\n") (codes "INSTRUCTION_CAPTURE") d.entity (codes " \"") ++ pattern_text d.capture
+    ++ idcode_text d.entity d.idcode
+    ++ attribute_text (codes "\";\n") (codes "REGISTER_ACCESS") d.entity (codes "\n    \"") ++ access_text d.opcodes
 
 -- The boundary register.
 
-abbrev pub index_text : ℕ → List ℕ
-index_text index = codes "(" ++ decimal index ++ codes ")"
+unfoldable pub index_text : Option ℕ → List ℕ
+index_text None = []
+index_text (Some index) = codes "(" ++ decimal index ++ codes ")"
 
 -- `*`, `port` or `port(index)`
-abbrev pub pin_text : List DevPort → Option DevBit → List ℕ
+unfoldable pub pin_text : List DevPort → Option DevBit → List ℕ
 pin_text ports None = codes "*"
-pin_text ports (Some b) = port_name ports b.port ++ option_map_or index_text b.index []
+pin_text ports (Some b) = port_name ports b.port ++ index_text b.index
 
 -- `, control, value, Z`
-abbrev pub disable_text : Disable → List ℕ
-disable_text d = codes ", " ++ decimal d.control ++ codes ", " ++ bit_word d.value ++ codes ", Z"
+unfoldable pub disable_text : Option Disable → List ℕ
+disable_text None = []
+disable_text (Some d) = codes ", " ++ decimal d.control ++ pieces (codes ", " ∷ bit_word d.value ∷ codes ", Z" ∷ [])
 
 -- `number (cell, port, function, safe)`
-abbrev pub row_text : List DevPort → ℕ × CellRow → List ℕ
-row_text ports row =
-    decimal row.0 ++ codes " (" ++ cell_word row.1.cell ++ codes ", " ++ pin_text ports row.1.pin ++ codes ", " ++ function_word row.1.function
-    ++ codes ", " ++ safe_word row.1.safe ++ option_map_or disable_text row.1.disable [] ++ codes ")"
+unfoldable pub row_text : List DevPort → ℕ → CellRow → List ℕ
+row_text ports number row =
+    decimal number ++ pieces (codes " (" ∷ cell_word row.cell ∷ codes ", " ∷ []) ++ pin_text ports row.pin
+    ++ pieces (codes ", " ∷ function_word row.function ∷ codes ", " ∷ safe_word row.safe ∷ []) ++ disable_text row.disable ++ codes ")"
 
--- The file.
+-- the rows, numbered from 0
+unfoldable pub rows_text : List DevPort → List CellRow → List ℕ
+rows_text ports rows = separated_text next_string (λ row. row_text ports row.0 row.1) (enumerate_from 0 rows)
 
-abbrev pub head_text : Device → List ℕ
-head_text d =
-    codes "entity " ++ d.entity ++ codes " is\n  generic (PHYSICAL_PIN_MAP : string := \"" ++ d.«package» ++ codes "\");\n"
-    ++ ports_text d.ports ++ codes "  use STD_1149_1_2001.all;\n"
-    ++ attribute_text (codes "COMPONENT_CONFORMANCE") d.entity ++ codes " \"STD_1149_1_2001\";\n"
-    ++ attribute_text (codes "PIN_MAP") d.entity ++ codes " PHYSICAL_PIN_MAP;\n"
-    ++ codes "  constant " ++ d.«package» ++ codes " : PIN_MAP_STRING :=\n" ++ strings_text pin_entry_text d.ports
+unfoldable pub boundary_length_text : List ℕ → ℕ → List ℕ
+boundary_length_text entity count = attribute_text (codes ")\";\n") (codes "BOUNDARY_LENGTH") entity (codes " ") ++ decimal count
 
-abbrev pub instruction_text : Device → List ℕ
-instruction_text d =
-    attribute_text (codes "INSTRUCTION_LENGTH") d.entity ++ codes " " ++ decimal d.length ++ codes ";\n"
-    ++ attribute_text (codes "INSTRUCTION_OPCODE") d.entity ++ codes "\n" ++ strings_text opcode_text d.opcodes
-    ++ attribute_text (codes "INSTRUCTION_CAPTURE") d.entity ++ codes " \"" ++ pattern_text d.capture ++ codes "\";\n"
-    ++ option_map_or (idcode_text d.entity) d.idcode []
-    ++ attribute_text (codes "REGISTER_ACCESS") d.entity ++ codes "\n" ++ access_text d.opcodes
+unfoldable pub boundary_rows_text : List ℕ → List DevPort → List CellRow → List ℕ
+boundary_rows_text entity ports cells = attribute_text (codes ";\n") (codes "BOUNDARY_REGISTER") entity (codes "\n    \"") ++ rows_text ports cells
 
-abbrev pub boundary_text : Device → List ℕ
-boundary_text d =
-    attribute_text (codes "BOUNDARY_LENGTH") d.entity ++ codes " " ++ decimal (length d.cells) ++ codes ";\n"
-    ++ attribute_text (codes "BOUNDARY_REGISTER") d.entity ++ codes "\n" ++ strings_text (row_text d.ports) (enumerate_from 0 d.cells)
+unfoldable pub boundary_text : Device → List ℕ
+boundary_text d = boundary_length_text d.entity (length d.cells) ++ boundary_rows_text d.entity d.ports d.cells
 
-abbrev pub canonical_device : Device → List ℕ
-canonical_device d = head_text d ++ tap_text d ++ instruction_text d ++ boundary_text d ++ codes "end " ++ d.entity ++ codes ";\n"
+-- the whole file
+unfoldable pub canonical_device : Device → List ℕ
+canonical_device d = head_text d ++ tap_text d ++ registers_text d ++ boundary_text d ++ pieces (codes "\";\nend " ∷ d.entity ∷ codes ";\n" ∷ [])
