@@ -1,0 +1,13 @@
+pub mod Canonical
+pub mod Checks
+pub mod Denoted
+pub mod Faults
+pub mod Grammar
+pub mod Instructions
+pub mod Matching
+pub mod Meanings
+pub mod Ports
+pub mod RowRules
+pub mod Runs
+pub mod Shape
+pub mod Spelled

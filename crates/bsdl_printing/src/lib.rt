@@ -1,0 +1,12 @@
+// The canonical text of a device.
+// Contracts cite `canonical_device` of bsdl_device's specs/.
+// IEEE Std 1149.1-2001: the annex on BSDL; the layout is own.
+#![tactic(auto)]
+
+mod boundary;
+mod head;
+mod instructions;
+mod numbers;
+mod print;
+
+pub use print::print_device;
