@@ -16,3 +16,6 @@ mod ports;
 mod widths;
 
 pub use outcome::{Resolved, resolve};
+
+#[cfg(test)]
+mod tests;
