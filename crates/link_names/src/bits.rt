@@ -141,6 +141,20 @@ fn check_operands(
     Ok(None)
 }
 
+fn check_link(
+    alloc: Global,
+    table: &IndexMap<&[u8], Declaration>,
+    test: BitTest,
+    link: &Link,
+) -> Result<Option<LinkFault>, OutOfMemory>
+    ensures { IfOk result (λ fault. fault ≡ first_at test (entries_of table.now) (link_bits link.now)) }
+{
+    match &link.operand {
+        Some(operand) => check_operand(alloc, table, test, operand),
+        None => Ok(None),
+    }
+}
+
 fn check_links(
     alloc: Global,
     table: &IndexMap<&[u8], Declaration>,
@@ -157,20 +171,6 @@ fn check_links(
         }
     }
     Ok(None)
-}
-
-fn check_link(
-    alloc: Global,
-    table: &IndexMap<&[u8], Declaration>,
-    test: BitTest,
-    link: &Link,
-) -> Result<Option<LinkFault>, OutOfMemory>
-    ensures { IfOk result (λ fault. fault ≡ first_at test (entries_of table.now) (link_bits link.now)) }
-{
-    match &link.operand {
-        Some(operand) => check_operand(alloc, table, test, operand),
-        None => Ok(None),
-    }
 }
 
 // The output, and then the inputs.

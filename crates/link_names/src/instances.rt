@@ -94,12 +94,6 @@ fn find_port_missing(
     Ok(None)
 }
 
-fn has_port(links: &[Link], port: &[u8]) -> bool
-    ensures { result ≡ list_any (λ (l : Link). bytes_eq port.now l.port) links.now }
-{
-    links.iter().any(|link| port == link.port.as_bytes())
-}
-
 // The first port that a link before it has. Where each port is one of the cell's, it stands
 // among the first few links, so the search is short.
 fn repeated_port(links: &[Link]) -> Option<&[u8]>
@@ -107,7 +101,7 @@ fn repeated_port(links: &[Link]) -> Option<&[u8]>
 {
     for (place, link) in links.iter().enumerate() {
         let port = link.port.as_bytes();
-        if has_port(&links[..place], port) {
+        if is_linked(&links[..place], port) {
             return Some(port);
         }
     }
