@@ -1,0 +1,6 @@
+pub mod Tables
+pub mod Firsts
+pub mod Repeats
+pub mod NetCounts
+pub mod Fitting
+pub mod Modules
