@@ -1,0 +1,10 @@
+pub mod Tables
+pub mod Fitting
+pub mod Reading
+pub mod Ordering
+pub mod ConeReading
+pub mod State
+pub mod Marking
+pub mod LinkNets
+pub mod FirstDerived
+pub mod ControlLinks
