@@ -1,0 +1,34 @@
+// Whether each net of a module has the drivers that it may have, and the first fault where one has not.
+// Contracts cite `driver_fault` of the link model; specs/Drivers.antt has what holds where there is none.
+// IEEE Std 1364-2001: data types, gate-level modelling; what three-state nets may do is own.
+#![tactic(auto)]
+
+ghost use Rattle.std.specs.Prelude.{◌≡◌, IfOk, length};
+ghost use Rattle.link_model.specs.Fits.{FitCells};
+ghost use Rattle.link_model.specs.Faults.{driver_fault};
+
+mod laws;
+mod rule;
+#[cfg(test)]
+mod tests;
+mod uses;
+
+use crate::rule::first_broken;
+use crate::uses::uses_of_nets;
+use edge_io::OutOfMemory;
+pub use laws::nets_have_their_drivers;
+use link_model::{ItemCell, LinkFault, NetBit};
+use std::alloc::Global;
+
+/// The first fault of drivers, in time linear in nets, cells and operands.
+pub fn find_driver_fault(
+    alloc: Global,
+    nets: &[NetBit],
+    cells: &[ItemCell],
+) -> Result<Option<LinkFault>, OutOfMemory>
+    requires fits { FitCells (length nets.now) cells.now }
+    ensures { IfOk result (λ found. found ≡ driver_fault nets.now cells.now) }
+{
+    let uses = uses_of_nets(alloc, nets.len(), cells)?;
+    first_broken(alloc, nets, &uses)
+}
