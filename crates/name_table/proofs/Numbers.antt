@@ -6,6 +6,7 @@ use Rattle.std.specs.Str.{bytes_eq}
 use Rattle.std.specs.declared.vec.Vec.{Vec}
 use Rattle.std.proofs.Common.{length-append}
 use Rattle.std.proofs.lemmas.Bool.{lt-ltb, le-ltb}
+use borrow.Author.Tests.{ltb-true}
 use Rattle.std.proofs.lemmas.Slice.Eq.{bytes_eq-Decides}
 use Rattle.name_table.specs.Names.{texts, number_of, with_name, IsOnce}
 
@@ -97,6 +98,29 @@ once-distinct (k ∷ ks) distinct zero zero name here there = refl
 once-distinct {A} (k ∷ ks) distinct zero (suc j) name here there = let same : k.items ≡ name = cc in absurd (differs k.items ks j distinct.0 (there ∙ ap (λ (n : List ℕ). Some n) (sym same)))
 once-distinct {A} (k ∷ ks) distinct (suc i) zero name here there = let same : k.items ≡ name = cc in absurd (differs k.items ks i distinct.0 (here ∙ ap (λ (n : List ℕ). Some n) (sym same)))
 once-distinct (k ∷ ks) distinct (suc i) (suc j) name here there = ap (λ (n : ℕ). suc n) (once-distinct ks distinct.1 i j name here there)
+
+-- the name stands under its number
+place-at : (name : List ℕ) (names : List (List ℕ)) → position_or_len (bytes_eq name) names < length names → slice_get names (position_or_len (bytes_eq name) names) ≡ Some name
+place-at name [] h = absurd (omega arith)
+place-at name (n ∷ ns) h = by (bytes_eq name n) refl (place-at name ns)
+  where
+    by : (b : Bool) → bytes_eq name n ≡ b → (position_or_len (bytes_eq name) ns < length ns → slice_get ns (position_or_len (bytes_eq name) ns) ≡ Some name)
+        → slice_get (n ∷ ns) (cond (not (bytes_eq name n)) (1 + position_or_len (bytes_eq name) ns) 0) ≡ Some name
+    by true e rest = rw e (ap (λ (t : List ℕ). Some t) (sym ((bytes_eq-Decides name n).0 e)))
+    by false e rest =
+        let less : position_or_len (bytes_eq name) ns < length ns = let long : cond (not (bytes_eq name n)) (1 + position_or_len (bytes_eq name) ns) 0 < suc (length ns) = h in let longer : 1 + position_or_len (bytes_eq name) ns < suc (length ns) = rw e at long in omega (arith, longer) in
+        let next : suc (position_or_len (bytes_eq name) ns) ≡ 1 + position_or_len (bytes_eq name) ns = omega arith in
+        rw (e, ← next) (rest less)
+
+pub number_of-at : (name : List ℕ) (names : List (List ℕ)) (number : ℕ) → number_of name names ≡ Some number → slice_get names number ≡ Some name
+number_of-at name names number h = by (nat_lt (position_or_len (bytes_eq name) names) (length names)) refl
+  where
+    by : (b : Bool) → nat_lt (position_or_len (bytes_eq name) names) (length names) ≡ b → slice_get names number ≡ Some name
+    by true e =
+        let is : Some (position_or_len (bytes_eq name) names) ≡ Some number = rw e at h in
+        let place : position_or_len (bytes_eq name) names ≡ number = cc in
+        rw (← place) (place-at name names (ltb-true (position_or_len (bytes_eq name) names) (length names) e))
+    by false e = let no : None ≡ Some number = rw e at h in absurd (cc)
 
 -- what a new key comes to
 pub pushed : {A : Type 0} (name : List ℕ) (names : List (List ℕ)) (ks new : List (Vec ℕ A)) (key : Vec ℕ A) → key.items ≡ name → names ≡ texts ks → number_of name names ≡ None

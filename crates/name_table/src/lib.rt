@@ -3,7 +3,7 @@
 // Own: no chapter of a standard speaks of it; that a name has one meaning in a module is IEEE Std 1364-2001's.
 #![tactic(auto)]
 
-ghost use Rattle.std.specs.Prelude.{◌≡◌, ◌↔◌, ◌<◌, [], IsTrue, length, slice_get, Some, None, IfOk, OnOk, OnErr};
+ghost use Rattle.std.specs.Prelude.{◌≡◌, ◌↔◌, ◌<◌, [], IsTrue, length, slice_get, Some, None, IfOk, IfSome, OnOk, OnErr};
 ghost use Rattle.name_table.specs.Names.{IsOnce, number_of, with_name};
 
 #[cfg(test)]
@@ -44,10 +44,10 @@ impl NameTable {
     }
 
     /// Makes room for so many more names, so that the table is not moved while they are entered.
-    pub fn reserve(&mut self, more: u32) -> Result<(), OutOfMemory>
+    pub fn reserve(&mut self, more: usize) -> Result<(), OutOfMemory>
         ensures { self.new ≡ self.old }
     {
-        self.names.reserve(more as usize)?;
+        self.names.reserve(more)?;
         Ok(())
     }
 
@@ -56,6 +56,7 @@ impl NameTable {
     pub fn enter(&mut self, name: &[u8]) -> Result<u32, OutOfMemory>
         ensures names { OnOk result (self.new ≡ with_name name.now self.old) }
         ensures number { IfOk result (λ number. number_of name.now self.new ≡ Some number) }
+        ensures stands { IfOk result (λ number. slice_get self.new number ≡ Some name.now) }
         ensures err { OnErr result (self.new ≡ self.old) }
     {
         match self.find(name) {
@@ -69,6 +70,7 @@ impl NameTable {
         requires { number_of name.now self.old ≡ None }
         ensures names { OnOk result (self.new ≡ with_name name.now self.old) }
         ensures number { IfOk result (λ number. number_of name.now self.new ≡ Some number) }
+        ensures stands { IfOk result (λ number. slice_get self.new number ≡ Some name.now) }
         ensures err { OnErr result (self.new ≡ self.old) }
     {
         let number = self.names.len();
@@ -82,7 +84,8 @@ impl NameTable {
 
     /// The number of a name, if it is there.
     pub fn find(&self, name: &[u8]) -> Option<u32>
-        ensures { result ≡ number_of name.now self.now }
+        ensures number { result ≡ number_of name.now self.now }
+        ensures stands { IfSome result (λ number. slice_get self.now number ≡ Some name.now) }
     {
         let number = self.names.get_index_of(name)?;
         Some(number as u32)
