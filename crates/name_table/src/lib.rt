@@ -1,0 +1,119 @@
+// A table of names, each once, under numbers in the order of first use.
+// Contracts cite specs/Names.antt: the table is its list of names, in bytes.
+// Own: no chapter of a standard speaks of it; that a name has one meaning in a module is IEEE Std 1364-2001's.
+#![tactic(auto)]
+
+ghost use Rattle.std.specs.Prelude.{◌≡◌, ◌↔◌, ◌<◌, [], IsTrue, length, slice_get, Some, None, IfOk, IfSome, OnOk, OnErr};
+ghost use Rattle.name_table.specs.Names.{IsOnce, number_of, with_name};
+
+#[cfg(test)]
+mod tests;
+
+use edge_io::OutOfMemory;
+use indexmap::IndexSet;
+use std::alloc::Global;
+use std::marker::Model;
+
+/// Names under the numbers 0, 1, 2 and so on.
+#[derive(Drop)]
+pub struct NameTable {
+    names: IndexSet<Vec<u8>>,
+    alloc: Global,
+}
+
+impl Model for NameTable {
+    ghost use Rattle.std.specs.Prelude.{◌≤◌, ◌^◌, ℕ, List, length};
+    ghost use Rattle.name_table.specs.Names.{texts};
+
+    ghost Value = { List (List ℕ) };
+
+    ghost view = { λ t. texts t.names.keys };
+
+    ghost invariant = { λ t. length t.names.keys ≤ 2 ^ 32 };
+}
+
+impl NameTable {
+    /// An empty table, which takes no memory.
+    pub fn new(alloc: Global) -> NameTable
+        ensures { result ≡ [] }
+    {
+        NameTable {
+            names: IndexSet::new(alloc),
+            alloc,
+        }
+    }
+
+    /// Makes room for so many more names, so that the table is not moved while they are entered.
+    pub fn reserve(&mut self, more: usize) -> Result<(), OutOfMemory>
+        ensures { self.new ≡ self.old }
+    {
+        self.names.reserve(more)?;
+        Ok(())
+    }
+
+    /// The number of the name, which is entered at the end unless it is there. Without memory, and where 2^32 names
+    /// are there already, the table stays as it was.
+    pub fn enter(&mut self, name: &[u8]) -> Result<u32, OutOfMemory>
+        ensures names { OnOk result (self.new ≡ with_name name.now self.old) }
+        ensures number { IfOk result (λ number. number_of name.now self.new ≡ Some number) }
+        ensures stands { IfOk result (λ number. slice_get self.new number ≡ Some name.now) }
+        ensures err { OnErr result (self.new ≡ self.old) }
+    {
+        match self.find(name) {
+            Some(number) => Ok(number),
+            None => self.push(name),
+        }
+    }
+
+    // Enters a new name.
+    fn push(&mut self, name: &[u8]) -> Result<u32, OutOfMemory>
+        requires { number_of name.now self.old ≡ None }
+        ensures names { OnOk result (self.new ≡ with_name name.now self.old) }
+        ensures number { IfOk result (λ number. number_of name.now self.new ≡ Some number) }
+        ensures stands { IfOk result (λ number. slice_get self.new number ≡ Some name.now) }
+        ensures err { OnErr result (self.new ≡ self.old) }
+    {
+        let number = self.names.len();
+        if number > u32::MAX as usize {
+            return Err(OutOfMemory);
+        }
+        let key = Vec::from_slice(self.alloc, name)?;
+        self.names.insert(key)?;
+        Ok(number as u32)
+    }
+
+    /// The number of a name, if it is there.
+    pub fn find(&self, name: &[u8]) -> Option<u32>
+        ensures number { result ≡ number_of name.now self.now }
+        ensures stands { IfSome result (λ number. slice_get self.now number ≡ Some name.now) }
+    {
+        let number = self.names.get_index_of(name)?;
+        Some(number as u32)
+    }
+
+    /// The name with this number.
+    pub fn text(&self, number: u32) -> &[u8]
+        requires { number < length self.now }
+        ensures { slice_get self.now number ≡ Some result.now }
+    {
+        match self.names.get_index(number as usize) {
+            Some(name) => name.as_slice(),
+            None => unreachable!(),
+        }
+    }
+
+    /// How many names there are. Each is there once.
+    pub fn len(&self) -> u64
+        ensures len { result ≡ length self.now }
+        ensures once { IsOnce self.now }
+    {
+        self.names.len() as u64
+    }
+
+    /// Whether there is none.
+    pub fn is_empty(&self) -> bool
+        ensures { IsTrue result ↔ (self.now ≡ []) }
+    {
+        self.names.is_empty()
+    }
+}
