@@ -1,6 +1,6 @@
 -- The netlist that a module denotes, with names in bytes; and when a netlist with a table of names is that one.
 -- IEEE Std 1364-2001: modules and ports, data types, gate-level modelling.
-use Rattle.std.specs.Prelude.{◌≡◌, ℕ, ◌+◌, List, [], ◌∷◌, map, Option, Some, None, slice_get}
+use Rattle.std.specs.Prelude.{◌≡◌, ℕ, ◌+◌, ◌<◌, List, [], ◌∷◌, length, map, Option, Some, None, IsSome, slice_get}
 use Rattle.std.specs.Option.{option_map}
 use Rattle.verilog_tree.specs.declared.tree.Module.{Module}
 use Rattle.verilog_tree.specs.declared.tree.Port.{Port}
@@ -10,7 +10,7 @@ use Rattle.netlist_model.specs.declared.Range.{Range}
 use Rattle.netlist_model.specs.declared.NetId.{NetId}
 use Rattle.netlist_model.specs.declared.Name.{Name}
 use Rattle.netlist_model.specs.declared.Name.TheVariants.{Original, Added}
-use Rattle.netlist_model.specs.Lists.{PortView, NetView, CellView, NetlistView}
+use Rattle.netlist_model.specs.Lists.{PortView, NetView, CellView, NetlistView, cell_at}
 use Rattle.link_model.specs.Nets.{dir_of, width, counted_from, NamedNet, declared_nets, declared_names, nets_in}
 use Rattle.link_model.specs.Cells.{NamedCell, cell_of}
 
@@ -80,6 +80,11 @@ abbrev pub IsLive : List (List ℕ) → Option CellView → NamedCell → Type 0
 IsLive table None named = ⊥
 IsLive table (Some cell) named = IsCell table cell named
 
+-- each cell is the live one with the number of its place, and no other is live
+pub record AreCells (table : List (List ℕ)) (N : NetlistView) (cells : List NamedCell) : Type 0 where
+  pub each : (i : ℕ) (named : NamedCell) → slice_get cells i ≡ Some named → IsLive table (cell_at N i) named
+  pub only : (i : ℕ) → IsSome (cell_at N i) → i < length cells
+
 -- as many, each of which is the one at its place
 abbrev pub AreAll : {X Y : Type 0} → (X → Y → Type 0) → List X → List Y → Type 0
 AreAll Is [] [] = Unit {0}
@@ -91,4 +96,4 @@ AreAll Is (x ∷ xs) (y ∷ ys) = Is x y × AreAll Is xs ys
 pub record IsNamed (table : List (List ℕ)) (N : NetlistView) (named : NamedNetlist) : Type 0 where
   pub ports : AreAll (IsPort table) N.ports named.ports
   pub nets : AreAll (IsNet table) N.nets named.nets
-  pub cells : AreAll (IsLive table) N.cells named.cells
+  pub cells : AreCells table N named.cells

@@ -1,0 +1,64 @@
+// The netlist of a module in an arena, with a table of its names.
+// Contracts cite `denoted`, `IsNamed` and `names_of` of the link model: the netlist is the one that the module denotes.
+// IEEE Std 1364-2001: modules and ports, data types, gate-level modelling.
+#![tactic(auto)]
+
+ghost use Rattle.std.specs.Prelude.{◌≡◌, IfOk, None, length};
+ghost use Rattle.verilog_tree.specs.IsTree.{IsTree};
+ghost use Rattle.netlist_model.specs.Contained.{IsDense};
+ghost use Rattle.link_model.specs.Nets.{declared_nets, nets_in};
+ghost use Rattle.link_model.specs.Fits.{FitCells};
+ghost use Rattle.link_model.specs.Faults.{text_fault, driver_fault, cells_in, names_of};
+ghost use Rattle.link_model.specs.Denoted.{IsNamed, denoted};
+
+mod cells;
+mod names;
+mod nets;
+mod ports;
+mod room;
+#[cfg(test)]
+mod tests;
+
+use crate::cells::add_cells;
+use crate::names::names_of_module;
+use crate::nets::add_nets;
+use crate::ports::add_ports;
+use crate::room::netlist_with_room;
+use edge_io::OutOfMemory;
+use link_model::{ItemCell, NetBit};
+use name_table::NameTable;
+use netlist_arena::Netlist;
+use std::alloc::Global;
+use verilog_tree::Module;
+
+/// A netlist, and the table that has its original names.
+#[derive(Drop)]
+pub struct Built {
+    pub netlist: Netlist,
+    pub names: NameTable,
+}
+
+/// The netlist that the module denotes, with room for no more than it has.
+pub fn build(
+    alloc: Global,
+    module: &Module,
+    nets: &[NetBit],
+    cells: &[ItemCell],
+) -> Result<Built, OutOfMemory>
+    requires tree { IsTree module.now }
+    requires clear { text_fault module.now ≡ None }
+    requires nets { nets.now ≡ nets_in (declared_nets module.now) }
+    requires cells { cells.now ≡ cells_in module.now }
+    requires fits { FitCells (length nets.now) cells.now }
+    requires driven { driver_fault nets.now cells.now ≡ None }
+    ensures named { IfOk result (λ built. IsNamed built.names built.netlist.lists (denoted module.now)) }
+    ensures dense { IfOk result (λ built. IsDense built.netlist.lists) }
+    ensures names { IfOk result (λ built. built.names ≡ names_of module.now) }
+{
+    let names = names_of_module(alloc, module)?;
+    let mut netlist = netlist_with_room(alloc, module, nets.len(), cells.len())?;
+    add_nets(&mut netlist, &names, nets);
+    add_ports(alloc, &mut netlist, &names, module.ports.as_slice())?;
+    add_cells(&mut netlist, &names, cells)?;
+    Ok(Built { netlist, names })
+}
