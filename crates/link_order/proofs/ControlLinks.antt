@@ -84,14 +84,14 @@ module _ (names : List (List ℕ × Declared)) (i : Instance) (flop : FlopKind) 
           let same : Net (net_of names bit) ≡ Net (record { 0 = net }) = sym (ap (λ (o : Option Operand). unwrap_or (option_map (feed_of names) o) (Const false)) e) ∙ feed in
           let net_is : (net_of names bit).0 ≡ net = ap net_or same in
           option_and_then_some (λ (l : Link). l.operand) (find (λ (l : Link). bytes_eq l.port port) i.links) (operand.Bit bit) e (λ l found operand_is.
-              let first = find-first (λ (l : Link). bytes_eq l.port port) i.links l found in
-              let port_is : l.port ≡ port = (bytes_decides l.port port).0 first.2 in
-              let chosen : is_control_place (port_named (kind.Flop flop) l.port) ≡ true = ap (λ (p : List ℕ). is_control_place (port_named (kind.Flop flop) p)) port_is ∙ ap is_control_place named ∙ control in
-              let here : slice_get (if is_control_place (port_named (kind.Flop flop) l.port) then bit_links i.name names l.operand else []) 0 ≡ Some (record { flop = i.name; net = net }) =
-              ap (λ (b : Bool). slice_get (if b then bit_links i.name names l.operand else []) 0) chosen
-              ∙ ap (λ (o : Option Operand). slice_get (bit_links i.name names o) 0) operand_is
-              ∙ ap (λ (n : ℕ). Some (record { flop = i.name; net = n })) net_is in
-              flat_map-there (λ (l : Link). if is_control_place (port_named (kind.Flop flop) l.port) then bit_links i.name names l.operand else []) i.links first.0 0 l (record { flop = i.name; net = net }) first.1 here)
+          let first = find-first (λ (l : Link). bytes_eq l.port port) i.links l found in
+          let port_is : l.port ≡ port = (bytes_decides l.port port).0 first.2 in
+          let chosen : is_control_place (port_named (kind.Flop flop) l.port) ≡ true = ap (λ (p : List ℕ). is_control_place (port_named (kind.Flop flop) p)) port_is ∙ ap is_control_place named ∙ control in
+          let here : slice_get (if is_control_place (port_named (kind.Flop flop) l.port) then bit_links i.name names l.operand else []) 0 ≡ Some (record { flop = i.name; net = net }) =
+          ap (λ (b : Bool). slice_get (if b then bit_links i.name names l.operand else []) 0) chosen
+          ∙ ap (λ (o : Option Operand). slice_get (bit_links i.name names o) 0) operand_is
+          ∙ ap (λ (n : ℕ). Some (record { flop = i.name; net = n })) net_is in
+          flat_map-there (λ (l : Link). if is_control_place (port_named (kind.Flop flop) l.port) then bit_links i.name names l.operand else []) i.links first.0 0 l (record { flop = i.name; net = net }) first.1 here)
 
   operand_there : number == 1 || number == 2 ≡ true → ((port : List ℕ) → slice_get (flop_ports flop.reset) number ≡ Some port → port_named (kind.Flop flop) port ≡ Some (place.Input number))
       → slice_get (library_cell names i (kind.Flop flop)).feeds number ≡ Some (Net (record { 0 = net })) → (j : ℕ) × (slice_get (flop_links names i (Some (kind.Flop flop))) j ≡ Some (record { flop = i.name; net = net }))

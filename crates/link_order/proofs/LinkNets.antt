@@ -229,7 +229,7 @@ module _ (drivers : List (Option ℕ)) (found : List Bool) (names : List (List �
   kind_pair i kind true flop once =
       first_in-map (λ (n : ℕ). (i.name, n)) (found_link drivers found (library_cell names i kind)) i.links
       ∙ first_in-joined (is_found_link drivers found) link_pair (λ (l : Link). if is_control_place (port_named kind l.port) then bit_links i.name names l.operand else [])
-        (λ (l : Link). option_map (λ (n : ℕ). (i.name, n)) (found_link drivers found (library_cell names i kind) l)) i.links (λ k l here. link_pair_of i kind l flop (linked_once i kind k l once here))
+      (λ (l : Link). option_map (λ (n : ℕ). (i.name, n)) (found_link drivers found (library_cell names i kind) l)) i.links (λ k l here. link_pair_of i kind l flop (linked_once i kind k l once here))
       ∙ sym (ap (λ (b : Bool). option_map link_pair (find (is_found_link drivers found) (if b then flat_map (λ (l : Link). if is_control_place (port_named kind l.port) then bit_links i.name names l.operand else []) i.links else []))) flop)
 
   item_pair : (x : Item) → at_instance port_twice x ≡ None → found_item drivers found names x ≡ option_map link_pair (find (is_found_link drivers found) (item_links names x))

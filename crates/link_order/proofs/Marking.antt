@@ -243,6 +243,6 @@ pub cone_of_marked_by : (nets : ℕ) (cells : List NamedCell) (ordered : Ordered
 cone_of_marked_by nets cells ordered graph starts roots inside looked old marks a graph_is starts_are says looked_are old_are read =
     cone_of_marked_iff nets cells ordered.drivers roots inside marks a.drivers
     (subst (λ (g : List (List ℕ)). (v : ℕ) → v < length g → Marked inside v ↔ InConeOf g (map (drives_marked roots) cells) v) (graph_is ∙ a.reads)
-     (subst (λ (ss : List Bool). (v : ℕ) → v < length graph → Marked inside v ↔ InConeOf graph ss v) starts_are says))
+    (subst (λ (ss : List Bool). (v : ℕ) → v < length graph → Marked inside v ↔ InConeOf graph ss v) starts_are says))
     (subst (λ (bs : List Bool). (net : ℕ) → Marked marks net ↔ (Marked bs net ⊎ GateReadsMarked cells inside (length cells) net)) old_are
-     (subst (λ (bs : List Bool). (net : ℕ) → Marked marks net ↔ (Marked old net ⊎ GateReadsMarked cells bs (length cells) net)) looked_are read))
+    (subst (λ (bs : List Bool). (net : ℕ) → Marked marks net ↔ (Marked old net ⊎ GateReadsMarked cells bs (length cells) net)) looked_are read))

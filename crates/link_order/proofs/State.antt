@@ -139,7 +139,7 @@ pub derived_by : (nets : List NamedNet) (cells : List NamedCell) (ordered : Orde
 derived_by nets cells ordered graph marks found driven a graph_is marks_are says =
     derived_iff nets cells ordered.drivers found driven a.drivers
     (subst (λ (g : List (List ℕ)). (v : ℕ) → v < length g → Marked found v ↔ ConeHolds g (map (is_state_cell nets) cells) v) (graph_is ∙ a.reads)
-     (subst (λ (ms : List Bool). (v : ℕ) → v < length graph → Marked found v ↔ ConeHolds graph ms v) marks_are says))
+    (subst (λ (ms : List Bool). (v : ℕ) → v < length graph → Marked found v ↔ ConeHolds graph ms v) marks_are says))
 
 -- a net that is found has a driver, and a place in the table
 pub found-below : (drivers : List (Option ℕ)) (found : List Bool) (net : ℕ) → is_found_net drivers found net ≡ true → net < length drivers
