@@ -1,6 +1,6 @@
 -- Each clock, clear and preset operand of a cell is a link of the text.
-use Rattle.std.proofs.Common.{◌≡◌, ℕ, ◌+◌, ◌⊎◌, inl, inr, Bool, true, false, ◌||◌, ◌==◌, List, [], ◌∷◌, ◌++◌, length, map, zero, suc, Option, Some, None, arith, refl, sym, subst, ap, ◌∙◌}
-use Rattle.std.specs.Prelude.{slice_get, find, option_and_then, unwrap_or, codes, if◌then◌else◌}
+use Rattle.std.proofs.Common.{◌≡◌, ℕ, ◌+◌, ◌⊎◌, inl, inr, Bool, true, false, ◌||◌, ◌==◌, List, [], ◌∷◌, ◌++◌, length, zero, suc, Option, Some, None, arith, refl, sym, subst, ap, ◌∙◌}
+use Rattle.std.specs.Prelude.{slice_get, find, unwrap_or, codes, if◌then◌else◌}
 use Rattle.std.specs.List.{flat_map}
 use Rattle.std.specs.Option.{option_map}
 use Rattle.std.specs.Str.{bytes_eq}
@@ -12,11 +12,9 @@ use Rattle.cell_library.specs.declared.FlopKind.{FlopKind}
 use Rattle.cell_library.specs.declared.Edge.{Edge}
 use Rattle.cell_library.specs.declared.ResetTo.{ResetTo}
 use Rattle.cell_library.specs.declared.ResetTo.TheVariants as reset
-use Rattle.cell_library.specs.declared.PortPlace.{PortPlace}
 use Rattle.cell_library.specs.declared.PortPlace.TheVariants as place
 use Rattle.cell_library.specs.Gates.{is_flop}
-use Rattle.cell_library.specs.Library.{kind_named, port_named, operand_ports, flop_ports}
-use Rattle.netlist_model.specs.declared.NetId.{NetId}
+use Rattle.cell_library.specs.Library.{kind_named, port_named, flop_ports}
 use Rattle.netlist_model.specs.declared.Feed.{Feed}
 use Rattle.netlist_model.specs.declared.Feed.TheVariants.{Net, Const}
 use Rattle.verilog_tree.specs.declared.tree.Module.{Module}
@@ -31,7 +29,7 @@ use Rattle.verilog_tree.specs.declared.tree.Item.TheVariants as item
 use Rattle.link_model.specs.Nets.{Declared, net_of, declared_names, declared_nets, nets_in}
 use Rattle.link_model.specs.Cells.{NamedCell, kind_of_gate, feed_of, linked_operand, port_feed, library_cell, cell_of}
 use Rattle.link_model.specs.Faults.{cells_in}
-use Rattle.link_model.specs.Late.{ControlLink, is_control_place, bit_links, flop_links, item_links, control_links, IsDerived, HasNoDerived}
+use Rattle.link_model.specs.Late.{ControlLink, is_control_place, bit_links, flop_links, item_links, IsDerived, HasNoDerived}
 use Rattle.link_order.specs.Cones.{FlopReads}
 use Rattle.link_order.proofs.LinkNets.{find-first}
 

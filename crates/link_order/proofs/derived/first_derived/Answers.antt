@@ -1,10 +1,10 @@
-use Rattle.std.proofs.Common.{◌≡◌, ◌<◌, ◌+◌, ℕ, List, map, get_or, Option, Some, None, length, arith, refl, sym, ap, ◌∙◌}
+use Rattle.std.proofs.Common.{◌≡◌, ◌<◌, ℕ, List, map, get_or, Some, None, length, arith, refl, sym, ap, ◌∙◌}
 use Rattle.std.specs.Prelude.{slice_get}
 use Rattle.std.proofs.lemmas.List.{length-map}
 use Rattle.std.proofs.lemmas.Option.{slice_get_read}
 use Rattle.verilog_tree.specs.declared.tree.Item.{Item}
 use Rattle.link_model.specs.Lists.{first_in}
-use Rattle.link_model.specs.Nets.{NamedNet, declared_names}
+use Rattle.link_model.specs.Nets.{declared_names}
 use Rattle.link_model.specs.Cells.{NamedCell, cell_of}
 use Rattle.link_order.specs.Links.{found_item}
 use Rattle.link_order.proofs.FirstDerived.{no_derived_in, first_derived_in, found_link-below, found_item-at, first_in-passed, first_in-found, first_in-ended}
