@@ -1,13 +1,12 @@
 -- The cone of a net and the cone of its driver in the graph of the cells.
-use Rattle.std.proofs.Common.{◌≡◌, ℕ, List, length, map, Option, Some, refl, sym, subst, ap, ◌∙◌}
-use Rattle.std.specs.Prelude.{slice_get}
+use Rattle.std.proofs.Common.{◌≡◌, ℕ, List, length, map, Option, sym, ap, ◌∙◌}
 use Rattle.std.proofs.lemmas.Option.{same_Some}
 use Rattle.net_cones.specs.Cone as cones
 use Rattle.link_model.specs.Cells.{NamedCell}
-use Rattle.link_model.specs.Late.{InCone, itself, behind, GateReads, IsGate}
+use Rattle.link_model.specs.Late.{InCone, itself, behind}
 use Rattle.link_drivers.specs.Drivers.{DrivesNet}
 use Rattle.link_order.specs.Drivers.{IsDriverTable, cell_reads}
-use Rattle.link_order.proofs.Reading.{ReadsDriver, reads_from, reads_to}
+use Rattle.link_order.proofs.Reading.{reads_from, reads_to}
 
 -- the cell drives a net of the cone
 pub record DrivesInCone (cells : List NamedCell) (root number : ℕ) : Type 0 where

@@ -1,6 +1,6 @@
 -- Each clock, clear and preset operand of a cell is a link of the text.
-use Rattle.std.proofs.Common.{◌≡◌, ℕ, ◌+◌, ◌⊎◌, inl, inr, Bool, true, false, ◌||◌, ◌==◌, List, [], ◌∷◌, ◌++◌, length, map, zero, suc, Option, Some, None, arith, refl, sym, subst, ap, ◌∙◌}
-use Rattle.std.specs.Prelude.{slice_get, find, option_and_then, unwrap_or, codes, if◌then◌else◌}
+use Rattle.std.proofs.Common.{◌≡◌, ℕ, ◌+◌, ◌⊎◌, inl, inr, Bool, true, false, ◌||◌, ◌==◌, List, [], ◌∷◌, ◌++◌, length, zero, suc, Option, Some, None, arith, refl, sym, subst, ap, ◌∙◌}
+use Rattle.std.specs.Prelude.{slice_get, find, unwrap_or, codes, if◌then◌else◌}
 use Rattle.std.specs.List.{flat_map}
 use Rattle.std.specs.Option.{option_map}
 use Rattle.std.specs.Str.{bytes_eq}
@@ -12,11 +12,9 @@ use Rattle.cell_library.specs.declared.FlopKind.{FlopKind}
 use Rattle.cell_library.specs.declared.Edge.{Edge}
 use Rattle.cell_library.specs.declared.ResetTo.{ResetTo}
 use Rattle.cell_library.specs.declared.ResetTo.TheVariants as reset
-use Rattle.cell_library.specs.declared.PortPlace.{PortPlace}
 use Rattle.cell_library.specs.declared.PortPlace.TheVariants as place
 use Rattle.cell_library.specs.Gates.{is_flop}
-use Rattle.cell_library.specs.Library.{kind_named, port_named, operand_ports, flop_ports}
-use Rattle.netlist_model.specs.declared.NetId.{NetId}
+use Rattle.cell_library.specs.Library.{kind_named, port_named, flop_ports}
 use Rattle.netlist_model.specs.declared.Feed.{Feed}
 use Rattle.netlist_model.specs.declared.Feed.TheVariants.{Net, Const}
 use Rattle.verilog_tree.specs.declared.tree.Module.{Module}
@@ -31,7 +29,7 @@ use Rattle.verilog_tree.specs.declared.tree.Item.TheVariants as item
 use Rattle.link_model.specs.Nets.{Declared, net_of, declared_names, declared_nets, nets_in}
 use Rattle.link_model.specs.Cells.{NamedCell, kind_of_gate, feed_of, linked_operand, port_feed, library_cell, cell_of}
 use Rattle.link_model.specs.Faults.{cells_in}
-use Rattle.link_model.specs.Late.{ControlLink, is_control_place, bit_links, flop_links, item_links, control_links, IsDerived, HasNoDerived}
+use Rattle.link_model.specs.Late.{ControlLink, is_control_place, bit_links, flop_links, item_links, IsDerived, HasNoDerived}
 use Rattle.link_order.specs.Cones.{FlopReads}
 use Rattle.link_order.proofs.LinkNets.{find-first}
 
@@ -84,14 +82,14 @@ module _ (names : List (List ℕ × Declared)) (i : Instance) (flop : FlopKind) 
           let same : Net (net_of names bit) ≡ Net (record { 0 = net }) = sym (ap (λ (o : Option Operand). unwrap_or (option_map (feed_of names) o) (Const false)) e) ∙ feed in
           let net_is : (net_of names bit).0 ≡ net = ap net_or same in
           option_and_then_some (λ (l : Link). l.operand) (find (λ (l : Link). bytes_eq l.port port) i.links) (operand.Bit bit) e (λ l found operand_is.
-              let first = find-first (λ (l : Link). bytes_eq l.port port) i.links l found in
-              let port_is : l.port ≡ port = (bytes_decides l.port port).0 first.2 in
-              let chosen : is_control_place (port_named (kind.Flop flop) l.port) ≡ true = ap (λ (p : List ℕ). is_control_place (port_named (kind.Flop flop) p)) port_is ∙ ap is_control_place named ∙ control in
-              let here : slice_get (if is_control_place (port_named (kind.Flop flop) l.port) then bit_links i.name names l.operand else []) 0 ≡ Some (record { flop = i.name; net = net }) =
-              ap (λ (b : Bool). slice_get (if b then bit_links i.name names l.operand else []) 0) chosen
-              ∙ ap (λ (o : Option Operand). slice_get (bit_links i.name names o) 0) operand_is
-              ∙ ap (λ (n : ℕ). Some (record { flop = i.name; net = n })) net_is in
-              flat_map-there (λ (l : Link). if is_control_place (port_named (kind.Flop flop) l.port) then bit_links i.name names l.operand else []) i.links first.0 0 l (record { flop = i.name; net = net }) first.1 here)
+          let first = find-first (λ (l : Link). bytes_eq l.port port) i.links l found in
+          let port_is : l.port ≡ port = (bytes_decides l.port port).0 first.2 in
+          let chosen : is_control_place (port_named (kind.Flop flop) l.port) ≡ true = ap (λ (p : List ℕ). is_control_place (port_named (kind.Flop flop) p)) port_is ∙ ap is_control_place named ∙ control in
+          let here : slice_get (if is_control_place (port_named (kind.Flop flop) l.port) then bit_links i.name names l.operand else []) 0 ≡ Some (record { flop = i.name; net = net }) =
+          ap (λ (b : Bool). slice_get (if b then bit_links i.name names l.operand else []) 0) chosen
+          ∙ ap (λ (o : Option Operand). slice_get (bit_links i.name names o) 0) operand_is
+          ∙ ap (λ (n : ℕ). Some (record { flop = i.name; net = n })) net_is in
+          flat_map-there (λ (l : Link). if is_control_place (port_named (kind.Flop flop) l.port) then bit_links i.name names l.operand else []) i.links first.0 0 l (record { flop = i.name; net = net }) first.1 here)
 
   operand_there : number == 1 || number == 2 ≡ true → ((port : List ℕ) → slice_get (flop_ports flop.reset) number ≡ Some port → port_named (kind.Flop flop) port ≡ Some (place.Input number))
       → slice_get (library_cell names i (kind.Flop flop)).feeds number ≡ Some (Net (record { 0 = net })) → (j : ℕ) × (slice_get (flop_links names i (Some (kind.Flop flop))) j ≡ Some (record { flop = i.name; net = net }))

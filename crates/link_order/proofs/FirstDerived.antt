@@ -15,7 +15,7 @@ use Rattle.link_model.specs.Lists.{or_else, first_in}
 use Rattle.link_model.specs.Nets.{NamedNet, declared_names, declared_nets, nets_in}
 use Rattle.link_model.specs.Cells.{NamedCell, cell_of}
 use Rattle.link_model.specs.Faults.{text_fault, cells_in, bit_name}
-use Rattle.link_model.specs.Late.{ControlLink, control_links, IsDerived, IsDerivedAt, IsFirstDerived, HasNoDerived}
+use Rattle.link_model.specs.Late.{ControlLink, control_links, IsDerived, IsFirstDerived, HasNoDerived}
 use Rattle.link_order.specs.Faults.{IsDerivedFault, derived}
 use Rattle.link_order.specs.Links.{control_net, is_found_net, found_net, found_link, found_item}
 use Rattle.link_order.proofs.LinkNets.{link_pair, is_found_link, found_along, find-first, find-none}

@@ -1,5 +1,5 @@
 -- The links of clocks, clears and presets that are found, along the text and along the cells.
-use Rattle.std.proofs.Common.{◌≡◌, ◌≢◌, ℕ, ◌+◌, ◌<◌, ◌⊎◌, inl, inr, Bool, true, false, ◌||◌, ◌==◌, cond, List, [], ◌∷◌, ◌++◌, length, map, slice_index_or, get_or, zero, suc, Option, Some, None, arith, refl, sym, subst, ap, ◌∙◌}
+use Rattle.std.proofs.Common.{◌≡◌, ℕ, ◌<◌, Bool, true, false, ◌||◌, ◌==◌, cond, List, [], ◌∷◌, ◌++◌, map, get_or, zero, suc, Option, Some, None, arith, refl, sym, ap, ◌∙◌}
 use Rattle.std.specs.Prelude.{slice_get, find, position, option_and_then, unwrap_or, if◌then◌else◌}
 use Rattle.std.specs.List.{flat_map, list_any}
 use Rattle.std.specs.Option.{option_map, option_map_or}
@@ -7,7 +7,6 @@ use Rattle.std.specs.Str.{bytes_eq}
 use Rattle.std.specs.Cmp.Lexicographic.{bytes_decides}
 use Rattle.std.proofs.lemmas.List.Folds.{list_any-append}
 use Rattle.std.proofs.lemmas.List.Quantifiers.{position-Some}
-use Rattle.std.proofs.lemmas.Bool.Decides.{eqb_tells}
 use Rattle.std.proofs.lemmas.Option.{slice_get-map, slice_get-get_or, none-some, same_Some}
 use Rattle.cell_library.specs.declared.Kind.{Kind}
 use Rattle.cell_library.specs.declared.Kind.TheVariants as kind
@@ -15,8 +14,7 @@ use Rattle.cell_library.specs.declared.PortPlace.{PortPlace}
 use Rattle.cell_library.specs.declared.PortPlace.TheVariants as place
 use Rattle.cell_library.specs.Gates.{is_flop}
 use Rattle.cell_library.specs.Library.{kind_named, port_named, operand_ports, output_port}
-use Rattle.netlist_model.specs.declared.Feed.{Feed}
-use Rattle.netlist_model.specs.declared.Feed.TheVariants.{Net, Const}
+use Rattle.netlist_model.specs.declared.Feed.TheVariants.{Const}
 use Rattle.verilog_tree.specs.declared.tree.Module.{Module}
 use Rattle.verilog_tree.specs.declared.tree.Operand.{Operand}
 use Rattle.verilog_tree.specs.declared.tree.Operand.TheVariants as operand
@@ -28,10 +26,10 @@ use Rattle.link_model.specs.declared.fault.LinkFault.{LinkFault}
 use Rattle.link_model.specs.declared.fault.LinkFault.TheVariants as fault
 use Rattle.link_model.specs.Lists.{or_else, first_in, has_name, repeated_after, repeated}
 use Rattle.link_model.specs.Nets.{Declared, net_of, declared_names}
-use Rattle.link_model.specs.Cells.{NamedCell, feed_of, linked_operand, port_feed, library_cell, cell_of}
+use Rattle.link_model.specs.Cells.{feed_of, linked_operand, port_feed, library_cell}
 use Rattle.link_model.specs.Faults.{text_fault, too_many_in, name_twice, bit_faults, instance_faults, at_instance, cell_unknown, port_unknown, port_missing, port_twice, item_width}
 use Rattle.link_model.specs.Late.{ControlLink, is_control_place, bit_links, flop_links, item_links, control_links}
-use Rattle.link_order.specs.Links.{feed_net, operand_net, placed_net, control_net, is_found_net, found_net, found_link, found_item}
+use Rattle.link_order.specs.Links.{feed_net, operand_net, placed_net, is_found_net, found_net, found_link, found_item}
 
 -- Along lists.
 
@@ -229,7 +227,7 @@ module _ (drivers : List (Option ℕ)) (found : List Bool) (names : List (List �
   kind_pair i kind true flop once =
       first_in-map (λ (n : ℕ). (i.name, n)) (found_link drivers found (library_cell names i kind)) i.links
       ∙ first_in-joined (is_found_link drivers found) link_pair (λ (l : Link). if is_control_place (port_named kind l.port) then bit_links i.name names l.operand else [])
-        (λ (l : Link). option_map (λ (n : ℕ). (i.name, n)) (found_link drivers found (library_cell names i kind) l)) i.links (λ k l here. link_pair_of i kind l flop (linked_once i kind k l once here))
+      (λ (l : Link). option_map (λ (n : ℕ). (i.name, n)) (found_link drivers found (library_cell names i kind) l)) i.links (λ k l here. link_pair_of i kind l flop (linked_once i kind k l once here))
       ∙ sym (ap (λ (b : Bool). option_map link_pair (find (is_found_link drivers found) (if b then flat_map (λ (l : Link). if is_control_place (port_named kind l.port) then bit_links i.name names l.operand else []) i.links else []))) flop)
 
   item_pair : (x : Item) → at_instance port_twice x ≡ None → found_item drivers found names x ≡ option_map link_pair (find (is_found_link drivers found) (item_links names x))

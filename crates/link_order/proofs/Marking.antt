@@ -1,8 +1,8 @@
 -- The nets in the cones of marked nets, as cells are passed.
-use Rattle.std.proofs.Common.{◌≡◌, ℕ, ◌+◌, ◌<◌, ◌⊎◌, inl, inr, ◌↔◌, Bool, true, false, List, [], length, map, slice_index_or, replicate, Contains, Option, Some, None, arith, refl, sym, subst, ap, ◌∙◌}
+use Rattle.std.proofs.Common.{◌≡◌, ℕ, ◌+◌, ◌<◌, ◌⊎◌, inl, inr, ◌↔◌, Bool, true, false, List, length, map, slice_index_or, replicate, Contains, Option, Some, None, arith, refl, sym, subst, ap, ◌∙◌}
 use Rattle.std.specs.Prelude.{slice_get, option_and_then, if◌then◌else◌}
 use Rattle.std.specs.List.{filter_map}
-use Rattle.std.specs.Option.{option_map, option_map_or}
+use Rattle.std.specs.Option.{option_map_or}
 use Rattle.std.proofs.lemmas.List.{length-map, length-replicate, get_or-replicate, get_or_past}
 use Rattle.std.proofs.lemmas.Bool.Decides.{eqb_tells, leb_tells}
 use Rattle.std.proofs.lemmas.Option.{slice_get_within, none-some, same_Some, option_and_then_some}
@@ -10,19 +10,18 @@ use Rattle.cell_library.specs.Gates.{is_flop}
 use Rattle.netlist_model.specs.declared.NetId.{NetId}
 use Rattle.netlist_model.specs.declared.Feed.{Feed}
 use Rattle.netlist_model.specs.declared.Feed.TheVariants.{Net, Const}
-use Rattle.netlist_model.specs.Below.{AreFeedsBelow, IsFeedBelow}
 use Rattle.net_cones.specs.Cone.{Marked, InConeOf}
 use Rattle.net_cones.specs.Marks.{mark_all}
 use Rattle.net_cones.proofs.Backward.{mark_all-keeps, mark_all-marks, mark_all-only, length-mark_all, marked_inside}
 use Rattle.link_model.specs.Cells.{NamedCell}
 use Rattle.link_model.specs.Fits.{FitsCell, FitCells}
-use Rattle.link_model.specs.Late.{InCone, itself, behind, GateReads, IsGate, HasOperand}
+use Rattle.link_model.specs.Late.{InCone, itself, behind, HasOperand}
 use Rattle.link_drivers.specs.Drivers.{DrivesNet}
 use Rattle.link_order.specs.Drivers.{IsDriverTable, cell_reads, OrderedCells, AreOrdered}
 use Rattle.link_order.specs.Links.{feed_net, operand_net}
 use Rattle.link_order.specs.Cones.{FlopReads, IsClockNet, IsControlNet, ConeOfMarked, flop_net, drives_marked, GateReadsMarked}
 use Rattle.link_order.proofs.Reading.{filter_map-from, filter_map-to}
-use Rattle.link_order.proofs.ConeReading.{DrivesInCone, UnderDriver, cone_down, cone_up}
+use Rattle.link_order.proofs.ConeReading.{cone_down, cone_up}
 use Rattle.link_order.proofs.State.{marked-map}
 use Rattle.link_order.proofs.Fitting.{cell-fits, feed-fits, cell-there}
 
@@ -243,6 +242,6 @@ pub cone_of_marked_by : (nets : ℕ) (cells : List NamedCell) (ordered : Ordered
 cone_of_marked_by nets cells ordered graph starts roots inside looked old marks a graph_is starts_are says looked_are old_are read =
     cone_of_marked_iff nets cells ordered.drivers roots inside marks a.drivers
     (subst (λ (g : List (List ℕ)). (v : ℕ) → v < length g → Marked inside v ↔ InConeOf g (map (drives_marked roots) cells) v) (graph_is ∙ a.reads)
-     (subst (λ (ss : List Bool). (v : ℕ) → v < length graph → Marked inside v ↔ InConeOf graph ss v) starts_are says))
+    (subst (λ (ss : List Bool). (v : ℕ) → v < length graph → Marked inside v ↔ InConeOf graph ss v) starts_are says))
     (subst (λ (bs : List Bool). (net : ℕ) → Marked marks net ↔ (Marked bs net ⊎ GateReadsMarked cells inside (length cells) net)) old_are
-     (subst (λ (bs : List Bool). (net : ℕ) → Marked marks net ↔ (Marked old net ⊎ GateReadsMarked cells bs (length cells) net)) looked_are read))
+    (subst (λ (bs : List Bool). (net : ℕ) → Marked marks net ↔ (Marked old net ⊎ GateReadsMarked cells bs (length cells) net)) looked_are read))

@@ -1,7 +1,6 @@
 -- An order of the graph is one of the cells, and its cycles are the loops.
-use Rattle.std.proofs.Common.{◌≡◌, ℕ, ◌+◌, ◌-◌, ◌<◌, List, [], length, map, take, slice_index, slice_index_or, Contains, All, Option, Some, zero, suc, arith, refl, sym, subst, ap, ◌∙◌}
-use Rattle.std.specs.Prelude.{slice_get}
-use Rattle.std.proofs.lemmas.List.{length-map, length-take, get_or-take, get_or_default}
+use Rattle.std.proofs.Common.{◌≡◌, ℕ, ◌+◌, ◌-◌, ◌<◌, List, length, map, take, slice_index, slice_index_or, Contains, Option, zero, suc, arith, refl, sym, subst, ap, ◌∙◌}
+use Rattle.std.proofs.lemmas.List.{length-map, length-take, get_or-take}
 use Rattle.std.proofs.lemmas.List.Elements.{All-contains}
 use Rattle.std.proofs.lemmas.Option.{slice_get_within, get_or_from_slice_get, slice_get_read, same_Some}
 use Rattle.cell_library.specs.Gates.{is_flop}
@@ -10,12 +9,11 @@ use Rattle.gate_order.specs.Fault.{NamesCycle}
 use Rattle.gate_order.specs.declared.fault.OrderFault.{OrderFault}
 use Rattle.gate_order.specs.declared.fault.OrderFault.TheVariants as fault
 use Rattle.link_model.specs.Cells.{NamedCell}
-use Rattle.link_model.specs.Late.{IsGate, HasOperand, ReadsItem, IsLoop}
-use Rattle.link_drivers.specs.Drivers.{DrivesNet}
+use Rattle.link_model.specs.Late.{ReadsItem, IsLoop}
 use Rattle.link_order.specs.Orders.{StandsAt, IsItemOrder}
 use Rattle.link_order.specs.Drivers.{IsDriverTable, cell_reads, OrderedCells, AreOrdered}
 use Rattle.link_order.specs.Faults.{NamesLoop}
-use Rattle.link_order.proofs.Reading.{ReadsDriver, reads_from, reads_to, reads_below}
+use Rattle.link_order.proofs.Reading.{reads_from, reads_to, reads_below}
 
 stands-within : (order : List ℕ) (place number : ℕ) → StandsAt order place number → place < length order
 stands-within order place number s = slice_get_within order place number s

@@ -1,19 +1,19 @@
 -- What the graph of the cells reads: a gate the drivers of its operands.
-use Rattle.std.proofs.Common.{◌≡◌, ℕ, ◌+◌, ◌-◌, ◌<◌, ◌≤◌, ◌⊎◌, inl, inr, Bool, true, false, List, [], ◌∷◌, length, map, slice_index, slice_index_or, Contains, Option, Some, None, zero, suc, arith, refl, sym, subst, ap, ◌∙◌}
+use Rattle.std.proofs.Common.{◌≡◌, ℕ, ◌<◌, ◌≤◌, ◌⊎◌, inl, inr, Bool, true, false, List, [], ◌∷◌, length, map, slice_index, Contains, Option, Some, None, zero, suc, arith, refl, sym, subst, ap, ◌∙◌}
 use Rattle.std.specs.Prelude.{slice_get, if◌then◌else◌}
 use Rattle.std.specs.List.{filter_map, cons_option}
 use Rattle.std.specs.Option.{option_map}
 use Rattle.std.proofs.lemmas.List.{length-map, get_or_past}
 use Rattle.std.proofs.lemmas.List.Elements.{Contains-get_or}
-use Rattle.std.proofs.lemmas.Option.{slice_get-map, slice_get_within, slice_get_cases, slice_get_past, get_or_from_slice_get, none-some, same_Some, slice_get_read}
+use Rattle.std.proofs.lemmas.Option.{slice_get-map, slice_get_within, slice_get_cases, get_or_from_slice_get, none-some, same_Some}
 use Rattle.cell_library.specs.Gates.{is_flop}
 use Rattle.netlist_model.specs.declared.Feed.{Feed}
 use Rattle.netlist_model.specs.declared.Feed.TheVariants.{Net, Const}
-use Rattle.gate_order.specs.Graph.{reads_of, AllBelow, IsGraph}
+use Rattle.gate_order.specs.Graph.{reads_of, IsGraph}
 use Rattle.link_model.specs.Cells.{NamedCell}
 use Rattle.link_model.specs.Late.{IsGate, HasOperand}
 use Rattle.link_drivers.specs.Drivers.{DrivesNet}
-use Rattle.link_order.specs.Drivers.{driver_in, IsDriverTable, feed_driver, cell_reads}
+use Rattle.link_order.specs.Drivers.{IsDriverTable, feed_driver, cell_reads}
 
 -- a gate reads a net that the other cell drives
 pub record ReadsDriver (cells : List NamedCell) (reader driver : ℕ) : Type 0 where

@@ -4,7 +4,7 @@ use Rattle.std.specs.Prelude.{slice_get, option_and_then}
 use Rattle.std.specs.Option.{option_map, option_map_or}
 use Rattle.std.proofs.lemmas.List.{length-map, get_or_past}
 use Rattle.std.proofs.lemmas.Bool.Decides.{leb_tells}
-use Rattle.std.proofs.lemmas.Option.{slice_get-map, slice_get_within, slice_get_cases, get_or_from_slice_get, none-some, same_Some}
+use Rattle.std.proofs.lemmas.Option.{slice_get-map, slice_get_within, get_or_from_slice_get, none-some}
 use Rattle.cell_library.specs.Gates.{is_flop}
 use Rattle.netlist_model.specs.declared.NetId.{NetId}
 use Rattle.netlist_model.specs.declared.Dir.{Dir}
@@ -13,12 +13,12 @@ use Rattle.net_cones.specs.Cone.{Marked, ConeHolds}
 use Rattle.link_model.specs.Nets.{NamedNet}
 use Rattle.link_model.specs.Cells.{NamedCell}
 use Rattle.link_model.specs.Faults.{is_inout}
-use Rattle.link_model.specs.Late.{InCone, IsKept, IsInoutNet, IsDerived}
-use Rattle.link_drivers.specs.Drivers.{dir_at, DrivesNet, HasDriver, HasItsDrivers}
+use Rattle.link_model.specs.Late.{IsKept, IsInoutNet, IsDerived}
+use Rattle.link_drivers.specs.Drivers.{dir_at, DrivesNet, HasItsDrivers}
 use Rattle.link_order.specs.Drivers.{driver_in, IsDriverTable, cell_reads, OrderedCells, AreOrdered}
 use Rattle.link_order.specs.Cones.{drives_inout, is_state_cell}
 use Rattle.link_order.specs.Links.{is_found_net}
-use Rattle.link_order.proofs.ConeReading.{DrivesInCone, UnderDriver, cone_down, cone_up}
+use Rattle.link_order.proofs.ConeReading.{DrivesInCone, cone_down, cone_up}
 
 -- Marks that are worked out of each cell.
 
@@ -139,7 +139,7 @@ pub derived_by : (nets : List NamedNet) (cells : List NamedCell) (ordered : Orde
 derived_by nets cells ordered graph marks found driven a graph_is marks_are says =
     derived_iff nets cells ordered.drivers found driven a.drivers
     (subst (λ (g : List (List ℕ)). (v : ℕ) → v < length g → Marked found v ↔ ConeHolds g (map (is_state_cell nets) cells) v) (graph_is ∙ a.reads)
-     (subst (λ (ms : List Bool). (v : ℕ) → v < length graph → Marked found v ↔ ConeHolds graph ms v) marks_are says))
+    (subst (λ (ms : List Bool). (v : ℕ) → v < length graph → Marked found v ↔ ConeHolds graph ms v) marks_are says))
 
 -- a net that is found has a driver, and a place in the table
 pub found-below : (drivers : List (Option ℕ)) (found : List Bool) (net : ℕ) → is_found_net drivers found net ≡ true → net < length drivers

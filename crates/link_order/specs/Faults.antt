@@ -1,5 +1,5 @@
 -- The faults that are told here: a loop, and the first derived clock, clear or preset.
-use Rattle.std.specs.Prelude.{◌≡◌, ℕ, List, ⊤}
+use Rattle.std.specs.Prelude.{ℕ, List, ⊤}
 use Rattle.gate_order.specs.declared.fault.OrderFault.{OrderFault}
 use Rattle.gate_order.specs.declared.fault.OrderFault.TheVariants as graph
 use Rattle.verilog_tree.specs.declared.tree.Module.{Module}

@@ -96,11 +96,7 @@ fn cones_of_state(
 }
 
 // Of each cell, whether it is a flip-flop, or drives an inout.
-fn state_cells(
-    alloc: Global,
-    nets: &[NetBit],
-    cells: &[ItemCell],
-) -> Result<Row<bool>, OutOfMemory>
+fn state_cells(alloc: Global, nets: &[NetBit], cells: &[ItemCell]) -> Result<Row<bool>, OutOfMemory>
     requires { FitCells (length nets.now) cells.now }
     ensures { IfOk result (λ marks. marks ≡ map (is_state_cell nets.now) cells.now) }
 {

@@ -76,11 +76,7 @@ pub fn order_cells(
 }
 
 // The order, or a loop as the cycle of a graph.
-fn order_driven(
-    alloc: Global,
-    nets: &[NetBit],
-    cells: &[ItemCell],
-) -> Result<CellOrder, OrderFault>
+fn order_driven(alloc: Global, nets: &[NetBit], cells: &[ItemCell]) -> Result<CellOrder, OrderFault>
     requires count { length cells.now ≤ 2 ^ 32 }
     requires fits { FitCells (length nets.now) cells.now }
     requires drivers { HasItsDrivers nets.now cells.now }

@@ -1,10 +1,7 @@
-use Rattle.std.proofs.Common.{◌≡◌, ◌+◌, ℕ, Bool, true, false, List, Some, length, slice_index_or, arith, rules, refl, sym, subst, ap, ◌∙◌}
+use Rattle.std.proofs.Common.{◌≡◌, ◌+◌, ℕ, Bool, true, false, List, Some, length, arith, refl, sym, subst, ap, ◌∙◌}
 use Rattle.std.specs.Prelude.{slice_get}
 use Rattle.std.specs.List.{filter_map}
-use Rattle.std.proofs.lemmas.Grind.{common_steps}
-use Rattle.std.proofs.lemmas.List.{get_or_default}
 use Rattle.std.proofs.lemmas.Option.{slice_get_read}
-use Rattle.net_cones.specs.Cone.{Marked}
 use Rattle.net_cones.specs.Marks.{mark_all}
 use Rattle.netlist_model.specs.declared.Feed.{Feed}
 use Rattle.link_order.specs.Links.{feed_net}
@@ -29,10 +26,10 @@ loop-number-preserved c =
       | else-inside-number w ↦
           subst (λ (ms : List Bool). IsReadMarked c.args.cells.now c.args.inside.now c.args.marks.now ms (c.loop-number.number + 1)) (sym w.marks-is)
           (read_past c.args.cells.now c.args.inside.now c.args.marks.now c.loop-number.marks c.loop-number.number c.index-cells-number.result there
-           (λ marked gate. elim w.else-inside-number.branch [
-             | else-inside-number-via-then-inside-number+else-not-is_flop x ↦ let no : false ≡ true = sym gate ∙ sym (x.is_flop.ensures ∙ ap is_flop x.kind.ensures) ∙ x.if-not-is_flop.false in cc
-             | else-inside-number-via-else-inside-number x ↦ let no : false ≡ true = sym x.if-inside-number.false ∙ marked in cc
-           ]) c.loop-number.invariant)
+          (λ marked gate. elim w.else-inside-number.branch [
+            | else-inside-number-via-then-inside-number+else-not-is_flop x ↦ let no : false ≡ true = sym gate ∙ sym (x.is_flop.ensures ∙ ap is_flop x.kind.ensures) ∙ x.if-not-is_flop.false in cc
+            | else-inside-number-via-else-inside-number x ↦ let no : false ≡ true = sym x.if-inside-number.false ∙ marked in cc
+          ]) c.loop-number.invariant)
     ]
 
 pub returns : goal.returns

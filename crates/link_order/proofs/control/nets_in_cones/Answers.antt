@@ -15,4 +15,4 @@ returns-clause-cones c =
     let result_is : c.from.result ≡ c.mark_read.new.marks = c.from.ensures ∙ with_items_is c.in_ok-found.found c.mark_read.new.marks (search (rules, places)) in
     subst (λ (ms : List Bool). (net : ℕ) → Marked ms net ↔ ConeOfMarked c.args.cells.now c.args.roots.now net) (sym result_is)
     (cone_of_marked_by (length c.args.roots.now) c.args.cells.now c.args.order.now c.graph.result.now c.as_slice.result.now c.args.roots.now c.in_ok-inside.inside c.as_slice-2.result.now c.as_mut_slice.result.now c.mark_read.new.marks
-     c.requires.order c.graph.ensures (c.as_slice.ensures ∙ c.in_ok-starts.ensures) c.in_ok-inside.ensures.cones c.as_slice-2.ensures (c.as_mut_slice.ensures.value ∙ c.in_ok-found.ensures.items) c.mark_read.ensures)
+    c.requires.order c.graph.ensures (c.as_slice.ensures ∙ c.in_ok-starts.ensures) c.in_ok-inside.ensures.cones c.as_slice-2.ensures (c.as_mut_slice.ensures.value ∙ c.in_ok-found.ensures.items) c.mark_read.ensures)

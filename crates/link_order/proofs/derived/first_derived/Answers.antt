@@ -1,10 +1,10 @@
-use Rattle.std.proofs.Common.{◌≡◌, ◌<◌, ◌+◌, ℕ, List, map, get_or, Option, Some, None, length, arith, refl, sym, ap, ◌∙◌}
+use Rattle.std.proofs.Common.{◌≡◌, ◌<◌, ℕ, List, map, get_or, Some, None, length, arith, refl, sym, ap, ◌∙◌}
 use Rattle.std.specs.Prelude.{slice_get}
 use Rattle.std.proofs.lemmas.List.{length-map}
 use Rattle.std.proofs.lemmas.Option.{slice_get_read}
 use Rattle.verilog_tree.specs.declared.tree.Item.{Item}
 use Rattle.link_model.specs.Lists.{first_in}
-use Rattle.link_model.specs.Nets.{NamedNet, declared_names}
+use Rattle.link_model.specs.Nets.{declared_names}
 use Rattle.link_model.specs.Cells.{NamedCell, cell_of}
 use Rattle.link_order.specs.Links.{found_item}
 use Rattle.link_order.proofs.FirstDerived.{no_derived_in, first_derived_in, found_link-below, found_item-at, first_in-passed, first_in-found, first_in-ended}
@@ -31,7 +31,7 @@ loop-number-preserved c =
           let there : slice_get c.args.cells.now c.loop-number.number ≡ Some w.index-cells-number.result = slice_get_read c.args.cells.now (length c.args.cells.now) c.loop-number.number w.index-cells-number.result refl low w.index-cells-number.is in
           first_in-passed (found_item c.args.drivers.now c.args.found.now (declared_names c.args.tree.now)) c.args.tree.now.items c.loop-number.number c.item-item.result (first_in (found_item c.args.drivers.now c.args.found.now (declared_names c.args.tree.now)) c.args.tree.now.items) here
           (found_item-at c.args.tree.now c.args.cells.now c.args.drivers.now c.args.found.now c.loop-number.number c.item-item.result w.in-Instance.instance w.index-cells-number.result w.as_slice-links.result.now None
-           c.requires.cells here there w.in-Instance.is w.as_slice-links.ensures w.in-None.ensures) c.loop-number.invariant
+          c.requires.cells here there w.in-Instance.is w.as_slice-links.ensures w.in-None.ensures) c.loop-number.invariant
       | in-Gate w ↦
           first_in-passed (found_item c.args.drivers.now c.args.found.now (declared_names c.args.tree.now)) c.args.tree.now.items c.loop-number.number c.item-item.result (first_in (found_item c.args.drivers.now c.args.found.now (declared_names c.args.tree.now)) c.args.tree.now.items) here
           (ap (found_item c.args.drivers.now c.args.found.now (declared_names c.args.tree.now)) w.in-Gate.is) c.loop-number.invariant
@@ -59,7 +59,7 @@ returns-in-Some c =
     first_in-found (found_item c.args.drivers.now c.args.found.now (declared_names c.args.tree.now)) c.args.tree.now.items c.loop-number.number c.item-item.result (c.in-Instance.instance.name, c.in-Some.net)
     (first_in (found_item c.args.drivers.now c.args.found.now (declared_names c.args.tree.now)) c.args.tree.now.items) here
     (found_item-at c.args.tree.now c.args.cells.now c.args.drivers.now c.args.found.now c.loop-number.number c.item-item.result c.in-Instance.instance c.index-cells-number.result c.as_slice-links.result.now (Some c.in-Some.net)
-     c.requires.cells here there c.in-Instance.is c.as_slice-links.ensures c.in-Some.ensures) c.loop-number.invariant in
+    c.requires.cells here there c.in-Instance.is c.as_slice-links.ensures c.in-Some.ensures) c.loop-number.invariant in
     first_derived_in c.args.tree.now c.args.nets.now c.args.cells.now c.args.drivers.now c.args.found.now c.requires.text c.requires.nets c.requires.cells c.requires.derived c.in-Instance.instance.name c.in-Some.net c.index-nets-net.result c.in_ok-fault-in-Some.fault
     first named c.in_ok-fault-in-Some.ensures
 
@@ -69,4 +69,4 @@ returns c =
     let also : length c.as_slice-item-items.result.now ≡ length c.args.tree.now.items = ap (λ (xs : List Item). length xs) c.as_slice-item-items.ensures in
     no_derived_in c.args.tree.now c.args.nets.now c.args.cells.now c.args.drivers.now c.args.found.now c.requires.text c.requires.nets c.requires.cells c.requires.derived
     (first_in-ended (found_item c.args.drivers.now c.args.found.now (declared_names c.args.tree.now)) c.args.tree.now.items c.loop-number.number (first_in (found_item c.args.drivers.now c.args.found.now (declared_names c.args.tree.now)) c.args.tree.now.items)
-     (omega (arith, past, also)) c.loop-number.invariant)
+    (omega (arith, past, also)) c.loop-number.invariant)
