@@ -1,0 +1,5 @@
+pub mod Turns
+pub mod Steps
+pub mod Made
+pub mod Legal
+pub mod Looked
