@@ -1,5 +1,5 @@
 -- When an event is legal.
-use Rattle.std.proofs.Common.{◌≡◌, ℕ, ◌↔◌, Bool, true, false, Option, IsTrue, refl, sym, ◌∙◌, ap, inl, inr}
+use Rattle.std.proofs.Common.{◌≡◌, ℕ, ◌↔◌, Bool, true, false, Option, refl, sym, ◌∙◌, ap, inl, inr}
 use Rattle.signal_values.specs.declared.PinSig.{PinSig}
 use Rattle.signal_values.specs.declared.PinSig.TheVariants.{Zero, One, Unknown, HighZ}
 use Rattle.netlist_model.specs.declared.Dir.{Dir}
@@ -33,6 +33,6 @@ pub legal_is : (N : NetlistView) (net : ℕ) (value : PinSig) (side : Option Dir
     → (can_take (follows_pin side) control (is_known_pin value) ≡ true) ↔ IsLegal N (record { net = net; value = value })
 legal_is N net value side control side_is marked = (
   (λ allowed. let both = taken_is (follows_pin side) control (is_known_pin value) allowed in
-    record { taken = ap follows_pin (sym side_is) ∙ both.0; control = λ port. known value (both.1 (marked.1 port)) }),
+      record { taken = ap follows_pin (sym side_is) ∙ both.0; control = λ port. known value (both.1 (marked.1 port)) }),
   (λ can. takes_it (follows_pin side) control (is_known_pin value) (ap follows_pin side_is ∙ can.taken) (λ flag. not_known value (can.control (marked.0 flag)))),
 )

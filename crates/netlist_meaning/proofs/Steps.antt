@@ -1,5 +1,5 @@
 -- The flip-flops take their step one cell after another; and control nets, flip-flops and all nets make a start and a step.
-use Rattle.std.proofs.Common.{◌≡◌, ◌≢◌, ℕ, ◌+◌, ◌<◌, ◌≤◌, List, length, refl, sym, ◌∙◌, arith, ap, Option, Some, set, get_or-set_other, get_or-set_same, length-set, inl, inr, if◌then◌else◌}
+use Rattle.std.proofs.Common.{◌≡◌, ◌≢◌, ℕ, ◌+◌, ◌<◌, ◌≤◌, List, length, refl, ◌∙◌, arith, ap, Some, set, get_or-set_other, get_or-set_same, length-set, inl, inr, if◌then◌else◌}
 use Rattle.std.proofs.lemmas.Bool.{cases_lt}
 use Rattle.std.proofs.lemmas.Bool.Decides.{eqb_tells}
 use Rattle.std.proofs.lemmas.Option.{slice_get_within}
@@ -32,10 +32,10 @@ pub record IsAdvancedUpTo (N : NetlistView) (order : List CellId) (before after 
 pub none_advanced : (N : NetlistView) (order : List CellId) (before after : ℕ → Sig) (old : List Sig) → IsAdvancedUpTo N order before after old old 0
 none_advanced N order before after old = record { long = refl; taken = λ place number below there. absurd (omega arith); rest = λ place number past there. refl }
 
-pub one_advanced : (N : NetlistView) (order : List CellId) (before after : ℕ → Sig) (old new : List Sig) (count number : ℕ) (given : Sig) → IsCellOrder N order → StandsAt order count number
-    → number < length new → given ≡ place_next (cell_at N number) before after (value_at new number) → IsAdvancedUpTo N order before after old new count
+pub one_advanced : (N : NetlistView) (order : List CellId) (before after : ℕ → Sig) (old new : List Sig) (count number : ℕ) (kept given : Sig) → IsCellOrder N order → StandsAt order count number
+    → number < length new → kept ≡ value_at new number → given ≡ place_next (cell_at N number) before after kept → IsAdvancedUpTo N order before after old new count
     → IsAdvancedUpTo N order before after old (set new number given) (count + 1)
-one_advanced N order before after old new count number given ordered stands below is so_far = record {
+one_advanced N order before after old new count number kept given ordered stands below held is so_far = record {
   long = length-set new number given ∙ so_far.long;
   taken = λ place other early there.
       elim (cases_lt place count) [
@@ -43,7 +43,7 @@ one_advanced N order before after old new count number given ordered stands belo
         | inr late ↦ (let here : place ≡ count = omega arith in
             let there_here : StandsAt order count other = rw here at there in
             let same : other ≡ number = stands_same order count other number there_here stands in
-            rw same (get_or-set_same new number given _ below ∙ is ∙ ap (λ (s : Sig). place_next (cell_at N number) before after s) (so_far.rest count number (omega arith) stands)))
+            rw same (get_or-set_same new number given _ below ∙ is ∙ ap (λ (s : Sig). place_next (cell_at N number) before after s) (held ∙ so_far.rest count number (omega arith) stands)))
       ];
   rest = λ place other past there. other_value place other there (λ e. omega arith) ∙ so_far.rest place other (omega arith) there;
 }

@@ -86,15 +86,15 @@ turned : (N : NetlistView) (order : List CellId) (pins : ℕ → PinSig) (state 
     → IsWellFormed N → IsLaidOut N → IsCellOrder N order → AreSides N sides → StandsAt order count number → Drives N number cell out.0
     → IsSettledUpTo N order pins state count values
     → IsSettledUpTo N order pins state (count + 1)
-      (set values out.0 (driven_value (side_at sides out.0) cell.kind (feed_values (value_at values) cell.feeds) (state number) (pins out.0)))
+    (set values out.0 (driven_value (side_at sides out.0) cell.kind (feed_values (value_at values) cell.feeds) (state number) (pins out.0)))
 turned N order pins state count values sides number cell out formed laid ordered directed stands drives so_far = record {
   long = so_far_long;
   placed = λ place other found net below there driven.
       elim (cases_lt place count) [
         | inl early ↦ (let apart : net ≢ out.0 = λ e.
             (let same : other ≡ number = formed.one_driver other number found cell net driven (rw e drives) in
-              let there_too : StandsAt order place number = rw same at there in
-              let placed_there = ordered.once place count number there_too stands in absurd (omega arith)) in
+            let there_too : StandsAt order place number = rw same at there in
+            let placed_there = ordered.once place count number there_too stands in absurd (omega arith)) in
             value_other net apart ∙ so_far.placed place other found net early there driven
             ∙ kept_inputs place other found net (omega arith) there driven)
         | inr late ↦ (let here : place ≡ count = omega arith in
@@ -131,7 +131,7 @@ turned N order pins state count values sides number cell out formed laid ordered
 
     kept_inputs : (place reader : ℕ) (other : CellView) (net : ℕ) → place ≤ count → StandsAt order place reader → Drives N reader other net
         → driven_value (direction N.ports net) other.kind (feed_values (value_at values) other.feeds) (state reader) (pins net)
-          ≡ driven_value (direction N.ports net) other.kind (feed_values (value_at next) other.feeds) (state reader) (pins net)
+        ≡ driven_value (direction N.ports net) other.kind (feed_values (value_at next) other.feeds) (state reader) (pins net)
     kept_inputs place reader other net upto there driven =
         driven_same N reader other net (value_at values) (value_at next) (state reader) (pins net) formed driven (λ gate k net' reads. same_value place reader other k net' upto there gate reads)
 
@@ -154,7 +154,7 @@ turn_settles N order pins state count values sides number formed laid ordered di
 
     by_output : (output : Option NetId) → live.0.output ≡ output
         → IsSettledUpTo N order pins state (count + 1)
-          (with_output output (λ net. driven_value (side_at sides net) live.0.kind (feed_values (value_at values) live.0.feeds) (state number) (pins net)) values)
+        (with_output output (λ net. driven_value (side_at sides net) live.0.kind (feed_values (value_at values) live.0.feeds) (state number) (pins net)) values)
     by_output (Some out) is = turned N order pins state count values sides number live.0 out formed laid ordered directed stands (record { live = live.1; output = is }) so_far
     by_output None is = record {
       long = so_far.long;

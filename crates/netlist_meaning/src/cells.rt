@@ -49,12 +49,7 @@ fn value_of(values: &[Sig], feed: Feed) -> Sig
 
 /// Puts the values of a cell's operands in order at the front of a buffer, and answers how many they are.
 #[tactic(auto, using(netlist_arena::proofs::Growth::takes_few))]
-pub(crate) fn gather(
-    netlist: &Netlist,
-    cell: CellId,
-    values: &[Sig],
-    buffer: &mut [Sig],
-) -> usize
+pub(crate) fn gather(netlist: &Netlist, cell: CellId, values: &[Sig], buffer: &mut [Sig]) -> usize
     requires live { IsLive netlist.now.lists cell.0 }
     requires room { length buffer.old ≡ 256 }
     ensures inputs { take result buffer.new ≡ feed_values (value_at values.now) (feeds_of (cell_at netlist.now.lists cell.0)) }
@@ -75,7 +70,11 @@ pub(crate) fn cell_value(kind: Kind, inputs: &[Sig], kept: Sig) -> Sig
 {
     match kind {
         Kind::Flop(_) => kept,
-        Kind::Bufif0 | Kind::Bufif1 => see(eval_pin(kind, value_at(inputs, 0), value_at(inputs, 1))),
+        Kind::Bufif0 | Kind::Bufif1 => see(eval_pin(
+            kind,
+            value_at(inputs, 0),
+            value_at(inputs, 1),
+        )),
         kind => eval(kind, inputs),
     }
 }

@@ -5,9 +5,8 @@
 
 mod cells;
 mod flops;
-mod passes;
 mod moments;
-mod tables;
+mod passes;
 
-pub use passes::settle;
 pub use moments::{is_legal, reading, start, step};
+pub use passes::settle;

@@ -111,7 +111,8 @@ pub fn reading(
     ensures { result ≡ reading netlist.now.lists (pin_at pins.now) (value_at values.now) net.0 }
 {
     let outside = pin_at(pins, net.0 as usize);
-    match sides[net.0 as usize] {
+    let side = sides[net.0 as usize];
+    match side {
         Some(Dir::Input) => outside,
         Some(Dir::Inout) => join(drive(netlist, drivers, values, net), outside),
         Some(Dir::Output) | None => drive(netlist, drivers, values, net),

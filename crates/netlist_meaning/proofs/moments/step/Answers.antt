@@ -1,4 +1,3 @@
-use Rattle.std.proofs.Common.{arith}
 use Rattle.netlist_meaning.proofs.Steps.{step_is, pins_set}
 use Rattle.netlist_meaning.proofs.moments.step.Goals as goal
 
