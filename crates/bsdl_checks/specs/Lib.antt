@@ -1,1 +1,5 @@
+pub mod Before
+pub mod Bits
+pub mod Counts
+pub mod Ordered
 pub mod Seen

@@ -4,8 +4,18 @@
 #![tactic(auto)]
 
 pub mod access;
+pub mod boundary;
+pub mod describe;
+pub mod first;
 pub mod instructions;
 pub mod names;
+pub mod numbers;
 pub mod pin_map;
 pub mod ports;
+pub mod rows;
+pub mod sections;
+pub mod system_bits;
 pub mod tap;
+
+pub use describe::device;
+pub use first::{BrokenRule, first_fault};
