@@ -1,4 +1,5 @@
 pub mod Bits
+pub mod ControlSets
 pub mod Few
 pub mod Ordered
 pub mod Repeats

@@ -5,6 +5,8 @@
 
 pub mod access;
 pub mod boundary;
+pub mod cells;
+pub mod controls;
 pub mod describe;
 pub mod first;
 pub mod instructions;
@@ -19,3 +21,6 @@ pub mod tap;
 
 pub use describe::device;
 pub use first::{BrokenRule, first_fault};
+
+#[cfg(test)]
+mod tests;

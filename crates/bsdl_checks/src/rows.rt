@@ -1,70 +1,29 @@
 // Rules on the rows of the boundary register.
-ghost use Rattle.std.specs.Prelude.{◌≡◌, ◌&&◌};
+ghost use Rattle.std.specs.Prelude.{◌≡◌, IfOk};
 ghost use Rattle.std.specs.List.{list_any};
 ghost use Rattle.bsdl_device.specs.Ports as declared;
 ghost use Rattle.bsdl_device.specs.Checks as rule;
 ghost use Rattle.bsdl_device.specs.RowRules as row_rule;
+ghost use Rattle.bsdl_checks.specs.Controls as known;
 
 use crate::system_bits::{is_system_bit, some_bit_not_in_one_row};
+use crate::cells::{is_cell, is_control, is_function};
+use crate::controls::{Controls, controls_of, is_named, is_present};
 use crate::instructions::has_instruction;
 use crate::tap::{find_port, is_mode};
 use bsdl_device::{Contents, DeclaredPort, Disable, File, PortMode, RowEntry, TapNames};
 use cell_library::{BoundaryKind, Function, Instr};
+use edge_io::OutOfMemory;
+use std::alloc::Global;
 
-fn is_function(wanted: Function, function: Function) -> bool
-    ensures { result ≡ row_rule.is_function wanted function }
-{
-    match (wanted, function) {
-        (Function::Input, Function::Input) => true,
-        (Function::Output2, Function::Output2) => true,
-        (Function::Output3, Function::Output3) => true,
-        (Function::Control, Function::Control) => true,
-        (Function::Bidir, Function::Bidir) => true,
-        (Function::Clock, Function::Clock) => true,
-        (_, _) => false,
-    }
-}
-
-fn is_cell(wanted: BoundaryKind, cell: BoundaryKind) -> bool
-    ensures { result ≡ row_rule.is_cell wanted cell }
-{
-    match (wanted, cell) {
-        (BoundaryKind::Bc1, BoundaryKind::Bc1) => true,
-        (BoundaryKind::Bc2, BoundaryKind::Bc2) => true,
-        (BoundaryKind::Bc4, BoundaryKind::Bc4) => true,
-        (BoundaryKind::Bc7, BoundaryKind::Bc7) => true,
-        (_, _) => false,
-    }
-}
-
-fn is_control(row: &RowEntry) -> bool
-    ensures { result ≡ row_rule.is_control row.now }
-{
-    is_function(Function::Control, row.function)
-}
-
-fn is_disabled_by(number: u32, row: &RowEntry) -> bool
-    ensures { result ≡ row_rule.is_disabled_by number row.now }
-{
-    match row.disable {
-        None => false,
-        Some(disable) => disable.control == number,
-    }
-}
-
-fn some_disabled_by(number: u32, rows: &[RowEntry]) -> bool
-    ensures { result ≡ list_any (row_rule.is_disabled_by number) rows.now }
-{
-    rows.iter().any(|row| is_disabled_by(number, row))
-}
-
-fn control_fails(rows: &[RowEntry], row: &RowEntry) -> bool
-    ensures { result ≡ row_rule.control_fails rows.now row.now }
+fn control_fails(controls: &Controls, row: &RowEntry) -> bool
+    requires { known.KnowsControls controls.now.rows.now controls.now.named.keys controls.now.present.keys }
+    ensures { result ≡ row_rule.control_fails controls.now.rows.now row.now }
 {
     is_control(row)
         && (row.port.is_some()
             || !(is_cell(BoundaryKind::Bc1, row.cell) || is_cell(BoundaryKind::Bc2, row.cell))
-            || !some_disabled_by(row.number, rows))
+            || !is_named(controls, row.number))
 }
 
 fn lacks_port(row: &RowEntry) -> bool
@@ -139,31 +98,26 @@ fn disable_misfits(row: &RowEntry) -> bool
     }
 }
 
-fn has_control(number: u32, rows: &[RowEntry]) -> bool
-    ensures { result ≡ list_any (λ s. rule.is_numbered number s && row_rule.is_control s) rows.now }
-{
-    rows.iter()
-        .any(|row| row.number == number && is_control(row))
-}
-
-fn control_is_unknown(rows: &[RowEntry], row: &RowEntry) -> bool
-    ensures { result ≡ row_rule.control_is_unknown rows.now row.now }
+fn control_is_unknown(controls: &Controls, row: &RowEntry) -> bool
+    requires { known.KnowsControls controls.now.rows.now controls.now.named.keys controls.now.present.keys }
+    ensures { result ≡ row_rule.control_is_unknown controls.now.rows.now row.now }
 {
     match row.disable {
         None => false,
-        Some(disable) => !has_control(disable.control, rows),
+        Some(disable) => !is_present(controls, disable.control),
     }
 }
 
 fn row_misfits(
     ports: &[DeclaredPort],
     tap: &TapNames,
-    rows: &[RowEntry],
+    controls: &Controls,
     row: &RowEntry,
 ) -> bool
-    ensures { result ≡ row_rule.row_misfits ports.now tap.now rows.now row.now }
+    requires { known.KnowsControls controls.now.rows.now controls.now.named.keys controls.now.present.keys }
+    ensures { result ≡ row_rule.row_misfits ports.now tap.now controls.now.rows.now row.now }
 {
-    control_fails(rows, row)
+    control_fails(controls, row)
         || lacks_port(row)
         || port_misfits(ports, tap, row)
         || input_fails(ports, row)
@@ -171,13 +125,19 @@ fn row_misfits(
         || output_fails(ports, row)
         || bidir_fails(ports, row)
         || disable_misfits(row)
-        || control_is_unknown(rows, row)
+        || control_is_unknown(controls, row)
 }
 
-fn some_misfits(ports: &[DeclaredPort], tap: &TapNames, rows: &[RowEntry]) -> bool
-    ensures { result ≡ list_any (row_rule.row_misfits ports.now tap.now rows.now) rows.now }
+fn some_misfits(ports: &[DeclaredPort], tap: &TapNames, controls: &Controls) -> bool
+    requires { known.KnowsControls controls.now.rows.now controls.now.named.keys controls.now.present.keys }
+    ensures { result ≡ list_any (row_rule.row_misfits ports.now tap.now controls.now.rows.now) controls.now.rows.now }
 {
-    rows.iter().any(|row| row_misfits(ports, tap, rows, row))
+    for row in controls.rows {
+        if row_misfits(ports, tap, controls, row) {
+            return true;
+        }
+    }
+    false
 }
 
 fn disagree(one: Disable, other: Disable) -> bool
@@ -226,13 +186,19 @@ fn highz_fails(contents: &Contents) -> bool
 }
 
 /// A rule on rows is broken.
-pub fn row_fails(file: &File, contents: &Contents, ports: &[DeclaredPort]) -> bool
+pub fn row_fails(
+    alloc: Global,
+    file: &File,
+    contents: &Contents,
+    ports: &[DeclaredPort],
+) -> Result<bool, OutOfMemory>
     requires { ports.now ≡ declared.declared_ports file.now }
-    ensures { result ≡ row_rule.row_fails file.now contents.now }
+    ensures { IfOk result (λ fails. fails ≡ row_rule.row_fails file.now contents.now) }
 {
     let rows = contents.rows.as_slice();
-    some_misfits(ports, &file.tap, rows)
+    let controls = controls_of(alloc, rows)?;
+    Ok(some_misfits(ports, &file.tap, &controls)
         || some_bit_not_in_one_row(rows, ports, &file.tap)
         || some_disagree(rows)
-        || highz_fails(contents)
+        || highz_fails(contents))
 }
