@@ -1,5 +1,5 @@
 -- A file that breaks no rule has few ports.
-use Rattle.std.proofs.Common.{◌≡◌, ℕ, ◌≤◌, Bool, true, false, cond, ◌||◌, List, [], ◌∷◌, length, nat_lt, Option, Some, None, refl, arith, ltb-false}
+use Rattle.std.proofs.Common.{◌≡◌, ◌≤◌, Bool, true, false, cond, ◌||◌, List, [], ◌∷◌, length, Option, Some, None, refl, arith, ltb-false}
 use Rattle.std.specs.Option.{option_map}
 use Rattle.std.proofs.lemmas.List.Sums.{sum_by-cons}
 use Rattle.bsdl_device.specs.declared.values.PortRange.{PortRange}
@@ -33,8 +33,8 @@ not_found g false x rest h = refl
 few_bits : (f : File) → name_fails f ≡ false → has_too_many_bits f ≡ false
 few_bits f h =
     or_second (port_named_twice f || port_named_as_unit f) (has_too_many_bits f)
-        (or_first ((port_named_twice f || port_named_as_unit f) || has_too_many_bits f) (names_other_entity f)
-            (or_first (((port_named_twice f || port_named_as_unit f) || has_too_many_bits f) || names_other_entity f) (names_other_package f) h))
+    (or_first ((port_named_twice f || port_named_as_unit f) || has_too_many_bits f) (names_other_entity f)
+    (or_first (((port_named_twice f || port_named_as_unit f) || has_too_many_bits f) || names_other_entity f) (names_other_package f) h))
 
 pub few_ports : (f : File) (c : Contents) → first_meaning_fault f c ≡ None → length (declared_ports f) ≤ 4096
 few_ports f c h =

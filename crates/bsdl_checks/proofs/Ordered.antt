@@ -1,11 +1,11 @@
 -- The first rule that is broken, by the kinds of the rules.
-use Rattle.std.proofs.Common.{◌≡◌, ℕ, Bool, true, false, cond, List, [], ◌∷◌, map, find, length, Option, Some, None, refl, ap, ◌∙◌}
+use Rattle.std.proofs.Common.{◌≡◌, Bool, true, false, cond, List, [], ◌∷◌, map, find, length, Some, refl}
 use Rattle.std.specs.Option.{option_map}
 use Rattle.bsdl_device.specs.declared.meaning.MeaningKind.{MeaningKind}
 use Rattle.bsdl_device.specs.declared.written.File.{File}
 use Rattle.bsdl_device.specs.declared.entries.Contents.{Contents}
 use Rattle.bsdl_device.specs.Shape.{file_words}
-use Rattle.bsdl_device.specs.Meanings.{Check, MeaningFault, checks, fault_of, first_meaning_fault}
+use Rattle.bsdl_device.specs.Meanings.{Check, MeaningFault, fault_of, first_meaning_fault}
 use Rattle.bsdl_checks.specs.Ordered.{order, section_of, rule_fails}
 use Rattle.bsdl_checks.specs.Counts.{first_word, all_words}
 

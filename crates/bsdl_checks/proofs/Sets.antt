@@ -66,6 +66,7 @@ inserted ks k n = by (list_any (nat_eq k) ks) refl
   where
     same : list_any (nat_eq k) ks ≡ true → nat_eq n k ≡ true → list_any (nat_eq n) ks ≡ true
     same e f = ap (λ (m : ℕ). list_any (nat_eq m) ks) (eqb-true n k f) ∙ e
+
     by : (b : Bool) → list_any (nat_eq k) ks ≡ b → list_any (nat_eq n) (if b then ks else ks ++ k ∷ []) ≡ (list_any (nat_eq n) ks || (nat_eq n k || false))
     by true e = absorbed (list_any (nat_eq n) ks) (nat_eq n k) (same e)
     by false e = list_any-append (nat_eq n) ks (k ∷ [])

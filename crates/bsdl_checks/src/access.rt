@@ -13,10 +13,7 @@ use cell_library::Instr;
 use edge_io::{OutOfMemory, Text};
 use std::alloc::Global;
 
-fn gather_instructions(
-    alloc: Global,
-    access: &[AccessEntry],
-) -> Result<Vec<Text>, OutOfMemory>
+fn gather_instructions(alloc: Global, access: &[AccessEntry]) -> Result<Vec<Text>, OutOfMemory>
     ensures { IfOk result (λ names. names.items ≡ rule.instructions_of access.now) }
 {
     let mut names = Vec::new(alloc);
@@ -101,7 +98,5 @@ pub fn register_fails(alloc: Global, contents: &Contents) -> Result<bool, OutOfM
     let access = contents.access.as_slice();
     let names = gather_instructions(alloc, access)?;
     let twice = is_repeated(alloc, &names)?;
-    Ok(lacks_opcode(contents.opcodes.as_slice(), &names)
-        || twice
-        || some_holds_other(access))
+    Ok(lacks_opcode(contents.opcodes.as_slice(), &names) || twice || some_holds_other(access))
 }

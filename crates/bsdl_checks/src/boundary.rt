@@ -58,11 +58,7 @@ fn some_number_missing(alloc: Global, count: u32, rows: &[RowEntry]) -> Result<b
 }
 
 /// The rows aren't numbered from 0 to the length less one, or the length is 0.
-pub fn boundary_fails(
-    alloc: Global,
-    file: &File,
-    contents: &Contents,
-) -> Result<bool, OutOfMemory>
+pub fn boundary_fails(alloc: Global, file: &File, contents: &Contents) -> Result<bool, OutOfMemory>
     ensures { IfOk result (λ fails. fails ≡ rule.boundary_fails file.now contents.now) }
 {
     let count = file.boundary_length.value;

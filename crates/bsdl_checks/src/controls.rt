@@ -32,7 +32,11 @@ fn control_in(row: &RowEntry) -> Option<u32>
 fn own_number(row: &RowEntry) -> Option<u32>
     ensures { result ≡ known.own_number row.now }
 {
-    if is_control(row) { Some(row.number) } else { None }
+    if is_control(row) {
+        Some(row.number)
+    } else {
+        None
+    }
 }
 
 fn named_numbers(alloc: Global, rows: &[RowEntry]) -> Result<Vec<u32>, OutOfMemory>
@@ -76,10 +80,7 @@ fn controls_at<'a>(
 }
 
 /// The control cells of rows.
-pub fn controls_of<'a>(
-    alloc: Global,
-    rows: &'a [RowEntry],
-) -> Result<Controls<'a>, OutOfMemory>
+pub fn controls_of<'a>(alloc: Global, rows: &'a [RowEntry]) -> Result<Controls<'a>, OutOfMemory>
     ensures rows { IfOk result (λ made. made.rows.now ≡ rows.now) }
     ensures known { IfOk result (λ made. known.KnowsControls rows.now made.named.keys made.present.keys) }
 {

@@ -12,8 +12,8 @@ use crate::instructions::instruction_named;
 use crate::pin_map::extend_pins;
 use crate::ports::declared_ports;
 use bsdl_device::{
-    CellRow, Contents, DeclaredPort, DevBit, DevPort, Device, File, OpcodeEntry, PinEntry,
-    PortBit, RowEntry,
+    CellRow, Contents, DeclaredPort, DevBit, DevPort, Device, File, OpcodeEntry, PinEntry, PortBit,
+    RowEntry,
 };
 use bsdl_lexicon::names::same_name;
 use cell_library::Opcode;
@@ -42,11 +42,7 @@ fn pins_of(alloc: Global, entries: &[PinEntry], name: &[u8]) -> Result<Row<Text>
     Ok(Row::from(pins))
 }
 
-fn port_of(
-    alloc: Global,
-    entries: &[PinEntry],
-    port: &DeclaredPort,
-) -> Result<DevPort, OutOfMemory>
+fn port_of(alloc: Global, entries: &[PinEntry], port: &DeclaredPort) -> Result<DevPort, OutOfMemory>
     ensures { IfOk result (λ made. made ≡ denoted.port_of entries.now port.now) }
 {
     Ok(DevPort {
@@ -216,7 +212,12 @@ fn device_at(
         opcodes: opcodes_of(alloc, contents.opcodes.as_slice())?,
         capture: contents.capture,
         idcode: contents.idcode,
-        cells: cells_of(alloc, ports, file.boundary_length.value, contents.rows.as_slice())?,
+        cells: cells_of(
+            alloc,
+            ports,
+            file.boundary_length.value,
+            contents.rows.as_slice(),
+        )?,
     })
 }
 

@@ -65,17 +65,13 @@ pub fn length_fails(file: &File) -> bool
 pub fn has_instruction(opcodes: &[OpcodeEntry], instruction: Instr) -> bool
     ensures { result ≡ rule.has_instruction opcodes.now instruction }
 {
-    opcodes
-        .iter()
-        .any(|opcode| names_instruction(instruction, opcode.name.as_bytes()))
+    opcodes.iter().any(|opcode| names_instruction(instruction, opcode.name.as_bytes()))
 }
 
 fn has_unknown(opcodes: &[OpcodeEntry]) -> bool
     ensures { result ≡ list_any rule.opcode_is_unknown opcodes.now }
 {
-    opcodes
-        .iter()
-        .any(|opcode| instruction_named(opcode.name.as_bytes()).is_none())
+    opcodes.iter().any(|opcode| instruction_named(opcode.name.as_bytes()).is_none())
 }
 
 fn gather_names(alloc: Global, opcodes: &[OpcodeEntry]) -> Result<Vec<Text>, OutOfMemory>
@@ -169,21 +165,19 @@ fn some_clash(opcodes: &[OpcodeEntry]) -> bool
 }
 
 /// An instruction is unknown, comes twice or is missing, or an opcode can't be its own.
-pub fn opcode_fails(
-    alloc: Global,
-    file: &File,
-    contents: &Contents,
-) -> Result<bool, OutOfMemory>
+pub fn opcode_fails(alloc: Global, file: &File, contents: &Contents) -> Result<bool, OutOfMemory>
     ensures { IfOk result (λ fails. fails ≡ rule.opcode_fails file.now contents.now) }
 {
     let opcodes = contents.opcodes.as_slice();
     let twice = named_twice(alloc, opcodes)?;
-    Ok(has_unknown(opcodes)
-        || twice
-        || lacks_instruction(opcodes)
-        || has_misfit(file.length.value, opcodes)
-        || bypass_is_not_ones(opcodes)
-        || some_clash(opcodes))
+    Ok(
+        has_unknown(opcodes)
+            || twice
+            || lacks_instruction(opcodes)
+            || has_misfit(file.length.value, opcodes)
+            || bypass_is_not_ones(opcodes)
+            || some_clash(opcodes),
+    )
 }
 
 /// The captured bits have another length than the register, or don't end in 01.

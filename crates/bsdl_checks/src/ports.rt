@@ -132,19 +132,17 @@ fn names_other_entity(file: &File) -> bool
 }
 
 /// A name stands for two things, an attribute is of another entity, or there are too many bits.
-pub fn name_fails(
-    alloc: Global,
-    file: &File,
-    ports: &[DeclaredPort],
-) -> Result<bool, OutOfMemory>
+pub fn name_fails(alloc: Global, file: &File, ports: &[DeclaredPort]) -> Result<bool, OutOfMemory>
     requires { ports.now ≡ declared.declared_ports file.now }
     ensures { IfOk result (λ fails. fails ≡ rule.name_fails file.now) }
 {
     let names = port_names(alloc, ports)?;
     let twice = is_repeated(alloc, &names)?;
-    Ok(twice
-        || is_named_as_unit(file, &names)
-        || has_too_many_bits(ports)
-        || names_other_entity(file)
-        || !same_name(file.default_package.as_bytes(), file.package.as_bytes()))
+    Ok(
+        twice
+            || is_named_as_unit(file, &names)
+            || has_too_many_bits(ports)
+            || names_other_entity(file)
+            || !same_name(file.default_package.as_bytes(), file.package.as_bytes()),
+    )
 }

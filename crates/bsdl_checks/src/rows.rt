@@ -6,10 +6,10 @@ ghost use Rattle.bsdl_device.specs.Checks as rule;
 ghost use Rattle.bsdl_device.specs.RowRules as row_rule;
 ghost use Rattle.bsdl_checks.specs.Controls as known;
 
-use crate::system_bits::{is_system_bit, some_bit_not_in_one_row};
 use crate::cells::{is_cell, is_control, is_function};
 use crate::controls::{Controls, controls_of, is_named, is_present};
 use crate::instructions::has_instruction;
+use crate::system_bits::{is_system_bit, some_bit_not_in_one_row};
 use crate::tap::{find_port, is_mode};
 use bsdl_device::{Contents, DeclaredPort, Disable, File, PortMode, RowEntry, TapNames};
 use cell_library::{BoundaryKind, Function, Instr};
@@ -108,12 +108,7 @@ fn control_is_unknown(controls: &Controls, row: &RowEntry) -> bool
     }
 }
 
-fn row_misfits(
-    ports: &[DeclaredPort],
-    tap: &TapNames,
-    controls: &Controls,
-    row: &RowEntry,
-) -> bool
+fn row_misfits(ports: &[DeclaredPort], tap: &TapNames, controls: &Controls, row: &RowEntry) -> bool
     requires { known.KnowsControls controls.now.rows.now controls.now.named.keys controls.now.present.keys }
     ensures { result ≡ row_rule.row_misfits ports.now tap.now controls.now.rows.now row.now }
 {
@@ -182,7 +177,8 @@ fn has_output2(rows: &[RowEntry]) -> bool
 fn highz_fails(contents: &Contents) -> bool
     ensures { result ≡ row_rule.highz_fails contents.now }
 {
-    has_instruction(contents.opcodes.as_slice(), Instr::Highz) && has_output2(contents.rows.as_slice())
+    has_instruction(contents.opcodes.as_slice(), Instr::Highz)
+        && has_output2(contents.rows.as_slice())
 }
 
 /// A rule on rows is broken.
@@ -197,8 +193,10 @@ pub fn row_fails(
 {
     let rows = contents.rows.as_slice();
     let controls = controls_of(alloc, rows)?;
-    Ok(some_misfits(ports, &file.tap, &controls)
-        || some_bit_not_in_one_row(rows, ports, &file.tap)
-        || some_disagree(rows)
-        || highz_fails(contents))
+    Ok(
+        some_misfits(ports, &file.tap, &controls)
+            || some_bit_not_in_one_row(rows, ports, &file.tap)
+            || some_disagree(rows)
+            || highz_fails(contents),
+    )
 }

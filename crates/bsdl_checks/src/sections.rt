@@ -65,7 +65,11 @@ pub fn pin_map_word(file: &File) -> u64
     ensures { result ≡ count.first_word file.now 7 }
 {
     let declarations = declarations_count(file.declarations.as_slice());
-    if declarations == 0 { 39 } else { 38 + declarations }
+    if declarations == 0 {
+        39
+    } else {
+        38 + declarations
+    }
 }
 
 /// Of the test access port.

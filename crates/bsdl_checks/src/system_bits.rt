@@ -74,7 +74,9 @@ fn is_row_of(name: &[u8], index: Option<u32>, row: &RowEntry) -> bool
 fn rows_of(rows: &[RowEntry], name: &[u8], index: Option<u32>) -> usize
     ensures { result ≡ count_by (row_rule.is_row_of (declared.bit_of_port name.now index)) rows.now }
 {
-    rows.iter().filter(|row| is_row_of(name, index, row)).count()
+    rows.iter()
+        .filter(|row| is_row_of(name, index, row))
+        .count()
 }
 
 fn not_in_one_row(rows: &[RowEntry], name: &[u8], index: Option<u32>) -> bool
@@ -122,18 +124,12 @@ fn some_of_port(rows: &[RowEntry], port: &DeclaredPort) -> bool
 fn some_of_ports(rows: &[RowEntry], ports: &[DeclaredPort], tap: &TapNames) -> bool
     ensures { result ≡ list_any (λ p. row_rule.is_system_port tap.now p && some_bit (row_rule.bit_not_in_one_row rows.now) p) ports.now }
 {
-    ports
-        .iter()
-        .any(|port| is_system_port(tap, port) && some_of_port(rows, port))
+    ports.iter().any(|port| is_system_port(tap, port) && some_of_port(rows, port))
 }
 
 /// Whether a bit of the device's own logic stands in no row or in two.
 #[tactic(auto, using(crate::proofs::Bits::along_bits))]
-pub fn some_bit_not_in_one_row(
-    rows: &[RowEntry],
-    ports: &[DeclaredPort],
-    tap: &TapNames,
-) -> bool
+pub fn some_bit_not_in_one_row(rows: &[RowEntry], ports: &[DeclaredPort], tap: &TapNames) -> bool
     ensures { result ≡ list_any (row_rule.bit_not_in_one_row rows.now) (row_rule.system_bits ports.now tap.now) }
 {
     some_of_ports(rows, ports, tap)

@@ -68,11 +68,7 @@ fn tap_names(alloc: Global, tap: &TapNames) -> Result<Vec<Text>, OutOfMemory>
 }
 
 /// A name isn't a scalar port's of the right mode, or comes twice.
-pub fn tap_fails(
-    alloc: Global,
-    file: &File,
-    ports: &[DeclaredPort],
-) -> Result<bool, OutOfMemory>
+pub fn tap_fails(alloc: Global, file: &File, ports: &[DeclaredPort]) -> Result<bool, OutOfMemory>
     requires { ports.now ≡ declared.declared_ports file.now }
     ensures { IfOk result (λ fails. fails ≡ rule.tap_fails file.now) }
 {

@@ -1,4 +1,4 @@
-use Rattle.std.proofs.Common.{ℕ, nat_eq, ap, ◌∙◌}
+use Rattle.std.proofs.Common.{nat_eq, ap, ◌∙◌}
 use Rattle.std.specs.List.{list_any}
 use Rattle.bsdl_checks.proofs.ControlSets.{named_by, present_by}
 use Rattle.bsdl_checks.proofs.controls.controls_at.Goals as goal

@@ -1,4 +1,4 @@
-use Rattle.std.proofs.Common.{◌≤◌, length, ap, sym, arith}
+use Rattle.std.proofs.Common.{◌≤◌, length, arith}
 use Rattle.std.proofs.lemmas.Grind.{common_steps}
 use Rattle.bsdl_device.specs.Ports.{declared_ports}
 use Rattle.bsdl_checks.proofs.Few.{few_ports}

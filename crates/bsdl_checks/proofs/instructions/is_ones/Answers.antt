@@ -1,4 +1,4 @@
-use Rattle.std.proofs.Common.{◌≡◌, ℕ, ◌-◌, ◌<◌, ◌≤◌, ◌^◌, ◌==◌, Bool, true, false, refl, sym, ◌∙◌, arith, eqb-true, leb-true}
+use Rattle.std.proofs.Common.{◌≡◌, ℕ, ◌-◌, ◌<◌, ◌≤◌, ◌^◌, ◌==◌, Bool, true, false, refl, arith, eqb-true, leb-true}
 use Rattle.std.proofs.Math.Dec.{leb}
 use Rattle.std.proofs.Math.Pow.{pow_mono}
 use Rattle.bsdl_checks.proofs.instructions.is_ones.Goals as goal

@@ -1,4 +1,4 @@
-use Rattle.std.proofs.Common.{◌≡◌, List, length, ap, arith}
+use Rattle.std.proofs.Common.{List, length, ap, arith}
 use Rattle.bsdl_device.specs.declared.written.PortDeclaration.{PortDeclaration}
 use Rattle.bsdl_checks.specs.Counts.{after_semicolons}
 use Rattle.bsdl_checks.proofs.Words.{word-pin_map, fits-pin_map}
