@@ -1,0 +1,10 @@
+pub mod Exact
+pub mod Choices
+pub mod Matched
+pub mod Listed
+pub mod Views
+pub mod Declarations
+pub mod Sections
+pub mod Whole
+pub mod Rules
+pub mod Proved

@@ -1,0 +1,71 @@
+-- The rules of a file, as its parts keep them.
+use Rattle.std.proofs.Common.{◌≡◌, Bool, true, false, List, [], ◌∷◌, Option, Some, None, refl}
+use Rattle.std.specs.Prelude.{◌&&◌}
+use Rattle.std.specs.List.{list_all, AllByRecursion}
+use Rattle.std.specs.Option.{option_map_or}
+use Rattle.bsdl_device.specs.declared.written.WrittenRange.{WrittenRange}
+use Rattle.bsdl_device.specs.declared.written.PortDeclaration.{PortDeclaration}
+use Rattle.bsdl_device.specs.declared.written.StringAttribute.{StringAttribute}
+use Rattle.bsdl_device.specs.declared.written.File.{File}
+use Rattle.bsdl_device.specs.Matching.{is_filled}
+use Rattle.bsdl_device.specs.Shape.{is_ordered, is_declaration, IsFile}
+use Rattle.bsdl_reading.proofs.Views.{Free}
+use Rattle.bsdl_reading.proofs.Sections.{IsType, IsDeclaration, HasCode}
+use Rattle.bsdl_reading.proofs.Whole.{KeptFile}
+
+all_free : {X : Type 0} (xs : List X) → AllByRecursion (λ (x : X). Free x) xs
+all_free [] = tt
+all_free (x ∷ xs) = (tt, all_free xs)
+
+both_hold : (a b : Bool) → a ≡ true → b ≡ true → (a && b) ≡ true
+both_hold true b h k = k
+both_hold false b h k = absurd (cc)
+
+first_holds : (a b : Bool) → (a && b) ≡ true → a ≡ true
+first_holds true b h = refl
+first_holds false b h = absurd (cc)
+
+second_holds : (a b : Bool) → (a && b) ≡ true → b ≡ true
+second_holds true b h = h
+second_holds false b h = absurd (cc)
+
+type_to : (o : Option WrittenRange) → IsType o → option_map_or is_ordered o true ≡ true
+type_to None h = refl
+type_to (Some r) h = h
+
+type_from : (o : Option WrittenRange) → option_map_or is_ordered o true ≡ true → IsType o
+type_from None h = tt
+type_from (Some r) h = h
+
+declarations_to : (ds : List PortDeclaration) → AllByRecursion IsDeclaration ds → list_all is_declaration ds ≡ true
+declarations_to [] h = refl
+declarations_to (d ∷ ds) h = both_hold (is_declaration d) (list_all is_declaration ds) (both_hold (is_filled d.names) (option_map_or is_ordered d.range true) h.0.0.0 (type_to d.range h.0.1)) (declarations_to ds h.1)
+
+declarations_from : (ds : List PortDeclaration) → list_all is_declaration ds ≡ true → AllByRecursion IsDeclaration ds
+declarations_from [] h = tt
+declarations_from (d ∷ ds) h =
+    let here = first_holds (is_declaration d) (list_all is_declaration ds) h in
+    (((first_holds (is_filled d.names) (option_map_or is_ordered d.range true) here, all_free d.names), type_from d.range (second_holds (is_filled d.names) (option_map_or is_ordered d.range true) here)), declarations_from ds (second_holds (is_declaration d) (list_all is_declaration ds) h))
+
+code_to : (o : Option StringAttribute) → HasCode o → option_map_or (λ (a : StringAttribute). is_filled a.strings) o true ≡ true
+code_to None h = refl
+code_to (Some a) h = h.0
+
+code_from : (o : Option StringAttribute) → option_map_or (λ (a : StringAttribute). is_filled a.strings) o true ≡ true → HasCode o
+code_from None h = tt
+code_from (Some a) h = (h, all_free a.strings)
+
+pub is_file : (f : File) → KeptFile f → IsFile f
+is_file f (_, (_, (ports, (_, (_, (_, (pins, (_, (_, (_, (_, (_, (_, (_, (_, (opcodes, (capture, (registers, (_, (boundary, _)))))))))))))))))))) = record {
+  ports = ports.0;
+  declarations = declarations_to f.declarations ports.1;
+  pin_map = pins.0;
+  opcodes = opcodes.0;
+  capture = capture.0;
+  idcode = code_to f.idcode registers.0;
+  access = registers.1.0;
+  boundary = boundary.0;
+}
+
+pub kept : (f : File) → IsFile f → KeptFile f
+kept f h = (tt, (tt, ((h.ports, declarations_from f.declarations h.declarations), (tt, (tt, (tt, ((h.pin_map, all_free f.pin_map), (tt, (tt, (tt, (tt, (tt, (tt, (tt, (tt, ((h.opcodes, all_free f.opcodes.strings), ((h.capture, all_free f.capture.strings), ((code_from f.idcode h.idcode, (h.access, all_free f.access.strings)), (tt, ((h.boundary, all_free f.boundary.strings), tt))))))))))))))))))))
