@@ -1,0 +1,112 @@
+-- Cones of the netlist and of its named cells.
+use Rattle.std.proofs.Common.{◌≡◌, ℕ, List, refl, Bool, true, false, ◌⊎◌, inl, inr, Option, Some, None, ap, sym, ◌∙◌}
+use Rattle.std.specs.Prelude.{slice_get, ◌↔◌}
+use Rattle.cell_library.specs.declared.Kind.{Kind}
+use Rattle.cell_library.specs.declared.Kind.TheVariants.{And, Or, Nand, Nor, Xor, Xnor, Buf, Not, Bufif0, Bufif1, Assign, Mux2, Flop}
+use Rattle.cell_library.specs.declared.FlopKind.{FlopKind}
+use Rattle.cell_library.specs.Gates.{is_flop}
+use Rattle.netlist_model.specs.declared.Feed.TheVariants.{Net}
+use Rattle.netlist_model.specs.Lists.{CellView, NetlistView, Drives, Reads}
+use Rattle.netlist_model.specs.Cones as model
+use Rattle.netlist_model.specs.Cones.{InCone, GateReads}
+use Rattle.netlist_model.specs.Cones.InCone.{itself, behind}
+use Rattle.link_model.specs.Cells.{NamedCell}
+use Rattle.link_model.specs.Late as late
+use Rattle.link_order.specs.Cones as named
+use Rattle.link_model.specs.Denoted.{AreCells}
+use Rattle.netlist_link.proofs.Cells.{named_at, live_at}
+
+-- a kind that keeps a value is a flip-flop
+pub flop_kind : (kind : Kind) → is_flop kind ≡ true → (k : FlopKind) × (kind ≡ Flop k)
+flop_kind (Flop k) e = (k, refl)
+flop_kind And e = absurd (cc)
+flop_kind Or e = absurd (cc)
+flop_kind Nand e = absurd (cc)
+flop_kind Nor e = absurd (cc)
+flop_kind Xor e = absurd (cc)
+flop_kind Xnor e = absurd (cc)
+flop_kind Buf e = absurd (cc)
+flop_kind Not e = absurd (cc)
+flop_kind Bufif0 e = absurd (cc)
+flop_kind Bufif1 e = absurd (cc)
+flop_kind Assign e = absurd (cc)
+flop_kind Mux2 e = absurd (cc)
+
+gate_reads-named : (table : List (List ℕ)) (N : NetlistView) (cells : List NamedCell) (net other : ℕ) → AreCells table N cells → GateReads N net other → late.GateReads cells net other
+gate_reads-named table N cells net other all g =
+    let n = named_at table N cells g.number g.cell all g.drives.live in
+    record {
+      number = g.number;
+      cell = n.named;
+      gate = record { there = n.there; gate = ap is_flop (sym n.is.kind) ∙ g.gate };
+      drives = sym n.is.output ∙ g.drives.output;
+      reads = record { place = g.place; operand = ap (λ feeds. slice_get feeds g.place) (sym n.is.feeds) ∙ g.reads.operand };
+    }
+
+gate_reads-live : (table : List (List ℕ)) (N : NetlistView) (cells : List NamedCell) (net other : ℕ) → AreCells table N cells → late.GateReads cells net other → GateReads N net other
+gate_reads-live table N cells net other all g =
+    let l = live_at table N cells g.number g.cell all g.gate.there in
+    record {
+      number = g.number;
+      cell = l.cell;
+      place = g.reads.place;
+      gate = ap is_flop l.is.kind ∙ g.gate.gate;
+      drives = record { live = l.live; output = l.is.output ∙ g.drives };
+      reads = record { live = l.live; operand = ap (λ feeds. slice_get feeds g.reads.place) l.is.feeds ∙ g.reads.operand };
+    }
+
+pub cone-named : (table : List (List ℕ)) (N : NetlistView) (cells : List NamedCell) (root net : ℕ) → AreCells table N cells → InCone N root net → late.InCone cells root net
+cone-named table N cells root net all itself = late.InCone.itself
+cone-named table N cells root net all (behind {net = mid} before reads) =
+    late.InCone.behind (cone-named table N cells root mid all before) (gate_reads-named table N cells mid net all reads)
+
+pub cone-live : (table : List (List ℕ)) (N : NetlistView) (cells : List NamedCell) (root net : ℕ) → AreCells table N cells → late.InCone cells root net → InCone N root net
+cone-live table N cells root net all late.InCone.itself = itself
+cone-live table N cells root net all (late.InCone.behind {net = mid} before reads) =
+    behind (cone-live table N cells root mid all before) (gate_reads-live table N cells mid net all reads)
+
+pub flop_reads-named : (table : List (List ℕ)) (N : NetlistView) (cells : List NamedCell) (place net : ℕ) → AreCells table N cells → model.FlopReads N place net → named.FlopReads cells place net
+flop_reads-named table N cells place net all f =
+    let n = named_at table N cells f.number f.cell all f.reads.live in
+    record {
+      number = f.number;
+      cell = n.named;
+      there = n.there;
+      flop = ap is_flop (sym n.is.kind ∙ f.flop);
+      operand = ap (λ feeds. slice_get feeds place) (sym n.is.feeds) ∙ f.reads.operand;
+    }
+
+pub flop_reads-live : (table : List (List ℕ)) (N : NetlistView) (cells : List NamedCell) (place net : ℕ) → AreCells table N cells → named.FlopReads cells place net → model.FlopReads N place net
+flop_reads-live table N cells place net all f =
+    let l = live_at table N cells f.number f.cell all f.there in
+    let kind = flop_kind f.cell.kind f.flop in
+    record {
+      number = f.number;
+      cell = l.cell;
+      kind = kind.0;
+      flop = l.is.kind ∙ kind.1;
+      reads = record { live = l.live; operand = ap (λ feeds. slice_get feeds place) l.is.feeds ∙ f.operand };
+    }
+
+-- the nets in the cones of clocks, and of clocks, clears and presets, are the same
+pub clock_nets : (table : List (List ℕ)) (N : NetlistView) (cells : List NamedCell) (net : ℕ) → AreCells table N cells → named.IsClockNet cells net ↔ model.IsClockNet N net
+clock_nets table N cells net all = (
+  λ c. record { root = c.root; operand = flop_reads-live table N cells 1 c.root all c.operand; cone = cone-live table N cells c.root net all c.cone },
+  λ c. record { root = c.root; operand = flop_reads-named table N cells 1 c.root all c.operand; cone = cone-named table N cells c.root net all c.cone },
+)
+
+operand-live : (table : List (List ℕ)) (N : NetlistView) (cells : List NamedCell) (net : ℕ) → AreCells table N cells → named.FlopReads cells 1 net ⊎ named.FlopReads cells 2 net
+    → model.FlopReads N 1 net ⊎ model.FlopReads N 2 net
+operand-live table N cells net all (inl f) = inl (flop_reads-live table N cells 1 net all f)
+operand-live table N cells net all (inr f) = inr (flop_reads-live table N cells 2 net all f)
+
+pub operand-named : (table : List (List ℕ)) (N : NetlistView) (cells : List NamedCell) (net : ℕ) → AreCells table N cells → model.FlopReads N 1 net ⊎ model.FlopReads N 2 net
+    → named.FlopReads cells 1 net ⊎ named.FlopReads cells 2 net
+operand-named table N cells net all (inl f) = inl (flop_reads-named table N cells 1 net all f)
+operand-named table N cells net all (inr f) = inr (flop_reads-named table N cells 2 net all f)
+
+pub control_nets : (table : List (List ℕ)) (N : NetlistView) (cells : List NamedCell) (net : ℕ) → AreCells table N cells → named.IsControlNet cells net ↔ model.IsControlNet N net
+control_nets table N cells net all = (
+  λ c. record { root = c.root; operand = operand-live table N cells c.root all c.operand; cone = cone-live table N cells c.root net all c.cone },
+  λ c. record { root = c.root; operand = operand-named table N cells c.root all c.operand; cone = cone-named table N cells c.root net all c.cone },
+)

@@ -1,0 +1,12 @@
+pub mod Lists
+pub mod Ports
+pub mod Cells
+pub mod Cones
+pub mod Formed
+pub mod Digits
+pub mod Named
+pub mod LibraryKinds
+pub mod PinLaws
+pub mod TableLaws
+pub mod Assembled
+pub mod LinkFaults

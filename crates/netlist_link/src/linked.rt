@@ -1,0 +1,120 @@
+ghost use Rattle.std.specs.Prelude.{◌≡◌, ◌↔◌, true, IsTrue, Some, slice_get};
+ghost use Rattle.netlist_model.specs.declared.PinBit.{PinBit};
+ghost use Rattle.link_model.specs.Denoted.{name_bytes};
+ghost use Rattle.netlist_model.specs.Cones.{IsClockPort, IsControlPort};
+ghost use Rattle.netlist_link.specs.Linked.{IsLinked, flop_count};
+ghost use Rattle.netlist_link.specs.PinWords.{IsPinWord};
+ghost use Rattle.netlist_link.specs.WellNamed.{IsNameOf};
+
+use crate::pins::find_pin;
+use edge_io::{Row, Text};
+use name_table::NameTable;
+use netlist_arena::Netlist;
+use netlist_model::{CellId, Name, NetId, PinBit, PortId};
+use std::marker::Model;
+
+/// A netlist that a module denotes, with its names, an order of its cells, and its control and clock ports.
+#[derive(Drop)]
+pub struct Linked {
+    pub(crate) netlist: Netlist,
+    pub(crate) names: NameTable,
+    pub(crate) title: Text,
+    pub(crate) order: Row<CellId>,
+    // The port under each number of a name.
+    pub(crate) ports: Row<Option<PortId>>,
+    // Of each net, whether it is a control port, and whether it is a clock port.
+    pub(crate) control: Row<bool>,
+    pub(crate) clock: Row<bool>,
+    pub(crate) flops: u32,
+}
+
+impl Model for Linked {
+    ghost use Rattle.std.specs.Prelude.{◌≡◌};
+    ghost use Rattle.netlist_model.specs.Cones.{IsClockPort, IsControlPort};
+    ghost use Rattle.netlist_link.specs.Linked.{LinkedView, IsLinked, AreFlags, flop_count};
+    ghost use Rattle.netlist_link.specs.PortNames.{ArePortNames};
+
+    ghost Value = { LinkedView };
+
+    ghost view = { λ l. record { arena = l.netlist; names = l.names; module_name = l.title; order = l.order } };
+
+    ghost invariant = { λ l. record {
+      linked : IsLinked l.netlist.lists l.names l.order;
+      ports : ArePortNames l.netlist.lists l.ports;
+      control : AreFlags (IsControlPort l.netlist.lists) l.control;
+      clock : AreFlags (IsClockPort l.netlist.lists) l.clock;
+      flops : l.flops ≡ flop_count l.netlist.lists;
+    } };
+}
+
+impl Linked {
+    /// The netlist: it is well formed and well named.
+    pub fn netlist(&self) -> &Netlist
+        ensures netlist { result.now ≡ self.now.arena }
+        ensures linked { IsLinked self.now.arena.lists self.now.names self.now.order }
+    {
+        &self.netlist
+    }
+
+    /// Each live cell once, and each gate after the drivers of its operands. The order is kept.
+    pub fn order(&self) -> &[CellId]
+        ensures { result.now ≡ self.now.order }
+    {
+        self.order.as_slice()
+    }
+
+    /// Whether the net is that of an input bit in the cone of a clock, clear or preset.
+    pub fn is_control(&self, net: NetId) -> bool
+        ensures { IsTrue result ↔ IsControlPort self.now.arena.lists net.0 }
+    {
+        is_flagged(self.control.as_slice(), net)
+    }
+
+    /// Whether the net is that of an input bit in the cone of a clock.
+    pub fn is_clock(&self, net: NetId) -> bool
+        ensures { IsTrue result ↔ IsClockPort self.now.arena.lists net.0 }
+    {
+        is_flagged(self.clock.as_slice(), net)
+    }
+
+    /// The bit of a port that a word names.
+    pub fn find_pin(&self, word: &[u8]) -> Option<PinBit>
+        ensures { (pin : PinBit) → (result ≡ Some pin) ↔ IsPinWord self.now.names self.now.arena.lists word.now pin }
+    {
+        find_pin(&self.netlist, &self.names, self.ports.as_slice(), word)
+    }
+
+    /// How many flip-flops there are.
+    pub fn flop_count(&self) -> u32
+        ensures { result ≡ flop_count self.now.arena.lists }
+    {
+        self.flops
+    }
+
+    pub fn module_name(&self) -> &[u8]
+        ensures { result.now ≡ self.now.module_name }
+    {
+        self.title.as_bytes()
+    }
+
+    /// The bytes of an original name of the table.
+    pub fn name_text(&self, name: Name) -> &[u8]
+        requires { IsNameOf self.now.names name }
+        ensures { name_bytes self.now.names name ≡ Some result.now }
+    {
+        match name {
+            Name::Original(number) => self.names.text(number),
+            Name::Added(_) => unreachable!(),
+        }
+    }
+}
+
+// Whether the flag of a net is set.
+fn is_flagged(flags: &[bool], net: NetId) -> bool
+    ensures { IsTrue result ↔ (slice_get flags.now net.0 ≡ Some true) }
+{
+    match flags.get(net.0 as usize) {
+        Some(flag) => *flag,
+        None => false,
+    }
+}
