@@ -67,8 +67,7 @@ control_flags : (table : List (List ℕ)) (N : NetlistView) (m : Module) (marks 
 control_flags table N m marks flags is are marked net =
     let found = flags_are (nets_in (declared_nets m)) marks flags are net in
     let cone = control_nets table N (cells_in m) net is.cells in
-    let dir = direction_is table N m net is in
-    (
+    let dir = direction_is table N m net is in (
       λ flag. let p = found.0 flag in (dir ∙ p.0, cone.0 ((marked net).0 p.1)),
       λ port. found.1 (sym dir ∙ port.0, (marked net).1 (cone.1 port.1)),
     )
@@ -78,8 +77,7 @@ clock_flags : (table : List (List ℕ)) (N : NetlistView) (m : Module) (marks fl
 clock_flags table N m marks flags is are marked net =
     let found = flags_are (nets_in (declared_nets m)) marks flags are net in
     let cone = clock_nets table N (cells_in m) net is.cells in
-    let dir = direction_is table N m net is in
-    (
+    let dir = direction_is table N m net is in (
       λ flag. let p = found.0 flag in (dir ∙ p.0, cone.0 ((marked net).0 p.1)),
       λ port. found.1 (sym dir ∙ port.0, (marked net).1 (cone.1 port.1)),
     )
@@ -109,6 +107,6 @@ kept table N m order control clock controls clocks flops is named derived found 
 pub linkable : (m : Module) (nets : List NamedNet) (cells : List NamedCell) (order : List ℕ) → AreNetsAndCells m nets cells → driver_fault nets cells ≡ None → AreInOrder cells order → HasNoDerived m → IsLinkable m
 linkable m nets cells order these drivers ordered derived =
     let no_fault : driver_fault (nets_in (declared_nets m)) (cells_in m) ≡ None =
-        ap (λ ns. driver_fault ns (cells_in m)) (sym these.nets_are) ∙ ap (driver_fault nets) (sym these.cells_are) ∙ drivers in
+    ap (λ ns. driver_fault ns (cells_in m)) (sym these.nets_are) ∙ ap (driver_fault nets) (sym these.cells_are) ∙ drivers in
     let P : List NamedCell → Type 0 = λ cs. (numbers : List ℕ) → IsLoop cs numbers → ⊥ in
     record { early = rw (these.clear, no_fault) refl; loops = subst P these.cells_are ordered.no_loop; derived = derived }

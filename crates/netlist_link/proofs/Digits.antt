@@ -40,21 +40,21 @@ begins : (name digits : List ℕ) (start : ℕ) → AreDigits digits → start �
 begins name digits start all within each before =
     let count = length-append name (91 ∷ digits) in
     elim (cases_lt (length name) start) [
-      inr low ↦
-        let at = each (length name) low (omega arith) in
-        let bracket = get_or-append_seam name 91 digits 0 in
-        absurd (let no : IsTrue (is_digit 91) = rw bracket at at in cc)
-    | inl high ↦
-        elim (cases_lt (length name + 1) start) [
-          inr same ↦ omega arith
-        | inl past ↦
-            let place = start - 1 - length name - 1 in
-            let at : get_or (name ++ 91 ∷ digits) (start - 1) 0 ≡ get_or digits place 0 =
+      | inr low ↦
+          let at = each (length name) low (omega arith) in
+          let bracket = get_or-append_seam name 91 digits 0 in
+          absurd (let no : IsTrue (is_digit 91) = rw bracket at at in cc)
+      | inl high ↦
+          elim (cases_lt (length name + 1) start) [
+            | inr same ↦ omega arith
+            | inl past ↦
+                let place = start - 1 - length name - 1 in
+                let at : get_or (name ++ 91 ∷ digits) (start - 1) 0 ≡ get_or digits place 0 =
                 ap (λ (i : ℕ). get_or (name ++ 91 ∷ digits) i 0) (omega arith) ∙ get_or-append-add name (91 ∷ digits) (suc place) 0 in
-            let yes = digit_at digits place all (omega arith) in
-            let not = before (omega arith) in
-            absurd (let no : IsFalse (is_digit (get_or digits place 0)) = rw at at not in let both : true ≡ false = sym yes ∙ no in cc)
-        ]
+                let yes = digit_at digits place all (omega arith) in
+                let not = before (omega arith) in
+                absurd (let no : IsFalse (is_digit (get_or digits place 0)) = rw at at not in let both : true ≡ false = sym yes ∙ no in cc)
+          ]
     ]
 
 pub split_only : (bytes : List ℕ) (start : ℕ) → start ≤ length bytes → ((k : ℕ) → start ≤ k → k < length bytes → IsTrue (is_digit (get_or bytes k 0)))

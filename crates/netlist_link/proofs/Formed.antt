@@ -76,8 +76,8 @@ cell_order table N cells order all o = record {
       let r = reads_named table N cells number cell operand net all reads in
       let d = drives_named table N cells other driver net all drives in
       let before = o.after place number other net r.0 d.0 (stood order place number at)
-          (record { there = r.1.there; gate = ap is_flop (sym r.2.kind) ∙ gate }) (record { place = operand; operand = r.1.operand })
-          (record { there = d.1.there; output = d.1.output }) in
+      (record { there = r.1.there; gate = ap is_flop (sym r.2.kind) ∙ gate }) (record { place = operand; operand = r.1.operand })
+      (record { there = d.1.there; output = d.1.output }) in
       (before.0, before.1, stands order before.0 other before.2);
 }
   where
@@ -102,13 +102,13 @@ pub numbered : (N : NetlistView) (order : List CellId) → IsCellOrder N order �
 numbered N order o once =
     let number : ℕ → ℕ = λ i. place_in N order o i (cell_at N i) refl in
     let before : (i j : ℕ) (cell other : CellView) (place net : ℕ) → Reads N i cell place net → is_flop cell.kind ≡ false → Drives N j other net → number j < number i =
-        λ i j cell other place net reads gate drives.
-            let at = o.each i (rw reads.live refl) in
-            let mine : number i ≡ at.0 = place_is N order o i at.0 (cell_at N i) refl at.1 in
-            let b = o.after at.0 i j cell other place net at.1 gate reads drives in
-            let its : number j ≡ b.0 = place_is N order o j b.0 (cell_at N j) refl b.2 in
-            let less : b.0 < at.0 = b.1 in
-            rw (mine, its) less in
+    λ i j cell other place net reads gate drives.
+    let at = o.each i (rw reads.live refl) in
+    let mine : number i ≡ at.0 = place_is N order o i at.0 (cell_at N i) refl at.1 in
+    let b = o.after at.0 i j cell other place net at.1 gate reads drives in
+    let its : number j ≡ b.0 = place_is N order o j b.0 (cell_at N j) refl b.2 in
+    let less : b.0 < at.0 = b.1 in
+    rw (mine, its) less in
     ordered_is_numbered N number once (record { gates = λ i j cell other place net reads gate drives other_gate. before i j cell other place net reads gate drives })
 
 takes_as : (kind other : Kind) (feeds others : List Feed) → kind ≡ other → feeds ≡ others → Takes other (length others) → Takes kind (length feeds)
@@ -180,39 +180,39 @@ well_formed table N m order is fits drivers ordered derived =
     let cells : List NamedCell = cells_in m in
     let dir : (net : ℕ) (d : Dir) → direction N.ports net ≡ Some d → dir_at nets net ≡ Some d = λ net d e. sym (direction_is table N m net is) ∙ e in
     let once : IsDrivenOnce N = λ i j cell other net d e.
-            let n = drives_named table N cells i cell net is.cells d in
-            let o = drives_named table N cells j other net is.cells e in
-            drivers.one_driver i j n.0 o.0 net n.1 o.1 in
+    let n = drives_named table N cells i cell net is.cells d in
+    let o = drives_named table N cells j other net is.cells e in
+    drivers.one_driver i j n.0 o.0 net n.1 o.1 in
     let driven_wire : (i : ℕ) (cell : CellView) (place net : ℕ) → Reads N i cell place net → direction N.ports net ≡ None → IsDriven N net = λ i cell place net r none.
-            let n = reads_named table N cells i cell place net is.cells r in
-            driven_live table N cells net is.cells (drivers.read_driven i n.0 place net n.1 (sym (direction_is table N m net is) ∙ none)) in
+    let n = reads_named table N cells i cell place net is.cells r in
+    driven_live table N cells net is.cells (drivers.read_driven i n.0 place net n.1 (sym (direction_is table N m net is) ∙ none)) in
     let outside : (net : ℕ) → (dir_at nets net ≡ Some Output) ⊎ (dir_at nets net ≡ Some Inout) → (direction N.ports net ≡ Some Output) ⊎ (direction N.ports net ≡ Some Inout) =
-        λ net either. elim either [ inl e ↦ inl (direction_is table N m net is ∙ e) | inr e ↦ inr (direction_is table N m net is ∙ e) ] in
+    λ net either. elim either [ inl e ↦ inl (direction_is table N m net is ∙ e) | inr e ↦ inr (direction_is table N m net is ∙ e) ] in
     record {
-  counts = λ i cell at.
-      let n = named_at table N cells i cell is.cells at in
-      let fit = All-slice_get (FitsCell (length nets)) cells i n.named fits n.there in
-      takes_as cell.kind n.named.kind cell.feeds n.named.feeds n.is.kind n.is.feeds fit.count;
-  bits_apart = λ p q j k net here there.
-      option_and_then_some (λ (port : PortView). slice_get port.nets j) (slice_get N.ports p) net here (λ one at bit.
-      option_and_then_some (λ (port : PortView). slice_get port.nets k) (slice_get N.ports q) net there (λ other other_at other_bit.
-      let same = same_bit table 0 N.ports m.ports p q j k one other net is.ports at bit other_at other_bit in (same.port, same.bit)));
-  inputs_free = λ i cell net d input.
-      let n = drives_named table N cells i cell net is.cells d in drivers.inputs_free i n.0 net n.1 (dir net Input input);
-  one_driver = once;
-  outputs_driven = λ net out. driven_live table N cells net is.cells (drivers.outputs_driven net (dir net Output out));
-  inouts_driven = λ net inout. driven_live table N cells net is.cells (drivers.inouts_driven net (dir net Inout inout));
-  read_driven = λ i cell place net r none. driven_wire i cell place net r none;
-  bufif_outside = λ i cell net d bufif.
-      let n = drives_named table N cells i cell net is.cells d in
-      outside net (drivers.bufif_outside i n.0 net n.1 (ap is_three_state (sym n.2.kind) ∙ bufif));
-  inout_bufif = λ i cell net d inout.
-      let n = drives_named table N cells i cell net is.cells d in
-      ap is_three_state n.2.kind ∙ drivers.inout_bufif i n.0 net n.1 (dir net Inout inout);
-  bufif_unread = λ i j cell other place net d bufif r out.
-      let n = drives_named table N cells i cell net is.cells d in
-      let o = reads_named table N cells j other place net is.cells r in
-      drivers.bufif_unread i j n.0 o.0 place net n.1 (ap is_three_state (sym n.2.kind) ∙ bufif) o.1 (dir net Output out);
-  ordered = numbered N (map cell_id order) (cell_order table N cells order is.cells ordered) once;
-  cones = λ net control. combinational table N m is drivers derived net control (direction N.ports net) refl;
-}
+      counts = λ i cell at.
+          let n = named_at table N cells i cell is.cells at in
+          let fit = All-slice_get (FitsCell (length nets)) cells i n.named fits n.there in
+          takes_as cell.kind n.named.kind cell.feeds n.named.feeds n.is.kind n.is.feeds fit.count;
+      bits_apart = λ p q j k net here there.
+          option_and_then_some (λ (port : PortView). slice_get port.nets j) (slice_get N.ports p) net here (λ one at bit.
+          option_and_then_some (λ (port : PortView). slice_get port.nets k) (slice_get N.ports q) net there (λ other other_at other_bit.
+          let same = same_bit table 0 N.ports m.ports p q j k one other net is.ports at bit other_at other_bit in (same.port, same.bit)));
+      inputs_free = λ i cell net d input.
+          let n = drives_named table N cells i cell net is.cells d in drivers.inputs_free i n.0 net n.1 (dir net Input input);
+      one_driver = once;
+      outputs_driven = λ net out. driven_live table N cells net is.cells (drivers.outputs_driven net (dir net Output out));
+      inouts_driven = λ net inout. driven_live table N cells net is.cells (drivers.inouts_driven net (dir net Inout inout));
+      read_driven = λ i cell place net r none. driven_wire i cell place net r none;
+      bufif_outside = λ i cell net d bufif.
+          let n = drives_named table N cells i cell net is.cells d in
+          outside net (drivers.bufif_outside i n.0 net n.1 (ap is_three_state (sym n.2.kind) ∙ bufif));
+      inout_bufif = λ i cell net d inout.
+          let n = drives_named table N cells i cell net is.cells d in
+          ap is_three_state n.2.kind ∙ drivers.inout_bufif i n.0 net n.1 (dir net Inout inout);
+      bufif_unread = λ i j cell other place net d bufif r out.
+          let n = drives_named table N cells i cell net is.cells d in
+          let o = reads_named table N cells j other place net is.cells r in
+          drivers.bufif_unread i j n.0 o.0 place net n.1 (ap is_three_state (sym n.2.kind) ∙ bufif) o.1 (dir net Output out);
+      ordered = numbered N (map cell_id order) (cell_order table N cells order is.cells ordered) once;
+      cones = λ net control. combinational table N m is drivers derived net control (direction N.ports net) refl;
+    }

@@ -9,3 +9,4 @@ pub mod LibraryKinds
 pub mod PinLaws
 pub mod TableLaws
 pub mod Assembled
+pub mod LinkFaults

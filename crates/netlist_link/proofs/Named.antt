@@ -85,14 +85,14 @@ pub bit_in : (nets : List NetDeclaration) (k : ℕ) (named : NamedNet) → slice
 bit_in [] k named e = absurd (cc)
 bit_in (net ∷ nets) k named e =
     elim (cases_lt k (width net.range)) [
-      inl less ↦
-        let here : slice_get (nets_in (net ∷ nets)) k ≡ Some (net_at net k) = nets_in-first net nets k less in
-        let same : Some named ≡ Some (net_at net k) = sym e ∙ here in
-        record { d = 0; declaration = net; there = refl; bit = k; within = less; at = omega arith; is = grind arith }
-    | inr more ↦
-        let there = nets_in-rest net nets k (k - width net.range) (omega arith) in
-        let rest = bit_in nets (k - width net.range) named (sym there ∙ e) in
-        record { d = suc rest.d; declaration = rest.declaration; there = rest.there; bit = rest.bit; within = rest.within; at = let r = rest.at in omega arith; is = rest.is }
+      | inl less ↦
+          let here : slice_get (nets_in (net ∷ nets)) k ≡ Some (net_at net k) = nets_in-first net nets k less in
+          let same : Some named ≡ Some (net_at net k) = sym e ∙ here in
+          record { d = 0; declaration = net; there = refl; bit = k; within = less; at = omega arith; is = grind arith }
+      | inr more ↦
+          let there = nets_in-rest net nets k (k - width net.range) (omega arith) in
+          let rest = bit_in nets (k - width net.range) named (sym there ∙ e) in
+          record { d = suc rest.d; declaration = rest.declaration; there = rest.there; bit = rest.bit; within = rest.within; at = let r = rest.at in omega arith; is = rest.is }
     ]
 
 pub bit_of : (nets : List NetDeclaration) (d : ℕ) (net : NetDeclaration) (bit : ℕ) → slice_get nets d ≡ Some net → bit < width net.range
@@ -126,9 +126,11 @@ wire_name_at m w wire at =
     let items : List (List ℕ) = filter_map item_name m.items in
     let count = length-map m.ports (λ (x : Port). x.name) in
     let wire_count = length-map m.wires (λ (x : Wire). x.name) in
-    let place : length m.ports + w < length (names ++ wires) = omega (arith, length-append names wires) in
-    (less, slice_get-append_left (names ++ wires) items (length m.ports + w) place ∙ slice_get-append_right names wires (length m.ports + w) w (omega arith)
-        ∙ slice_get-map (λ (x : Wire). x.name) m.wires w ∙ ap (option_map (λ (x : Wire). x.name)) at)
+    let place : length m.ports + w < length (names ++ wires) = omega (arith, length-append names wires) in (
+      less,
+      slice_get-append_left (names ++ wires) items (length m.ports + w) place ∙ slice_get-append_right names wires (length m.ports + w) w (omega arith)
+          ∙ slice_get-map (λ (x : Wire). x.name) m.wires w ∙ ap (option_map (λ (x : Wire). x.name)) at,
+    )
 
 item_place : (items : List Item) (i : ℕ) (item : Item) (name : List ℕ) → slice_get items i ≡ Some item → item_name item ≡ Some name → (r : ℕ) × (slice_get (filter_map item_name items) r ≡ Some name)
 item_place [] i item name at named = absurd (cc)
@@ -293,18 +295,19 @@ wire_at m d net at none =
     let ports : List NetDeclaration = map port_nets m.ports in
     let count = length-map m.ports port_nets in
     elim (cases_lt d (length ports)) [
-      inl less ↦
-        let here : slice_get ports d ≡ Some net = sym (slice_get-append_left ports (map wire_nets m.wires) d less) ∙ at in
-        absurd (of_port (slice_get m.ports d) (sym (slice_get-map port_nets m.ports d) ∙ here))
-    | inr more ↦
-        let w = d - length ports in
-        let here : slice_get (map wire_nets m.wires) w ≡ Some net = sym (slice_get-append_right ports (map wire_nets m.wires) d w (omega arith)) ∙ at in
-        of_wire w (omega arith) (slice_get m.wires w) refl (sym (slice_get-map wire_nets m.wires w) ∙ here)
+      | inl less ↦
+          let here : slice_get ports d ≡ Some net = sym (slice_get-append_left ports (map wire_nets m.wires) d less) ∙ at in
+          absurd (of_port (slice_get m.ports d) (sym (slice_get-map port_nets m.ports d) ∙ here))
+      | inr more ↦
+          let w = d - length ports in
+          let here : slice_get (map wire_nets m.wires) w ≡ Some net = sym (slice_get-append_right ports (map wire_nets m.wires) d w (omega arith)) ∙ at in
+          of_wire w (omega arith) (slice_get m.wires w) refl (sym (slice_get-map wire_nets m.wires w) ∙ here)
     ]
   where
     of_port : (o : Option Port) → option_map port_nets o ≡ Some net → ⊥
     of_port None e = cc
     of_port (Some p) e = let dir : Some (port_nets p).dir ≡ Some net.dir = ap (option_map (λ (n : NetDeclaration). n.dir)) e in let two : Some (port_nets p).dir ≡ Some None = dir ∙ ap Some none in cc
+
     of_wire : (w : ℕ) → d ≡ length m.ports + w → (o : Option Wire) → slice_get m.wires w ≡ o → option_map wire_nets o ≡ Some net → WireAt m d net
     of_wire w place None e is = absurd (cc)
     of_wire w place (Some wire) e is = record { w = w; wire = wire; there = e; place = place; is = sym (same_Some (wire_nets wire) net is) }
@@ -323,7 +326,7 @@ wire_net_at table N m net number d w =
     let none : n.named.dir ≡ None = sym found ∙ sym (direction_is table N m net d.is) ∙ w.outside in
     let declared : n.bit.declaration.dir ≡ None = ap (λ (x : NamedNet). x.dir) (sym n.bit.is) ∙ none in
     let name : name_bytes table (Original number) ≡ Some n.bit.declaration.name =
-        ap (name_bytes table) (sym w.named) ∙ n.is.name ∙ ap (λ (x : NamedNet). Some x.name) n.bit.is in
+    ap (name_bytes table) (sym w.named) ∙ n.is.name ∙ ap (λ (x : NamedNet). Some x.name) n.bit.is in
     record { named = n.named; bit = n.bit; wire = wire_at m n.bit.d n.bit.declaration n.bit.there declared; name = name }
 
 wire_name_of : (table : List (List ℕ)) (N : NetlistView) (m : Module) (net number : ℕ) → Denotes table N m → (w : WireNetAt table N m net number)
@@ -360,7 +363,7 @@ wire_of table N m net number tree d is =
     let first = start nets w.bit.d in
     let width_is = width_of_is declaration.range in
     let at : (place : ℕ) → place < width_of (option_map range_of declaration.range) → slice_get (nets_in nets) (first + place) ≡ Some (net_at declaration place) =
-        λ place less. bit_of nets w.bit.d declaration place w.bit.there (rw (sym width_is) less) in
+    λ place less. bit_of nets w.bit.d declaration place w.bit.there (rw (sym width_is) less) in
     record {
       first = first;
       range = option_map range_of declaration.range;
@@ -406,8 +409,8 @@ instance_no_assign : (name : List ℕ) (o : Option Kind) → kind_named name ≡
 instance_no_assign name None e is = cc
 instance_no_assign name (Some k) e is =
     elim (library_kind name k e) [
-      inl flop ↦ let no : is_flop kind.Assign ≡ true = rw is at flop in cc
-    | inr mux ↦ let no : kind.Mux2 ≡ kind.Assign = sym mux ∙ is in cc
+      | inl flop ↦ let no : is_flop kind.Assign ≡ true = rw is at flop in cc
+      | inr mux ↦ let no : kind.Mux2 ≡ kind.Assign = sym mux ∙ is in cc
     ]
 
 assign_cell : (table : List (List ℕ)) (m : Module) (cell : CellView) (x : Item) → IsCell table cell (cell_of (declared_names m) x) → cell.kind ≡ kind.Assign → cell.name ≡ None
@@ -437,9 +440,9 @@ port_bit_view table N m p bit view net t d at bit_at =
     let same : b.port ≡ t.port = same_Some b.port t.port (sym b.there ∙ t.there) in
     let number : net.0 ≡ b.k = b.number ∙ zero-add b.k in
     let here : slice_get (nets_in (declared_nets m)) net.0 ≡ Some (net_at (port_nets t.port) bit) =
-        ap (λ nets. slice_get nets net.0) joined ∙ ap (slice_get (nets_in ports ++ nets_in (map wire_nets m.wires))) number
-        ∙ slice_get-append_left (nets_in ports) (nets_in (map wire_nets m.wires)) b.k (slice_get_within (nets_in ports) b.k (net_at (port_nets b.port) bit) b.at) ∙ b.at
-        ∙ ap (λ (x : Port). Some (net_at (port_nets x) bit)) same in
+    ap (λ nets. slice_get nets net.0) joined ∙ ap (slice_get (nets_in ports ++ nets_in (map wire_nets m.wires))) number
+    ∙ slice_get-append_left (nets_in ports) (nets_in (map wire_nets m.wires)) b.k (slice_get_within (nets_in ports) b.k (net_at (port_nets b.port) bit) b.at) ∙ b.at
+    ∙ ap (λ (x : Port). Some (net_at (port_nets x) bit)) same in
     bit_view table N m net.0 (port_nets t.port) bit view.name d here t.name
     ∙ ap (λ i. Some (record { name = view.name; index = i })) (sym (index_from_is t.port.range bit) ∙ ap (λ r. index_from r bit) (sym t.range))
 

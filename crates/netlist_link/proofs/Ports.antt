@@ -31,10 +31,10 @@ pub is_among-in : (first count net : ℕ) → first ≤ net → net < first + co
 is_among-in first zero net low high = absurd (omega arith)
 is_among-in first (suc count) net low high =
     elim (cases_lt first net) [
-      inl less ↦
+      | inl less ↦
           let rest : is_among net (numbers (suc first) count) ≡ true = is_among-in (suc first) count net (omega arith) (omega arith) in
           rw rest (grind arith)
-    | inr more ↦ let same : first ≡ net = omega arith in rw (same, eqb_same net) refl
+      | inr more ↦ let same : first ≡ net = omega arith in rw (same, eqb_same net) refl
     ]
 
 pub is_among-out : (first count net : ℕ) → (net < first) ⊎ (first + count ≤ net) → is_among net (numbers first count) ≡ false
@@ -97,14 +97,14 @@ direction_at table first [] (p ∷ ports) net k all e = absurd all
 direction_at table first (v ∷ views) [] net k all e = absurd all
 direction_at table first (v ∷ views) (p ∷ ports) net k all e =
     elim (cases_lt k (width p.range)) [
-      inl less ↦
-        let inside : is_among net v.nets ≡ true = ap (is_among net) all.0.nets ∙ is_among-in first (width p.range) net (omega arith) (omega arith) in
-        let here = nets_in-first (port_nets p) (map port_nets ports) k less in
-        rw (inside, here) (ap Some all.0.dir)
-    | inr more ↦
-        let out : is_among net v.nets ≡ false = ap (is_among net) all.0.nets ∙ is_among-out first (width p.range) net (inr (omega arith)) in
-        let there = nets_in-rest (port_nets p) (map port_nets ports) k (k - width p.range) (omega arith) in
-        rw (out, there) (direction_at table (first + width p.range) views ports net (k - width p.range) all.1 (omega arith))
+      | inl less ↦
+          let inside : is_among net v.nets ≡ true = ap (is_among net) all.0.nets ∙ is_among-in first (width p.range) net (omega arith) (omega arith) in
+          let here = nets_in-first (port_nets p) (map port_nets ports) k less in
+          rw (inside, here) (ap Some all.0.dir)
+      | inr more ↦
+          let out : is_among net v.nets ≡ false = ap (is_among net) all.0.nets ∙ is_among-out first (width p.range) net (inr (omega arith)) in
+          let there = nets_in-rest (port_nets p) (map port_nets ports) k (k - width p.range) (omega arith) in
+          rw (out, there) (direction_at table (first + width p.range) views ports net (k - width p.range) all.1 (omega arith))
     ]
 
 -- no bit of a wire has a direction
@@ -112,25 +112,25 @@ pub wires_undirected : (wires : List Wire) (k : ℕ) → dir_at (nets_in (map wi
 wires_undirected [] k = refl
 wires_undirected (w ∷ wires) k =
     elim (cases_lt k (width w.range)) [
-      inl less ↦ let here = nets_in-first (wire_nets w) (map wire_nets wires) k less in rw here refl
-    | inr more ↦
-        let there = nets_in-rest (wire_nets w) (map wire_nets wires) k (k - width w.range) (omega arith) in
-        rw there (wires_undirected wires (k - width w.range))
+      | inl less ↦ let here = nets_in-first (wire_nets w) (map wire_nets wires) k less in rw here refl
+      | inr more ↦
+          let there = nets_in-rest (wire_nets w) (map wire_nets wires) k (k - width w.range) (omega arith) in
+          rw there (wires_undirected wires (k - width w.range))
     ]
 
 -- the direction of a bit of ports is the same among the bits of wires too
 pub dir_at-declared : (ports : List Port) (wires : List Wire) (k : ℕ) → dir_at (nets_in (map port_nets ports)) k ≡ dir_at (nets_in (map port_nets ports ++ map wire_nets wires)) k
 dir_at-declared ports wires k =
     let joined : nets_in (map port_nets ports ++ map wire_nets wires) ≡ nets_in (map port_nets ports) ++ nets_in (map wire_nets wires) =
-        flat_map-append bits_of (map port_nets ports) (map wire_nets wires) in
+    flat_map-append bits_of (map port_nets ports) (map wire_nets wires) in
     elim (cases_lt k (length (nets_in (map port_nets ports)))) [
-      inl less ↦
-        let left = slice_get-append_left (nets_in (map port_nets ports)) (nets_in (map wire_nets wires)) k less in
-        rw (joined, left) refl
-    | inr more ↦
-        let past = slice_get_past (nets_in (map port_nets ports)) k more in
-        let right = slice_get-append_right (nets_in (map port_nets ports)) (nets_in (map wire_nets wires)) k (k - length (nets_in (map port_nets ports))) (omega arith) in
-        rw (joined, past, right) (sym (wires_undirected wires (k - length (nets_in (map port_nets ports)))))
+      | inl less ↦
+          let left = slice_get-append_left (nets_in (map port_nets ports)) (nets_in (map wire_nets wires)) k less in
+          rw (joined, left) refl
+      | inr more ↦
+          let past = slice_get_past (nets_in (map port_nets ports)) k more in
+          let right = slice_get-append_right (nets_in (map port_nets ports)) (nets_in (map wire_nets wires)) k (k - length (nets_in (map port_nets ports))) (omega arith) in
+          rw (joined, past, right) (sym (wires_undirected wires (k - length (nets_in (map port_nets ports)))))
     ]
 
 -- a bit of a port: its place among the nets, and the port of the tree
@@ -184,12 +184,12 @@ first_bit table first (v ∷ views) (t ∷ ports) bit view net all here at =
     let at_bit : slice_get (numbers first (width t.range)) bit ≡ Some net = ap (λ nets. slice_get nets bit) (sym all.0.nets) ∙ ap (λ (w : PortView). slice_get w.nets bit) same ∙ at in
     let counted = counted_at first (width t.range) bit net at_bit in
     let later : (p other : ℕ) (found : PortView) → slice_get views p ≡ Some found → slice_get found.nets other ≡ Some net → ⊥ =
-        λ p other found there at_other.
-            let rest = port_bit table (first + width t.range) views ports p other found net all.1 there at_other in
-            let number = rest.number in
-            let is = counted.at in
-            let low = counted.within in
-            omega arith in
+    λ p other found there at_other.
+    let rest = port_bit table (first + width t.range) views ports p other found net all.1 there at_other in
+    let number = rest.number in
+    let is = counted.at in
+    let low = counted.within in
+    omega arith in
     (width t.range, counted, later)
 
 pub same_bit : (table : List (List ℕ)) (first : ℕ) (views : List PortView) (ports : List Port) (p q j k : ℕ) (one other : PortView) (net : NetId)

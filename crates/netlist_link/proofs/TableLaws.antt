@@ -25,11 +25,11 @@ pub flags_push : (nets : List NamedNet) (marks : List Bool) (done : ℕ) (flags 
 flags_push nets marks done flags flag are is = record {
   count = let n = are.count in omega (arith, length-append flags (flag ∷ []));
   each = λ net less. elim (cases_lt net done) [
-    inl low ↦ let n = are.count in slice_get-append_left flags (flag ∷ []) net (omega arith) ∙ are.each net low
-  | inr high ↦
-      let n = are.count in
-      let at : net ≡ done = omega arith in
-      slice_get-append_right flags (flag ∷ []) net 0 (omega arith) ∙ ap Some is ∙ ap (λ k. Some (flag_at nets marks k)) (sym at)
+    | inl low ↦ let n = are.count in slice_get-append_left flags (flag ∷ []) net (omega arith) ∙ are.each net low
+    | inr high ↦
+        let n = are.count in
+        let at : net ≡ done = omega arith in
+        slice_get-append_right flags (flag ∷ []) net 0 (omega arith) ∙ ap Some is ∙ ap (λ k. Some (flag_at nets marks k)) (sym at)
   ];
 }
 
@@ -78,34 +78,34 @@ pub ports_noted : (table : List (List ℕ)) (N : NetlistView) (ports : List (Opt
     → number < length table → HasPortsBelow N p ports → HasPortsBelow N (p + 1) (slice_set ports number (Some (record { 0 = p })))
 ports_noted table N ports number p well room here less before = record {
   each = λ other q low has. elim (cases_eq other number) [
-    inl same ↦
-      let Here : ℕ → Type 0 = λ k. HasOriginal N k q in
-      let mine = subst Here same has in
-      let one : q ≡ p = well.ports_apart q p mine.port here.port mine.there here.there (mine.named ∙ sym here.named) in
-      let at = slice_get-set_same ports number (Some (record { 0 = p })) (omega arith) in
-      ap (slice_get (slice_set ports number (Some (record { 0 = p })))) same ∙ at ∙ ap (λ k. Some (Some (record { 0 = k }))) (sym one)
-  | inr apart ↦
-      slice_get-set_other ports number other (Some (record { 0 = p })) apart ∙ elim (cases_lt q p) [
-        inl earlier ↦ before.each other q earlier has
-      | inr late ↦
-          let at : q ≡ p = omega arith in
-          let Here : ℕ → Type 0 = λ k. HasOriginal N other k in
-          let mine = subst Here at has in
-          let views = same_Some mine.port here.port (sym mine.there ∙ here.there) in
-          let names : Original other ≡ Original number = sym mine.named ∙ ap (λ (v : PortView). v.name) views ∙ here.named in
-          absurd (apart (same_number other number names))
-      ]
+    | inl same ↦
+        let Here : ℕ → Type 0 = λ k. HasOriginal N k q in
+        let mine = subst Here same has in
+        let one : q ≡ p = well.ports_apart q p mine.port here.port mine.there here.there (mine.named ∙ sym here.named) in
+        let at = slice_get-set_same ports number (Some (record { 0 = p })) (omega arith) in
+        ap (slice_get (slice_set ports number (Some (record { 0 = p })))) same ∙ at ∙ ap (λ k. Some (Some (record { 0 = k }))) (sym one)
+    | inr apart ↦
+        slice_get-set_other ports number other (Some (record { 0 = p })) apart ∙ elim (cases_lt q p) [
+          | inl earlier ↦ before.each other q earlier has
+          | inr late ↦
+              let at : q ≡ p = omega arith in
+              let Here : ℕ → Type 0 = λ k. HasOriginal N other k in
+              let mine = subst Here at has in
+              let views = same_Some mine.port here.port (sym mine.there ∙ here.there) in
+              let names : Original other ≡ Original number = sym mine.named ∙ ap (λ (v : PortView). v.name) views ∙ here.named in
+              absurd (apart (same_number other number names))
+        ]
   ];
   only = λ other q at. elim (cases_eq other number) [
-    inl same ↦
-      let is = slice_get-set_same ports number (Some (record { 0 = p })) (omega arith) in
-      let both : Some (Some (record { 0 = p })) ≡ Some (Some (record { 0 = q })) = sym is ∙ ap (slice_get (slice_set ports number (Some (record { 0 = p })))) (sym same) ∙ at in
-      let ids : record { 0 = p } ≡ record { 0 = q } = same_Some (record { 0 = p }) (record { 0 = q }) (same_Some (Some (record { 0 = p })) (Some (record { 0 = q })) both) in
-      let one : p ≡ q = ap (λ (x : PortId). x.0) ids in
-      let Number : ℕ → Type 0 = λ k. HasOriginal N k q in
-      let Port : ℕ → Type 0 = λ k. HasOriginal N number k in
-      subst Number (sym same) (subst Port one here)
-  | inr apart ↦ before.only other q (sym (slice_get-set_other ports number other (Some (record { 0 = p })) apart) ∙ at)
+    | inl same ↦
+        let is = slice_get-set_same ports number (Some (record { 0 = p })) (omega arith) in
+        let both : Some (Some (record { 0 = p })) ≡ Some (Some (record { 0 = q })) = sym is ∙ ap (slice_get (slice_set ports number (Some (record { 0 = p })))) (sym same) ∙ at in
+        let ids : record { 0 = p } ≡ record { 0 = q } = same_Some (record { 0 = p }) (record { 0 = q }) (same_Some (Some (record { 0 = p })) (Some (record { 0 = q })) both) in
+        let one : p ≡ q = ap (λ (x : PortId). x.0) ids in
+        let Number : ℕ → Type 0 = λ k. HasOriginal N k q in
+        let Port : ℕ → Type 0 = λ k. HasOriginal N number k in
+        subst Number (sym same) (subst Port one here)
+    | inr apart ↦ before.only other q (sym (slice_get-set_other ports number other (Some (record { 0 = p })) apart) ∙ at)
   ];
 }
   where

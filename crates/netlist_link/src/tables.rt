@@ -45,11 +45,7 @@ fn is_input(dir: Option<Dir>) -> bool
 }
 
 /// Of each net, whether it is a marked input.
-pub fn input_flags(
-    alloc: Global,
-    nets: &[NetBit],
-    marks: &[bool],
-) -> Result<Row<bool>, OutOfMemory>
+pub fn input_flags(alloc: Global, nets: &[NetBit], marks: &[bool]) -> Result<Row<bool>, OutOfMemory>
     requires { length marks.now ≡ length nets.now }
     ensures { IfOk result (λ flags. AreFlagsOf nets.now marks.now (length nets.now) flags) }
 {
@@ -78,12 +74,7 @@ pub fn ports_by_name(
 }
 
 // Notes a port under the number of its name.
-fn note_port(
-    ports: &mut [Option<PortId>],
-    netlist: &Netlist,
-    names: &NameTable,
-    port: PortId,
-)
+fn note_port(ports: &mut [Option<PortId>], netlist: &Netlist, names: &NameTable, port: PortId)
     requires named { IsWellNamed names.now netlist.now.lists }
     requires room { length ports.old ≡ length names.now }
     requires there { port.0 < length netlist.now.lists.ports }

@@ -17,17 +17,17 @@ invariant_of-result c =
     let Control : List Bool → Type 0 = λ marks. AreFlagsOf nets marks (length nets) c.in_ok-control.control in
     let Clock : List Bool → Type 0 = λ marks. AreFlagsOf nets marks (length nets) c.in_ok-clock.clock in
     let found = of_tree m nets cells order control clock c.in_ok-control.control c.in_ok-clock.clock c.count_flops-flops.result c.requires.these (record {
-          fits = c.requires.these.fits;
-          drivers = c.nets_have_their_drivers.ensures nets cells c.requires.these.fits c.requires.drivers;
-          ordered = c.requires.ordered.order_is;
-          control_nets = c.requires.control;
-          clock_nets = c.requires.clock;
-          control_flags = subst Control c.as_slice.ensures c.in_ok-control.ensures;
-          clock_flags = subst Clock c.as_slice-2.ensures c.in_ok-clock.ensures;
-          flops_are = c.count_flops-flops.ensures;
-        }) in
+      fits = c.requires.these.fits;
+      drivers = c.nets_have_their_drivers.ensures nets cells c.requires.these.fits c.requires.drivers;
+      ordered = c.requires.ordered.order_is;
+      control_nets = c.requires.control;
+      clock_nets = c.requires.clock;
+      control_flags = subst Control c.as_slice.ensures c.in_ok-control.ensures;
+      clock_flags = subst Clock c.as_slice-2.ensures c.in_ok-clock.ensures;
+      flops_are = c.count_flops-flops.ensures;
+    }) in
     let all = kept c.args.names N m order control clock c.in_ok-control.control c.in_ok-clock.clock c.count_flops-flops.result c.requires.built.named c.is_well_named.ensures
-        (c.controls_are_links.ensures m c.requires.derived) found in
+    (c.controls_are_links.ensures m c.requires.derived) found in
     let ids : map cell_id order ≡ c.in_ok-order.order = sym (c.in_ok-order.ensures ∙ ap (map cell_id) c.numbers.ensures) in
     let Linked : List CellId → Type 0 = IsLinked N c.args.names in
     record {

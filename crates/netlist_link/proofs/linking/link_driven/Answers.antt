@@ -1,0 +1,6 @@
+use Rattle.netlist_link.proofs.LinkFaults.{order_first}
+use Rattle.netlist_link.proofs.linking.link_driven.Goals as goal
+
+pub returns-in-Err-clause-fault : goal.returns-in-Err-clause-fault
+returns-in-Err-clause-fault c =
+    order_first c.args.tree.now c.args.nets.now c.args.cells.now c.in-Err.fault c.requires.these c.requires.drivers c.in-Err.ensures.fault
