@@ -1,19 +1,18 @@
 -- A linked netlist that is put together from what was found of a module.
-use Rattle.std.proofs.Common.{◌≡◌, subst, ℕ, zero, suc, ◌+◌, ◌<◌, Bool, cond, zero-add, List, [], ◌∷◌, length, map, refl, ap, sym, ◌∙◌, Option, Some, None, arith}
+use Rattle.std.proofs.Common.{◌≡◌, subst, ℕ, suc, ◌+◌, ◌<◌, Bool, cond, zero-add, List, [], ◌∷◌, length, map, refl, ap, sym, ◌∙◌, Option, Some, None, arith}
 use Rattle.std.specs.Prelude.{slice_get, ◌↔◌, IsSome, count_by}
 use Rattle.std.proofs.lemmas.List.Sums.{sum_by-cons}
 use Rattle.cell_library.specs.Gates.{is_flop}
 use Rattle.verilog_tree.specs.declared.tree.Module.{Module}
-use Rattle.netlist_model.specs.declared.Dir.TheVariants.{Input}
-use Rattle.netlist_model.specs.Lists.{CellView, NetlistView, live_cell, direction}
+use Rattle.netlist_model.specs.Lists.{CellView, NetlistView, live_cell}
 use Rattle.netlist_model.specs.Cones.{IsClockPort, IsControlPort}
 use Rattle.link_model.specs.Nets.{NamedNet, declared_nets, nets_in}
 use Rattle.link_model.specs.Cells.{NamedCell}
 use Rattle.link_model.specs.Fits.{FitCells}
-use Rattle.link_model.specs.Faults.{text_fault, driver_fault, cells_in}
+use Rattle.link_model.specs.Faults.{driver_fault, cells_in}
 use Rattle.link_model.specs.Late.{HasNoDerived, IsLinkable, IsLoop}
 use Rattle.link_model.specs.Denoted.{AreCells, IsLive, IsNamed, denoted}
-use Rattle.link_drivers.specs.Drivers.{dir_at, HasItsDrivers}
+use Rattle.link_drivers.specs.Drivers.{HasItsDrivers}
 use Rattle.link_order.specs.Orders.{IsItemOrder}
 use Rattle.link_order.specs.Cones.{IsClockNet, IsControlNet}
 use Rattle.net_cones.specs.Cone.{Marked}

@@ -1,9 +1,7 @@
 -- The cells of a netlist and the named cells that they are.
 use Rattle.std.proofs.Common.{◌≡◌, ℕ, ◌<◌, List, length, refl, Option, Some, None, ap, sym, ◌∙◌}
-use Rattle.std.specs.Prelude.{slice_get, false}
-use Rattle.cell_library.specs.Gates.{is_flop}
-use Rattle.netlist_model.specs.declared.Feed.TheVariants.{Net}
-use Rattle.netlist_model.specs.Lists.{CellView, NetlistView, cell_at, live_cell, Drives, Reads}
+use Rattle.std.specs.Prelude.{slice_get}
+use Rattle.netlist_model.specs.Lists.{CellView, NetlistView, cell_at, Drives, Reads}
 use Rattle.link_model.specs.Cells.{NamedCell}
 use Rattle.link_model.specs.Denoted.{AreCells, IsLive, IsCell}
 use Rattle.link_drivers.specs.Drivers.{DrivesNet, ReadsNet}

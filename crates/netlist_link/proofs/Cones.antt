@@ -1,12 +1,11 @@
 -- Cones of the netlist and of its named cells.
-use Rattle.std.proofs.Common.{◌≡◌, ℕ, List, refl, Bool, true, false, ◌⊎◌, inl, inr, Option, Some, None, ap, sym, ◌∙◌}
+use Rattle.std.proofs.Common.{◌≡◌, ℕ, List, refl, true, ◌⊎◌, inl, inr, ap, sym, ◌∙◌}
 use Rattle.std.specs.Prelude.{slice_get, ◌↔◌}
 use Rattle.cell_library.specs.declared.Kind.{Kind}
 use Rattle.cell_library.specs.declared.Kind.TheVariants.{And, Or, Nand, Nor, Xor, Xnor, Buf, Not, Bufif0, Bufif1, Assign, Mux2, Flop}
 use Rattle.cell_library.specs.declared.FlopKind.{FlopKind}
 use Rattle.cell_library.specs.Gates.{is_flop}
-use Rattle.netlist_model.specs.declared.Feed.TheVariants.{Net}
-use Rattle.netlist_model.specs.Lists.{CellView, NetlistView, Drives, Reads}
+use Rattle.netlist_model.specs.Lists.{NetlistView}
 use Rattle.netlist_model.specs.Cones as model
 use Rattle.netlist_model.specs.Cones.{InCone, GateReads}
 use Rattle.netlist_model.specs.Cones.InCone.{itself, behind}

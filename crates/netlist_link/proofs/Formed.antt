@@ -1,7 +1,6 @@
 -- The netlist that a module without faults denotes is well formed.
-use Rattle.std.proofs.Common.{◌≡◌, ◌≢◌, subst, ℕ, zero, suc, ◌+◌, ◌<◌, List, [], ◌∷◌, length, map, refl, Bool, true, false, ◌⊎◌, inl, inr, Option, Some, None, ap, sym, ◌∙◌, arith}
+use Rattle.std.proofs.Common.{◌≡◌, ◌≢◌, ℕ, zero, suc, ◌<◌, List, [], ◌∷◌, length, map, refl, Bool, true, false, ◌⊎◌, inl, inr, Option, Some, None, ap, sym, ◌∙◌, arith}
 use Rattle.std.specs.Prelude.{slice_get, IsSome}
-use Rattle.std.specs.List.{All}
 use Rattle.std.specs.Option.{option_map}
 use Rattle.std.proofs.lemmas.Option.{slice_get-map, slice_get_within, option_and_then_some}
 use Rattle.verilog_tree.specs.declared.tree.Module.{Module}
@@ -9,17 +8,15 @@ use Rattle.cell_library.specs.declared.Kind.{Kind}
 use Rattle.cell_library.specs.Gates.{is_flop, is_three_state, Takes}
 use Rattle.netlist_model.specs.declared.Dir.{Dir}
 use Rattle.netlist_model.specs.declared.Dir.TheVariants.{Input, Output, Inout}
-use Rattle.netlist_model.specs.declared.NetId.{NetId}
 use Rattle.netlist_model.specs.declared.CellId.{CellId}
 use Rattle.netlist_model.specs.declared.Feed.{Feed}
-use Rattle.netlist_model.specs.Lists.{PortView, CellView, NetlistView, cell_at, bit_net, direction, Drives, Reads}
+use Rattle.netlist_model.specs.Lists.{PortView, CellView, NetlistView, cell_at, direction, Drives, Reads}
 use Rattle.netlist_model.specs.Formed.{IsDriven, IsWellFormed, IsCombinational, IsNumbered}
 use Rattle.netlist_model.specs.Orders.{IsCellOrder, StandsAt}
 use Rattle.netlist_model.specs.Cones.{IsControlNet, FlopReads, InCone}
 use Rattle.netlist_model.specs.Cones.InCone.{itself, behind}
 use Rattle.netlist_arena.proofs.Laid.{All-slice_get}
 use Rattle.netlist_laws.specs.Settle.{IsDrivenOnce}
-use Rattle.netlist_laws.specs.Ordered.{IsOrdered}
 use Rattle.netlist_laws.proofs.Ordered.{ordered_is_numbered}
 use Rattle.link_model.specs.Nets.{NamedNet, declared_nets, nets_in}
 use Rattle.link_model.specs.Cells.{NamedCell}
@@ -34,7 +31,7 @@ use Rattle.link_model.specs.Denoted.{AreCells}
 use Rattle.netlist_link.specs.Tables.{cell_id}
 use Rattle.netlist_link.proofs.Cells.{named_at, live_at, drives_named, reads_named, drives_live}
 use Rattle.netlist_link.proofs.Cones.{cone-named, operand-named}
-use Rattle.netlist_link.proofs.Ports.{direction_at, dir_at-declared, port_bit, same_bit}
+use Rattle.netlist_link.proofs.Ports.{direction_at, dir_at-declared, same_bit}
 
 -- the direction of a net is that of its declaration
 pub direction_is : (table : List (List ℕ)) (N : NetlistView) (m : Module) (net : ℕ) → IsNamed table N (denoted m) → direction N.ports net ≡ dir_at (nets_in (declared_nets m)) net

@@ -1,12 +1,12 @@
 -- Which fault stands first.
-use Rattle.std.proofs.Common.{◌≡◌, ◌≢◌, subst, ℕ, List, refl, ap, sym, ◌∙◌, Option, Some, None}
+use Rattle.std.proofs.Common.{◌≡◌, ◌≢◌, subst, ℕ, List, refl, ap, sym, ◌∙◌, Some, None}
 use Rattle.verilog_tree.specs.declared.tree.Module.{Module}
 use Rattle.link_model.specs.declared.fault.LinkFault.{LinkFault}
 use Rattle.link_model.specs.declared.fault.LinkFault.TheVariants.{OutOfMemory}
 use Rattle.link_model.specs.Nets.{NamedNet, declared_nets, nets_in}
 use Rattle.link_model.specs.Cells.{NamedCell}
 use Rattle.link_model.specs.Faults.{text_fault, driver_fault, early_fault, cells_in}
-use Rattle.link_model.specs.Late.{StandsFirst, IsLoop, HasNoLoop}
+use Rattle.link_model.specs.Late.{IsLoop}
 use Rattle.link_model.specs.Late.StandsFirst.{early, looped, derived as derived_first}
 use Rattle.link_order.specs.Faults.{IsOrderFault, IsDerivedFault}
 use Rattle.link_order.specs.Faults.IsOrderFault.{looped as loop_told, memory as no_memory}

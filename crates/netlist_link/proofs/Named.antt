@@ -1,12 +1,12 @@
 -- The netlist that a module denotes is well named.
-use Rattle.std.proofs.Common.{◌≡◌, subst, ℕ, zero, suc, ◌+◌, ◌-◌, ◌<◌, ◌≤◌, ◌⊎◌, inl, inr, Bool, true, false, List, [], ◌∷◌, ◌++◌, length, map, refl, ap, sym, ◌∙◌, Option, Some, None, arith, length-append, zero-add}
+use Rattle.std.proofs.Common.{◌≡◌, subst, ℕ, zero, suc, ◌+◌, ◌-◌, ◌<◌, ◌≤◌, inl, inr, true, false, List, [], ◌∷◌, ◌++◌, length, map, refl, ap, sym, ◌∙◌, Option, Some, None, arith, length-append, zero-add}
 use Rattle.std.specs.Prelude.{slice_get, IsSome, IfSome, unwrap_or}
 use Rattle.std.specs.List.{filter_map, AllByRecursion}
 use Rattle.std.specs.Option.{option_map}
 use Rattle.std.proofs.lemmas.Grind.{flat_map-append}
 use Rattle.std.proofs.lemmas.Bool.{cases_lt}
 use Rattle.std.proofs.lemmas.List.{length-map}
-use Rattle.std.proofs.lemmas.Option.{slice_get-map, slice_get_within, option_and_then_some, same_Some}
+use Rattle.std.proofs.lemmas.Option.{slice_get-map, slice_get_within, same_Some}
 use Rattle.verilog_tree.specs.declared.tree.Module.{Module}
 use Rattle.verilog_tree.specs.declared.tree.Port.{Port}
 use Rattle.verilog_tree.specs.declared.tree.Wire.{Wire}
@@ -21,17 +21,16 @@ use Rattle.cell_library.specs.Gates.{is_flop}
 use Rattle.cell_library.specs.Library.{cell_name, kind_named}
 use Rattle.netlist_model.specs.declared.Name.{Name}
 use Rattle.netlist_model.specs.declared.Name.TheVariants.{Original, Added}
-use Rattle.netlist_model.specs.declared.Dir.{Dir}
 use Rattle.netlist_model.specs.declared.NetId.{NetId}
-use Rattle.netlist_model.specs.Lists.{PortView, NetView, CellView, NetlistView, cell_at, direction}
+use Rattle.netlist_model.specs.Lists.{PortView, NetView, CellView, NetlistView, cell_at}
 use Rattle.netlist_model.specs.Formed.{width_of}
 use Rattle.link_model.specs.Nets.{NamedNet, NetDeclaration, width, index_at, net_at, port_nets, wire_nets, declared_nets, declared_names, nets_in}
 use Rattle.link_model.specs.Cells.{NamedCell, cell_of, kind_of_gate}
 use Rattle.link_model.specs.declared.fault.LinkFault.TheVariants as fault
 use Rattle.link_model.specs.Faults.{names_of, item_name, cells_in, text_fault, cell_unknown}
-use Rattle.link_model.specs.Denoted.{IsNamed, IsNet, IsPort, IsCell, IsName, AreAll, NamedPort, denoted, name_bytes, range_of, ports_from}
+use Rattle.link_model.specs.Denoted.{IsNamed, IsNet, IsPort, IsCell, IsName, AreAll, denoted, name_bytes, range_of, ports_from}
 use Rattle.link_drivers.specs.Drivers.{dir_at}
-use Rattle.netlist_link.specs.WellNamed.{IsKnown, IsWireNet, IsWire, IsWireName, IsWellNamed, IsShortRange, index_from}
+use Rattle.netlist_link.specs.WellNamed.{IsKnown, IsWireNet, IsWireName, IsWellNamed, IsShortRange, index_from}
 use Rattle.netlist_link.proofs.Lists.{AreAll-left, AreAll-right, slice_get-append_left, slice_get-append_right}
 use Rattle.netlist_link.proofs.LibraryKinds.{gate_unnamed, gate_no_assign, library_kind, known_cells}
 use Rattle.netlist_link.proofs.Ports.{bits_of, nets_in-first, nets_in-rest, port_bit}

@@ -1,18 +1,17 @@
 -- The nets of ports: which port bit has a net, and its direction.
-use Rattle.std.proofs.Common.{◌≡◌, subst, ℕ, zero, suc, ◌+◌, ◌-◌, ◌<◌, ◌≤◌, ◌⊎◌, Bool, true, false, ◌||◌, List, [], ◌∷◌, ◌++◌, length, map, refl, ap, sym, ◌∙◌, inl, inr, zero-add, Option, Some, None, arith}
-use Rattle.std.specs.Prelude.{slice_get, ◌==◌, option_and_then, if◌then◌else◌}
+use Rattle.std.proofs.Common.{◌≡◌, ℕ, zero, suc, ◌+◌, ◌-◌, ◌<◌, ◌≤◌, ◌⊎◌, true, false, List, [], ◌∷◌, ◌++◌, length, map, refl, ap, sym, ◌∙◌, inl, inr, zero-add, Some, None, arith}
+use Rattle.std.specs.Prelude.{slice_get, ◌==◌}
 use Rattle.std.specs.Option.{option_map}
 use Rattle.std.proofs.lemmas.Grind.{flat_map-append}
 use Rattle.std.proofs.lemmas.Bool.{cases_lt}
-use Rattle.std.proofs.lemmas.Option.{slice_get-map, slice_get_past, slice_get_within}
-use Rattle.std.proofs.lemmas.List.{length-map, length-append}
+use Rattle.std.proofs.lemmas.Option.{slice_get-map, slice_get_past}
+use Rattle.std.proofs.lemmas.List.{length-map}
 use Rattle.verilog_tree.specs.declared.tree.Port.{Port}
 use Rattle.verilog_tree.specs.declared.tree.Wire.{Wire}
-use Rattle.netlist_model.specs.declared.Dir.{Dir}
 use Rattle.netlist_model.specs.declared.NetId.{NetId}
 use Rattle.netlist_model.specs.Lists.{PortView, direction, is_among}
-use Rattle.link_model.specs.Nets.{NamedNet, NetDeclaration, counted_from, dir_of, width, net_at, port_nets, wire_nets, nets_in}
-use Rattle.link_model.specs.Denoted.{NamedPort, IsPort, AreAll, net_id, ports_from}
+use Rattle.link_model.specs.Nets.{NamedNet, NetDeclaration, counted_from, width, net_at, port_nets, wire_nets, nets_in}
+use Rattle.link_model.specs.Denoted.{IsPort, AreAll, net_id, ports_from}
 use Rattle.link_drivers.specs.Drivers.{dir_at}
 use Rattle.netlist_link.proofs.Lists.{slice_get-append_left, slice_get-append_right, slice_get-counted_from, length-counted_from}
 

@@ -1,5 +1,5 @@
 -- What linking comes to, and what is known of a module on the way.
-use Rattle.std.specs.Prelude.{◌≡◌, ℕ, List, length, Option, None}
+use Rattle.std.specs.Prelude.{◌≡◌, ℕ, List, length, None}
 use Rattle.verilog_tree.specs.declared.tree.Module.{Module}
 use Rattle.verilog_tree.specs.IsTree.{IsTree}
 use Rattle.netlist_model.specs.Lists.{NetlistView}
@@ -9,8 +9,8 @@ use Rattle.link_model.specs.declared.fault.LinkFault.TheVariants.{OutOfMemory}
 use Rattle.link_model.specs.Nets.{NamedNet, declared_nets, nets_in}
 use Rattle.link_model.specs.Cells.{NamedCell}
 use Rattle.link_model.specs.Fits.{FitCells}
-use Rattle.link_model.specs.Faults.{text_fault, driver_fault, cells_in, names_of}
-use Rattle.link_model.specs.Late.{StandsFirst, IsLinkable, HasNoDerived, IsLoop}
+use Rattle.link_model.specs.Faults.{text_fault, cells_in, names_of}
+use Rattle.link_model.specs.Late.{StandsFirst, IsLinkable, IsLoop}
 use Rattle.link_model.specs.Denoted.{IsNamed, denoted}
 use Rattle.link_order.specs.Orders.{IsItemOrder}
 use Rattle.netlist_link.specs.Linked.{LinkedView}

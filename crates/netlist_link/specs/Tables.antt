@@ -1,5 +1,5 @@
 -- The tables that a linked netlist keeps, as they are made from the nets and cells of a module.
-use Rattle.std.specs.Prelude.{◌≡◌, ◌↔◌, ℕ, ◌<◌, ◌&&◌, Bool, false, List, length, slice_get, slice_index_or, Option, Some}
+use Rattle.std.specs.Prelude.{◌≡◌, ℕ, ◌<◌, ◌&&◌, Bool, false, List, length, slice_get, slice_index_or, Option, Some}
 use Rattle.netlist_model.specs.declared.CellId.{CellId}
 use Rattle.netlist_model.specs.declared.PortId.{PortId}
 use Rattle.netlist_model.specs.Lists.{NetlistView}

@@ -1,5 +1,4 @@
-use Rattle.std.proofs.Common.{◌≡◌, subst, ℕ, length, sym, arith}
-use Rattle.std.specs.Prelude.{Option}
+use Rattle.std.proofs.Common.{◌≡◌, subst, ℕ, length, arith}
 use Rattle.netlist_link.specs.Tables.{HasPortsBelow}
 use Rattle.netlist_link.proofs.TableLaws.{all_noted}
 use Rattle.netlist_link.proofs.tables.ports_by_name.Goals as goal
