@@ -5,3 +5,4 @@ pub mod PortNames
 pub mod Tables
 pub mod Linked
 pub mod Links
+pub mod Laws

@@ -4,11 +4,13 @@
 #![tactic(auto)]
 
 mod assemble;
+mod laws;
 mod linked;
 mod linking;
 mod pins;
 mod tables;
 mod words;
 
+pub use laws::faults_forbid_links;
 pub use linked::Linked;
 pub use linking::link;
