@@ -1,0 +1,6 @@
+pub mod Cut
+pub mod Events
+pub mod Steps
+pub mod Spelled
+pub mod Printed
+pub mod Pins

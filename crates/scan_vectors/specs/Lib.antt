@@ -1,0 +1,7 @@
+pub mod Words
+pub mod Grammar
+pub mod Faults
+pub mod Forms
+pub mod Reading
+pub mod Canonical
+pub mod Exactly

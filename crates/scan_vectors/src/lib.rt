@@ -1,0 +1,22 @@
+// The texts of events: reads their lines, and prints them.
+// Contracts cite specs/Grammar.antt (what bytes spell), specs/Faults.antt (the first fault) and specs/Canonical.antt.
+// Own: no chapter of a standard speaks of it.
+#![tactic(auto)]
+
+mod fault;
+mod form;
+mod laws;
+mod lines;
+mod printing;
+mod reader;
+mod reading;
+mod words;
+
+pub use fault::EventFault;
+pub use laws::texts_of_events_are_spelled_or_at_fault;
+pub use lines::{Act, Line, Lines};
+pub use printing::print_events;
+pub use reading::read_events;
+
+#[cfg(test)]
+mod tests;
