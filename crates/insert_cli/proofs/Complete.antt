@@ -7,7 +7,8 @@ use Rattle.insert_cli.specs.declared.fault.Fault.TheVariants as fault
 use Rattle.insert_cli.specs.declared.fault.Status.TheVariants as status
 use Rattle.insert_cli.specs.Faults.{status_of}
 use Rattle.insert_cli.specs.Commands.{CanonForm, RunsCanon}
-use Rattle.insert_cli.specs.Canon.{IsAccepted, HasBadSyntax}
+use Rattle.verilog_texts.specs.Reading.{HasBadSyntax}
+use Rattle.insert_cli.specs.Canon.{IsAccepted}
 use Rattle.insert_cli.specs.Causes.{Stands, StandsInCanon, OfCanon}
 
 abbrev word_at : ℕ → List (List ℕ) → List ℕ

@@ -1,75 +1,20 @@
--- From the faults of words and modules to those of a text.
-use Rattle.std.proofs.Common.{◌≡◌, ℕ, List, [], ◌∷◌, ◌++◌, Some, Err, refl, sym, ap, subst, ◌∙◌}
-use Rattle.verilog_lexicon.specs.declared.word.Spanned.{Spanned}
-use Rattle.verilog_lexicon.specs.Pieces.{words_of, Begins}
-use Rattle.verilog_lexicon.specs.Words.{WordText}
+-- The canonical text of the tree that a text spells.
+use Rattle.std.proofs.Common.{◌≡◌, ℕ, List}
 use Rattle.verilog_tree.specs.declared.tree.Module.{Module}
-use Rattle.verilog_tree.specs.Texts.{SpellsModule, SpellsText}
+use Rattle.verilog_tree.specs.Texts.{SpellsText}
 use Rattle.verilog_tree.specs.Canonical.{canonical}
 use Rattle.verilog_tree.specs.IsTree.{IsTree}
-use Rattle.verilog_words.specs.Machine.{between}
-use Rattle.verilog_words.proofs.Outcome.{outcome}
-use Rattle.verilog_words.proofs.Complete.{complete}
-use Rattle.verilog_modules.proofs.Spelled.{spells-one}
-use Rattle.verilog_words.specs.declared.fault.WordFault.{WordFault}
-use Rattle.verilog_words.specs.declared.fault.WordFault.TheVariants as word
-use Rattle.verilog_words.specs.Fed.{IsFault, IsEndFault}
-use Rattle.verilog_modules.specs.declared.fault.SyntaxFault.{SyntaxFault}
-use Rattle.verilog_modules.specs.declared.fault.SyntaxFault.TheVariants as syntax
-use Rattle.verilog_modules.specs.Faults.{Refuses}
-use Rattle.insert_cli.specs.declared.canon.TextFault.{TextFault}
-use Rattle.insert_cli.specs.declared.canon.TextFault.TheVariants.{BadWord, BadSyntax, OutOfMemory}
-use Rattle.insert_cli.specs.Canon.{HasWords, Spelled, IsCanonical}
-use Rattle.insert_cli.specs.TextFaults.{word_fault, syntax_fault, IsTextFault, IsModuleFault}
+use Rattle.verilog_texts.specs.Reading.{IsReadAs}
+use Rattle.verilog_texts.proofs.Texts.{spells_once}
+use Rattle.insert_cli.specs.Canon.{IsCanonical}
 
-append_nil : (xs : List ℕ) → xs ++ [] ≡ xs
-append_nil [] = refl
-append_nil (x ∷ xs) = ap (λ (t : List ℕ). x ∷ t) (append_nil xs)
-
--- a text that has words begins one
-pub begins : (bytes : List ℕ) (words : List Spanned) → words_of bytes words → Begins bytes
-begins bytes words cut = ([], words, subst (λ (x : List ℕ). words_of x words) (sym (append_nil bytes)) cut)
-
-pub fed_fault : (e : WordFault) (bytes : List ℕ) → IsFault e bytes → IsTextFault bytes (word_fault e)
-fed_fault word.OutOfMemory bytes fault = tt
-fed_fault (word.BadWord place) bytes fault = record { none = λ words cut. fault.1 (begins bytes words cut); place_is = fault.0 }
-
-pub end_fault : (e : WordFault) (bytes : List ℕ) → IsEndFault e bytes → IsTextFault bytes (word_fault e)
-end_fault word.OutOfMemory bytes fault = tt
-end_fault (word.BadWord place) bytes fault = record { none = fault.1; place_is = fault.0 }
-
-pub module_fault : (e : SyntaxFault) (text : WordText) → Refuses text (Err e) → IsModuleFault text (syntax_fault e)
-module_fault syntax.OutOfMemory text fault = tt
-module_fault (syntax.BadSyntax place number) text fault = fault
-
--- a fault of the words is one of the text
-pub text_fault : (e : TextFault) (bytes : List ℕ) (text : WordText) → HasWords bytes text → IsModuleFault text e → IsTextFault bytes e
-text_fault OutOfMemory bytes text has fault = tt
-text_fault (BadWord place) bytes text has fault = absurd fault
-text_fault (BadSyntax place number) bytes text has fault = record { text = text; has = has; syntax = fault }
-
-as_outcome : (bytes : List ℕ) (words : List Spanned) → words_of bytes words → outcome 0 (between []) bytes ≡ Some words
-as_outcome bytes words cut = ap (outcome 0 (between [])) cut.text ∙ complete cut.pieces 0 [] cut.are ∙ ap (λ (ws : List Spanned). Some ws) (sym cut.words_are)
-
--- bytes have one list of words at most
-pub words_once : (bytes : List ℕ) (words others : List Spanned) → words_of bytes words → words_of bytes others → others ≡ words
-words_once bytes words others cut other =
-    let same : Some others ≡ Some words = sym (as_outcome bytes others other) ∙ as_outcome bytes words cut in cc
-
--- and spell one tree at most
-pub spells_once : (bytes : List ℕ) (tree other : Module) → SpellsText bytes tree → SpellsText bytes other → other ≡ tree
-spells_once bytes tree other a b =
-    spells-one a.words tree other a.spells (subst (λ (ws : List Spanned). SpellsModule ws other) (words_once bytes a.words b.words a.cut b.cut) b.spells)
-
--- the canonical text of the tree that the words spell
-pub canonical_found : (bytes printed : List ℕ) (text : WordText) (tree : Module) → HasWords bytes text → Spelled text tree → printed ≡ canonical tree
-    → (IsTree tree → SpellsText printed tree) → ((any : List ℕ) → SpellsText any tree → IsTree tree) → IsCanonical bytes printed
-canonical_found bytes printed text tree has spelled is spells kept =
-    let here : SpellsText bytes tree = record { words = text.list; cut = has.cut; spells = spelled.spells } in
-    let again : SpellsText printed tree = spells (kept bytes here) in record {
+pub canonical_found : (bytes printed : List ℕ) (tree : Module) → IsReadAs bytes tree → printed ≡ canonical tree
+    → (IsTree tree → SpellsText printed tree) → IsCanonical bytes printed
+canonical_found bytes printed tree read is spells =
+    let again : SpellsText printed tree = spells read.is in record {
       tree = tree;
-      spells = here;
-      only = λ other s. spells_once bytes tree other here s;
+      spells = read.spells;
+      only = read.only;
       text_is = is;
       again = again;
       again_only = λ other s. spells_once printed tree other again s;

@@ -1,12 +1,8 @@
 -- What `canon` makes of the bytes that it reads.
 use Rattle.std.specs.Prelude.{◌≡◌, ℕ, ◌≤◌, List, length}
-use Rattle.verilog_lexicon.specs.declared.word.Spanned.{Spanned}
-use Rattle.verilog_lexicon.specs.Pieces.{words_of, IsPlace}
-use Rattle.verilog_lexicon.specs.Words.{WordText}
 use Rattle.verilog_tree.specs.declared.tree.Module.{Module}
-use Rattle.verilog_tree.specs.Texts.{SpellsModule, SpellsText}
+use Rattle.verilog_tree.specs.Texts.{SpellsText}
 use Rattle.verilog_tree.specs.Canonical.{canonical}
-use Rattle.verilog_modules.specs.Faults.{IsBadSyntax}
 
 -- The bytes spell one tree; the text is its canonical text, which spells that tree and no other.
 pub record IsCanonical (bytes text : List ℕ) : Type 0 where
@@ -17,30 +13,8 @@ pub record IsCanonical (bytes text : List ℕ) : Type 0 where
   pub again : SpellsText text tree
   pub again_only : (other : Module) → SpellsText text other → other ≡ tree
 
--- The words of the bytes are these, and no others.
-pub record HasWords (bytes : List ℕ) (text : WordText) : Type 0 where
-  pub cut : words_of bytes text.list
-  pub only : (words : List Spanned) → words_of bytes words → words ≡ text.list
-  pub end_is : text.end ≡ length bytes
-
--- The words spell this tree, and no other.
-pub record Spelled (text : WordText) (tree : Module) : Type 0 where
-  pub spells : SpellsModule text.list tree
-  pub only : (other : Module) → SpellsModule text.list other → other ≡ tree
-
 -- own: bytes that are not too many, and spell some tree
 pub record IsAccepted (limit : ℕ) (bytes : List ℕ) : Type 0 where
   pub short : length bytes ≤ limit
   pub tree : Module
   pub spells : SpellsText bytes tree
-
--- The bytes have no words, and this is the place.
-pub record IsBadWord (bytes : List ℕ) (place : ℕ) : Type 0 where
-  pub none : (words : List Spanned) → words_of bytes words → ⊥
-  pub place_is : IsPlace bytes place
-
--- The bytes have words, which are no module, and this is the word that can't stand, with its place.
-pub record HasBadSyntax (bytes : List ℕ) (place word : ℕ) : Type 0 where
-  pub text : WordText
-  pub has : HasWords bytes text
-  pub syntax : IsBadSyntax text place word

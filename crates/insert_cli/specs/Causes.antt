@@ -3,10 +3,11 @@ use Rattle.std.specs.Prelude.{◌≡◌, ℕ, ◌<◌, ◌≤◌, ◌⊎◌, Lis
 use Rattle.edge_io.specs.Shelf.{WhereTold, told_if}
 use Rattle.insert_cli.specs.declared.fault.Fault.{Fault}
 use Rattle.insert_cli.specs.declared.fault.Fault.TheVariants as fault
-use Rattle.insert_cli.specs.declared.canon.TextFault.{TextFault}
-use Rattle.insert_cli.specs.declared.canon.TextFault.TheVariants as text
+use Rattle.verilog_texts.specs.declared.fault.TextFault.{TextFault}
+use Rattle.verilog_texts.specs.declared.fault.TextFault.TheVariants as text
 use Rattle.insert_cli.specs.Commands.{CanonForm, IsNoCommand, RunsCanon}
-use Rattle.insert_cli.specs.Canon.{IsCanonical, IsAccepted, IsBadWord, HasBadSyntax}
+use Rattle.verilog_texts.specs.Reading.{IsBadWord, HasBadSyntax}
+use Rattle.insert_cli.specs.Canon.{IsCanonical, IsAccepted}
 
 -- a place that can't stand, in a text that isn't too long
 abbrev pub HasBadWordWithin : ℕ → ℕ → List ℕ → Type 0

@@ -1,5 +1,4 @@
 pub mod Commands
 pub mod Faults
 pub mod Canon
-pub mod TextFaults
 pub mod Causes

@@ -3,90 +3,26 @@ ghost use Rattle.edge_io.specs.Shelf.{Rose, SameTold, WhereTold};
 ghost use Rattle.insert_cli.specs.Faults.{status_of};
 ghost use Rattle.insert_cli.specs.declared.fault.Status.{Status};
 ghost use Rattle.insert_cli.specs.Causes.{StandsInCanon, IsWritten, IsCutShort, fault_of};
-ghost use Rattle.insert_cli.specs.Canon.{IsCanonical, HasWords, Spelled};
-ghost use Rattle.insert_cli.specs.TextFaults.{word_fault, syntax_fault, memory_fault, IsTextFault, IsModuleFault};
+ghost use Rattle.insert_cli.specs.Canon.{IsCanonical};
+ghost use Rattle.verilog_texts.specs.TextFaults.{IsTextFault};
 
 use crate::fault::Fault;
 use edge_io::shelf::Shelf;
-use edge_io::text::{OutOfMemory, Text};
+use edge_io::text::Text;
 use edge_io::whole::{ReadIssue, read_whole, write_whole};
 use std::alloc::Global;
-use thiserror::Error;
-use verilog_lexicon::Words;
-use verilog_modules::{SyntaxFault, parse_module};
 use verilog_printing::print_module;
-use verilog_tree::Module;
-use verilog_words::{Cutter, WordFault};
+use verilog_texts::{TextFault, read_module};
 
 /// The longest text that is read, in bytes.
 pub const LIMIT: u64 = 16_777_216;
-
-/// Why a text is no module.
-#[derive(Clone, Copy, Debug, Drop, Error)]
-pub enum TextFault {
-    #[error("the bytes are no words, from byte {place} on")]
-    BadWord { place: u64 },
-    #[error("the words are no module, from word {word} at byte {place} on")]
-    BadSyntax { place: u64, word: u64 },
-    #[error("out of memory")]
-    OutOfMemory,
-}
-
-impl From<WordFault> for TextFault {
-    ghost from_gives = { λ fault made. made ≡ word_fault fault };
-
-    fn from(fault: WordFault) -> TextFault {
-        match fault {
-            WordFault::BadWord { place } => TextFault::BadWord { place },
-            WordFault::OutOfMemory => TextFault::OutOfMemory,
-        }
-    }
-}
-
-impl From<SyntaxFault> for TextFault {
-    ghost from_gives = { λ fault made. made ≡ syntax_fault fault };
-
-    fn from(fault: SyntaxFault) -> TextFault {
-        match fault {
-            SyntaxFault::BadSyntax { place, word } => TextFault::BadSyntax { place, word },
-            SyntaxFault::OutOfMemory => TextFault::OutOfMemory,
-        }
-    }
-}
-
-impl From<OutOfMemory> for TextFault {
-    ghost from_gives = { λ _ made. made ≡ memory_fault };
-
-    fn from(_fault: OutOfMemory) -> TextFault {
-        TextFault::OutOfMemory
-    }
-}
-
-// The words of a text, which is let go.
-fn cut(alloc: Global, text: Text) -> Result<Words, TextFault>
-    ensures words { IfOk result (HasWords text) }
-    ensures fault { IfErr result (IsTextFault text) }
-{
-    let mut cutter = Cutter::new(alloc);
-    cutter.feed(text.as_bytes())?;
-    Ok(cutter.finish()?)
-}
-
-// The tree of a module, by its words, which are let go.
-fn parse(alloc: Global, words: Words) -> Result<Module, TextFault>
-    ensures tree { IfOk result (Spelled words) }
-    ensures fault { IfErr result (IsModuleFault words) }
-{
-    Ok(parse_module(alloc, &words)?)
-}
 
 // The canonical text of the module that a text spells.
 fn canonical_of(alloc: Global, text: Text) -> Result<Text, TextFault>
     ensures found { IfOk result (IsCanonical text) }
     ensures fault { IfErr result (IsTextFault text) }
 {
-    let words = cut(alloc, text)?;
-    let tree = parse(alloc, words)?;
+    let tree = read_module(alloc, text)?;
     Ok(print_module(alloc, &tree)?)
 }
 

@@ -2,8 +2,8 @@ ghost use Rattle.std.specs.Prelude.{◌≡◌};
 ghost use Rattle.insert_cli.specs.Causes.{fault_of};
 ghost use Rattle.insert_cli.specs.Faults as faults;
 
-use crate::canon::TextFault;
 use thiserror::Error;
+use verilog_texts::TextFault;
 
 /// How a command ends: its number is the program's exit status.
 #[derive(Clone, Copy, Debug, Drop, PartialEq, Eq)]

@@ -3,5 +3,5 @@ use Rattle.insert_cli.proofs.canon.canonical_of.Goals as goal
 
 pub returns-clause-found : goal.returns-clause-found
 returns-clause-found c =
-    canonical_found c.args.text c.in_ok-print_module.field-0 c.in_ok-words.words c.in_ok-tree.tree c.in_ok-words.ensures.words c.in_ok-tree.ensures.tree
-    c.in_ok-print_module.ensures.text c.in_ok-print_module.ensures.spells c.in_ok-print_module.ensures.spelled
+    canonical_found c.args.text c.in_ok-print_module.field-0 c.in_ok-tree.tree c.in_ok-tree.ensures.read
+    c.in_ok-print_module.ensures.text c.in_ok-print_module.ensures.spells

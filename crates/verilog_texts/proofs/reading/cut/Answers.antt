@@ -1,7 +1,7 @@
 use Rattle.std.proofs.Common.{[], sym}
 use Rattle.std.proofs.lemmas.Result.{err_from_is_err_and}
-use Rattle.insert_cli.proofs.Texts.{fed_fault, end_fault}
-use Rattle.insert_cli.proofs.canon.cut.Goals as goal
+use Rattle.verilog_texts.proofs.Texts.{fed_fault, end_fault}
+use Rattle.verilog_texts.proofs.reading.cut.Goals as goal
 
 pub returns-in_err-feed-clause-fault : goal.returns-in_err-feed-clause-fault
 returns-in_err-feed-clause-fault c =

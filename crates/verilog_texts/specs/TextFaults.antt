@@ -6,9 +6,9 @@ use Rattle.verilog_words.specs.declared.fault.WordFault.TheVariants as word
 use Rattle.verilog_modules.specs.declared.fault.SyntaxFault.{SyntaxFault}
 use Rattle.verilog_modules.specs.declared.fault.SyntaxFault.TheVariants as syntax
 use Rattle.verilog_modules.specs.Faults.{IsBadSyntax}
-use Rattle.insert_cli.specs.declared.canon.TextFault.{TextFault}
-use Rattle.insert_cli.specs.declared.canon.TextFault.TheVariants.{BadWord, BadSyntax, OutOfMemory}
-use Rattle.insert_cli.specs.Canon.{IsBadWord, HasBadSyntax}
+use Rattle.verilog_texts.specs.declared.fault.TextFault.{TextFault}
+use Rattle.verilog_texts.specs.declared.fault.TextFault.TheVariants.{BadWord, BadSyntax, OutOfMemory}
+use Rattle.verilog_texts.specs.Reading.{IsBadWord, HasBadSyntax}
 
 abbrev pub word_fault : WordFault → TextFault
 word_fault (word.BadWord place) = BadWord place

@@ -1,0 +1,13 @@
+// From the bytes of a text to the tree of the module that they spell.
+// The contract of `read_module` cites specs/Reading.antt and specs/TextFaults.antt, and `SpellsText`, `IsTree` of verilog_tree.
+// IEEE Std 1364-2001: lexical conventions, modules and ports, gate-level modelling.
+#![tactic(auto)]
+
+mod fault;
+mod reading;
+
+pub use fault::TextFault;
+pub use reading::read_module;
+
+#[cfg(test)]
+mod tests;

@@ -1,0 +1,39 @@
+ghost use Rattle.std.specs.Prelude.{IfErr, IfOk};
+ghost use Rattle.verilog_texts.specs.Reading.{HasWords, IsReadAs, Spelled};
+ghost use Rattle.verilog_texts.specs.TextFaults.{IsTextFault, IsModuleFault};
+
+use crate::fault::TextFault;
+use edge_io::Text;
+use std::alloc::Global;
+use verilog_lexicon::Words;
+use verilog_modules::parse_module;
+use verilog_tree::Module;
+use verilog_words::Cutter;
+
+// The words of a text, which is let go.
+fn cut(alloc: Global, text: Text) -> Result<Words, TextFault>
+    ensures words { IfOk result (HasWords text) }
+    ensures fault { IfErr result (IsTextFault text) }
+{
+    let mut cutter = Cutter::new(alloc);
+    cutter.feed(text.as_bytes())?;
+    Ok(cutter.finish()?)
+}
+
+// The tree of a module, by its words, which are let go.
+fn parse(alloc: Global, words: Words) -> Result<Module, TextFault>
+    ensures tree { IfOk result (Spelled words) }
+    ensures fault { IfErr result (IsModuleFault words) }
+{
+    Ok(parse_module(alloc, &words)?)
+}
+
+/// The tree of the module that a text spells. The text is let go before the tree is made.
+pub fn read_module(alloc: Global, text: Text) -> Result<Module, TextFault>
+    ensures read { IfOk result (IsReadAs text) }
+    ensures fault { IfErr result (IsTextFault text) }
+{
+    let words = cut(alloc, text)?;
+    let tree = parse(alloc, words)?;
+    Ok(tree)
+}
