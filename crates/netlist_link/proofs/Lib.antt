@@ -10,3 +10,4 @@ pub mod PinLaws
 pub mod TableLaws
 pub mod Assembled
 pub mod LinkFaults
+pub mod Spelled
