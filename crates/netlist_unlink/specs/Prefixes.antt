@@ -19,9 +19,9 @@ pub record IsPrefix (prefix : List ℕ) : Type 0 where
 
 -- own: a port, a net or a cell has the name
 pub data IsUsed (N : NetlistView) : Name → Type 0 where
-  port : {p : ℕ} {port : PortView} → slice_get N.ports p ≡ Some port → IsUsed N port.name
-  net : {number : ℕ} {view : NetView} → slice_get N.nets number ≡ Some view → IsUsed N view.name
-  cell : {i : ℕ} {cell : CellView} {name : Name} → cell_at N i ≡ Some cell → cell.name ≡ Some name → IsUsed N name
+  port : (p : ℕ) (port : PortView) → slice_get N.ports p ≡ Some port → IsUsed N port.name
+  net : (number : ℕ) (view : NetView) → slice_get N.nets number ≡ Some view → IsUsed N view.name
+  cell : (i : ℕ) (cell : CellView) (name : Name) → cell_at N i ≡ Some cell → cell.name ≡ Some name → IsUsed N name
 
 -- own: the bytes can begin the names of added nets and cells: no original name of the netlist begins with them
 pub record IsFreePrefix (linked : LinkedView) (prefix : List ℕ) : Type 0 where

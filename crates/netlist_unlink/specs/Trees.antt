@@ -1,6 +1,6 @@
 -- The tree that a linked netlist is written as.
 -- IEEE Std 1364-2001: modules and ports, data types, gate-level modelling, continuous assignments, module instances; the names of added nets and cells are own.
-use Rattle.std.specs.Prelude.{ℕ, ◌+◌, Bool, true, false, List, [], ◌∷◌, ◌++◌, map, slice_get, unwrap_or, Option, Some, None, if◌then◌else◌}
+use Rattle.std.specs.Prelude.{ℕ, ◌+◌, false, List, [], ◌∷◌, ◌++◌, map, slice_get, unwrap_or, Option, Some, None}
 use Rattle.std.specs.Option.{option_map}
 use Rattle.std.specs.Fmt.{decimal}
 use Rattle.verilog_tree.specs.declared.tree.Bit.{Bit}
@@ -148,15 +148,15 @@ port_of table port = record { name = port_text table port.name; dir = dir_of por
 abbrev pub wire_of : List (List ℕ) → NetRow → Wire
 wire_of table row = record { name = original table row.name; range = row.range }
 
-abbrev pub is_added : Name → Bool
-is_added (Original number) = false
-is_added (Added number) = true
+-- own: an added net is a scalar wire, with its number
+abbrev pub added_wire : List ℕ → ℕ → Name → List Wire
+added_wire prefix number (Original place) = []
+added_wire prefix number (Added _) = record { name = added prefix 110 number; range = None } ∷ []
 
--- own: each added net is a scalar wire; the first net has this number
+-- own: the added nets, of which the first net has this number
 abbrev pub added_from : List ℕ → ℕ → List NetView → List Wire
 added_from prefix number [] = []
-added_from prefix number (view ∷ nets) =
-    if is_added view.name then record { name = added prefix 110 number; range = None } ∷ added_from prefix (number + 1) nets else added_from prefix (number + 1) nets
+added_from prefix number (view ∷ nets) = added_wire prefix number view.name ++ added_from prefix (number + 1) nets
 
 abbrev pub naming_of : LinkedView → List ℕ → Naming
 naming_of linked prefix = record { table = linked.names; prefix = prefix; nets = linked.arena.lists.nets }

@@ -1,8 +1,9 @@
 // The items of a tree.
-ghost use Rattle.std.specs.Prelude.{◌≡◌, ◌<◌, length, option_map, Some, None, IfOk, IfSome};
+ghost use Rattle.std.specs.Prelude.{◌≡◌, ◌<◌, ◌^◌, ℕ, option_map, Some, None, IfOk, IfSome, OnOk};
 ghost use Rattle.cell_library.specs.Library.{cell_name};
 ghost use Rattle.netlist_model.specs.Lists.{cell_at};
 ghost use Rattle.netlist_arena.specs.Looks.{IsLive};
+ghost use Rattle.netlist_link.specs.Linked.{IsLinked};
 ghost use Rattle.netlist_unlink.specs.Trees.{gate_of, item_of, items_from, naming_of, written};
 
 use crate::kinds::{gate_kind, library_name};
@@ -21,7 +22,8 @@ pub fn tree_items(
     linked: &Linked,
     prefix: &[u8],
 ) -> Result<Row<Item>, OutOfMemory>
-    ensures { IfOk result (λ items. items ≡ items_from (naming_of linked.now prefix.now) 0 linked.now.arena.lists.cells) }
+    ensures items { IfOk result (λ items. items ≡ items_from (naming_of linked.now prefix.now) 0 linked.now.arena.lists.cells) }
+    ensures numbers { OnOk result ((i : ℕ) → IsLive linked.now.arena.lists i → i < 2 ^ 32) }
 {
     let live = linked.netlist().cell_count();
     let mut items = Row::new(alloc);
@@ -66,6 +68,7 @@ fn gate_item(
     cell: CellId,
     gate: GateKind,
 ) -> Result<Item, OutOfMemory>
+    requires linked { IsLinked linked.now.arena.lists linked.now.names linked.now.order }
     requires live { IsLive linked.now.arena.lists cell.0 }
     requires gate { IfSome (cell_at linked.now.arena.lists cell.0) (λ found. gate_of found.kind ≡ Some gate) }
     ensures { IfOk result (λ item. option_map (λ found. written (naming_of linked.now prefix.now) cell.0 found (Some gate) None) (cell_at linked.now.arena.lists cell.0) ≡ Some item) }
@@ -86,6 +89,7 @@ fn instance(
     kind: Kind,
     library: &[u8],
 ) -> Result<Item, OutOfMemory>
+    requires linked { IsLinked linked.now.arena.lists linked.now.names linked.now.order }
     requires live { IsLive linked.now.arena.lists cell.0 }
     requires kind { IfSome (cell_at linked.now.arena.lists cell.0) (λ found. found.kind ≡ kind) }
     requires library { cell_name kind ≡ Some library.now }
@@ -104,6 +108,7 @@ fn assign(
     prefix: &[u8],
     cell: CellId,
 ) -> Result<Item, OutOfMemory>
+    requires linked { IsLinked linked.now.arena.lists linked.now.names linked.now.order }
     requires live { IsLive linked.now.arena.lists cell.0 }
     requires kind { IfSome (cell_at linked.now.arena.lists cell.0) (λ found. found.kind ≡ Kind.Assign) }
     ensures { IfOk result (λ item. option_map (λ found. written (naming_of linked.now prefix.now) cell.0 found None None) (cell_at linked.now.arena.lists cell.0) ≡ Some item) }

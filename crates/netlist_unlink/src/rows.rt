@@ -1,6 +1,6 @@
 // The nets of the original wires, in rows of one name.
-ghost use Rattle.std.specs.Prelude.{◌≡◌, ◌<◌, ◌++◌, ◌∷◌, [], List, ℕ, length, slice_get, option_map, unwrap_or, Some, IfOk};
-ghost use Rattle.netlist_unlink.specs.Rows.{before, has_port_name, joined_range, one_index, row_of, rows as rows_of, with_row};
+ghost use Rattle.std.specs.Prelude.{◌≡◌, ◌+◌, ◌<◌, ◌++◌, List, length, slice_get, take, option_map, Some, IfOk};
+ghost use Rattle.netlist_unlink.specs.Rows.{before, joined_range, row_of, rows as rows_of, with_row};
 ghost use Rattle.netlist_unlink.specs.Flags.{ArePortFlags};
 
 use edge_io::OutOfMemory;
@@ -24,8 +24,9 @@ pub fn wire_rows(alloc: Global, linked: &Linked) -> Result<Vec<NetRow>, OutOfMem
     let mut rows = Vec::new(alloc);
     let mut last = None;
     for number in 0..linked.netlist().net_count() {
-        if let Some(next) = net_row(linked, &flags, NetId(number)) {
-            last = Some(follow(&mut rows, last, next)?);
+        match net_row(linked, &flags, NetId(number)) {
+            Some(next) => last = Some(follow(&mut rows, last, next)?),
+            None => {}
         }
     }
     if let Some(row) = last {
@@ -99,10 +100,19 @@ fn port_flags(alloc: Global, linked: &Linked) -> Result<Vec<bool>, OutOfMemory>
 {
     let mut flags = vec![in alloc; false; linked.name_count() as usize]?;
     for number in 0..linked.netlist().port_count() {
-        match linked.netlist().port_name(PortId(number)) {
-            Name::Original(name) => flags[name as usize] = true,
-            Name::Added(_) => {}
-        }
+        note_port(flags.as_mut_slice(), linked, PortId(number));
     }
     Ok(flags)
+}
+
+// Notes the name of a port.
+fn note_port(flags: &mut [bool], linked: &Linked, port: PortId)
+    requires there { port.0 < length linked.now.arena.lists.ports }
+    requires before { ArePortFlags linked.now.names (take port.0 linked.now.arena.lists.ports) flags.old }
+    ensures { ArePortFlags linked.now.names (take (port.0 + 1) linked.now.arena.lists.ports) flags.new }
+{
+    match linked.netlist().port_name(port) {
+        Name::Original(number) => flags[number as usize] = true,
+        Name::Added(_) => {}
+    }
 }
