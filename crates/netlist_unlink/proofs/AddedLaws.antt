@@ -22,4 +22,4 @@ added_more prefix nets n front now all at so_far = go (slice_get nets n) refl at
         let whole : added_from prefix n (drop n nets) ≡ added_wire prefix n view.name ++ rest = ap (added_from prefix n) split in
         let D : ℕ → Type 0 = λ k. now ++ added_from prefix (n + 1) (drop k nets) ≡ all in
         subst D (sym (add-one n)) (ap (λ (xs : List Wire). xs ++ rest) (sym grown) ∙ append_assoc front (added_wire prefix n view.name) rest
-            ∙ ap (λ (xs : List Wire). front ++ xs) (sym whole) ∙ so_far)
+        ∙ ap (λ (xs : List Wire). front ++ xs) (sym whole) ∙ so_far)

@@ -1,13 +1,11 @@
 -- What is known of the ports and cells of a linked netlist.
-use Rattle.std.proofs.Common.{◌≡◌, ℕ, zero, suc, ◌+◌, ◌<◌, ◌≤◌, Bool, true, false, List, [], ◌∷◌, length, take, refl, ap, sym, ◌∙◌, subst, Option, Some, None, arith, IsTrue}
+use Rattle.std.proofs.Common.{◌≡◌, ℕ, zero, suc, ◌<◌, ◌≤◌, Bool, true, false, List, [], ◌∷◌, length, take, refl, ap, sym, ◌∙◌, subst, Option, Some, None, arith, IsTrue}
 use Rattle.std.specs.Prelude.{slice_get, IsSome, IfSome, ◌↔◌}
 use Rattle.std.specs.Option.{option_map, option_and_then}
 use Rattle.std.proofs.Math.Seq.{take-length}
 use Rattle.verilog_tree.specs.declared.tree.GateKind.{GateKind}
-use Rattle.verilog_tree.specs.declared.tree.Link.{Link}
 use Rattle.cell_library.specs.declared.Kind.{Kind}
 use Rattle.cell_library.specs.declared.Kind.TheVariants as kind
-use Rattle.cell_library.specs.declared.FlopKind.{FlopKind}
 use Rattle.cell_library.specs.declared.ResetTo.{ResetTo}
 use Rattle.cell_library.specs.declared.ResetTo.TheVariants.{Nothing, Zero as ToZero, One as ToOne}
 use Rattle.cell_library.specs.Gates.{is_flop, Takes}
@@ -15,7 +13,7 @@ use Rattle.cell_library.specs.Library.{cell_name, operand_ports}
 use Rattle.netlist_model.specs.declared.Feed.{Feed}
 use Rattle.netlist_model.specs.declared.Name.{Name}
 use Rattle.netlist_model.specs.declared.Name.TheVariants.{Original, Added}
-use Rattle.netlist_model.specs.Lists.{PortView, NetView, CellView, NetlistView, cell_at}
+use Rattle.netlist_model.specs.Lists.{PortView, CellView, NetlistView, cell_at}
 use Rattle.netlist_model.specs.Formed.{IsWellFormed}
 use Rattle.netlist_arena.specs.Arena.{ArenaView}
 use Rattle.netlist_arena.specs.Looks.{feed_at}

@@ -1,5 +1,5 @@
 -- The index of a net has at most nine digits.
-use Rattle.std.proofs.Common.{◌≡◌, ℕ, zero, suc, ◌+◌, ◌-◌, ◌^◌, ◌<◌, ◌≤◌, ◌⊎◌, inl, inr, Bool, true, false, List, [], ◌∷◌, length, refl, sym, ◌∙◌, ap, arith, subst, Option, Some, None, ◌==◌}
+use Rattle.std.proofs.Common.{◌≡◌, ℕ, suc, ◌+◌, ◌-◌, ◌<◌, ◌≤◌, Bool, true, false, List, [], ◌∷◌, refl, sym, ◌∙◌, arith, subst, Option, Some, None, ◌==◌}
 use Rattle.std.specs.Prelude.{slice_get, IfSome, nat_le}
 use Rattle.std.proofs.lemmas.Option.{slice_get_within}
 use Rattle.verilog_tree.specs.IsTree.{IsTreeNumber}
@@ -70,6 +70,7 @@ index_short table N net view named laid at = by_direction (direction N.ports net
         let same : view.index ≡ index_from w.range (net - w.first) = let both : Some view ≡ Some (record { name = Original number; index = index_from w.range (net - w.first) }) = sym at ∙ here in grind arith in
         rw same (index_fits w.range (net - w.first) w.wire.short (omega arith))
     by_name (Added number) is outside = let added = named.added net number view at is in rw added.0 tt
+
     by_direction : (found : Option Dir) → direction N.ports net ≡ found → IfSome view.index IsTreeNumber
     by_direction None is = by_name view.name refl is
     by_direction (Some dir) is =

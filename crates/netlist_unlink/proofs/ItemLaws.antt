@@ -1,5 +1,5 @@
 -- The items of the live cells are made from the first number on.
-use Rattle.std.proofs.Common.{◌≡◌, ◌≢◌, ℕ, zero, suc, ◌+◌, ◌≤◌, List, [], ◌∷◌, ◌++◌, ◌-◌, ◌⊎◌, inl, inr, drop, refl, sym, ◌∙◌, ap, subst, arith, cond, Option, Some, None, add-one, append_assoc, append-nil}
+use Rattle.std.proofs.Common.{◌≡◌, ℕ, zero, suc, ◌+◌, ◌≤◌, List, [], ◌∷◌, ◌++◌, ◌-◌, ◌⊎◌, inl, inr, drop, refl, sym, ◌∙◌, ap, subst, arith, cond, Option, Some, None, add-one, append_assoc, append-nil}
 use Rattle.std.proofs.Math.Seq.{drop-nil}
 use Rattle.std.specs.Option.{is_some, option_map}
 use Rattle.std.specs.List.{slice_get}
@@ -72,15 +72,15 @@ left_dead (c ∷ cells) (suc i) at = left_dead cells i at
 dead_items : (naming : Naming) (cells : List (Option CellView)) (number : ℕ) → live_cell (slice_get cells number) ≡ None
     → items_from naming number (drop number cells) ≡ items_from naming (number + 1) (drop (suc number) cells)
 dead_items naming cells number at = elim (left_dead cells number at) [
-    inl e ↦ ap (items_from naming number) e
+  | inl e ↦ ap (items_from naming number) e
   | inr e ↦ ap (items_from naming number) e.0 ∙ sym (ap (items_from naming (number + 1)) e.1)
-  ]
+]
 
 dead_count : (cells : List (Option CellView)) (number : ℕ) → live_cell (slice_get cells number) ≡ None → live_count (drop number cells) ≡ live_count (drop (suc number) cells)
 dead_count cells number at = elim (left_dead cells number at) [
-    inl e ↦ ap live_count e ∙ live_count-cons None (drop (suc number) cells) ∙ omega arith
+  | inl e ↦ ap live_count e ∙ live_count-cons None (drop (suc number) cells) ∙ omega arith
   | inr e ↦ ap live_count e.0 ∙ sym (ap live_count e.1)
-  ]
+]
 
 -- a number without a live cell gives no item
 pub items_same : (naming : Naming) (cells : List (Option CellView)) (number seen after : ℕ) (items now : List Item) → AreItems naming cells number seen items

@@ -1,5 +1,5 @@
 -- What is known of the rows of a netlist that is well named.
-use Rattle.std.proofs.Common.{◌≡◌, ℕ, zero, suc, ◌+◌, ◌<◌, Bool, true, false, ◌==◌, List, [], ◌∷◌, length, refl, ap, sym, ◌∙◌, subst, Option, Some, None, arith}
+use Rattle.std.proofs.Common.{◌≡◌, ℕ, suc, ◌<◌, Bool, true, false, ◌==◌, List, [], ◌∷◌, length, refl, Option, Some, None}
 use Rattle.std.specs.Prelude.{slice_get, IfSome, All}
 use Rattle.std.specs.Option.{option_map}
 use Rattle.std.specs.List.{AllByRecursion}
@@ -11,7 +11,7 @@ use Rattle.netlist_model.specs.declared.Name.TheVariants.{Original, Added}
 use Rattle.netlist_model.specs.Lists.{PortView, NetView}
 use Rattle.netlist_link.specs.WellNamed.{IsKnown}
 use Rattle.netlist_unlink.specs.declared.rows.NetRow.{NetRow}
-use Rattle.netlist_unlink.specs.Rows.{before, has_port_name, joined_range, named_row, one_index, row_of, rows, with_row}
+use Rattle.netlist_unlink.specs.Rows.{before, has_port_name, joined_range, named_row, one_index, rows, with_row}
 
 -- a row under a known name that no port has, with a short range
 pub record RowFits (table : List (List ℕ)) (ports : List PortView) (row : NetRow) : Type 0 where

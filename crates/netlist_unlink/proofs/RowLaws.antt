@@ -1,5 +1,5 @@
 -- Rows of nets are made from the left.
-use Rattle.std.proofs.Common.{◌≡◌, ℕ, zero, suc, ◌+◌, Bool, true, false, ◌==◌, List, [], ◌∷◌, ◌++◌, drop, refl, ap, sym, ◌∙◌, arith, add-one, append_assoc, append-nil, Option, Some, None}
+use Rattle.std.proofs.Common.{◌≡◌, ℕ, suc, ◌+◌, Bool, true, false, ◌==◌, List, [], ◌∷◌, ◌++◌, drop, refl, ap, sym, ◌∙◌, arith, add-one, Option, Some, None}
 use Rattle.std.specs.Prelude.{slice_get}
 use Rattle.std.specs.Option.{option_map}
 use Rattle.verilog_tree.specs.declared.tree.Range.{Range}
@@ -22,6 +22,7 @@ before_same row next (r ∷ rest) same = go (next.name == r.name) refl
   where
     joined : NetRow
     joined = record { name = row.name; range = joined_range row.range next.range }
+
     go : (b : Bool) → (next.name == r.name) ≡ b → before row (before next (r ∷ rest)) ≡ before (record { name = row.name; range = joined_range row.range next.range }) (r ∷ rest)
     go true e =
         let also : (row.name == r.name) ≡ true = grind arith in

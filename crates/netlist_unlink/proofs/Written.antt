@@ -1,19 +1,16 @@
 -- The tree of a linked netlist is one that can be written.
-use Rattle.std.proofs.Common.{◌≡◌, ◌≢◌, ℕ, zero, suc, ◌+◌, ◌^◌, ◌<◌, ◌≤◌, Bool, true, false, ◌&&◌, List, [], ◌∷◌, ◌++◌, length, map, refl, ap, sym, ◌∙◌, subst, Option, Some, None, arith, IsTrue}
-use Rattle.std.specs.Prelude.{slice_get, unwrap_or, IsSome, IfSome, All, codes}
+use Rattle.std.proofs.Common.{◌≡◌, ◌≢◌, ℕ, suc, ◌+◌, ◌^◌, ◌<◌, ◌≤◌, Bool, true, false, List, [], ◌∷◌, ◌++◌, length, map, refl, ap, sym, ◌∙◌, subst, Option, Some, None, arith, IsTrue}
+use Rattle.std.specs.Prelude.{slice_get, unwrap_or, IsSome, IfSome, codes}
 use Rattle.std.specs.Bool.{IsFalse}
 use Rattle.std.specs.Option.{option_map}
 use Rattle.std.specs.Str.{bytes_eq}
-use Rattle.std.specs.List.{AllByRecursion, list_any}
+use Rattle.std.specs.List.{AllByRecursion}
 use Rattle.std.proofs.lemmas.List.{length-map}
 use Rattle.std.proofs.lemmas.Slice.Eq.{bytes_eq-Decides}
 use Rattle.verilog_tree.specs.declared.tree.GateKind.{GateKind}
 use Rattle.verilog_tree.specs.declared.tree.GateKind.TheVariants as gate
-use Rattle.verilog_tree.specs.declared.tree.Item.{Item}
-use Rattle.verilog_tree.specs.declared.tree.Link.{Link}
-use Rattle.verilog_tree.specs.declared.tree.Port.{Port}
 use Rattle.verilog_tree.specs.declared.tree.Wire.{Wire}
-use Rattle.verilog_tree.specs.Trees.{is_port_net, range_eq, takes_inputs}
+use Rattle.verilog_tree.specs.Trees.{is_port_net, takes_inputs}
 use Rattle.verilog_tree.specs.IsTree.{IsTree, IsTreeBit, IsTreeItem, IsTreeLink, IsTreeName, IsTreeOperand, IsTreePort, IsTreeRange, IsTreeWire, IsVisible}
 use Rattle.cell_library.specs.declared.Kind.{Kind}
 use Rattle.cell_library.specs.declared.Kind.TheVariants as kind
@@ -35,10 +32,10 @@ use Rattle.netlist_link.specs.WellNamed.{IsShortRange, IsWellNamed}
 use Rattle.std.specs.Fmt.{decimal}
 use Rattle.netlist_link.specs.Linked.{IsLinked, LinkedView}
 use Rattle.netlist_unlink.specs.declared.rows.NetRow.{NetRow}
-use Rattle.netlist_unlink.specs.Rows.{has_port_name, is_original, rows}
-use Rattle.netlist_unlink.specs.Trees.{Naming, added, added_from, added_wire, bit_of, cell_text, first_operand, gate_of, item_of, items_from, naming_of, operand_links, operand_of, original, output_bit, output_links, port_of, port_text, range_of, spelled, tree_of, wire_of, written}
+use Rattle.netlist_unlink.specs.Rows.{is_original, rows}
+use Rattle.netlist_unlink.specs.Trees.{Naming, added, added_from, added_wire, bit_of, cell_text, first_operand, gate_of, item_of, items_from, naming_of, operand_links, operand_of, original, output_bit, output_links, port_of, port_text, range_of, tree_of, wire_of, written}
 use Rattle.netlist_unlink.specs.Prefixes.{IsFreePrefix, IsPrefix, IsUsed, port}
-use Rattle.netlist_unlink.proofs.Lists.{all_at, all_joined, all_mapped, none_at, none_passes, there}
+use Rattle.netlist_unlink.proofs.Lists.{all_joined, all_mapped, none_at, there}
 use Rattle.netlist_unlink.proofs.Spelling.{AreSpelled, added_name, original_name, spelled_name}
 use Rattle.netlist_unlink.proofs.Indexes.{index_short}
 use Rattle.netlist_unlink.proofs.RowFacts.{RowFits}
@@ -323,6 +320,7 @@ tree_item N naming i cell w at = by_gate (gate_of cell.kind) refl
     by_library : (l : Option (List ℕ)) → cell_name cell.kind ≡ l → gate_of cell.kind ≡ None → IsTreeItem (written naming i cell None l)
     by_library None e none = tree_assign N naming i cell w at none e
     by_library (Some library) e none = tree_instance N naming i cell library w at e
+
     by_gate : (g : Option GateKind) → gate_of cell.kind ≡ g → IsTreeItem (written naming i cell g (cell_name cell.kind))
     by_gate None e = by_library (cell_name cell.kind) refl e
     by_gate (Some g) e = tree_gate N naming i cell g (cell_name cell.kind) w at e
@@ -334,9 +332,10 @@ all_items naming number (None ∷ cells) each =
     all_items naming (number + 1) cells (λ k cell at. let P : ℕ → Type 0 = λ n. IsTreeItem (item_of naming n cell) in let same : number + suc k ≡ (number + 1) + k = omega arith in subst P same (each (suc k) cell at))
 all_items naming number (Some first ∷ cells) each =
     let zeroth : number + 0 ≡ number = omega arith in
-    let F : ℕ → Type 0 = λ n. IsTreeItem (item_of naming n first) in
-    (subst F zeroth (each 0 first refl),
-    all_items naming (number + 1) cells (λ k cell at. let P : ℕ → Type 0 = λ n. IsTreeItem (item_of naming n cell) in let same : number + suc k ≡ (number + 1) + k = omega arith in subst P same (each (suc k) cell at)))
+    let F : ℕ → Type 0 = λ n. IsTreeItem (item_of naming n first) in (
+      subst F zeroth (each 0 first refl),
+      all_items naming (number + 1) cells (λ k cell at. let P : ℕ → Type 0 = λ n. IsTreeItem (item_of naming n cell) in let same : number + suc k ≡ (number + 1) + k = omega arith in subst P same (each (suc k) cell at)),
+    )
 
 -- Ports.
 

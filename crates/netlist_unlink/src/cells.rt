@@ -17,11 +17,7 @@ use std::alloc::Global;
 use verilog_tree::{Gate, GateKind, Instance, Item};
 
 /// The items of the cells, by rising number.
-pub fn tree_items(
-    alloc: Global,
-    linked: &Linked,
-    prefix: &[u8],
-) -> Result<Row<Item>, OutOfMemory>
+pub fn tree_items(alloc: Global, linked: &Linked, prefix: &[u8]) -> Result<Row<Item>, OutOfMemory>
     ensures items { IfOk result (λ items. items ≡ items_from (naming_of linked.now prefix.now) 0 linked.now.arena.lists.cells) }
     ensures numbers { OnOk result ((i : ℕ) → IsLive linked.now.arena.lists i → i < 2 ^ 32) }
 {
@@ -42,12 +38,7 @@ pub fn tree_items(
 }
 
 // A cell as a gate, as an instance of a library cell, or as an `assign`.
-fn item(
-    alloc: Global,
-    linked: &Linked,
-    prefix: &[u8],
-    cell: CellId,
-) -> Result<Item, OutOfMemory>
+fn item(alloc: Global, linked: &Linked, prefix: &[u8], cell: CellId) -> Result<Item, OutOfMemory>
     requires { IsLive linked.now.arena.lists cell.0 }
     ensures { IfOk result (λ item. option_map (item_of (naming_of linked.now prefix.now) cell.0) (cell_at linked.now.arena.lists cell.0) ≡ Some item) }
 {
@@ -102,12 +93,7 @@ fn instance(
     }))
 }
 
-fn assign(
-    alloc: Global,
-    linked: &Linked,
-    prefix: &[u8],
-    cell: CellId,
-) -> Result<Item, OutOfMemory>
+fn assign(alloc: Global, linked: &Linked, prefix: &[u8], cell: CellId) -> Result<Item, OutOfMemory>
     requires linked { IsLinked linked.now.arena.lists linked.now.names linked.now.order }
     requires live { IsLive linked.now.arena.lists cell.0 }
     requires kind { IfSome (cell_at linked.now.arena.lists cell.0) (λ found. found.kind ≡ Kind.Assign) }

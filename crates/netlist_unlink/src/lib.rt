@@ -11,7 +11,6 @@ mod parts;
 mod ports;
 mod rows;
 mod tree;
-
 mod wires;
 
 pub use tree::unlink;

@@ -72,13 +72,15 @@ fn link_output(
     let Some(port) = output_port(kind) else {
         return Ok(());
     };
-    let Some(net) = linked.netlist().output(cell) else {
-        return Ok(());
-    };
     let port = Text::from_bytes(alloc, port)?;
-    let driven = bit(alloc, linked, prefix, net)?;
-    links.push(Link {
-        port,
-        operand: Some(Operand::Bit(driven)),
-    })
+    match linked.netlist().output(cell) {
+        Some(net) => {
+            let driven = bit(alloc, linked, prefix, net)?;
+            links.push(Link {
+                port,
+                operand: Some(Operand::Bit(driven)),
+            })
+        }
+        None => Ok(()),
+    }
 }

@@ -46,12 +46,7 @@ pub fn spell(
 }
 
 /// The bit that a net is.
-pub fn bit(
-    alloc: Global,
-    linked: &Linked,
-    prefix: &[u8],
-    net: NetId,
-) -> Result<Bit, OutOfMemory>
+pub fn bit(alloc: Global, linked: &Linked, prefix: &[u8], net: NetId) -> Result<Bit, OutOfMemory>
     requires { net.0 < length linked.now.arena.lists.nets }
     ensures { IfOk result (λ bit. bit ≡ bit_of (naming_of linked.now prefix.now) net) }
 {

@@ -36,11 +36,7 @@ pub fn wire_rows(alloc: Global, linked: &Linked) -> Result<Vec<NetRow>, OutOfMem
 }
 
 // Takes a row with the next one, or puts it after the others and goes on with the next.
-fn follow(
-    rows: &mut Vec<NetRow>,
-    last: Option<NetRow>,
-    next: NetRow,
-) -> Result<NetRow, OutOfMemory>
+fn follow(rows: &mut Vec<NetRow>, last: Option<NetRow>, next: NetRow) -> Result<NetRow, OutOfMemory>
     ensures { IfOk result (λ row. (rest : List NetRow) → rows.new.items ++ before row rest ≡ rows.old.items ++ with_row last (before next rest)) }
 {
     let Some(row) = last else {

@@ -13,11 +13,7 @@ use std::alloc::Global;
 use verilog_tree::Wire;
 
 /// The original wires in the order of their first nets, and then the added nets.
-pub fn tree_wires(
-    alloc: Global,
-    linked: &Linked,
-    prefix: &[u8],
-) -> Result<Row<Wire>, OutOfMemory>
+pub fn tree_wires(alloc: Global, linked: &Linked, prefix: &[u8]) -> Result<Row<Wire>, OutOfMemory>
     ensures { IfOk result (λ wires. wires ≡ map (wire_of linked.now.names) (rows_of linked.now.arena.lists.ports linked.now.arena.lists.nets)
         ++ added_from prefix.now 0 linked.now.arena.lists.nets) }
 {
@@ -28,11 +24,7 @@ pub fn tree_wires(
     Ok(wires)
 }
 
-fn original_wires(
-    alloc: Global,
-    linked: &Linked,
-    rows: &[NetRow],
-) -> Result<Row<Wire>, OutOfMemory>
+fn original_wires(alloc: Global, linked: &Linked, rows: &[NetRow]) -> Result<Row<Wire>, OutOfMemory>
     requires { All (λ (row : NetRow). row.name < length linked.now.names) rows.now }
     ensures { IfOk result (λ wires. wires ≡ map (wire_of linked.now.names) rows.now) }
 {

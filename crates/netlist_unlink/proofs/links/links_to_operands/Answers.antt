@@ -1,4 +1,4 @@
-use Rattle.std.proofs.Common.{◌≡◌, ◌∙◌, ap, sym, Option, Some, arith, length, ℕ, List}
+use Rattle.std.proofs.Common.{◌≡◌, ◌∙◌, ap, sym, Some, arith}
 use Rattle.verilog_tree.specs.declared.tree.Link.{Link}
 use Rattle.std.specs.Prelude.{slice_get}
 use Rattle.cell_library.specs.Library.{operand_ports}

@@ -1,4 +1,4 @@
-use Rattle.std.proofs.Common.{◌≡◌, arith}
+use Rattle.std.proofs.Common.{arith}
 use Rattle.netlist_model.specs.declared.Name.TheVariants.{Original, Added}
 use Rattle.netlist_unlink.proofs.Flagged.{flags_noted}
 use Rattle.netlist_unlink.proofs.Facts.{port_known, port_name_there, port_not_added}
