@@ -13,7 +13,7 @@ use Rattle.verilog_tree.specs.declared.tree.Wire.{Wire}
 use Rattle.verilog_tree.specs.declared.tree.Item.{Item}
 use Rattle.verilog_tree.specs.declared.tree.Item.TheVariants as item
 use Rattle.verilog_tree.specs.declared.tree.Range as tree
-use Rattle.verilog_tree.specs.IsTree.{IsTree, IsTreeRange, IsTreePort, IsTreeWire}
+use Rattle.verilog_tree.specs.IsTree.{IsTree, IsTreeName, IsTreeRange, IsTreePort, IsTreeWire}
 use Rattle.verilog_tree.specs.declared.tree.Instance.{Instance}
 use Rattle.cell_library.specs.declared.Kind.{Kind}
 use Rattle.cell_library.specs.declared.Kind.TheVariants as kind
@@ -35,6 +35,7 @@ use Rattle.netlist_link.proofs.Lists.{AreAll-left, AreAll-right, slice_get-appen
 use Rattle.netlist_link.proofs.LibraryKinds.{gate_unnamed, gate_no_assign, library_kind, known_cells}
 use Rattle.netlist_link.proofs.Ports.{bits_of, nets_in-first, nets_in-rest, port_bit}
 use Rattle.netlist_link.proofs.Cells.{named_at}
+use Rattle.netlist_link.proofs.Spelled.{spelled_names}
 use Rattle.netlist_link.proofs.Formed.{direction_is}
 
 abbrev pub Once : {X : Type 0} → List X → Type 0
@@ -453,6 +454,7 @@ well_named table N m tree text d =
     let cell : (i : ℕ) (view : CellView) → cell_at N i ≡ Some view → CellAt table m i view = λ i view at. cell_in table N m i view d at in
     record {
       once = d.once;
+      spelled = λ number name at. spelled_names m number name tree (ap (λ (names : List (List ℕ)). slice_get names number) (sym d.names) ∙ at);
       net_names = λ net view at. let n = net_in table N m net view d at in known table view.name n.named.name n.is.name;
       cell_names = λ i view name at named. let b = cell_bytes table m i view name (cell i view at) named in known table name b.0 b.2;
       port_names = λ p view at.

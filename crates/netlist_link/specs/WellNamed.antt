@@ -1,6 +1,7 @@
 -- When a netlist is well named by a table of names: it can be written as a module again.
 -- IEEE Std 1364-2001: data types (vectors), hierarchical names; names that were added later are own.
 use Rattle.std.specs.Prelude.{◌≡◌, ℕ, ◌+◌, ◌-◌, ◌<◌, ◌≤◌, ◌^◌, nat_le, false, List, length, slice_get, Option, Some, None, IsSome, IfSome, if◌then◌else◌, ⊤}
+use Rattle.verilog_tree.specs.IsTree.{IsTreeName}
 use Rattle.cell_library.specs.declared.Kind.TheVariants.{Assign, Mux2}
 use Rattle.cell_library.specs.Gates.{is_flop}
 use Rattle.cell_library.specs.Library.{cell_name}
@@ -56,6 +57,8 @@ pub record IsWireName (N : NetlistView) (number : ℕ) : Type 0 where
 pub record IsWellNamed (table : List (List ℕ)) (N : NetlistView) : Type 0 where
   -- the table has no name twice
   pub once : IsOnce table
+  -- each name of the table can be written
+  pub spelled : (number : ℕ) (name : List ℕ) → slice_get table number ≡ Some name → IsTreeName name
   -- each original name is one of the table
   pub net_names : (net : ℕ) (view : NetView) → slice_get N.nets net ≡ Some view → IsKnown table view.name
   pub cell_names : (i : ℕ) (cell : CellView) (name : Name) → cell_at N i ≡ Some cell → cell.name ≡ Some name → IsKnown table name

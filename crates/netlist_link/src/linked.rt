@@ -1,4 +1,5 @@
-ghost use Rattle.std.specs.Prelude.{◌≡◌, ◌↔◌, true, IsTrue, Some, slice_get};
+ghost use Rattle.std.specs.Prelude.{◌≡◌, ◌↔◌, true, IsTrue, Some, length, slice_get};
+ghost use Rattle.verilog_tree.specs.IsTree.{IsTreeName};
 ghost use Rattle.netlist_model.specs.declared.PinBit.{PinBit};
 ghost use Rattle.link_model.specs.Denoted.{name_bytes};
 ghost use Rattle.netlist_model.specs.Cones.{IsClockPort, IsControlPort};
@@ -30,6 +31,7 @@ pub struct Linked {
 
 impl Model for Linked {
     ghost use Rattle.std.specs.Prelude.{◌≡◌};
+    ghost use Rattle.verilog_tree.specs.IsTree.{IsTreeName};
     ghost use Rattle.netlist_model.specs.Cones.{IsClockPort, IsControlPort};
     ghost use Rattle.netlist_link.specs.Linked.{LinkedView, IsLinked, AreFlags, flop_count};
     ghost use Rattle.netlist_link.specs.PortNames.{ArePortNames};
@@ -40,6 +42,7 @@ impl Model for Linked {
 
     ghost invariant = { λ l. record {
       linked : IsLinked l.netlist.lists l.names l.order;
+      title : IsTreeName l.title;
       ports : ArePortNames l.netlist.lists l.ports;
       control : AreFlags (IsControlPort l.netlist.lists) l.control;
       clock : AreFlags (IsClockPort l.netlist.lists) l.clock;
@@ -92,9 +95,17 @@ impl Linked {
     }
 
     pub fn module_name(&self) -> &[u8]
-        ensures { result.now ≡ self.now.module_name }
+        ensures name { result.now ≡ self.now.module_name }
+        ensures spelled { IsTreeName self.now.module_name }
     {
         self.title.as_bytes()
+    }
+
+    /// How many original names the table has, each once.
+    pub fn name_count(&self) -> u64
+        ensures { result ≡ length self.now.names }
+    {
+        self.names.len()
     }
 
     /// The bytes of an original name of the table.

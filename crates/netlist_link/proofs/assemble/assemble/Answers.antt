@@ -1,5 +1,6 @@
 use Rattle.std.proofs.Common.{◌≡◌, Bool, length, subst, ◌∙◌, sym, ap, map, List}
 use Rattle.netlist_model.specs.declared.CellId.{CellId}
+use Rattle.verilog_tree.specs.IsTree.{IsTreeName}
 use Rattle.netlist_link.specs.Tables.{cell_id, AreFlagsOf}
 use Rattle.netlist_link.specs.Linked.{IsLinked}
 use Rattle.netlist_link.proofs.Assembled.{of_tree, kept}
@@ -32,6 +33,7 @@ invariant_of-result c =
     let Linked : List CellId → Type 0 = IsLinked N c.args.names in
     record {
       linked = subst Linked ids all.linked;
+      title = subst IsTreeName (sym c.in_ok-title.ensures) (rw c.as_bytes.ensures c.requires.these.tree.name);
       ports = c.in_ok-ports.ensures;
       control = all.control;
       clock = all.clock;

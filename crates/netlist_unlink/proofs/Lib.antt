@@ -1,0 +1,11 @@
+pub mod Lists
+pub mod RowLaws
+pub mod ItemLaws
+pub mod AddedLaws
+pub mod Flagged
+pub mod Facts
+pub mod Spelling
+pub mod Indexes
+pub mod RowFacts
+pub mod AllRows
+pub mod Written

@@ -1,0 +1,65 @@
+-- Lists that are made from the front, and what is left of a list.
+use Rattle.std.proofs.Common.{◌≡◌, ℕ, zero, suc, ◌+◌, ◌≤◌, Bool, true, false, List, [], ◌∷◌, ◌++◌, length, map, take, drop, refl, ap, sym, ◌∙◌, arith, Some}
+use Rattle.std.specs.Prelude.{slice_get}
+use Rattle.std.specs.Option.{option_map}
+use Rattle.std.specs.List.{AllByRecursion, list_any}
+use Rattle.std.proofs.lemmas.List.{take_more, take-map}
+use Rattle.std.proofs.lemmas.Option.{slice_get_within, get_or_from_slice_get, slice_get-map}
+
+-- the front of a list, and the next element
+pub taken_more : {X : Type 0} (xs : List X) (i : ℕ) (x : X) (front new : List X) → slice_get xs i ≡ Some x → front ≡ take i xs → new ≡ front ++ x ∷ [] → new ≡ take (i + 1) xs
+taken_more xs i x front new at so_far grown =
+    let within = slice_get_within xs i x at in
+    let here = get_or_from_slice_get xs i x x at in
+    rw (grown, so_far, take_more xs i x within, here) refl
+
+-- the same of what a function gives
+pub mapped_more : {X Y : Type 0} (f : X → Y) (xs : List X) (i : ℕ) (y : Y) (front new : List Y) → option_map f (slice_get xs i) ≡ Some y
+    → front ≡ map f (take i xs) → new ≡ front ++ y ∷ [] → new ≡ map f (take (i + 1) xs)
+mapped_more f xs i y front new at so_far grown =
+    taken_more (map f xs) i y front new (slice_get-map f xs i ∙ at) (so_far ∙ sym (take-map f i xs)) grown ∙ take-map f (i + 1) xs
+
+-- what is left, by its first element
+pub left_at : {X : Type 0} (xs : List X) (i : ℕ) (x : X) → slice_get xs i ≡ Some x → drop i xs ≡ x ∷ drop (suc i) xs
+left_at [] i x at = absurd (cc)
+left_at (y ∷ xs) zero x at = let same : y ≡ x = grind arith in rw same refl
+left_at (y ∷ xs) (suc i) x at = left_at xs i x at
+
+-- what stands at a place within a list
+pub there : {X : Type 0} (xs : List X) (k : ℕ) → suc k ≤ length xs → (x : X) × (slice_get xs k ≡ Some x)
+there [] k h = absurd (omega arith)
+there (x ∷ xs) zero h = (x, refl)
+there (x ∷ xs) (suc k) h = there xs k (omega arith)
+
+pub all_joined : {X : Type 0} (P : X → Type 0) (xs ys : List X) → AllByRecursion P xs → AllByRecursion P ys → AllByRecursion P (xs ++ ys)
+all_joined P [] ys all also = also
+all_joined P (x ∷ xs) ys all also = (all.0, all_joined P xs ys all.1 also)
+
+-- all of a list, from each by its place
+pub all_at : {X : Type 0} (P : X → Type 0) (xs : List X) → ((k : ℕ) (x : X) → slice_get xs k ≡ Some x → P x) → AllByRecursion P xs
+all_at P [] each = tt
+all_at P (x ∷ xs) each = (each 0 x refl, all_at P xs (λ k y at. each (suc k) y at))
+
+-- all that a function gives of a list
+pub all_mapped : {X Y : Type 0} (P : Y → Type 0) (f : X → Y) (xs : List X) → ((k : ℕ) (x : X) → slice_get xs k ≡ Some x → P (f x)) → AllByRecursion P (map f xs)
+all_mapped P f [] each = tt
+all_mapped P f (x ∷ xs) each = (each 0 x refl, all_mapped P f xs (λ k y at. each (suc k) y at))
+
+-- no element passes a test
+pub none_passes : {X : Type 0} (test : X → Bool) (xs : List X) → ((k : ℕ) (x : X) → slice_get xs k ≡ Some x → test x ≡ false) → list_any test xs ≡ false
+none_passes test [] each = refl
+none_passes test (x ∷ xs) each = rw (each 0 x refl) (none_passes test xs (λ k y at. each (suc k) y at))
+
+-- where none passes, a given one does not
+pub none_at : {X : Type 0} (test : X → Bool) (xs : List X) (k : ℕ) (x : X) → list_any test xs ≡ false → slice_get xs k ≡ Some x → test x ≡ false
+none_at test [] k x none at = absurd (cc)
+none_at test (y ∷ xs) zero x none at = let same : y ≡ x = grind arith in go (test y) refl same
+  where
+    go : (b : Bool) → test y ≡ b → y ≡ x → test x ≡ false
+    go true e same = absurd (let bad : true ≡ false = (rw e at none) in cc)
+    go false e same = ap test (sym same) ∙ e
+none_at test (y ∷ xs) (suc k) x none at = go (test y) refl (λ rest. none_at test xs k x rest at)
+  where
+    go : (b : Bool) → test y ≡ b → (list_any test xs ≡ false → test x ≡ false) → test x ≡ false
+    go true e more = absurd (let bad : true ≡ false = (rw e at none) in cc)
+    go false e more = more (rw e at none)

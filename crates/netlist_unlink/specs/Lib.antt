@@ -1,0 +1,5 @@
+pub mod Rows
+pub mod Flags
+pub mod Parts
+pub mod Trees
+pub mod Prefixes

@@ -1,0 +1,16 @@
+// Writes a linked netlist as the tree of a module.
+// Contracts cite specs/Trees.antt, specs/Rows.antt and specs/Prefixes.antt.
+// IEEE Std 1364-2001: modules and ports, data types, gate-level modelling; the names of added nets and cells are own.
+#![tactic(auto)]
+
+mod cells;
+mod kinds;
+mod links;
+mod names;
+mod parts;
+mod ports;
+mod rows;
+mod tree;
+mod wires;
+
+pub use tree::unlink;
