@@ -1,0 +1,11 @@
+pub mod Among
+pub mod Chosen
+pub mod EntryLaws
+pub mod RowLaws
+pub mod Held
+pub mod RunLengths
+pub mod ListLoops
+pub mod Underscores
+pub mod DigitValues
+pub mod JoinedStrings
+pub mod Told

@@ -1,0 +1,101 @@
+ghost use Rattle.std.specs.Prelude.{◌≡◌, IfOk};
+ghost use Rattle.bsdl_device.specs.Shape as shape;
+ghost use Rattle.bsdl_contents.specs.Outcomes.{Tells};
+ghost use Rattle.bsdl_contents.specs.Reading as reading;
+
+use crate::fault::PartFault;
+use crate::lists;
+use crate::reader::ContentReader;
+use bsdl_device::{AccessEntry, OpcodeEntry, PinEntry, RowEntry, StringAttribute};
+use cell_library::Bits;
+use edge_io::{OutOfMemory, Row, Text};
+use std::alloc::Global;
+
+// The strings' bytes without anything between.
+#[tactic(auto, using(crate::proofs::JoinedStrings::joined_more, crate::proofs::JoinedStrings::joined_past))]
+fn joined(alloc: Global, strings: &[Text]) -> Result<Text, OutOfMemory>
+    ensures { IfOk result (λ bytes. bytes ≡ shape.joined strings.now) }
+{
+    let mut bytes = Text::new(alloc);
+    for string in strings {
+        bytes.append(string.as_bytes())?;
+    }
+    Ok(bytes)
+}
+
+#[tactic(auto, unfolding(crate::specs::Reading::section_at))]
+pub fn pin_map(alloc: Global, strings: &[Text]) -> Result<Row<PinEntry>, PartFault>
+    ensures { Tells result (reading.section_at reading.pin_map_at strings.now) }
+{
+    let bytes = joined(alloc, strings)?;
+    let mut reader = ContentReader::new(bytes.as_bytes());
+    let entries = lists::pin_entries(alloc, &mut reader)?;
+    reader.end()?;
+    Ok(entries)
+}
+
+#[tactic(auto, unfolding(crate::specs::Reading::section_at))]
+pub fn opcodes(alloc: Global, strings: &[Text]) -> Result<Row<OpcodeEntry>, PartFault>
+    ensures { Tells result (reading.section_at reading.opcodes_at strings.now) }
+{
+    let bytes = joined(alloc, strings)?;
+    let mut reader = ContentReader::new(bytes.as_bytes());
+    let entries = lists::opcodes(alloc, &mut reader)?;
+    reader.end()?;
+    Ok(entries)
+}
+
+#[tactic(auto, unfolding(crate::specs::Reading::section_at))]
+pub fn capture(alloc: Global, strings: &[Text]) -> Result<Bits, PartFault>
+    ensures { Tells result (reading.section_at reading.bits_at strings.now) }
+{
+    let bytes = joined(alloc, strings)?;
+    let mut reader = ContentReader::new(bytes.as_bytes());
+    let bits = reader.bits()?;
+    reader.end()?;
+    Ok(bits)
+}
+
+// The code, of 32 bits.
+#[tactic(auto, unfolding(crate::specs::Reading::section_at))]
+fn code(alloc: Global, strings: &[Text]) -> Result<u32, PartFault>
+    ensures { Tells result (reading.section_at reading.code_at strings.now) }
+{
+    let bytes = joined(alloc, strings)?;
+    let mut reader = ContentReader::new(bytes.as_bytes());
+    let code = reader.code()?;
+    reader.end()?;
+    Ok(code)
+}
+
+/// The code where there is the attribute, and none elsewhere.
+pub fn idcode(alloc: Global, attribute: &Option<StringAttribute>) -> Result<Option<u32>, PartFault>
+    ensures { Tells result (reading.optional_code_at attribute.now) }
+{
+    match attribute {
+        Some(attribute) => Ok(Some(code(alloc, attribute.strings.as_slice())?)),
+        None => Ok(None),
+    }
+}
+
+#[tactic(auto, unfolding(crate::specs::Reading::section_at))]
+pub fn accesses(alloc: Global, strings: &[Text]) -> Result<Row<AccessEntry>, PartFault>
+    ensures { Tells result (reading.section_at reading.accesses_at strings.now) }
+{
+    let bytes = joined(alloc, strings)?;
+    let mut reader = ContentReader::new(bytes.as_bytes());
+    let entries = lists::accesses(alloc, &mut reader)?;
+    reader.end()?;
+    Ok(entries)
+}
+
+#[tactic(auto, unfolding(crate::specs::Reading::section_at))]
+pub fn rows(alloc: Global, strings: &[Text]) -> Result<Row<RowEntry>, PartFault>
+    ensures { Tells result (reading.section_at reading.rows_at strings.now) }
+{
+    let bytes = joined(alloc, strings)?;
+    let mut reader = ContentReader::new(bytes.as_bytes());
+    let entries = lists::rows(alloc, &mut reader)?;
+    reader.end()?;
+    Ok(entries)
+}
