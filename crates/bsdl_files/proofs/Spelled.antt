@@ -6,7 +6,10 @@ use Rattle.bsdl_lexicon.specs.Words.{plain, place_in}
 use Rattle.bsdl_device.specs.declared.written.File.{File}
 use Rattle.bsdl_device.specs.Spelled.{SpellsFile}
 use Rattle.bsdl_reading.specs.Laws.{file_at}
-use Rattle.bsdl_reading.proofs.Proved.{reads_only_files, spells_one_file, faults_spell_nothing}
+use Rattle.bsdl_reading.proofs.Proved.{reads_only_files, spells_one_file}
+use Rattle.bsdl_reading.proofs.ReachFile.{faults_at_fault_word}
+use Rattle.bsdl_lexicon.proofs.Reading.{length_plain}
+use Rattle.bsdl_device.specs.Faults.{IsShapeFault}
 use Rattle.bsdl_files.specs.Sections.{sections_at, mapping_on, scan_on, clock_on, instruction_on, boundary_on, entity_at, generic_at, ports_at, conformance_at, pin_map_at, constant_at, closed_strings_at, scan_port_at, clock_port_at, frequency_at, stop_at, integer_attribute_at, string_attribute_at, registers_at, end_at}
 use Rattle.bsdl_files.specs.Whole.{whole_at}
 use Rattle.bsdl_files.specs.Faults.{IsBsdlSyntax}
@@ -22,10 +25,7 @@ pub spells-one : (ws : List BsdlToken) (f other : File) → SpellsFile ws f → 
 spells-one ws f other a b = spells_one_file ws other f b a
 
 pub refused-read : (words : BsdlWords) (left : List BsdlToken) → whole_at (plain words.list) ≡ (None, left) → IsBsdlSyntax words (place_in words.list words.end (length words.list - length left)) (length words.list - length left)
-refused-read words left h = let stops = sym (whole_same (plain words.list)) ∙ h in record {
-  unspelled = λ f spells. faults_spell_nothing (plain words.list) left f stops spells;
-  left = left;
-  stops = stops;
-  number = refl;
+refused-read words left h = record {
+  fault = (let P : ℕ → Type 0 = λ n. IsShapeFault (plain words.list) (n - length left) in subst P (length_plain words.list) (faults_at_fault_word (plain words.list) left (sym (whole_same (plain words.list)) ∙ h)));
   there = refl;
 }

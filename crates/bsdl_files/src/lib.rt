@@ -1,5 +1,5 @@
 // From the words of a BSDL text to its file: the sections in their order, up to what the strings hold.
-// The contract of `read_file` cites `SpellsFile` (bsdl_device) and the reading of a file's words (bsdl_reading).
+// The contract of `read_file` cites `SpellsFile` and `IsShapeFault` (bsdl_device, specs/Spelled.antt and specs/Faults.antt).
 // IEEE Std 1149.1-2001: the annex on BSDL.
 #![tactic(auto)]
 
