@@ -95,7 +95,8 @@ impl<'a> BsdlReader<'a> {
         }
     }
 
-    fn peek_integer(&self) -> Option<u32>
+    /// The integer that the next word is.
+    pub fn peek_integer(&self) -> Option<u32>
         ensures { result ≡ front integer_in self.now }
     {
         match self.left {

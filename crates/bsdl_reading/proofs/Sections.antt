@@ -98,10 +98,10 @@ declarations_law = spelled_some Fits declaration_words (Mark Semicolon) (symbol_
 
 -- Attributes of strings, behind their kind.
 
-abbrev behind_words : StringAttribute → List Pattern
+abbrev pub behind_words : StringAttribute → List Pattern
 behind_words a = KeyWord (codes "of") ∷ NameOf a.entity ∷ Mark Colon ∷ KeyWord (codes "entity") ∷ KeyWord (codes "is") ∷ strings_words a.strings ++ Mark Semicolon ∷ []
 
-behind_law : Exact BsdlToken StringAttribute (λ ws. strings_behind ws) (Spelled Fits HasStrings behind_words) Anything
+pub behind_law : Exact BsdlToken StringAttribute (λ ws. strings_behind ws) (Spelled Fits HasStrings behind_words) Anything
 behind_law =
     let first : List Pattern = key (codes "of") ∷ [] in
     let middle : List Pattern = Mark Colon ∷ key (codes "entity") ∷ key (codes "is") ∷ [] in

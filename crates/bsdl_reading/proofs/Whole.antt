@@ -21,159 +21,159 @@ use Rattle.bsdl_reading.proofs.Declarations.{stop_law}
 use Rattle.bsdl_reading.proofs.Sections.{IsDeclaration, declarations_law, HaveStrings, registers_are_law}
 
 -- a part of a file: how it is read, and its words
-record Part (X : Type 0) (ok : X → Type 0) : Type 0 where
-  read : List BsdlToken → Read BsdlToken X
-  words : X → List Pattern
-  law : Exact BsdlToken X (λ ws. read ws) (Spelled Fits ok words) Anything
+pub record Part (X : Type 0) (ok : X → Type 0) : Type 0 where
+  pub read : List BsdlToken → Read BsdlToken X
+  pub words : X → List Pattern
+  pub law : Exact BsdlToken X (λ ws. read ws) (Spelled Fits ok words) Anything
 
-abbrev both : {X Y : Type 0} {ok : X → Type 0} {fine : Y → Type 0} → Part X ok → Part Y fine → Part (X × Y) (λ z. ok z.0 × fine z.1)
+abbrev pub both : {X Y : Type 0} {ok : X → Type 0} {fine : Y → Type 0} → Part X ok → Part Y fine → Part (X × Y) (λ z. ok z.0 × fine z.1)
 both {X} {Y} {ok} {fine} p r = record {
   read = λ ws. pair_at p.read (λ _ a. r.read a) ws;
   words = λ z. p.words z.0 ++ r.words z.1;
   law = spelled_pair Fits ok (λ _ y. fine y) p.words (λ _ y. r.words y) p.law (λ _. r.law) (λ x y b left m t. tt);
 }
 
-abbrev entity_part : Part (List ℕ) (λ x. Unit {0})
+abbrev pub entity_part : Part (List ℕ) (λ x. Unit {0})
 entity_part = record {
   read = λ ws. files.entity_section_at ws;
   words = λ x. (files.entity_before ++ NameOf x ∷ []) ++ files.entity_behind;
   law = spelled_ended Fits (files.views files.entity_behind) files.entity_behind (λ x. files.entity_before ++ NameOf x ∷ []) (spelled_skip Fits (files.views files.entity_before) files.entity_before (λ x. NameOf x ∷ []) (marks_law files.entity_before (refl, tt)) name_law) (marks_law files.entity_behind (refl, tt)) (λ b left m. tt);
 }
 
-abbrev generic_part : Part (List ℕ) (λ x. Unit {0})
+abbrev pub generic_part : Part (List ℕ) (λ x. Unit {0})
 generic_part = record {
   read = λ ws. files.generic_section_at ws;
   words = λ x. (files.generic_before ++ StringOf x ∷ []) ++ files.generic_behind;
   law = spelled_ended Fits (files.views files.generic_behind) files.generic_behind (λ x. files.generic_before ++ StringOf x ∷ []) (spelled_skip Fits (files.views files.generic_before) files.generic_before (λ x. StringOf x ∷ []) (marks_law files.generic_before (refl, (refl, (refl, (refl, (refl, (refl, tt))))))) string_law) (marks_law files.generic_behind (refl, (refl, tt))) (λ b left m. tt);
 }
 
-abbrev ports_part : Part (List PortDeclaration) (λ x. AreSome IsDeclaration x)
+abbrev pub ports_part : Part (List PortDeclaration) (λ x. AreSome IsDeclaration x)
 ports_part = record {
   read = λ ws. files.ports_section_at ws;
   words = λ x. (files.ports_before ++ separated_by (Mark Semicolon) declaration_words x) ++ files.ports_behind;
   law = spelled_ended Fits (files.views files.ports_behind) files.ports_behind (λ x. files.ports_before ++ separated_by (Mark Semicolon) declaration_words x) (spelled_skip Fits (files.views files.ports_before) files.ports_before (λ list. separated_by (Mark Semicolon) declaration_words list) (marks_law files.ports_before (refl, (refl, tt))) declarations_law) (marks_law files.ports_behind (refl, (refl, tt))) (λ b left m. symbol_next RightParenthesis Semicolon refl (Mark Semicolon ∷ []) b left m);
 }
 
-abbrev conformance_part : Part (List ℕ) (λ x. Unit {0})
+abbrev pub conformance_part : Part (List ℕ) (λ x. Unit {0})
 conformance_part = record {
   read = λ ws. files.conformance_section_at ws;
   words = λ x. (files.conformance_before ++ NameOf x ∷ []) ++ files.conformance_behind;
   law = spelled_ended Fits (files.views files.conformance_behind) files.conformance_behind (λ x. files.conformance_before ++ NameOf x ∷ []) (spelled_skip Fits (files.views files.conformance_before) files.conformance_before (λ x. NameOf x ∷ []) (marks_law files.conformance_before (refl, (refl, (refl, (refl, (refl, (refl, (refl, (refl, tt))))))))) name_law) (marks_law files.conformance_behind (refl, (refl, (refl, (refl, (refl, tt)))))) (λ b left m. tt);
 }
 
-abbrev pin_map_part : Part (List ℕ) (λ x. Unit {0})
+abbrev pub pin_map_part : Part (List ℕ) (λ x. Unit {0})
 pin_map_part = record {
   read = λ ws. files.pin_map_section_at ws;
   words = λ x. (files.pin_map_before ++ NameOf x ∷ []) ++ files.pin_map_behind;
   law = spelled_ended Fits (files.views files.pin_map_behind) files.pin_map_behind (λ x. files.pin_map_before ++ NameOf x ∷ []) (spelled_skip Fits (files.views files.pin_map_before) files.pin_map_before (λ x. NameOf x ∷ []) (marks_law files.pin_map_before (refl, (refl, (refl, tt)))) name_law) (marks_law files.pin_map_behind (refl, (refl, (refl, (refl, (refl, tt)))))) (λ b left m. tt);
 }
 
-abbrev constant_part : Part (List ℕ) (λ x. Unit {0})
+abbrev pub constant_part : Part (List ℕ) (λ x. Unit {0})
 constant_part = record {
   read = λ ws. files.constant_section_at ws;
   words = λ x. (files.constant_before ++ NameOf x ∷ []) ++ files.constant_behind;
   law = spelled_ended Fits (files.views files.constant_behind) files.constant_behind (λ x. files.constant_before ++ NameOf x ∷ []) (spelled_skip Fits (files.views files.constant_before) files.constant_before (λ x. NameOf x ∷ []) (marks_law files.constant_before (refl, tt)) name_law) (marks_law files.constant_behind (refl, (refl, (refl, tt)))) (λ b left m. tt);
 }
 
-abbrev pins_part : Part (List (List ℕ)) (λ x. AreSome Free x)
+abbrev pub pins_part : Part (List (List ℕ)) (λ x. AreSome Free x)
 pins_part = record {
   read = λ ws. files.pins_section_at ws;
   words = λ x. (files.pins_before ++ strings_words x) ++ files.pins_behind;
   law = spelled_ended Fits (files.views files.pins_behind) files.pins_behind (λ x. files.pins_before ++ strings_words x) (spelled_skip Fits (files.views files.pins_before) files.pins_before strings_words (marks_law files.pins_before tt) strings_law) (marks_law files.pins_behind (refl, tt)) (λ b left m. symbol_next Semicolon Ampersand refl [] b left m);
 }
 
-abbrev scan_in_part : Part (List ℕ) (λ x. Unit {0})
+abbrev pub scan_in_part : Part (List ℕ) (λ x. Unit {0})
 scan_in_part = record {
   read = λ ws. files.scan_in_section_at ws;
   words = λ x. (files.scan_in_before ++ NameOf x ∷ []) ++ files.scan_in_behind;
   law = spelled_ended Fits (files.views files.scan_in_behind) files.scan_in_behind (λ x. files.scan_in_before ++ NameOf x ∷ []) (spelled_skip Fits (files.views files.scan_in_before) files.scan_in_before (λ x. NameOf x ∷ []) (marks_law files.scan_in_before (refl, (refl, (refl, tt)))) name_law) (marks_law files.scan_in_behind (refl, (refl, (refl, (refl, (refl, tt)))))) (λ b left m. tt);
 }
 
-abbrev scan_mode_part : Part (List ℕ) (λ x. Unit {0})
+abbrev pub scan_mode_part : Part (List ℕ) (λ x. Unit {0})
 scan_mode_part = record {
   read = λ ws. files.scan_mode_section_at ws;
   words = λ x. (files.scan_mode_before ++ NameOf x ∷ []) ++ files.scan_mode_behind;
   law = spelled_ended Fits (files.views files.scan_mode_behind) files.scan_mode_behind (λ x. files.scan_mode_before ++ NameOf x ∷ []) (spelled_skip Fits (files.views files.scan_mode_before) files.scan_mode_before (λ x. NameOf x ∷ []) (marks_law files.scan_mode_before (refl, (refl, (refl, tt)))) name_law) (marks_law files.scan_mode_behind (refl, (refl, (refl, (refl, (refl, tt)))))) (λ b left m. tt);
 }
 
-abbrev scan_out_part : Part (List ℕ) (λ x. Unit {0})
+abbrev pub scan_out_part : Part (List ℕ) (λ x. Unit {0})
 scan_out_part = record {
   read = λ ws. files.scan_out_section_at ws;
   words = λ x. (files.scan_out_before ++ NameOf x ∷ []) ++ files.scan_out_behind;
   law = spelled_ended Fits (files.views files.scan_out_behind) files.scan_out_behind (λ x. files.scan_out_before ++ NameOf x ∷ []) (spelled_skip Fits (files.views files.scan_out_before) files.scan_out_before (λ x. NameOf x ∷ []) (marks_law files.scan_out_before (refl, (refl, (refl, tt)))) name_law) (marks_law files.scan_out_behind (refl, (refl, (refl, (refl, (refl, tt)))))) (λ b left m. tt);
 }
 
-abbrev scan_reset_part : Part (List ℕ) (λ x. Unit {0})
+abbrev pub scan_reset_part : Part (List ℕ) (λ x. Unit {0})
 scan_reset_part = record {
   read = λ ws. files.scan_reset_section_at ws;
   words = λ x. (files.scan_reset_before ++ NameOf x ∷ []) ++ files.scan_reset_behind;
   law = spelled_ended Fits (files.views files.scan_reset_behind) files.scan_reset_behind (λ x. files.scan_reset_before ++ NameOf x ∷ []) (spelled_skip Fits (files.views files.scan_reset_before) files.scan_reset_before (λ x. NameOf x ∷ []) (marks_law files.scan_reset_before (refl, (refl, (refl, tt)))) name_law) (marks_law files.scan_reset_behind (refl, (refl, (refl, (refl, (refl, tt)))))) (λ b left m. tt);
 }
 
-abbrev scan_clock_part : Part (List ℕ) (λ x. Unit {0})
+abbrev pub scan_clock_part : Part (List ℕ) (λ x. Unit {0})
 scan_clock_part = record {
   read = λ ws. files.scan_clock_section_at ws;
   words = λ x. (files.scan_clock_before ++ NameOf x ∷ []) ++ files.scan_clock_behind;
   law = spelled_ended Fits (files.views files.scan_clock_behind) files.scan_clock_behind (λ x. files.scan_clock_before ++ NameOf x ∷ []) (spelled_skip Fits (files.views files.scan_clock_before) files.scan_clock_before (λ x. NameOf x ∷ []) (marks_law files.scan_clock_before (refl, (refl, (refl, tt)))) name_law) (marks_law files.scan_clock_behind (refl, (refl, (refl, (refl, tt))))) (λ b left m. tt);
 }
 
-abbrev frequency_part : Part (List ℕ) (λ x. Unit {0})
+abbrev pub frequency_part : Part (List ℕ) (λ x. Unit {0})
 frequency_part = record {
   read = λ ws. files.frequency_section_at ws;
   words = λ x. (files.frequency_before ++ RealOf x ∷ []) ++ files.frequency_behind;
   law = spelled_ended Fits (files.views files.frequency_behind) files.frequency_behind (λ x. files.frequency_before ++ RealOf x ∷ []) (spelled_skip Fits (files.views files.frequency_before) files.frequency_before (λ x. RealOf x ∷ []) (marks_law files.frequency_before tt) real_law) (marks_law files.frequency_behind (refl, tt)) (λ b left m. tt);
 }
 
-abbrev stop_part : Part Stop (λ x. Unit {0})
+abbrev pub stop_part : Part Stop (λ x. Unit {0})
 stop_part = record {
   read = λ ws. files.stop_section_at ws;
   words = λ x. (files.stop_before ++ KeyWord (stop_word x) ∷ []) ++ files.stop_behind;
   law = spelled_ended Fits (files.views files.stop_behind) files.stop_behind (λ x. files.stop_before ++ KeyWord (stop_word x) ∷ []) (spelled_skip Fits (files.views files.stop_before) files.stop_before (λ x. KeyWord (stop_word x) ∷ []) (marks_law files.stop_before tt) stop_law) (marks_law files.stop_behind (refl, (refl, tt))) (λ b left m. tt);
 }
 
-abbrev end_part : Part (List ℕ) (λ x. Unit {0})
+abbrev pub end_part : Part (List ℕ) (λ x. Unit {0})
 end_part = record {
   read = λ ws. files.end_section_at ws;
   words = λ x. (files.end_before ++ NameOf x ∷ []) ++ files.end_behind;
   law = spelled_ended Fits (files.views files.end_behind) files.end_behind (λ x. files.end_before ++ NameOf x ∷ []) (spelled_skip Fits (files.views files.end_before) files.end_before (λ x. NameOf x ∷ []) (marks_law files.end_before (refl, tt)) name_law) (marks_law files.end_behind (refl, tt)) (λ b left m. tt);
 }
 
-abbrev length_part : Part IntegerAttribute (λ x. Unit {0})
+abbrev pub length_part : Part IntegerAttribute (λ x. Unit {0})
 length_part = record {
   read = λ ws. files.integer_attribute_at (codes "INSTRUCTION_LENGTH") ws;
   words = λ a. integer_attribute_words (codes "INSTRUCTION_LENGTH") a;
   law = integer_attribute_law (codes "INSTRUCTION_LENGTH");
 }
 
-abbrev opcodes_part : Part StringAttribute (λ x. HasStrings x)
+abbrev pub opcodes_part : Part StringAttribute (λ x. HasStrings x)
 opcodes_part = record {
   read = λ ws. files.string_attribute_at (codes "INSTRUCTION_OPCODE") ws;
   words = λ a. string_attribute_words (codes "INSTRUCTION_OPCODE") a;
   law = string_attribute_law (codes "INSTRUCTION_OPCODE");
 }
 
-abbrev capture_part : Part StringAttribute (λ x. HasStrings x)
+abbrev pub capture_part : Part StringAttribute (λ x. HasStrings x)
 capture_part = record {
   read = λ ws. files.string_attribute_at (codes "INSTRUCTION_CAPTURE") ws;
   words = λ a. string_attribute_words (codes "INSTRUCTION_CAPTURE") a;
   law = string_attribute_law (codes "INSTRUCTION_CAPTURE");
 }
 
-abbrev registers_part : Part (Option StringAttribute × StringAttribute) (λ x. HaveStrings x)
+abbrev pub registers_part : Part (Option StringAttribute × StringAttribute) (λ x. HaveStrings x)
 registers_part = record {
   read = λ ws. files.registers_at ws;
   words = λ z. option_map_or (string_attribute_words (codes "IDCODE_REGISTER")) z.0 [] ++ string_attribute_words (codes "REGISTER_ACCESS") z.1;
   law = registers_are_law;
 }
 
-abbrev boundary_length_part : Part IntegerAttribute (λ x. Unit {0})
+abbrev pub boundary_length_part : Part IntegerAttribute (λ x. Unit {0})
 boundary_length_part = record {
   read = λ ws. files.integer_attribute_at (codes "BOUNDARY_LENGTH") ws;
   words = λ a. integer_attribute_words (codes "BOUNDARY_LENGTH") a;
   law = integer_attribute_law (codes "BOUNDARY_LENGTH");
 }
 
-abbrev boundary_part : Part StringAttribute (λ x. HasStrings x)
+abbrev pub boundary_part : Part StringAttribute (λ x. HasStrings x)
 boundary_part = record {
   read = λ ws. files.string_attribute_at (codes "BOUNDARY_REGISTER") ws;
   words = λ a. string_attribute_words (codes "BOUNDARY_REGISTER") a;
@@ -181,7 +181,7 @@ boundary_part = record {
 }
 
 -- the rules that a file's parts keep
-abbrev KeptBy : files.FileParts → Type 0
+abbrev pub KeptBy : files.FileParts → Type 0
 KeptBy z = (Unit {0} × (Unit {0} × (AreSome IsDeclaration (z.1.1.0) × (Unit {0} × (Unit {0} × (Unit {0} × (AreSome Free (z.1.1.1.1.1.1.0) × (Unit {0} × (Unit {0} × (Unit {0} × (Unit {0} × (Unit {0} × (Unit {0} × (Unit {0} × (Unit {0} × (HasStrings (z.1.1.1.1.1.1.1.1.1.1.1.1.1.1.1.0) × (HasStrings (z.1.1.1.1.1.1.1.1.1.1.1.1.1.1.1.1.0) × (HaveStrings (z.1.1.1.1.1.1.1.1.1.1.1.1.1.1.1.1.1.0) × (Unit {0} × (HasStrings (z.1.1.1.1.1.1.1.1.1.1.1.1.1.1.1.1.1.1.1.0) × Unit {0}))))))))))))))))))))
 
 abbrev whole : Part files.FileParts KeptBy

@@ -1,8 +1,9 @@
 -- What ties reading to the words of files.
-use Rattle.std.specs.Prelude.{◌≡◌, List, [], Some, None}
+use Rattle.std.specs.Prelude.{◌≡◌, ◌-◌, List, [], length, Some, None}
 use Rattle.bsdl_lexicon.specs.declared.token.BsdlToken.{BsdlToken}
 use Rattle.bsdl_device.specs.declared.written.File.{File}
 use Rattle.bsdl_device.specs.Spelled.{SpellsFile}
+use Rattle.bsdl_device.specs.Faults.{IsShapeFault}
 use Rattle.bsdl_reading.specs.Readers.{Read, after, done, end_at}
 use Rattle.bsdl_reading.specs.Files as files
 
@@ -25,3 +26,7 @@ SpellsOneFile = (ws : List BsdlToken) (f g : File) → SpellsFile ws f → Spell
 -- Where reading stops at a fault, the words spell no file.
 abbrev pub FaultsSpellNothing : Type 0
 FaultsSpellNothing = (ws left : List BsdlToken) (f : File) → file_at ws ≡ (None, left) → SpellsFile ws f → ⊥
+
+-- Where reading stops at a fault, it stops at the fault's word.
+abbrev pub FaultsAtFaultWord : Type 0
+FaultsAtFaultWord = (ws left : List BsdlToken) → file_at ws ≡ (None, left) → IsShapeFault ws (length ws - length left)

@@ -5,4 +5,6 @@
 
 pub mod laws;
 
-pub use laws::{faults_spell_nothing, reads_each_file, reads_only_files, spells_one_file};
+pub use laws::{
+    faults_at_fault_word, faults_spell_nothing, reads_each_file, reads_only_files, spells_one_file,
+};
