@@ -35,7 +35,6 @@ fn word_len(line: &[u8]) -> usize
 }
 
 /// The first line, without its end, and the text that follows it.
-#[tactic(auto, using(crate::proofs::Cut::line_within, crate::proofs::Cut::line_to_end))]
 pub fn split_line(text: &[u8]) -> (&[u8], &[u8])
     requires { 0 < length text.now }
     ensures lines { lines_of text.now ≡ result.0.now ∷ lines_of result.1.now }
@@ -49,7 +48,6 @@ pub fn split_line(text: &[u8]) -> (&[u8], &[u8])
     }
 }
 
-#[tactic(auto, using(crate::proofs::Cut::words_behind_blanks, crate::proofs::Cut::begins_behind_blanks))]
 fn without_blanks(line: &[u8]) -> &[u8]
     ensures words { words_of result.now ≡ words_of line.now }
     ensures begins { begins_blank result.now ≡ false }
@@ -58,7 +56,6 @@ fn without_blanks(line: &[u8]) -> &[u8]
 }
 
 /// The first word, and the line that follows it; no bytes where the line has no word.
-#[tactic(auto, using(crate::proofs::Cut::words_from_first, crate::proofs::Cut::no_words))]
 pub fn next_word(line: &[u8]) -> (&[u8], &[u8])
     ensures words { words_of line.now ≡ after_word result.0.now (words_of result.1.now) }
     ensures none { result.0.now ≡ [] → words_of result.1.now ≡ [] }
