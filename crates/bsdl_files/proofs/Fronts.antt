@@ -1,8 +1,8 @@
 -- What a reader sees of its first word, as the reading functions see it.
-use Rattle.std.proofs.Common.{◌≡◌, ℕ, Bool, true, false, List, [], ◌∷◌, Option, Some, None, is_some, refl, sym, ap, ◌∙◌}
+use Rattle.std.proofs.Common.{◌≡◌, ℕ, true, false, List, [], ◌∷◌, Option, Some, None, is_some, refl, sym, ap, ◌∙◌}
 use Rattle.std.specs.Prelude.{option_and_then}
 use Rattle.bsdl_lexicon.specs.declared.token.BsdlToken.{BsdlToken}
-use Rattle.bsdl_lexicon.specs.Words.{front, rest_if, quoted_in, integer_in}
+use Rattle.bsdl_lexicon.specs.Words.{front, rest_if, quoted_in}
 use Rattle.bsdl_reading.specs.Readers as readers
 use Rattle.bsdl_reading.specs.Readers.{Read, take_at}
 use Rattle.bsdl_reading.specs.Files.{string_in, same_string}

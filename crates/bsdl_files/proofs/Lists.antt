@@ -1,8 +1,8 @@
 -- A loop over parts with marks between them, against the reading of such a list.
-use Rattle.std.proofs.Common.{◌≡◌, ℕ, suc, zero, true, false, ◌<◌, ◌≤◌, List, [], ◌∷◌, ◌++◌, length, Option, Some, None, is_some, refl, sym, ap, ◌∙◌, arith, append_assoc, append-nil, length-append}
+use Rattle.std.proofs.Common.{◌≡◌, ℕ, suc, zero, true, false, ◌<◌, ◌≤◌, List, [], ◌∷◌, ◌++◌, length, Option, Some, None, is_some, sym, ap, ◌∙◌, arith, append_assoc, append-nil, length-append}
 use Rattle.std.specs.Option.{option_map_or}
 use Rattle.bsdl_lexicon.specs.declared.token.BsdlToken.{BsdlToken}
-use Rattle.bsdl_lexicon.specs.Words.{front, rest, rest_if}
+use Rattle.bsdl_lexicon.specs.Words.{front, rest_if}
 use Rattle.bsdl_reading.specs.Readers as readers
 use Rattle.bsdl_reading.specs.Readers.{Read, done, after, either, more_of, some_of}
 use Rattle.bsdl_reading.proofs.Exact.{Sound}

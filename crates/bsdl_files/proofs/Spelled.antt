@@ -1,5 +1,5 @@
 -- What is read is what the words spell.
-use Rattle.std.proofs.Common.{◌≡◌, ℕ, ◌-◌, List, length, Some, None, refl, sym, ap, subst, ◌∙◌}
+use Rattle.std.proofs.Common.{◌≡◌, ℕ, ◌-◌, List, length, Some, None, refl, sym, subst, ◌∙◌}
 use Rattle.bsdl_lexicon.specs.declared.token.BsdlToken.{BsdlToken}
 use Rattle.bsdl_lexicon.specs.declared.words.BsdlWords.{BsdlWords}
 use Rattle.bsdl_lexicon.specs.Words.{plain, place_in}

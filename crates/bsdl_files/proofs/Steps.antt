@@ -1,7 +1,7 @@
 -- Parts one behind another, as they were read or where one was at fault.
-use Rattle.std.proofs.Common.{◌≡◌, ℕ, List, [], ◌∷◌, Option, Some, None, refl, sym, ap, ◌∙◌, Result, Ok, Err, IsErrAnd}
+use Rattle.std.proofs.Common.{◌≡◌, List, Option, Some, None, refl, ap, ◌∙◌, Result, Ok, Err, IsErrAnd}
 use Rattle.bsdl_lexicon.specs.declared.token.BsdlToken.{BsdlToken}
-use Rattle.bsdl_reading.specs.Readers.{Read, done, after, pair_at, skip_at, ended_at, made_at, marks_at}
+use Rattle.bsdl_reading.specs.Readers.{Read, done, after, pair_at, skip_at, ended_at, marks_at}
 use Rattle.bsdl_files.specs.Parsing.{Gives, GivesAs}
 use Rattle.bsdl_files.specs.declared.fault.ParseFault.{ParseFault}
 use Rattle.bsdl_files.specs.declared.fault.ParseFault.TheVariants as fault

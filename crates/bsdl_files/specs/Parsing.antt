@@ -1,5 +1,5 @@
 -- What the parser's functions answer, against what reading gives on the same words.
-use Rattle.std.specs.Prelude.{◌≡◌, List, Option, Some, None, Result, Ok, Err}
+use Rattle.std.specs.Prelude.{◌≡◌, List, Some, None, Result, Ok, Err}
 use Rattle.bsdl_lexicon.specs.declared.token.BsdlToken.{BsdlToken}
 use Rattle.bsdl_reading.specs.Readers.{Read}
 use Rattle.bsdl_files.specs.declared.fault.ParseFault.{ParseFault}

@@ -3,14 +3,11 @@
 use Rattle.std.specs.Prelude.{ℕ, List, [], ◌∷◌, Option, Some, None, codes}
 use Rattle.bsdl_lexicon.specs.declared.token.BsdlToken.{BsdlToken}
 use Rattle.bsdl_lexicon.specs.declared.symbol.BsdlSymbol.TheVariants.{LeftParenthesis, RightParenthesis, Colon, Semicolon}
-use Rattle.bsdl_device.specs.declared.values.Stop.{Stop}
 use Rattle.bsdl_device.specs.declared.written.WrittenRange.{WrittenRange}
-use Rattle.bsdl_device.specs.declared.written.PortDeclaration.{PortDeclaration}
-use Rattle.bsdl_device.specs.declared.written.IntegerAttribute.{IntegerAttribute}
 use Rattle.bsdl_device.specs.declared.written.StringAttribute.{StringAttribute}
 use Rattle.bsdl_device.specs.Shape.{Pattern, Mark}
 use Rattle.bsdl_reading.specs.Readers.{Read, pair_at, skip_at, ended_at, made_at}
-use Rattle.bsdl_reading.specs.Files.{views, key, name_at, range_at, strings_at, strings_behind, pins_section_at}
+use Rattle.bsdl_reading.specs.Files.{views, key, name_at, range_at, strings_at, strings_behind}
 use Rattle.bsdl_files.specs.declared.attributes.RegisterAttributes.{RegisterAttributes}
 
 -- `bit_vector (left to right)`

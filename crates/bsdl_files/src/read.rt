@@ -3,7 +3,6 @@ ghost use Rattle.bsdl_lexicon.specs.Words.{plain, place_in};
 ghost use Rattle.bsdl_device.specs.declared.written.File.{File as WrittenFile};
 ghost use Rattle.bsdl_device.specs.Spelled.{SpellsFile};
 ghost use Rattle.bsdl_files.specs.Parsing.{Gives};
-ghost use Rattle.bsdl_files.specs.Sections.{sections_at};
 ghost use Rattle.bsdl_files.specs.Whole.{whole_at};
 ghost use Rattle.bsdl_files.specs.Faults.{Refuses};
 ghost use Rattle.bsdl_reading.specs.Readers.{end_at};

@@ -1,5 +1,4 @@
-use Rattle.std.proofs.Common.{◌∙◌, List, sym, ap, subst, Err}
-use Rattle.bsdl_lexicon.specs.declared.token.BsdlToken.{BsdlToken}
+use Rattle.std.proofs.Common.{◌∙◌, sym, ap, subst, Err}
 use Rattle.bsdl_files.specs.declared.fault.FileFault.{FileFault}
 use Rattle.bsdl_files.specs.Whole.{whole_at}
 use Rattle.bsdl_files.specs.Faults.{Refuses}

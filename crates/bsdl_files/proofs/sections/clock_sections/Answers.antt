@@ -1,4 +1,3 @@
-use Rattle.std.specs.Prelude.{codes}
 use Rattle.bsdl_files.specs.Sections.{clock_port_at, frequency_at, stop_at, instruction_on, instruction_parts, clock_on, clock_parts}
 use Rattle.bsdl_files.proofs.Steps.{passed_on_as, seen_on}
 use Rattle.bsdl_files.proofs.Chains.{four_third, four_fourth, four_read}

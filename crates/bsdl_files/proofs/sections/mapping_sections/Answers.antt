@@ -1,4 +1,3 @@
-use Rattle.std.specs.Prelude.{codes}
 use Rattle.bsdl_files.specs.Sections.{conformance_at, pin_map_at, constant_at, closed_strings_at, scan_on, scan_parts, mapping_on, mapping_parts}
 use Rattle.bsdl_files.proofs.Steps.{passed_on_as, seen_on}
 use Rattle.bsdl_files.proofs.Chains.{five_third, five_fourth, five_fifth, five_read}
