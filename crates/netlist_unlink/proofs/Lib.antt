@@ -9,3 +9,4 @@ pub mod Indexes
 pub mod RowFacts
 pub mod AllRows
 pub mod Written
+pub mod Kept

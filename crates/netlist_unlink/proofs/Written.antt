@@ -285,7 +285,7 @@ tree_instance N naming i cell library w at is =
 
 -- Continuous assignments.
 
-assign_kind : (k : Kind) → gate_of k ≡ None → cell_name k ≡ None → k ≡ kind.Assign
+pub assign_kind : (k : Kind) → gate_of k ≡ None → cell_name k ≡ None → k ≡ kind.Assign
 assign_kind kind.Assign g l = refl
 assign_kind kind.Mux2 g l = absurd (cc)
 assign_kind (kind.Flop flop) g l = absurd (cc)

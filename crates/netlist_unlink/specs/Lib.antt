@@ -3,3 +3,4 @@ pub mod Flags
 pub mod Parts
 pub mod Trees
 pub mod Prefixes
+pub mod Kept

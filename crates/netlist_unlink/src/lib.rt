@@ -13,4 +13,4 @@ mod rows;
 mod tree;
 mod wires;
 
-pub use tree::unlink;
+pub use tree::{items_keep_their_cells, unlink};

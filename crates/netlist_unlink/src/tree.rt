@@ -5,7 +5,8 @@ ghost use Rattle.netlist_model.specs.Formed.{IsLaidOut};
 ghost use Rattle.netlist_arena.specs.Looks.{IsLive};
 ghost use Rattle.netlist_link.specs.Linked.{IsLinked};
 ghost use Rattle.netlist_unlink.specs.Prefixes.{IsFreePrefix};
-ghost use Rattle.netlist_unlink.specs.Trees.{tree_of};
+ghost use Rattle.netlist_unlink.specs.Kept.{AreKept};
+ghost use Rattle.netlist_unlink.specs.Trees.{naming_of, tree_of};
 
 use crate::cells::tree_items;
 use crate::ports::tree_ports;
@@ -25,6 +26,14 @@ pub fn unlink(alloc: Global, linked: &Linked, prefix: &[u8]) -> Result<Module, O
     let tree = write_tree(alloc, linked, prefix)?;
     is_linked(linked);
     Ok(tree)
+}
+
+/// A law: the item of each live cell keeps its kind, its name and the count of its operands.
+pub fn items_keep_their_cells(linked: &Linked, prefix: &[u8])
+    ensures { AreKept linked.now.arena.lists (naming_of linked.now prefix.now) }
+{
+    is_linked(linked);
+    let _length = prefix.len();
 }
 
 // The tree, of a netlist whose cells have numbers below 2^32.

@@ -1,0 +1,114 @@
+-- An item keeps its cell's kind, name and count of operands.
+use Rattle.std.proofs.Common.{◌≡◌, ℕ, List, [], ◌++◌, length, map, refl, ap, sym, ◌∙◌, subst, Option, Some, None, arith}
+use Rattle.std.specs.Prelude.{IsSome, unwrap_or, codes}
+use Rattle.std.specs.Option.{option_map}
+use Rattle.std.proofs.lemmas.List.{length-map}
+use Rattle.verilog_tree.specs.declared.tree.GateKind.{GateKind}
+use Rattle.verilog_tree.specs.declared.tree.GateKind.TheVariants as gate
+use Rattle.cell_library.specs.declared.Kind.{Kind}
+use Rattle.cell_library.specs.declared.Kind.TheVariants as kind
+use Rattle.cell_library.specs.declared.Edge.{Edge}
+use Rattle.cell_library.specs.declared.Edge.TheVariants.{Rise, Fall}
+use Rattle.cell_library.specs.declared.ResetTo.{ResetTo}
+use Rattle.cell_library.specs.declared.ResetTo.TheVariants.{Nothing, Zero as ToZero, One as ToOne}
+use Rattle.cell_library.specs.Gates.{Takes}
+use Rattle.cell_library.specs.Library.{cell_name, flop_name, kind_named, operand_ports, output_port}
+use Rattle.netlist_model.specs.declared.Name.{Name}
+use Rattle.netlist_model.specs.Lists.{CellView, NetlistView, cell_at}
+use Rattle.netlist_model.specs.Formed.{IsWellFormed}
+use Rattle.link_model.specs.Nets.{Declared}
+use Rattle.link_model.specs.Cells.{cell_of, feed_of, kind_of_gate, port_feed}
+use Rattle.netlist_link.specs.WellNamed.{IsWellNamed}
+use Rattle.netlist_unlink.specs.Trees.{Naming, cell_text, gate_of, operand_links, operand_of, output_links, written}
+use Rattle.netlist_unlink.specs.Kept.{AreKept, IsKept}
+use Rattle.netlist_unlink.proofs.Facts.{library_count}
+use Rattle.netlist_unlink.proofs.Written.{assign_kind}
+
+gate_back : (k : Kind) (g : GateKind) → gate_of k ≡ Some g → kind_of_gate g ≡ k
+gate_back kind.And g e = let same : gate.And ≡ g = grind arith in ap kind_of_gate (sym same)
+gate_back kind.Or g e = let same : gate.Or ≡ g = grind arith in ap kind_of_gate (sym same)
+gate_back kind.Nand g e = let same : gate.Nand ≡ g = grind arith in ap kind_of_gate (sym same)
+gate_back kind.Nor g e = let same : gate.Nor ≡ g = grind arith in ap kind_of_gate (sym same)
+gate_back kind.Xor g e = let same : gate.Xor ≡ g = grind arith in ap kind_of_gate (sym same)
+gate_back kind.Xnor g e = let same : gate.Xnor ≡ g = grind arith in ap kind_of_gate (sym same)
+gate_back kind.Buf g e = let same : gate.Buf ≡ g = grind arith in ap kind_of_gate (sym same)
+gate_back kind.Not g e = let same : gate.Not ≡ g = grind arith in ap kind_of_gate (sym same)
+gate_back kind.Bufif0 g e = let same : gate.Bufif0 ≡ g = grind arith in ap kind_of_gate (sym same)
+gate_back kind.Bufif1 g e = let same : gate.Bufif1 ≡ g = grind arith in ap kind_of_gate (sym same)
+gate_back kind.Assign g e = absurd (cc)
+gate_back kind.Mux2 g e = absurd (cc)
+gate_back (kind.Flop flop) g e = absurd (cc)
+
+flop_back : (edge : Edge) (reset : ResetTo) → kind_named (flop_name edge reset) ≡ Some (kind.Flop (record { edge = edge; reset = reset }))
+flop_back Rise Nothing = refl
+flop_back Fall Nothing = refl
+flop_back Rise ToZero = refl
+flop_back Fall ToZero = refl
+flop_back Rise ToOne = refl
+flop_back Fall ToOne = refl
+
+library_back : (k : Kind) (library : List ℕ) → cell_name k ≡ Some library → kind_named library ≡ Some k
+library_back kind.Mux2 library e = let same : codes "MUX2" ≡ library = cc in ap kind_named (sym same)
+library_back (kind.Flop flop) library e = let same : flop_name flop.edge flop.reset ≡ library = cc in ap kind_named (sym same) ∙ flop_back flop.edge flop.reset
+library_back kind.And library e = absurd (cc)
+library_back kind.Or library e = absurd (cc)
+library_back kind.Nand library e = absurd (cc)
+library_back kind.Nor library e = absurd (cc)
+library_back kind.Xor library e = absurd (cc)
+library_back kind.Xnor library e = absurd (cc)
+library_back kind.Buf library e = absurd (cc)
+library_back kind.Not library e = absurd (cc)
+library_back kind.Bufif0 library e = absurd (cc)
+library_back kind.Bufif1 library e = absurd (cc)
+library_back kind.Assign library e = absurd (cc)
+
+kept_gate : (names : List (List ℕ × Declared)) (naming : Naming) (i : ℕ) (cell : CellView) (g : GateKind) (library : Option (List ℕ)) → gate_of cell.kind ≡ Some g
+    → IsKept naming i cell (cell_of names (written naming i cell (Some g) library))
+kept_gate names naming i cell g library is = record {
+  kind = gate_back cell.kind g is;
+  name = refl;
+  count = length-map (map (operand_of naming) cell.feeds) (feed_of names) ∙ length-map cell.feeds (operand_of naming);
+}
+
+some_text : (naming : Naming) (i : ℕ) (o : Option Name) → IsSome o → Some (unwrap_or (option_map (cell_text naming i) o) []) ≡ option_map (cell_text naming i) o
+some_text naming i None some = absurd (cc)
+some_text naming i (Some name) some = refl
+
+kept_instance : (names : List (List ℕ × Declared)) (N : NetlistView) (naming : Naming) (i : ℕ) (cell : CellView) (library : List ℕ) → IsWellNamed naming.table N → IsWellFormed N → cell_at N i ≡ Some cell
+    → cell_name cell.kind ≡ Some library → IsKept naming i cell (cell_of names (written naming i cell None (Some library)))
+kept_instance names N naming i cell library named formed at is =
+    let back : unwrap_or (kind_named library) kind.Buf ≡ cell.kind = ap (λ (o : Option Kind). unwrap_or o kind.Buf) (library_back cell.kind library is) in
+    record {
+      kind = back;
+      name = some_text naming i cell.name (named.library_named i cell at (rw is refl));
+      count = feeds_count (unwrap_or (kind_named library) kind.Buf) back;
+    }
+  where
+    feeds_count : (k : Kind) → k ≡ cell.kind → length (map (port_feed names (operand_links naming (operand_ports cell.kind) cell.feeds ++ output_links naming (output_port cell.kind) cell.output)) (operand_ports k)) ≡ length cell.feeds
+    feeds_count k same =
+        length-map (operand_ports k) (port_feed names (operand_links naming (operand_ports cell.kind) cell.feeds ++ output_links naming (output_port cell.kind) cell.output))
+        ∙ ap (λ (x : Kind). length (operand_ports x)) same ∙ sym (library_count cell.kind library (length cell.feeds) is (formed.counts i cell at))
+
+kept_assign : (names : List (List ℕ × Declared)) (N : NetlistView) (naming : Naming) (i : ℕ) (cell : CellView) → IsWellNamed naming.table N → IsWellFormed N → cell_at N i ≡ Some cell
+    → gate_of cell.kind ≡ None → cell_name cell.kind ≡ None → IsKept naming i cell (cell_of names (written naming i cell None None))
+kept_assign names N naming i cell named formed at no_gate no_library =
+    let is = assign_kind cell.kind no_gate no_library in
+    let none = named.assign_unnamed i cell at is in
+    let T : Kind → Type 0 = λ k. Takes k (length cell.feeds) in
+    let one : length cell.feeds ≡ 1 = subst T is (formed.counts i cell at) in
+    record {
+      kind = sym is;
+      name = sym (ap (option_map (cell_text naming i)) none);
+      count = sym one;
+    }
+
+pub are_kept : (N : NetlistView) (naming : Naming) → IsWellNamed naming.table N → IsWellFormed N → AreKept N naming
+are_kept N naming named formed names i cell at = by_gate (gate_of cell.kind) refl
+  where
+    by_library : (l : Option (List ℕ)) → cell_name cell.kind ≡ l → gate_of cell.kind ≡ None → IsKept naming i cell (cell_of names (written naming i cell None l))
+    by_library None e none = kept_assign names N naming i cell named formed at none e
+    by_library (Some library) e none = kept_instance names N naming i cell library named formed at e
+
+    by_gate : (g : Option GateKind) → gate_of cell.kind ≡ g → IsKept naming i cell (cell_of names (written naming i cell g (cell_name cell.kind)))
+    by_gate None e = by_library (cell_name cell.kind) refl e
+    by_gate (Some g) e = kept_gate names naming i cell g (cell_name cell.kind) e
