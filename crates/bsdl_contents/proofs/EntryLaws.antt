@@ -1,8 +1,7 @@
 -- Entries are read from their words alone, and from all of them.
-use Rattle.std.proofs.Common.{◌≡◌, ℕ, ◌==◌, Bool, true, false, cond, List, [], ◌∷◌, ◌++◌, Option, Some, None, refl, sym, ap, ◌∙◌, append_assoc, append-nil, inl, inr, ◌⊎◌}
-use Rattle.std.specs.Prelude.{option_and_then, codes}
+use Rattle.std.proofs.Common.{◌≡◌, ℕ, ◌==◌, Bool, true, false, cond, List, [], ◌∷◌, ◌++◌, Option, Some, None, refl, ap, ◌∙◌, inl, inr, ◌⊎◌}
+use Rattle.std.specs.Prelude.{option_and_then}
 use Rattle.std.specs.List.{AllByRecursion}
-use Rattle.std.specs.Option.{option_map_or}
 use borrow.Author.Tests.{eqb-true}
 use Rattle.cell_library.specs.declared.codes.Bits.{Bits}
 use Rattle.cell_library.specs.declared.codes.BoundaryKind.{BoundaryKind}
@@ -11,7 +10,6 @@ use Rattle.cell_library.specs.declared.codes.Function.{Function}
 use Rattle.cell_library.specs.declared.codes.Function.TheVariants as function
 use Rattle.bsdl_device.specs.declared.values.Safe.{Safe}
 use Rattle.bsdl_device.specs.declared.values.Safe.TheVariants as safe
-use Rattle.bsdl_device.specs.declared.values.Disable.{Disable}
 use Rattle.bsdl_device.specs.declared.entries.MappedPins.{MappedPins}
 use Rattle.bsdl_device.specs.declared.entries.MappedPins.TheVariants as pins
 use Rattle.bsdl_device.specs.declared.entries.PinEntry.{PinEntry}
@@ -20,9 +18,9 @@ use Rattle.bsdl_device.specs.declared.entries.Register.{Register}
 use Rattle.bsdl_device.specs.declared.entries.Register.TheVariants as register
 use Rattle.bsdl_device.specs.declared.entries.AccessEntry.{AccessEntry}
 use Rattle.bsdl_device.specs.Matching.{MatchesBy, separated_by}
-use Rattle.bsdl_device.specs.Runs.{ContentWord, Run, Other, ContentPattern, KeyRun, IdentifierRun, NameRun, PinRun, IntegerRun, BitsRun, MarkByte, Fits, identifier_in, name_in, pin_in, integer_in, pattern_in, key_in, mark_in, left_parenthesis, right_parenthesis, comma, colon}
-use Rattle.bsdl_device.specs.Grammar.{cell_word, function_word, safe_word, bit_word, register_word, pins_words, pin_entry_words, opcode_words, access_words, pin_map_words, opcodes_words, accesses_words}
-use Rattle.bsdl_reading.specs.Readers.{Read, take_at, marks_at, pair_at, ended_at, made_at}
+use Rattle.bsdl_device.specs.Runs.{ContentWord, Run, Other, ContentPattern, KeyRun, IdentifierRun, NameRun, PinRun, IntegerRun, BitsRun, MarkByte, Fits, identifier_in, name_in, pin_in, integer_in, pattern_in, mark_in, left_parenthesis, right_parenthesis, comma, colon}
+use Rattle.bsdl_device.specs.Grammar.{cell_word, function_word, safe_word, bit_word, register_word, pins_words, pin_entry_words, opcode_words, access_words}
+use Rattle.bsdl_reading.specs.Readers.{Read, take_at, marks_at}
 use Rattle.bsdl_reading.proofs.Exact.{Exact, Anything}
 use Rattle.bsdl_reading.proofs.Choices.{NotNext}
 use Rattle.bsdl_reading.proofs.Matched.{Spelled, spelled_take, spelled_marks, spelled_ended, spelled_pair, spelled_made}

@@ -1,5 +1,5 @@
 -- What is read of a file's sections is what their strings hold.
-use Rattle.std.proofs.Common.{◌≡◌, ℕ, Bool, true, false, IsTrue, List, [], ◌∷◌, ◌++◌, Option, Some, None, Result, Ok, Err, refl, sym, subst, ap, ◌∙◌}
+use Rattle.std.proofs.Common.{◌≡◌, ℕ, Bool, true, false, List, [], ◌∷◌, ◌++◌, Option, Some, None, Ok, Err, refl, sym, subst, ap, ◌∙◌}
 use Rattle.std.specs.Prelude.{◌&&◌}
 use Rattle.std.specs.List.{list_all, AllByRecursion}
 use Rattle.std.specs.Option.{option_map}
@@ -16,11 +16,11 @@ use Rattle.bsdl_device.specs.declared.written.File.{File}
 use Rattle.bsdl_device.specs.Matching.{is_filled}
 use Rattle.bsdl_device.specs.Runs.{ContentWord, ContentPattern, Fits, content_words}
 use Rattle.bsdl_device.specs.Shape.{joined}
-use Rattle.bsdl_device.specs.Grammar.{has_pins, IsPinMap, IsAccess, pin_map_words, opcodes_words, capture_words, idcode_words, accesses_words, rows_words, opcode_words, row_words, pin_entry_words, access_words}
+use Rattle.bsdl_device.specs.Grammar.{has_pins, pin_map_words, opcodes_words, capture_words, idcode_words, accesses_words, rows_words, opcode_words, row_words, pin_entry_words, access_words}
 use Rattle.bsdl_device.specs.Spelled.{Hold, HoldPinMap, HoldOpcodes, HoldCapture, HoldIdcode, HoldAccess, HoldRows, HasContents}
 use Rattle.bsdl_device.specs.Faults as faults
 use Rattle.bsdl_reading.specs.Readers.{Read}
-use Rattle.bsdl_reading.proofs.Exact.{Exact, none_some}
+use Rattle.bsdl_reading.proofs.Exact.{Exact}
 use Rattle.bsdl_reading.proofs.Matched.{Spelled}
 use Rattle.bsdl_reading.proofs.Listed.{AreSome}
 use Rattle.bsdl_reading.proofs.Views.{Free}

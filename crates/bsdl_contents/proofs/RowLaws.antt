@@ -9,10 +9,10 @@ use Rattle.bsdl_device.specs.declared.values.Disable.{Disable}
 use Rattle.bsdl_device.specs.declared.entries.PortBit.{PortBit}
 use Rattle.bsdl_device.specs.declared.entries.RowEntry.{RowEntry}
 use Rattle.bsdl_device.specs.Matching.{MatchesBy}
-use Rattle.bsdl_device.specs.Runs.{ContentWord, Run, Other, ContentPattern, KeyRun, NameRun, IntegerRun, MarkByte, Fits, mark_in, left_parenthesis, right_parenthesis, comma, star}
+use Rattle.bsdl_device.specs.Runs.{ContentWord, Run, Other, ContentPattern, KeyRun, NameRun, IntegerRun, Fits, mark_in, left_parenthesis, right_parenthesis, comma, star}
 use Rattle.bsdl_device.specs.Grammar.{cell_word, function_word, safe_word, bit_word, index_words, row_port_words, disable_words, row_words}
-use Rattle.bsdl_reading.specs.Readers.{Read, done, pair_at, ended_at}
-use Rattle.bsdl_reading.proofs.Exact.{Exact, Anything, exact_done, exact_weaker}
+use Rattle.bsdl_reading.specs.Readers.{Read}
+use Rattle.bsdl_reading.proofs.Exact.{Exact, Anything, exact_weaker}
 use Rattle.bsdl_reading.proofs.Choices.{NotNext}
 use Rattle.bsdl_reading.proofs.Matched.{Spelled, exact_stops, spelled_ended, spelled_pair, spelled_made}
 use Rattle.bsdl_reading.proofs.Views.{Free}

@@ -1,5 +1,5 @@
 -- What is told of a file's contents is what its strings hold.
-use Rattle.std.proofs.Common.{◌≡◌, Result, Ok, Err, refl, sym, ap, subst, ◌∙◌, IfOk, IfErr}
+use Rattle.std.proofs.Common.{◌≡◌, Result, Ok, Err, sym, ◌∙◌, IfOk, IfErr}
 use Rattle.bsdl_device.specs.declared.entries.Contents.{Contents}
 use Rattle.bsdl_device.specs.declared.written.File.{File}
 use Rattle.bsdl_device.specs.Faults as faults
