@@ -1,0 +1,13 @@
+-- That lines are legal, or illegal at one line, and not both.
+use Rattle.std.specs.Prelude.{◌≡◌, ℕ}
+use Rattle.netlist_link.specs.Linked.{LinkedView}
+use Rattle.scan_vectors.specs.declared.lines.Lines.{Lines}
+use Rattle.event_scripts.specs.Rules.{IsLegal, IsIllegalAt}
+
+-- own: legal lines are illegal at no line
+abbrev pub LegalIsNotIllegal : Type 0
+LegalIsNotIllegal = (L : LinkedView) (lines : Lines) (number : ℕ) → IsLegal L lines → IsIllegalAt L lines number → ⊥
+
+-- own: lines are illegal at one line at most
+abbrev pub IllegalAtOneLine : Type 0
+IllegalAtOneLine = (L : LinkedView) (lines : Lines) (one other : ℕ) → IsIllegalAt L lines one → IsIllegalAt L lines other → one ≡ other
