@@ -1,5 +1,5 @@
 -- What stands while the lines are gone through.
-use Rattle.std.specs.Prelude.{◌≡◌, ℕ, ◌<◌, ◌&&◌, ◌||◌, ◌⊎◌, ◌↔◌, Bool, true, false, not, List, [], ◌∷◌, ◌++◌, length, slice_get, slice_set, Some, MatchBool}
+use Rattle.std.specs.Prelude.{◌≡◌, ℕ, ◌<◌, ◌&&◌, ◌||◌, ◌⊎◌, ◌↔◌, Bool, true, false, not, List, [], ◌∷◌, ◌++◌, length, slice_get, slice_set, Some, IsSome, MatchBool}
 use Rattle.signal_values.specs.declared.PinSig.{PinSig}
 use Rattle.signal_values.specs.declared.PinSig.TheVariants.{Zero, One, Unknown, HighZ}
 use Rattle.netlist_model.specs.declared.Dir.{Dir}
@@ -21,10 +21,11 @@ use Rattle.event_scripts.specs.Scripts.{IsFound}
 
 -- What a line does with a bit.
 
--- own: the word names this bit and no other, and these are its net and its side, and whether it is a control port
+-- own: the word names this bit and no other, and these are its net, which no other bit has, and its side, and whether it is a control port
 pub record IsBitOf (L : LinkedView) (word : List ℕ) (bit : Bit) : Type 0 where
   pub named : Names L word bit.pin
   pub only : (other : PinBit) → Names L word other → other ≡ bit.pin
+  pub alone : (other : PinBit) → net_of L.arena.lists other ≡ Some bit.net → other ≡ bit.pin
   pub net_is : net_of L.arena.lists bit.pin ≡ Some bit.net
   pub below : bit.net.0 < length L.arena.lists.nets
   pub side_is : side_of L.arena.lists bit.pin ≡ Some bit.side
@@ -61,11 +62,6 @@ suits Expect side control value = shows side
 
 -- The starts that came.
 
--- own: of each net, whether it is that of an input or inout bit without a start; and whether a set or an expect came
-pub record StartsView : Type 0 where
-  pub wanted : List Bool
-  pub begun : Bool
-
 -- own: the net is that of an input or inout bit
 pub record IsTakenNet (N : NetlistView) (net : ℕ) : Type 0 where
   pub pin : PinBit
@@ -86,49 +82,43 @@ pub record AreMarked (N : NetlistView) (IsLookedAt : PinBit → Type 0) (flags :
   pub each : (pin : PinBit) (net : NetId) → IsLookedAt pin → TakesValue N pin → net_of N pin ≡ Some net → slice_get flags net.0 ≡ Some true
   pub only : (net : ℕ) → slice_get flags net ≡ Some true → IsTakenNet N net
 
+-- own: the flag of the bit's net says whether the bit still wants its start
+abbrev pub IsFlagOf : LinkedView → List Line → List Bool → PinBit → NetId → Type 0
+IsFlagOf L before flags pin net = ((slice_get flags net.0 ≡ Some true) × (HasStart L before pin → ⊥)) ⊎ ((slice_get flags net.0 ≡ Some false) × HasStart L before pin)
+
 -- own: the flags of nets mark those of the bits that still want a start
 pub record AreWanted (L : LinkedView) (before : List Line) (flags : List Bool) : Type 0 where
   pub count : length flags ≡ length L.arena.lists.nets
-  pub wanting : (pin : PinBit) (net : NetId) → TakesValue L.arena.lists pin → net_of L.arena.lists pin ≡ Some net
-      → slice_get flags net.0 ≡ Some true → HasStart L before pin → ⊥
-  pub started : (pin : PinBit) (net : NetId) → TakesValue L.arena.lists pin → net_of L.arena.lists pin ≡ Some net
-      → slice_get flags net.0 ≡ Some false → HasStart L before pin
+  pub each : (pin : PinBit) (net : NetId) → TakesValue L.arena.lists pin → net_of L.arena.lists pin ≡ Some net → IsFlagOf L before flags pin net
   pub only : (net : ℕ) → slice_get flags net ≡ Some true → IsTakenNet L.arena.lists net
 
--- own: what is known after these lines
-pub record IsAfter (L : LinkedView) (before : List Line) (starts : StartsView) : Type 0 where
-  pub wanted : AreWanted L before starts.wanted
-  pub begun : (starts.begun ≡ true) ↔ HasEvent before
-
 -- own: some bit still wants a start
-pub record IsWaiting (starts : StartsView) : Type 0 where
+pub record IsWaiting (flags : List Bool) : Type 0 where
   pub net : ℕ
-  pub wants : slice_get starts.wanted net ≡ Some true
+  pub wants : slice_get flags net ≡ Some true
 
 -- own: no bit wants a start
-abbrev pub IsComplete : StartsView → Type 0
-IsComplete starts = (net : ℕ) → slice_get starts.wanted net ≡ Some true → ⊥
+abbrev pub IsComplete : List Bool → Type 0
+IsComplete flags = (net : ℕ) → slice_get flags net ≡ Some true → ⊥
 
--- own: the bit with this net wanted a start, before any set or expect, and has it
-pub record HasStarted (old new : StartsView) (net : ℕ) : Type 0 where
-  pub waiting : old.begun ≡ false
-  pub wants : slice_get old.wanted net ≡ Some true
-  pub wanted_is : new.wanted ≡ slice_set old.wanted net false
-  pub begun_is : new.begun ≡ false
+-- own: what is known after these lines; a set or an expect comes only where no bit wants a start
+pub record IsAfter (L : LinkedView) (before : List Line) (flags : List Bool) : Type 0 where
+  pub wanted : AreWanted L before flags
+  pub begun : HasEvent before → IsComplete flags
 
--- own: a set or an expect came, or the bit with this net wants no start
-abbrev pub CannotStart : StartsView → ℕ → Type 0
-CannotStart starts net = (starts.begun ≡ true) ⊎ (slice_get starts.wanted net ≡ Some false)
+-- own: the bit with this net wanted a start, and has it
+pub record HasStarted (old new : List Bool) (net : ℕ) : Type 0 where
+  pub wants : slice_get old net ≡ Some true
+  pub new_is : new ≡ slice_set old net false
 
--- own: no bit wanted a start, and a set or an expect comes
-pub record HasRun (old new : StartsView) : Type 0 where
+-- own: no bit wants a start, and a set or an expect comes
+pub record HasRun (old new : List Bool) : Type 0 where
   pub complete : IsComplete old
-  pub wanted_is : new.wanted ≡ old.wanted
-  pub begun_is : new.begun ≡ true
+  pub new_is : new ≡ old
 
 -- own: this was done with the bit with this net, or can't be
-abbrev pub HasDone : Act → ℕ → StartsView → StartsView → Bool → Type 0
-HasDone Start net old new done = MatchBool done (HasStarted old new net) (CannotStart old net)
+abbrev pub HasDone : Act → ℕ → List Bool → List Bool → Bool → Type 0
+HasDone Start net old new done = MatchBool done (HasStarted old new net) (slice_get old net ≡ Some false)
 HasDone Set net old new done = MatchBool done (HasRun old new) (IsWaiting old)
 HasDone Expect net old new done = MatchBool done (HasRun old new) (IsWaiting old)
 
@@ -138,9 +128,10 @@ HasDone Expect net old new done = MatchBool done (HasRun old new) (IsWaiting old
 pub record IsTaken (L : LinkedView) (before : List Line) (line : Line) (number : ℕ) (found : ScriptLine) : Type 0 where
   pub found_is : IsFound L line number found
   pub only : (other : PinBit) → Names L (pin_of line) other → other ≡ found.pin
+  pub there : IsSome (net_of L.arena.lists found.pin)
   pub kept : BreaksRule L before line → ⊥
 
 -- own: the line was taken behind these
-pub record TakesLine (L : LinkedView) (before : List Line) (line : Line) (number : ℕ) (starts : StartsView) (found : ScriptLine) : Type 0 where
+pub record TakesLine (L : LinkedView) (before : List Line) (line : Line) (number : ℕ) (flags : List Bool) (found : ScriptLine) : Type 0 where
   pub taken : IsTaken L before line number found
-  pub after : IsAfter L (before ++ line ∷ []) starts
+  pub after : IsAfter L (before ++ line ∷ []) flags

@@ -38,13 +38,16 @@ pub fn resolve(alloc: Global, lines: &Lines, linked: &Linked) -> Result<Script, 
 
 // Takes the next line, unless it breaks a rule.
 fn take_line(starts: &mut Starts, linked: &Linked, line: &Line, number: u64) -> Option<ScriptLine>
-    requires { length starts.old.wanted ≡ length linked.now.arena.lists.nets }
+    requires { length starts.old ≡ length linked.now.arena.lists.nets }
     ensures { (before : List Line) → IsAfter linked.now before starts.old
         → MatchOption result (BreaksRule linked.now before line.now) (TakesLine linked.now before line.now number starts.new) }
 {
     let parts = parts_of(line);
     let bit = find_bit(linked, parts.word)?;
-    if !suits(parts.act, &bit, parts.value) || !starts.take(parts.act, bit.net) {
+    if !suits(parts.act, &bit, parts.value) {
+        return None;
+    }
+    if !starts.take(parts.act, bit.net) {
         return None;
     }
     Some(ScriptLine {

@@ -1,4 +1,5 @@
-ghost use Rattle.std.specs.Prelude.{◌≡◌, ◌<◌, [], length, IfOk, MatchBool};
+ghost use Rattle.std.specs.Prelude.{◌≡◌, ◌<◌, false, [], length, slice_get, IfOk, MatchBool, Some};
+ghost use Rattle.event_scripts.specs.Starts.{HasDone, HasStarted, IsAfter, IsComplete, IsWaiting};
 
 use crate::tables::taken_nets;
 use edge_io::OutOfMemory;
@@ -8,41 +9,34 @@ use scan_vectors::Act;
 use std::alloc::Global;
 use std::marker::Model;
 
-/// The starts that came: which input and inout bits still want one, and whether a set or an expect came.
+/// Which input and inout bits still want a start. A set or an expect comes only where none does, so a start after one
+/// finds that its bit had its own.
 #[derive(Drop)]
 pub struct Starts {
     // Of each net, whether it is that of a bit that wants a start.
     wanted: Vec<bool>,
     // How many of them there are.
     missing: usize,
-    begun: bool,
 }
 
 impl Model for Starts {
-    ghost use Rattle.std.specs.Prelude.{◌≡◌, count_by};
-    ghost use Rattle.event_scripts.specs.Starts.{StartsView};
+    ghost use Rattle.std.specs.Prelude.{◌≡◌, Bool, List, count_by};
 
-    ghost Value = { StartsView };
+    ghost Value = { List Bool };
 
-    ghost view = { λ s. record { wanted = s.wanted.items; begun = s.begun } };
+    ghost view = { λ s. s.wanted.items };
 
     ghost invariant = { λ s. s.missing ≡ count_by (λ w. w) s.wanted.items };
 }
 
 impl Starts {
-    ghost use Rattle.event_scripts.specs.Starts.{CannotStart, HasDone, HasRun, HasStarted, IsAfter, IsComplete, IsWaiting};
-
     /// No line came yet.
     pub fn new(alloc: Global, linked: &Linked) -> Result<Starts, OutOfMemory>
         ensures { IfOk result (IsAfter linked.now []) }
     {
         let wanted = taken_nets(alloc, linked)?;
         let missing = wanted.iter().filter(|wants| **wants).count();
-        Ok(Starts {
-            wanted,
-            missing,
-            begun: false,
-        })
+        Ok(Starts { wanted, missing })
     }
 
     /// Whether no bit wants a start.
@@ -52,37 +46,26 @@ impl Starts {
         self.missing == 0
     }
 
-    /// Takes a line that does this with the bit with this net, unless it breaks a rule by what came before.
+    /// Takes a line that does this with the bit with this net, unless it comes too early or too late.
     pub fn take(&mut self, act: Act, net: NetId) -> bool
-        requires { net.0 < length self.old.wanted }
+        requires { net.0 < length self.old }
         ensures { HasDone act net.0 self.old self.new result }
     {
         match act {
             Act::Start => self.take_start(net),
-            Act::Set | Act::Expect => self.take_event(),
+            Act::Set | Act::Expect => self.is_complete(),
         }
     }
 
     fn take_start(&mut self, net: NetId) -> bool
-        requires { net.0 < length self.old.wanted }
-        ensures { MatchBool result (HasStarted self.old self.new net.0) (CannotStart self.old net.0) }
+        requires { net.0 < length self.old }
+        ensures { MatchBool result (HasStarted self.old self.new net.0) (slice_get self.old net.0 ≡ Some false) }
     {
-        let wanted = self.wanted[net.0 as usize];
-        if self.begun || !wanted {
-            return false;
+        let wants = self.wanted[net.0 as usize];
+        if wants {
+            self.wanted[net.0 as usize] = false;
+            self.missing -= 1;
         }
-        self.wanted[net.0 as usize] = false;
-        self.missing -= 1;
-        true
-    }
-
-    fn take_event(&mut self) -> bool
-        ensures { MatchBool result (HasRun self.old self.new) (IsWaiting self.old) }
-    {
-        if !self.is_complete() {
-            return false;
-        }
-        self.begun = true;
-        true
+        wants
     }
 }
