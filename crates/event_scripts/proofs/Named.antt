@@ -1,13 +1,17 @@
 -- The bit of a port that a word names.
 use Rattle.std.proofs.Common.{◌≡◌, ℕ, ◌<◌, length, ap, sym, ◌∙◌, Some, None, arith, List}
-use Rattle.std.proofs.lemmas.Option.{same_Some, slice_get_within}
+use Rattle.std.specs.Prelude.{slice_get}
+use Rattle.std.specs.Option.{option_map}
+use Rattle.std.proofs.lemmas.Option.{same_Some, slice_get_within, option_and_then_some}
+use Rattle.netlist_model.specs.declared.Dir.{Dir}
 use Rattle.netlist_model.specs.declared.NetId.{NetId}
 use Rattle.netlist_model.specs.declared.PinBit.{PinBit}
-use Rattle.netlist_model.specs.Lists.{NetlistView}
+use Rattle.netlist_model.specs.Lists.{PortView, NetlistView, direction}
 use Rattle.netlist_model.specs.Formed.{IsLaidOut, IsWellFormed}
+use Rattle.netlist_laws.specs.Ports.{BitHasDirection}
 use Rattle.netlist_link.specs.PinWords.{IsPinWord, pin_at}
 use Rattle.netlist_link.specs.PinWords.IsPinWord.{scalar, vector}
-use Rattle.event_scripts.specs.Pins.{net_of}
+use Rattle.event_scripts.specs.Pins.{net_of, side_of}
 use Rattle.event_scripts.proofs.Marked.{bit_there}
 
 -- the port and the net are there
@@ -30,6 +34,20 @@ pub bit_alone : (N : NetlistView) (pin other : PinBit) (net : NetId) → IsWellF
 bit_alone N pin other net formed one two =
     let same = formed.bits_apart other.port.0 pin.port.0 other.bit pin.bit net two one in
     ap (λ (p : ℕ). pin_at p other.bit) same.0 ∙ ap (λ (b : ℕ). pin_at pin.port.0 b) same.1
+
+-- the net has the direction of the bit's port
+pub bit_direction : (N : NetlistView) (pin : PinBit) (net : NetId) (side : Dir) → BitHasDirection → IsWellFormed N → net_of N pin ≡ Some net → side_of N pin ≡ Some side
+    → direction N.ports net.0 ≡ Some side
+bit_direction N pin net side law formed there side_is =
+    option_and_then_some (λ (p : PortView). slice_get p.nets pin.bit) (slice_get N.ports pin.port.0) net there (λ port at has.
+    law N formed side net (record {
+      number = pin.port.0;
+      port = port;
+      bit = pin.bit;
+      stands = at;
+      has = has;
+      same = same_Some port.dir side (ap (option_map (λ (p : PortView). p.dir)) (sym at) ∙ side_is);
+    }))
 
 -- a look-up gave this bit, and gives no other
 pub only_found : (pin other : PinBit) → Some pin ≡ Some other → other ≡ pin

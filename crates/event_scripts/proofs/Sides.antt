@@ -22,13 +22,6 @@ unknown Unknown e (inr is) = cc
 unknown HighZ e (inl is) = cc
 unknown HighZ e (inr is) = cc
 
--- a value that isn't anything else
-pub known_by : (value : PinSig) → ((IsKnownPin value → ⊥) → ⊥) → IsKnownPin value
-known_by Zero not_unknown = inl refl
-known_by One not_unknown = inr refl
-known_by Unknown not_unknown = absurd (not_unknown (unknown Unknown refl))
-known_by HighZ not_unknown = absurd (not_unknown (unknown HighZ refl))
-
 -- a bit that may be given a value
 pub gives_is : (side : Dir) (control : Bool) (value : PinSig) → gives side control value ≡ true → (takes side ≡ true) × (control ≡ true → is_known value ≡ true)
 gives_is Output control value e = absurd (cc)

@@ -10,7 +10,7 @@ use Rattle.netlist_model.specs.declared.NetId.{NetId}
 use Rattle.netlist_model.specs.declared.PinBit.{PinBit}
 use Rattle.netlist_model.specs.Settled.{follows_pin}
 use Rattle.netlist_model.specs.Cones.{IsControlPort}
-use Rattle.netlist_model.specs.Runs.{IsKnownPin}
+use Rattle.netlist_model.specs.Runs.{IsKnownPin, IsLegal}
 use Rattle.netlist_link.specs.Linked.{LinkedView}
 use Rattle.scan_vectors.specs.declared.lines.Act.{Act}
 use Rattle.scan_vectors.specs.declared.lines.Act.TheVariants.{Start, Set, Expect}
@@ -20,7 +20,7 @@ use Rattle.event_scripts.specs.declared.bits.Bit.{Bit}
 use Rattle.event_scripts.specs.Pins.{Names, side_of, net_of, TakesValue, IsControlBit, HasStart}
 use Rattle.event_scripts.specs.Rules.{NamesNothing, HasEvent, LacksStart, BreaksRule}
 use Rattle.event_scripts.specs.Rules.BreaksRule.{unknown, output, control, input, again, late, early}
-use Rattle.event_scripts.specs.Starts.{IsBitOf, takes, gives, shows, suits, AreWanted, IsAfter, IsWaiting, HasStarted, HasRun, HasDone, TakesLine}
+use Rattle.event_scripts.specs.Starts.{IsWordBit, takes, gives, shows, suits, AreWanted, IsAfter, IsWaiting, HasStarted, HasRun, HasDone, TakesLine}
 use Rattle.event_scripts.proofs.Flags.{get_set_same, get_set_other, get_push, get_push_left, get_push_last}
 use Rattle.event_scripts.proofs.Sides as sides
 
@@ -57,20 +57,20 @@ event_split before line has = elim (get_push before line has.place has.line has.
 -- facts of the bit that the line names
 
 -- what holds of a bit that the line names holds of this one
-named_side : (L : LinkedView) (word : List ℕ) (bit : Bit) (pin : PinBit) (side : Dir) → IsBitOf L word bit → Names L word pin → side_of L.arena.lists pin ≡ Some side → bit.side ≡ side
+named_side : (L : LinkedView) (word : List ℕ) (bit : Bit) (pin : PinBit) (side : Dir) → IsWordBit L word bit → Names L word pin → side_of L.arena.lists pin ≡ Some side → bit.side ≡ side
 named_side L word bit pin side is named at =
     same_Some bit.side side (sym is.side_is ∙ ap (side_of L.arena.lists) (sym (is.only pin named)) ∙ at)
 
-named_control : (L : LinkedView) (word : List ℕ) (bit : Bit) (pin : PinBit) → IsBitOf L word bit → Names L word pin → IsControlBit L.arena.lists pin → bit.control ≡ true
+named_control : (L : LinkedView) (word : List ℕ) (bit : Bit) (pin : PinBit) → IsWordBit L word bit → Names L word pin → IsControlBit L.arena.lists pin → bit.control ≡ true
 named_control L word bit pin is named port =
     let same : port.net ≡ bit.net = same_Some port.net bit.net (sym port.there ∙ ap (net_of L.arena.lists) (is.only pin named) ∙ is.net_is) in
     let P : NetId → Type 0 = λ n. IsControlPort L.arena.lists n.0 in
     is.control.1 (subst P same port.control)
 
-control_bit : (L : LinkedView) (word : List ℕ) (bit : Bit) → IsBitOf L word bit → bit.control ≡ true → IsControlBit L.arena.lists bit.pin
+control_bit : (L : LinkedView) (word : List ℕ) (bit : Bit) → IsWordBit L word bit → bit.control ≡ true → IsControlBit L.arena.lists bit.pin
 control_bit L word bit is e = record { net = bit.net; there = is.net_is; control = is.control.0 e }
 
-bit_value : (L : LinkedView) (word : List ℕ) (bit : Bit) → IsBitOf L word bit → takes bit.side ≡ true → TakesValue L.arena.lists bit.pin
+bit_value : (L : LinkedView) (word : List ℕ) (bit : Bit) → IsWordBit L word bit → takes bit.side ≡ true → TakesValue L.arena.lists bit.pin
 bit_value L word bit is e = record {
   net = bit.net;
   there = is.net_is;
@@ -79,7 +79,7 @@ bit_value L word bit is e = record {
 
 -- a bit that may be given no value
 
-ungiven : (L : LinkedView) (before : List Line) (line : Line) (bit : Bit) → IsBitOf L (pin_of line) bit → act_of line ≢ Expect
+ungiven : (L : LinkedView) (before : List Line) (line : Line) (bit : Bit) → IsWordBit L (pin_of line) bit → act_of line ≢ Expect
     → gives bit.side bit.control (value_of line) ≡ false → BreaksRule L before line
 ungiven L before line bit is act e = elim (sides.gives_not bit.side bit.control (value_of line) e) [
   | inl side ↦ output (record { pin = bit.pin; named = is.named; gives = act; output = is.side_is ∙ ap Some side })
@@ -93,7 +93,7 @@ ungiven L before line bit is act e = elim (sides.gives_not bit.side bit.control 
 ]
 
 -- the line can't do this with the bit
-pub unsuited : (L : LinkedView) (before : List Line) (line : Line) (bit : Bit) (act : Act) → act ≡ act_of line → IsBitOf L (pin_of line) bit
+pub unsuited : (L : LinkedView) (before : List Line) (line : Line) (bit : Bit) (act : Act) → act ≡ act_of line → IsWordBit L (pin_of line) bit
     → suits act bit.side bit.control (value_of line) ≡ false → BreaksRule L before line
 unsuited L before line bit Start act_is is e = ungiven L before line bit is (λ x. absurd (let no : Start ≡ Expect = act_is ∙ x in cc)) e
 unsuited L before line bit Set act_is is e = ungiven L before line bit is (λ x. absurd (let no : Set ≡ Expect = act_is ∙ x in cc)) e
@@ -121,7 +121,7 @@ had_start L before starts pin net after value there e = elim (after.wanted.each 
   | inr has ↦ has.1
 ]
 
-pub refused : (L : LinkedView) (before : List Line) (line : Line) (bit : Bit) (act : Act) (old new : List Bool) → act ≡ act_of line → IsBitOf L (pin_of line) bit
+pub refused : (L : LinkedView) (before : List Line) (line : Line) (bit : Bit) (act : Act) (old new : List Bool) → act ≡ act_of line → IsWordBit L (pin_of line) bit
     → suits act bit.side bit.control (value_of line) ≡ true → HasDone act bit.net.0 old new false → IsAfter L before old → BreaksRule L before line
 refused L before line bit Start old new act_is is e flag after =
     let value = bit_value L (pin_of line) bit is (sides.gives_is bit.side bit.control (value_of line) e).0 in
@@ -133,7 +133,7 @@ refused L before line bit Expect old new act_is is e waiting after =
 
 -- taken: what is known then
 
-wanted_started : (L : LinkedView) (before : List Line) (line : Line) (bit : Bit) (flags : List Bool) → IsBitOf L (pin_of line) bit → act_of line ≡ Start
+wanted_started : (L : LinkedView) (before : List Line) (line : Line) (bit : Bit) (flags : List Bool) → IsWordBit L (pin_of line) bit → act_of line ≡ Start
     → slice_get flags bit.net.0 ≡ Some true → AreWanted L before flags → AreWanted L (before ++ line ∷ []) (slice_set flags bit.net.0 false)
 wanted_started L before line bit flags is start wants wanted = record {
   count = length-set flags bit.net.0 false ∙ wanted.count;
@@ -178,7 +178,7 @@ wanted_same L before line flags event wanted = record {
   only = wanted.only;
 }
 
-after_start : (L : LinkedView) (before : List Line) (line : Line) (bit : Bit) (old new : List Bool) → IsBitOf L (pin_of line) bit → act_of line ≡ Start
+after_start : (L : LinkedView) (before : List Line) (line : Line) (bit : Bit) (old new : List Bool) → IsWordBit L (pin_of line) bit → act_of line ≡ Start
     → HasStarted old new bit.net.0 → IsAfter L before old → IsAfter L (before ++ line ∷ []) new
 after_start L before line bit old new is start done after =
     let P : List Bool → Type 0 = AreWanted L (before ++ line ∷ []) in
@@ -202,13 +202,13 @@ after_event L before line old new event done after =
 -- taken: no rule is broken
 
 -- the rules on giving a value, of a line that may
-given_kept : (L : LinkedView) (line : Line) (bit : Bit) → IsBitOf L (pin_of line) bit → gives bit.side bit.control (value_of line) ≡ true
+given_kept : (L : LinkedView) (line : Line) (bit : Bit) → IsWordBit L (pin_of line) bit → gives bit.side bit.control (value_of line) ≡ true
     → (takes bit.side ≡ true) × (bit.control ≡ true → IsKnownPin (value_of line))
 given_kept L line bit is e =
     let both = sides.gives_is bit.side bit.control (value_of line) e in
     (both.0, λ c. sides.known (value_of line) (both.1 c))
 
-start_kept : (L : LinkedView) (before : List Line) (line : Line) (bit : Bit) (old new : List Bool) → IsBitOf L (pin_of line) bit → act_of line ≡ Start
+start_kept : (L : LinkedView) (before : List Line) (line : Line) (bit : Bit) (old new : List Bool) → IsWordBit L (pin_of line) bit → act_of line ≡ Start
     → gives bit.side bit.control (value_of line) ≡ true → HasStarted old new bit.net.0 → IsAfter L before old → BreaksRule L before line → ⊥
 start_kept L before line bit old new is start e done after (unknown none) = none bit.pin is.named
 start_kept L before line bit old new is start e done after (output r) =
@@ -241,7 +241,7 @@ all_started = complete
 pub start_lacks : (L : LinkedView) (before : List Line) (starts : List Bool) → IsAfter L before starts → IsWaiting starts → LacksStart L before
 start_lacks = lacks
 
-set_kept : (L : LinkedView) (before : List Line) (line : Line) (bit : Bit) (old new : List Bool) → IsBitOf L (pin_of line) bit → act_of line ≡ Set
+set_kept : (L : LinkedView) (before : List Line) (line : Line) (bit : Bit) (old new : List Bool) → IsWordBit L (pin_of line) bit → act_of line ≡ Set
     → gives bit.side bit.control (value_of line) ≡ true → HasRun old new → IsAfter L before old → BreaksRule L before line → ⊥
 set_kept L before line bit old new is set e done after (unknown none) = none bit.pin is.named
 set_kept L before line bit old new is set e done after (output r) =
@@ -253,7 +253,7 @@ set_kept L before line bit old new is set e done after (again r) = let no : Set 
 set_kept L before line bit old new is set e done after (late r) = let no : Set ≡ Start = sym set ∙ r.start in cc
 set_kept L before line bit old new is set e done after (early r) = r.lacks.none (complete L before old after done.complete r.lacks.pin r.lacks.takes)
 
-expect_kept : (L : LinkedView) (before : List Line) (line : Line) (bit : Bit) (old new : List Bool) → IsBitOf L (pin_of line) bit → act_of line ≡ Expect
+expect_kept : (L : LinkedView) (before : List Line) (line : Line) (bit : Bit) (old new : List Bool) → IsWordBit L (pin_of line) bit → act_of line ≡ Expect
     → shows bit.side ≡ true → HasRun old new → IsAfter L before old → BreaksRule L before line → ⊥
 expect_kept L before line bit old new is expect e done after (unknown none) = none bit.pin is.named
 expect_kept L before line bit old new is expect e done after (output r) = r.gives expect
@@ -264,7 +264,7 @@ expect_kept L before line bit old new is expect e done after (again r) = let no 
 expect_kept L before line bit old new is expect e done after (late r) = let no : Expect ≡ Start = sym expect ∙ r.start in cc
 expect_kept L before line bit old new is expect e done after (early r) = r.lacks.none (complete L before old after done.complete r.lacks.pin r.lacks.takes)
 
-pub taken : (L : LinkedView) (before : List Line) (line : Line) (bit : Bit) (act : Act) (old new : List Bool) → act ≡ act_of line → IsBitOf L (pin_of line) bit
+pub taken : (L : LinkedView) (before : List Line) (line : Line) (bit : Bit) (act : Act) (old new : List Bool) → act ≡ act_of line → IsWordBit L (pin_of line) bit
     → suits act bit.side bit.control (value_of line) ≡ true → HasDone act bit.net.0 old new true → IsAfter L before old
     → (BreaksRule L before line → ⊥) × IsAfter L (before ++ line ∷ []) new
 taken L before line bit Start old new act_is is e done after =
@@ -274,19 +274,37 @@ taken L before line bit Set old new act_is is e done after =
 taken L before line bit Expect old new act_is is e done after =
     (expect_kept L before line bit old new is (sym act_is) e done after, after_event L before line old new (λ x. absurd (let no : Expect ≡ Start = act_is ∙ x in cc)) done after)
 
+-- a start or a set is a legal event
+legal_event : (L : LinkedView) (word : List ℕ) (value : PinSig) (bit : Bit) (net : NetId) → IsWordBit L word bit → gives bit.side bit.control value ≡ true
+    → net_of L.arena.lists bit.pin ≡ Some net → IsLegal L.arena.lists (record { net = net.0; value = value })
+legal_event L word value bit net is e there =
+    let both = sides.gives_is bit.side bit.control value e in
+    let same : bit.net ≡ net = same_Some bit.net net (sym is.net_is ∙ there) in
+    let P : NetId → Type 0 = λ n. IsLegal L.arena.lists (record { net = n.0; value = value }) in
+    subst P same (record {
+      taken = ap follows_pin is.direction_is ∙ sides.takes_follows bit.side both.0;
+      control = λ port. sides.known value (both.1 (is.control.1 port));
+    })
+
+suited_event : (L : LinkedView) (word : List ℕ) (act : Act) (value : PinSig) (bit : Bit) (net : NetId) → IsWordBit L word bit → suits act bit.side bit.control value ≡ true
+    → act ≢ Expect → net_of L.arena.lists bit.pin ≡ Some net → IsLegal L.arena.lists (record { net = net.0; value = value })
+suited_event L word Start value bit net is e act there = legal_event L word value bit net is e there
+suited_event L word Set value bit net is e act there = legal_event L word value bit net is e there
+suited_event L word Expect value bit net is e act there = absurd (act refl)
+
 -- the same, by the parts of the line
 
-at_parts : (L : LinkedView) (word : List ℕ) (line : Line) (bit : Bit) → word ≡ pin_of line → IsBitOf L word bit → IsBitOf L (pin_of line) bit
-at_parts L word line bit same is = let P : List ℕ → Type 0 = λ w. IsBitOf L w bit in subst P same is
+at_parts : (L : LinkedView) (word : List ℕ) (line : Line) (bit : Bit) → word ≡ pin_of line → IsWordBit L word bit → IsWordBit L (pin_of line) bit
+at_parts L word line bit same is = let P : List ℕ → Type 0 = λ w. IsWordBit L w bit in subst P same is
 
 pub line_refused : (L : LinkedView) (before : List Line) (line : Line) (act : Act) (word : List ℕ) (value : PinSig) (bit : Bit) (old new : List Bool)
-    → act ≡ act_of line → word ≡ pin_of line → value ≡ value_of line → IsBitOf L word bit → suits act bit.side bit.control value ≡ true
+    → act ≡ act_of line → word ≡ pin_of line → value ≡ value_of line → IsWordBit L word bit → suits act bit.side bit.control value ≡ true
     → HasDone act bit.net.0 old new false → IsAfter L before old → BreaksRule L before line
 line_refused L before line act word value bit old new act_is word_is value_is is e done after =
     refused L before line bit act old new act_is (at_parts L word line bit word_is is) (ap (suits act bit.side bit.control) (sym value_is) ∙ e) done after
 
 pub line_taken : (L : LinkedView) (before : List Line) (line : Line) (act : Act) (word : List ℕ) (value : PinSig) (number : ℕ) (bit : Bit) (old new : List Bool)
-    → act ≡ act_of line → word ≡ pin_of line → value ≡ value_of line → IsBitOf L word bit → suits act bit.side bit.control value ≡ true
+    → act ≡ act_of line → word ≡ pin_of line → value ≡ value_of line → IsWordBit L word bit → suits act bit.side bit.control value ≡ true
     → HasDone act bit.net.0 old new true → IsAfter L before old
     → TakesLine L before line number new (record { act = act; pin = bit.pin; value = value; number = number })
 line_taken L before line act word value number bit old new act_is word_is value_is is e done after =
@@ -297,6 +315,7 @@ line_taken L before line act word value number bit old new act_is word_is value_
         found_is = record { act = act_is; pin = here.named; value = value_is; number_is = refl };
         only = here.only;
         there = rw here.net_is refl;
+        legal = λ net other there. suited_event L word act value bit net is e other there;
         kept = both.0;
       };
       after = both.1;

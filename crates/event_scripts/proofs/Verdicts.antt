@@ -5,22 +5,19 @@ use Rattle.std.proofs.lemmas.List.{length_push, length-map, take_all}
 use Rattle.std.proofs.lemmas.Bool.{cases_eq, cases_lt}
 use Rattle.std.proofs.lemmas.Option.{same_Some, slice_get_within, slice_get_read, slice_get-get_or}
 use Rattle.netlist_model.specs.declared.PinBit.{PinBit}
-use Rattle.netlist_model.specs.Runs.{IsKnownPin}
 use Rattle.netlist_link.specs.Linked.{LinkedView}
-use Rattle.signal_values.specs.declared.PinSig.{PinSig}
 use Rattle.scan_vectors.specs.declared.lines.Act.TheVariants.{Start}
 use Rattle.scan_vectors.specs.declared.lines.Line.{Line}
 use Rattle.scan_vectors.specs.declared.lines.Lines.{Lines}
 use Rattle.scan_vectors.specs.Grammar.{act_of, pin_of}
 use Rattle.event_scripts.specs.declared.script.ScriptLine.{ScriptLine}
 use Rattle.event_scripts.specs.Pins.{Names, HasStart}
-use Rattle.event_scripts.specs.Rules.{BreaksRule, IsBroken, IsUnbroken, IsFirstBroken, IsIllegalAt, IsLegal}
-use Rattle.event_scripts.specs.Rules.BreaksRule.{output, control, input, again, late}
-use Rattle.event_scripts.specs.Rules.IsIllegalAt.{broken, unstarted}
+use Rattle.event_scripts.specs.Rules.{BreaksRule, IsBroken, IsUnbroken, IsFirstBroken, AreIllegalAt, AreLegal}
+use Rattle.event_scripts.specs.Rules.BreaksRule.{output, input, again, late}
+use Rattle.event_scripts.specs.Rules.AreIllegalAt.{broken, unstarted}
 use Rattle.event_scripts.specs.Scripts.{IsFound, IsScriptOf, IsStartAt, IsPlayable, IsResolved, IsSpelled}
 use Rattle.event_scripts.specs.Starts.{IsAfter, IsWaiting, IsComplete, IsTaken, TakesLine}
 use Rattle.event_scripts.proofs.Flags.{get_push, get_take, get_within, take_push}
-use Rattle.event_scripts.proofs.Sides.{known_by}
 use Rattle.event_scripts.proofs.Steps.{all_started, start_lacks}
 
 -- there are as many numbers as lines
@@ -101,7 +98,7 @@ gone_next L lines place script old new line number found there numbered takes go
 -- the next line breaks a rule
 pub gone_broken : (L : LinkedView) (lines : Lines) (place : ℕ) (script : List ScriptLine) (starts : List Bool) (line : Line) (number : ℕ)
     → slice_get lines.list place ≡ Some line → slice_get lines.numbers place ≡ Some number → BreaksRule L (take place lines.list) line
-    → IsGone L lines place script starts → IsIllegalAt L lines number
+    → IsGone L lines place script starts → AreIllegalAt L lines number
 gone_broken L lines place script starts line number there numbered rule gone =
     broken (record { here = record { line = line; there = there; rule = rule }; first = gone.kept }) numbered
 
@@ -119,12 +116,12 @@ gone_after L lines place script starts all gone =
     subst P (take_all place lines.list (omega arith)) gone.after
 
 pub gone_waiting : (L : LinkedView) (lines : Lines) (place : ℕ) (script : List ScriptLine) (starts : List Bool) → place ≡ length lines.list → IsGone L lines place script starts
-    → IsWaiting starts → IsIllegalAt L lines lines.end
+    → IsWaiting starts → AreIllegalAt L lines lines.end
 gone_waiting L lines place script starts all gone waiting =
     unstarted (gone_unbroken L lines place script starts all gone) (start_lacks L lines.list starts (gone_after L lines place script starts all gone) waiting)
 
 gone_legal : (L : LinkedView) (lines : Lines) (place : ℕ) (script : List ScriptLine) (starts : List Bool) → place ≡ length lines.list → IsGone L lines place script starts
-    → IsComplete starts → IsLegal L lines
+    → IsComplete starts → AreLegal L lines
 gone_legal L lines place script starts all gone complete = record {
   unbroken = gone_unbroken L lines place script starts all gone;
   started = all_started L lines.list starts (gone_after L lines place script starts all gone) complete;
@@ -219,16 +216,7 @@ gone_playable L lines place script starts all gone complete = record {
       | inr not_less ↦ absurd (gone_once L lines place script starts gone other one pin (omega (arith, apart)) second first)
     ]
   ];
-  controls = λ k line at act is.
-      let gone_line = gone.each k line at in
-      let found = gone_line.taken.found_is in
-      known_by line.value (λ unknown. gone_line.taken.kept (control (record {
-        pin = line.pin;
-        named = found.pin;
-        gives = λ e. act (found.act ∙ e);
-        control = is;
-        value = λ is_known. unknown (let P : PinSig → Type 0 = IsKnownPin in subst P (sym found.value) is_known);
-      })));
+  legal = λ k line net at. (gone.each k line at).taken.legal net;
   outputs = λ k line at act side.
       let gone_line = gone.each k line at in
       let found = gone_line.taken.found_is in
@@ -249,7 +237,7 @@ gone_all L lines place script starts all gone complete = record {
 
 -- legal or illegal, and where
 
-pub legal_is_not_illegal : (L : LinkedView) (lines : Lines) (number : ℕ) → IsLegal L lines → IsIllegalAt L lines number → ⊥
+pub legal_is_not_illegal : (L : LinkedView) (lines : Lines) (number : ℕ) → AreLegal L lines → AreIllegalAt L lines number → ⊥
 legal_is_not_illegal L lines number legal (broken {place = place} first at) = legal.unbroken place first.here
 legal_is_not_illegal L lines number legal (unstarted none lacks) = lacks.none (legal.started lacks.pin lacks.takes)
 
@@ -262,7 +250,7 @@ one_first L lines one other a b = elim (cases_lt one other) [
   ]
 ]
 
-pub illegal_at_one_line : (L : LinkedView) (lines : Lines) (one other : ℕ) → IsIllegalAt L lines one → IsIllegalAt L lines other → one ≡ other
+pub illegal_at_one_line : (L : LinkedView) (lines : Lines) (one other : ℕ) → AreIllegalAt L lines one → AreIllegalAt L lines other → one ≡ other
 illegal_at_one_line L lines one other (broken {place = p} first at) (broken {place = q} second here) =
     same_Some one other (sym at ∙ ap (slice_get lines.numbers) (one_first L lines.list p q first second) ∙ here)
 illegal_at_one_line L lines one other (broken {place = p} first at) (unstarted none lacks) = absurd (none p first.here)

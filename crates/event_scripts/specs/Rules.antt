@@ -93,11 +93,11 @@ pub record IsFirstBroken (L : LinkedView) (lines : List Line) (place : ℕ) : Ty
 
 -- own: the lines are illegal at the one with this number, which is the first that breaks a rule; or, where they end before
 -- each input and inout bit has its start, at the line after the last
-pub data IsIllegalAt (L : LinkedView) (lines : Lines) : ℕ → Type 0 where
-  broken : {place number : ℕ} → IsFirstBroken L lines.list place → slice_get lines.numbers place ≡ Some number → IsIllegalAt L lines number
-  unstarted : IsUnbroken L lines.list → LacksStart L lines.list → IsIllegalAt L lines lines.end
+pub data AreIllegalAt (L : LinkedView) (lines : Lines) : ℕ → Type 0 where
+  broken : {place number : ℕ} → IsFirstBroken L lines.list place → slice_get lines.numbers place ≡ Some number → AreIllegalAt L lines number
+  unstarted : IsUnbroken L lines.list → LacksStart L lines.list → AreIllegalAt L lines lines.end
 
 -- own: the lines are legal: none breaks a rule, and each input and inout bit has its start
-pub record IsLegal (L : LinkedView) (lines : Lines) : Type 0 where
+pub record AreLegal (L : LinkedView) (lines : Lines) : Type 0 where
   pub unbroken : IsUnbroken L lines.list
   pub started : (pin : PinBit) → TakesValue L.arena.lists pin → HasStart L lines.list pin

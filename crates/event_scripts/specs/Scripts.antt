@@ -1,9 +1,10 @@
 -- Scripts, and what is told where lines are none.
 use Rattle.std.specs.Prelude.{◌≡◌, ◌≢◌, ℕ, ◌<◌, List, length, slice_get, Some, IsSome}
 use Rattle.netlist_model.specs.declared.Dir.TheVariants.{Input, Output}
+use Rattle.netlist_model.specs.declared.NetId.{NetId}
 use Rattle.netlist_model.specs.declared.PinBit.{PinBit}
 use Rattle.netlist_model.specs.Lists.{NetlistView}
-use Rattle.netlist_model.specs.Runs.{IsKnownPin}
+use Rattle.netlist_model.specs.Runs.{IsLegal}
 use Rattle.netlist_link.specs.Linked.{LinkedView}
 use Rattle.scan_vectors.specs.declared.lines.Act.TheVariants.{Start, Expect}
 use Rattle.scan_vectors.specs.declared.lines.Line.{Line}
@@ -12,8 +13,8 @@ use Rattle.scan_vectors.specs.Grammar.{act_of, pin_of, value_of, SpellsLines}
 use Rattle.event_scripts.specs.declared.script.ScriptLine.{ScriptLine}
 use Rattle.event_scripts.specs.declared.fault.ScriptFault.{ScriptFault}
 use Rattle.event_scripts.specs.declared.fault.ScriptFault.TheVariants.{EventIllegal, OutOfMemory}
-use Rattle.event_scripts.specs.Pins.{Names, side_of, net_of, TakesValue, IsControlBit}
-use Rattle.event_scripts.specs.Rules.{IsLegal, IsIllegalAt}
+use Rattle.event_scripts.specs.Pins.{Names, side_of, net_of, TakesValue}
+use Rattle.event_scripts.specs.Rules.{AreLegal, AreIllegalAt}
 
 -- own: some bytes spell these lines, with their numbers and their end
 pub record IsSpelled (lines : Lines) : Type 0 where
@@ -50,20 +51,20 @@ pub record IsPlayable (N : NetlistView) (script : List ScriptLine) : Type 0 wher
   -- they name each input and inout bit, and none twice
   pub each_started : (pin : PinBit) → TakesValue N pin → (place : ℕ) × IsStartAt script place pin
   pub once : (start other : ℕ) (pin : PinBit) → IsStartAt script start pin → IsStartAt script other pin → start ≡ other
-  -- a control port takes 0 or 1 alone
-  pub controls : (place : ℕ) (line : ScriptLine) → slice_get script place ≡ Some line → line.act ≢ Expect
-      → IsControlBit N line.pin → IsKnownPin line.value
+  -- each start or set is a legal event: it names an input or inout bit, and a control port takes 0 or 1 alone
+  pub legal : (place : ℕ) (line : ScriptLine) (net : NetId) → slice_get script place ≡ Some line → line.act ≢ Expect
+      → net_of N line.pin ≡ Some net → IsLegal N (record { net = net.0; value = line.value })
   -- no start or set names an output, and no expect names an input
   pub outputs : (place : ℕ) (line : ScriptLine) → slice_get script place ≡ Some line → line.act ≢ Expect → side_of N line.pin ≢ Some Output
   pub inputs : (place : ℕ) (line : ScriptLine) → slice_get script place ≡ Some line → line.act ≡ Expect → side_of N line.pin ≢ Some Input
 
 -- own: no rule is broken, and this is the script of the lines
 pub record IsResolved (L : LinkedView) (lines : Lines) (script : List ScriptLine) : Type 0 where
-  pub legal : IsLegal L lines
+  pub legal : AreLegal L lines
   pub same : IsScriptOf L lines script
   pub playable : IsPlayable L.arena.lists script
 
 -- own: what a fault says of the lines; want of memory says nothing
 abbrev pub IsFault : LinkedView → Lines → ScriptFault → Type 0
-IsFault L lines (EventIllegal number) = IsIllegalAt L lines number
+IsFault L lines (EventIllegal number) = AreIllegalAt L lines number
 IsFault L lines OutOfMemory = Unit {0}

@@ -1,13 +1,14 @@
 -- What stands while the lines are gone through.
-use Rattle.std.specs.Prelude.{◌≡◌, ℕ, ◌<◌, ◌&&◌, ◌||◌, ◌⊎◌, ◌↔◌, Bool, true, false, not, List, [], ◌∷◌, ◌++◌, length, slice_get, slice_set, Some, IsSome, MatchBool}
+use Rattle.std.specs.Prelude.{◌≡◌, ◌≢◌, ℕ, ◌<◌, ◌&&◌, ◌||◌, ◌⊎◌, ◌↔◌, Bool, true, false, not, List, [], ◌∷◌, ◌++◌, length, slice_get, slice_set, Some, IsSome, MatchBool}
 use Rattle.signal_values.specs.declared.PinSig.{PinSig}
 use Rattle.signal_values.specs.declared.PinSig.TheVariants.{Zero, One, Unknown, HighZ}
 use Rattle.netlist_model.specs.declared.Dir.{Dir}
 use Rattle.netlist_model.specs.declared.Dir.TheVariants.{Input, Output, Inout}
 use Rattle.netlist_model.specs.declared.NetId.{NetId}
 use Rattle.netlist_model.specs.declared.PinBit.{PinBit}
-use Rattle.netlist_model.specs.Lists.{NetlistView}
+use Rattle.netlist_model.specs.Lists.{NetlistView, direction}
 use Rattle.netlist_model.specs.Cones.{IsControlPort}
+use Rattle.netlist_model.specs.Runs.{IsLegal}
 use Rattle.netlist_link.specs.Linked.{LinkedView}
 use Rattle.scan_vectors.specs.declared.lines.Act.{Act}
 use Rattle.scan_vectors.specs.declared.lines.Act.TheVariants.{Start, Set, Expect}
@@ -22,13 +23,14 @@ use Rattle.event_scripts.specs.Scripts.{IsFound}
 -- What a line does with a bit.
 
 -- own: the word names this bit and no other, and these are its net, which no other bit has, and its side, and whether it is a control port
-pub record IsBitOf (L : LinkedView) (word : List ℕ) (bit : Bit) : Type 0 where
+pub record IsWordBit (L : LinkedView) (word : List ℕ) (bit : Bit) : Type 0 where
   pub named : Names L word bit.pin
   pub only : (other : PinBit) → Names L word other → other ≡ bit.pin
   pub alone : (other : PinBit) → net_of L.arena.lists other ≡ Some bit.net → other ≡ bit.pin
   pub net_is : net_of L.arena.lists bit.pin ≡ Some bit.net
   pub below : bit.net.0 < length L.arena.lists.nets
   pub side_is : side_of L.arena.lists bit.pin ≡ Some bit.side
+  pub direction_is : direction L.arena.lists.ports bit.net.0 ≡ Some bit.side
   pub control : (bit.control ≡ true) ↔ IsControlPort L.arena.lists bit.net.0
 
 -- own: a bit on this side takes a value
@@ -129,6 +131,7 @@ pub record IsTaken (L : LinkedView) (before : List Line) (line : Line) (number :
   pub found_is : IsFound L line number found
   pub only : (other : PinBit) → Names L (pin_of line) other → other ≡ found.pin
   pub there : IsSome (net_of L.arena.lists found.pin)
+  pub legal : (net : NetId) → found.act ≢ Expect → net_of L.arena.lists found.pin ≡ Some net → IsLegal L.arena.lists (record { net = net.0; value = found.value })
   pub kept : BreaksRule L before line → ⊥
 
 -- own: the line was taken behind these

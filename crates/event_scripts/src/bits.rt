@@ -2,8 +2,9 @@
 ghost use Rattle.std.specs.Prelude.{◌≡◌, ◌<◌, ℕ, List, MatchOption, IsSome, length};
 ghost use Rattle.netlist_model.specs.declared.PinBit.{PinBit};
 ghost use Rattle.event_scripts.specs.Pins.{Names, net_of};
-ghost use Rattle.event_scripts.specs.Starts.{IsBitOf, gives, is_known, shows, suits, takes};
+ghost use Rattle.event_scripts.specs.Starts.{IsWordBit, gives, is_known, shows, suits, takes};
 
+use netlist_laws::direction_of_a_bit;
 use netlist_link::Linked;
 use netlist_model::{Dir, NetId, PinBit};
 use scan_vectors::Act;
@@ -20,7 +21,7 @@ pub struct Bit {
 
 /// The bit that a word names.
 pub fn find_bit(linked: &Linked, word: &[u8]) -> Option<Bit>
-    ensures { MatchOption result ((pin : PinBit) → Names linked.now word.now pin → ⊥) (IsBitOf linked.now word.now) }
+    ensures { MatchOption result ((pin : PinBit) → Names linked.now word.now pin → ⊥) (IsWordBit linked.now word.now) }
 {
     match linked.find_pin(word) {
         Some(pin) => Some(bit_at(linked, pin)),
@@ -32,8 +33,9 @@ pub fn find_bit(linked: &Linked, word: &[u8]) -> Option<Bit>
 fn bit_at(linked: &Linked, pin: PinBit) -> Bit
     requires { (word : List ℕ) × Names linked.now word pin }
     ensures pin { result.pin ≡ pin }
-    ensures same { (word : List ℕ) → Names linked.now word pin → ((other : PinBit) → Names linked.now word other → other ≡ pin) → IsBitOf linked.now word result }
+    ensures same { (word : List ℕ) → Names linked.now word pin → ((other : PinBit) → Names linked.now word other → other ≡ pin) → IsWordBit linked.now word result }
 {
+    direction_of_a_bit();
     let netlist = linked.netlist();
     netlist.is_laid_out();
     let net = netlist.pin_net(pin);
