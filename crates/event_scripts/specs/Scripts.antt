@@ -65,6 +65,6 @@ pub record IsResolved (L : LinkedView) (lines : Lines) (script : List ScriptLine
   pub playable : IsPlayable L.arena.lists script
 
 -- own: what a fault says of the lines; want of memory says nothing
-abbrev pub IsFault : LinkedView → Lines → ScriptFault → Type 0
-IsFault L lines (EventIllegal number) = AreIllegalAt L lines number
-IsFault L lines OutOfMemory = Unit {0}
+abbrev pub IsScriptFault : LinkedView → Lines → ScriptFault → Type 0
+IsScriptFault L lines (EventIllegal number) = AreIllegalAt L lines number
+IsScriptFault L lines OutOfMemory = Unit {0}

@@ -1,7 +1,7 @@
 ghost use Rattle.std.specs.Prelude.{◌≡◌, length, List, IfErr, IfOk, MatchOption};
 ghost use Rattle.scan_vectors.specs.declared.lines.Line.{Line};
 ghost use Rattle.event_scripts.specs.Rules.{BreaksRule};
-ghost use Rattle.event_scripts.specs.Scripts.{IsFault, IsResolved, IsSpelled};
+ghost use Rattle.event_scripts.specs.Scripts.{IsScriptFault, IsResolved, IsSpelled};
 ghost use Rattle.event_scripts.specs.Starts.{IsAfter, TakesLine};
 
 use crate::bits::{find_bit, suits};
@@ -18,7 +18,7 @@ use std::alloc::Global;
 pub fn resolve(alloc: Global, lines: &Lines, linked: &Linked) -> Result<Script, ScriptFault>
     requires { IsSpelled lines.now }
     ensures ok { IfOk result (λ script. IsResolved linked.now lines.now script.list) }
-    ensures fault { IfErr result (IsFault linked.now lines.now) }
+    ensures fault { IfErr result (IsScriptFault linked.now lines.now) }
 {
     let mut starts = Starts::new(alloc, linked)?;
     let mut script = Row::new(alloc);

@@ -23,7 +23,10 @@ fn main(rt: HostRuntime) -> io::Result<()> {
         }
         match &netlist {
             Some(linked) => try_file(&rt, linked, word.as_str(), timed)?,
-            None => netlist = linked_of_file(&rt, word.as_str()),
+            None => match linked_of_file(&rt, word.as_str()) {
+                Some(linked) => netlist = Some(linked),
+                None => return println!(rt; "{}: no netlist", word.as_str()),
+            },
         }
     }
     Ok(())

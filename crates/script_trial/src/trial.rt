@@ -1,7 +1,9 @@
+ghost use Rattle.event_scripts.specs.Scripts.{IsSpelled};
+
 use edge_io::{Shelf, Text, read_whole};
 use event_scripts::{Script, ScriptFault, resolve};
 use netlist_link::{Linked, link};
-use scan_vectors::read_events;
+use scan_vectors::{Lines, read_events};
 use std::alloc::Global;
 use std::fmt;
 use verilog_texts::read_module;
@@ -21,11 +23,16 @@ pub(crate) enum Trial {
 impl Trial {
     /// Reads the events of a text, and resolves them.
     pub(crate) fn of(alloc: Global, linked: &Linked, bytes: &[u8]) -> Trial {
-        let lines = match read_events(alloc, bytes) {
-            Ok(lines) => lines,
-            Err(_) => return Trial::NoEvents,
-        };
-        match resolve(alloc, &lines, linked) {
+        match read_events(alloc, bytes) {
+            Ok(lines) => Trial::of_lines(alloc, linked, &lines),
+            Err(_) => Trial::NoEvents,
+        }
+    }
+
+    fn of_lines(alloc: Global, linked: &Linked, lines: &Lines) -> Trial
+        requires { IsSpelled lines.now }
+    {
+        match resolve(alloc, lines, linked) {
             Ok(script) => Trial::Resolved(script),
             Err(ScriptFault::EventIllegal { line }) => Trial::Illegal(line),
             Err(ScriptFault::OutOfMemory) => Trial::OutOfMemory,
