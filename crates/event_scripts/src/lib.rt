@@ -14,5 +14,6 @@ mod tables;
 
 pub use fault::ScriptFault;
 pub use laws::legal_lines_are_not_illegal;
+pub use parts::{Parts, parts_of};
 pub use resolving::resolve;
 pub use script::{Script, ScriptLine};
