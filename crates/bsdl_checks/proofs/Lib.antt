@@ -1,8 +1,5 @@
-pub mod Bits
-pub mod ControlSets
+pub mod CellRows
 pub mod Few
+pub mod Finding
 pub mod Ordered
-pub mod Repeats
-pub mod Sets
-pub mod Tables
 pub mod Words

@@ -78,9 +78,13 @@ pub word-capture : (f : File) → first_word f 12 ≡ first_word f 11 + 8 + stri
 unfolding first_word
 word-capture f = omega (arith, before f 11, before f 10, attribute-length (codes "INSTRUCTION_OPCODE") f.opcodes)
 
-pub word-access : (f : File) → first_word f 14 ≡ first_word f 12 + 8 + strings_count f.capture.strings + idcode_count f.idcode
+pub word-idcode : (f : File) → first_word f 13 ≡ first_word f 12 + 8 + strings_count f.capture.strings
 unfolding first_word
-word-access f = omega (arith, before f 13, before f 11, attribute-length (codes "INSTRUCTION_CAPTURE") f.capture, idcode-length f)
+word-idcode f = omega (arith, before f 12, before f 11, attribute-length (codes "INSTRUCTION_CAPTURE") f.capture)
+
+pub word-access : (f : File) → first_word f 14 ≡ first_word f 13 + idcode_count f.idcode
+unfolding first_word
+word-access f = omega (arith, before f 13, before f 12, idcode-length f)
 
 pub word-boundary_length : (f : File) → first_word f 15 ≡ first_word f 14 + 8 + strings_count f.access.strings
 unfolding first_word
@@ -90,9 +94,9 @@ pub word-boundary : (f : File) → first_word f 16 ≡ first_word f 15 + 9
 unfolding first_word
 word-boundary f = omega (arith, before f 15, before f 14)
 
-pub word-all : (f : File) → first_word f 16 ≤ all_words f
+pub word-all : (f : File) → first_word f 16 + 8 ≤ all_words f
 unfolding first_word all_words
-word-all f = omega (arith, before f 15, joined-length (sections f))
+word-all f = omega (arith, before f 15, joined-length (sections f), attribute-length (codes "BOUNDARY_REGISTER") f.boundary)
 
 pub fits-boundary_length : (f : File) → first_word f 15 ≤ all_words f
 fits-boundary_length f = omega (arith, word-boundary f, word-all f)
@@ -100,8 +104,11 @@ fits-boundary_length f = omega (arith, word-boundary f, word-all f)
 pub fits-access : (f : File) → first_word f 14 ≤ all_words f
 fits-access f = omega (arith, word-boundary_length f, fits-boundary_length f)
 
+pub fits-idcode : (f : File) → first_word f 13 ≤ all_words f
+fits-idcode f = omega (arith, word-access f, fits-access f)
+
 pub fits-capture : (f : File) → first_word f 12 ≤ all_words f
-fits-capture f = omega (arith, word-access f, fits-access f)
+fits-capture f = omega (arith, word-idcode f, fits-idcode f)
 
 pub fits-opcode : (f : File) → first_word f 11 ≤ all_words f
 fits-opcode f = omega (arith, word-capture f, fits-capture f)
@@ -115,7 +122,7 @@ fits-tap f = omega (arith, word-length f, fits-length f)
 pub fits-pin_map : (f : File) → first_word f 7 ≤ all_words f
 fits-pin_map f = omega (arith, word-tap f, fits-tap f)
 
-pub ruleset section_words = (word-pin_map, word-tap, word-length, word-opcode, word-capture, word-access, word-boundary_length, word-boundary, word-all, fits-boundary_length, fits-access, fits-capture, fits-opcode, fits-length, fits-tap, fits-pin_map, names-length)
+pub ruleset section_words = (word-pin_map, word-tap, word-length, word-opcode, word-capture, word-idcode, word-access, word-boundary_length, word-boundary, word-all, fits-boundary_length, fits-access, fits-idcode, fits-capture, fits-opcode, fits-length, fits-tap, fits-pin_map, names-length)
 
 -- the words of a declaration, by its type
 pub declaration_words_count : (d : PortDeclaration) → length (declaration_words d) ≡ strings_count d.names + 2 + option_map_or (λ (r : WrittenRange). 6) d.range 1

@@ -1,6 +1,3 @@
-pub mod Before
-pub mod Bits
-pub mod Controls
 pub mod Counts
 pub mod Ordered
-pub mod Seen
+pub mod Tables

@@ -1,41 +1,96 @@
-// Kinds and functions of boundary cells.
-ghost use Rattle.std.specs.Prelude.{◌≡◌};
-ghost use Rattle.bsdl_device.specs.RowRules as row_rule;
+// The cells of a device's boundary register.
+ghost use Rattle.std.specs.Prelude.{◌≡◌, ◌≤◌, ◌++◌, [], IfOk, OnOk, find, length, map};
+ghost use Rattle.std.specs.List.{cons_option};
+ghost use Rattle.std.specs.Option.{option_map};
+ghost use Rattle.bsdl_device.specs.Checks as rule;
+ghost use Rattle.bsdl_device.specs.Denoted as denoted;
 
-use bsdl_device::RowEntry;
-use cell_library::{BoundaryKind, Function};
+use crate::row_table::RowTable;
+use bsdl_device::{CellRow, DevBit, PortBit, RowEntry};
+use bsdl_ports::port_table::PortTable;
+use edge_io::{OutOfMemory, Row};
+use std::alloc::Global;
 
-/// Whether the functions are one.
-pub fn is_function(wanted: Function, function: Function) -> bool
-    ensures { result ≡ row_rule.is_function wanted function }
+/// The place of a port, and 0 where no port has the name.
+pub fn place_of(ports: &PortTable, name: &[u8]) -> u32
+    requires { length ports.now ≤ 4096 }
+    ensures { result ≡ denoted.place_of ports.now name.now }
 {
-    match (wanted, function) {
-        (Function::Input, Function::Input) => true,
-        (Function::Output2, Function::Output2) => true,
-        (Function::Output3, Function::Output3) => true,
-        (Function::Control, Function::Control) => true,
-        (Function::Bidir, Function::Bidir) => true,
-        (Function::Clock, Function::Clock) => true,
-        (_, _) => false,
+    match ports.position(name) {
+        None => 0,
+        Some(place) => place as u32,
     }
 }
 
-/// Whether the cells are one.
-pub fn is_cell(wanted: BoundaryKind, cell: BoundaryKind) -> bool
-    ensures { result ≡ row_rule.is_cell wanted cell }
+fn pin_of(ports: &PortTable, bit: &Option<PortBit>) -> Option<DevBit>
+    requires { length ports.now ≤ 4096 }
+    ensures { result ≡ option_map (denoted.bit_of ports.now) bit.now }
 {
-    match (wanted, cell) {
-        (BoundaryKind::Bc1, BoundaryKind::Bc1) => true,
-        (BoundaryKind::Bc2, BoundaryKind::Bc2) => true,
-        (BoundaryKind::Bc4, BoundaryKind::Bc4) => true,
-        (BoundaryKind::Bc7, BoundaryKind::Bc7) => true,
-        (_, _) => false,
+    match bit {
+        None => None,
+        Some(bit) => Some(DevBit {
+            port: place_of(ports, bit.port.as_bytes()),
+            index: bit.index,
+        }),
     }
 }
 
-/// Whether the row is a control cell's.
-pub fn is_control(row: &RowEntry) -> bool
-    ensures { result ≡ row_rule.is_control row.now }
+fn cell_of(ports: &PortTable, row: &RowEntry) -> CellRow
+    requires { length ports.now ≤ 4096 }
+    ensures { result ≡ denoted.cell_of ports.now row.now }
 {
-    is_function(Function::Control, row.function)
+    CellRow {
+        cell: row.cell,
+        pin: pin_of(ports, &row.port),
+        function: row.function,
+        safe: row.safe,
+        disable: row.disable,
+    }
+}
+
+// Adds the cell of the row of this number at the end.
+fn push_cell(
+    made: &mut Row<CellRow>,
+    ports: &PortTable,
+    rows: &RowTable,
+    number: u32,
+) -> Result<(), OutOfMemory>
+    requires { length ports.now ≤ 4096 }
+    ensures { OnOk result (made.new ≡ made.old ++ map (denoted.cell_of ports.now) (cons_option (find (rule.is_numbered number) rows.now) [])) }
+{
+    match rows.find(number) {
+        None => Ok(()),
+        Some(row) => made.push(cell_of(ports, row)),
+    }
+}
+
+#[tactic(auto, using(crate::proofs::CellRows::cells_next))]
+fn ordered_cells(
+    alloc: Global,
+    ports: &PortTable,
+    count: u32,
+    rows: &RowTable,
+) -> Result<Row<CellRow>, OutOfMemory>
+    requires { length ports.now ≤ 4096 }
+    ensures { IfOk result (λ made. made ≡ map (denoted.cell_of ports.now) (denoted.ordered_rows count rows.now)) }
+{
+    let mut made = Row::new(alloc);
+    for number in 0..count {
+        push_cell(&mut made, ports, rows, number)?;
+    }
+    Ok(made)
+}
+
+/// The cells of the rows, in the order of their numbers.
+pub fn cells_of(
+    alloc: Global,
+    ports: &PortTable,
+    count: u32,
+    rows: &[RowEntry],
+) -> Result<Row<CellRow>, OutOfMemory>
+    requires { length ports.now ≤ 4096 }
+    ensures { IfOk result (λ made. made ≡ map (denoted.cell_of ports.now) (denoted.ordered_rows count rows.now)) }
+{
+    let table = RowTable::of(alloc, rows)?;
+    ordered_cells(alloc, ports, count, &table)
 }

@@ -7,15 +7,16 @@ ghost use Rattle.bsdl_device.specs.Ports as declared;
 ghost use Rattle.bsdl_checks.specs.Counts.{all_words, first_word};
 ghost use Rattle.bsdl_checks.specs.Ordered as first;
 
-use crate::access::register_fails;
-use crate::boundary::boundary_fails;
-use crate::instructions::{capture_fails, idcode_fails, length_fails, opcode_fails};
-use crate::pin_map::pin_map_fails;
-use crate::ports::{declared_ports, name_fails};
-use crate::rows::row_fails;
 use crate::sections;
-use crate::tap::tap_fails;
-use bsdl_device::{Contents, DeclaredPort, File, MeaningKind};
+use bsdl_device::{Contents, File, MeaningKind};
+use bsdl_instructions::access::register_fails;
+use bsdl_instructions::instructions::{capture_fails, idcode_fails, length_fails, opcode_fails};
+use bsdl_ports::pin_map::pin_map_fails;
+use bsdl_ports::port_table::PortTable;
+use bsdl_ports::ports::{declared_ports, name_fails};
+use bsdl_ports::tap::tap_fails;
+use bsdl_row_checks::boundary::boundary_fails;
+use bsdl_row_checks::rows::row_fails;
 use edge_io::OutOfMemory;
 use std::alloc::Global;
 
@@ -63,14 +64,14 @@ fn rule_fails(
     alloc: Global,
     file: &File,
     contents: &Contents,
-    ports: &[DeclaredPort],
+    ports: &PortTable,
     kind: MeaningKind,
 ) -> Result<bool, OutOfMemory>
     requires { ports.now ≡ declared.declared_ports file.now }
     ensures { IfOk result (λ fails. fails ≡ first.rule_fails file.now contents.now kind) }
 {
     match kind {
-        MeaningKind::Name => name_fails(alloc, file, ports),
+        MeaningKind::Name => name_fails(alloc, file, ports.as_slice()),
         MeaningKind::PinMap => pin_map_fails(alloc, file, contents, ports),
         MeaningKind::Tap => tap_fails(alloc, file, ports),
         MeaningKind::Length => Ok(length_fails(file)),
@@ -89,7 +90,7 @@ fn first_of(
     alloc: Global,
     file: &File,
     contents: &Contents,
-    ports: &[DeclaredPort],
+    ports: &PortTable,
     kinds: &[MeaningKind],
 ) -> Result<Option<MeaningKind>, OutOfMemory>
     requires { ports.now ≡ declared.declared_ports file.now }
@@ -112,7 +113,8 @@ fn first_kind(
     ensures { IfOk result (λ found. found ≡ find (first.rule_fails file.now contents.now) first.order) }
 {
     let ports = declared_ports(alloc, file)?;
-    first_of(alloc, file, contents, &ports, &ORDER)
+    let table = PortTable::of(alloc, &ports)?;
+    first_of(alloc, file, contents, &table, &ORDER)
 }
 
 /// The first rule that a file breaks, whose words are so few that a slice can hold them.

@@ -108,16 +108,22 @@ pub fn capture_word(file: &File) -> u64
     opcode_word(file) + 8 + strings_count(file.opcodes.strings.as_slice())
 }
 
+/// Of the identification code; where the file has none, that of the register access.
+#[tactic(auto, using(crate::proofs::Words::section_words))]
+pub fn idcode_word(file: &File) -> u64
+    requires { count.all_words file.now < 2 ^ 64 }
+    ensures { result ≡ count.first_word file.now 13 }
+{
+    capture_word(file) + 8 + strings_count(file.capture.strings.as_slice())
+}
+
 /// Of the register access.
 #[tactic(auto, using(crate::proofs::Words::section_words))]
 pub fn access_word(file: &File) -> u64
     requires { count.all_words file.now < 2 ^ 64 }
     ensures { result ≡ count.first_word file.now 14 }
 {
-    capture_word(file)
-        + 8
-        + strings_count(file.capture.strings.as_slice())
-        + idcode_count(&file.idcode)
+    idcode_word(file) + idcode_count(&file.idcode)
 }
 
 /// Of the boundary register's length.

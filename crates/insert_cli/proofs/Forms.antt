@@ -1,7 +1,6 @@
 -- Words that have the form of a command.
-use Rattle.std.proofs.Common.{◌≡◌, ℕ, ◌<◌, ◌≤◌, ◌||◌, Bool, true, List, [], ◌∷◌, length, map, get_or, refl, sym, ap, ◌∙◌, arith, eqb, codes, string_bytes}
+use Rattle.std.proofs.Common.{◌≡◌, ℕ, ◌<◌, ◌≤◌, ◌||◌, Bool, true, false, Some, None, List, [], ◌∷◌, length, map, get_or, refl, sym, ap, ◌∙◌, arith, eqb, codes, string_bytes}
 use Rattle.std.specs.List.{list_any}
-use Rattle.std.specs.Cmp.Lexicographic.{pointwise, bytes_decides}
 use Rattle.std.specs.declared.string.String.{String}
 use Rattle.std.specs.declared.alloc.Global.{Global}
 
@@ -18,10 +17,21 @@ three_are (x ∷ y ∷ []) a b c long short i j k = absurd (omega arith)
 three_are (x ∷ y ∷ z ∷ []) a b c long short i j k = cc (i, j, k)
 three_are (x ∷ y ∷ z ∷ w ∷ ws) a b c long short i j k = absurd (omega arith)
 
--- three words of which the first is `canon`
-pub canon_words : (words : List (List ℕ)) (ws : List (String Global)) (a b c : String Global) (x y z : List ℕ) → map string_bytes ws ≡ words → ws ≡ a ∷ b ∷ c ∷ []
-    → x ≡ string_bytes a → y ≡ string_bytes b → z ≡ string_bytes c → true ≡ pointwise eqb x (codes "canon") → words ≡ codes "canon" ∷ y ∷ z ∷ []
-canon_words words ws a b c x y z seen are xa yb zc same =
+-- three words, read by their places
+pub words_of_three : (words : List (List ℕ)) (ws : List (String Global)) (a b c : String Global) (x y z : List ℕ) → map string_bytes ws ≡ words → ws ≡ a ∷ b ∷ c ∷ []
+    → x ≡ string_bytes a → y ≡ string_bytes b → z ≡ string_bytes c → words ≡ x ∷ y ∷ z ∷ []
+words_of_three words ws a b c x y z seen are xa yb zc =
     sym seen ∙ ap (map string_bytes) are
-    ∙ ap (λ (l : List ℕ). l ∷ string_bytes b ∷ string_bytes c ∷ []) (sym xa ∙ (bytes_decides x (codes "canon")).0 (sym same))
-    ∙ ap (λ (l : List ℕ). codes "canon" ∷ l ∷ string_bytes c ∷ []) (sym yb) ∙ ap (λ (l : List ℕ). codes "canon" ∷ y ∷ l ∷ []) (sym zc)
+    ∙ ap (λ (l : List ℕ). l ∷ string_bytes b ∷ string_bytes c ∷ []) (sym xa)
+    ∙ ap (λ (l : List ℕ). x ∷ l ∷ string_bytes c ∷ []) (sym yb) ∙ ap (λ (l : List ℕ). x ∷ y ∷ l ∷ []) (sym zc)
+
+-- the first of three words
+pub first_word : (words : List (List ℕ)) (ws : List (String Global)) (a b c : String Global) (x y z : List ℕ) → map string_bytes ws ≡ words → ws ≡ a ∷ b ∷ c ∷ []
+    → words ≡ x ∷ y ∷ z ∷ [] → string_bytes a ≡ x
+first_word words ws a b c x y z seen are form = ap (λ (l : List (List ℕ)). get_or l 0 []) (sym (ap (map string_bytes) are) ∙ seen ∙ form)
+
+pub no_some : {X : Type 0} (x : X) → None ≡ Some x → ⊥
+no_some x e = cc
+
+pub no_true : false ≡ true → ⊥
+no_true e = cc

@@ -2,33 +2,47 @@
 use Rattle.std.specs.Prelude.{◌≡◌, ◌≢◌, ℕ, ◌==◌, List, [], ◌∷◌, Bool, false, Option, Some, None, codes}
 use Rattle.std.specs.Bool.{IsFalse}
 use Rattle.std.specs.List.{list_any}
+use Rattle.insert_cli.specs.declared.command.Conversion.{Conversion}
+use Rattle.insert_cli.specs.declared.command.Conversion.TheVariants as conversion
 use Rattle.insert_cli.specs.declared.command.Command.{Command}
-use Rattle.insert_cli.specs.declared.command.Command.TheVariants.{Canon}
+use Rattle.insert_cli.specs.declared.command.Command.TheVariants.{Convert, Sim}
 
 -- a word that begins with `-`
 abbrev pub begins_with_dash : List ℕ → Bool
 begins_with_dash [] = false
 begins_with_dash (b ∷ bytes) = b == 45
 
--- `canon IN OUT`; no word begins with `-`
-pub record CanonForm (words : List (List ℕ)) (input output : List ℕ) : Type 0 where
-  pub words_are : words ≡ codes "canon" ∷ input ∷ output ∷ []
+-- the word of a conversion's command
+abbrev pub conversion_word : Conversion → List ℕ
+conversion_word conversion.Canon = codes "canon"
+conversion_word conversion.ShowBsdl = codes "showbsdl"
+
+-- `canon IN OUT` or `showbsdl IN OUT`; no word begins with `-`
+pub record ConvertForm (words : List (List ℕ)) (c : Conversion) (input output : List ℕ) : Type 0 where
+  pub words_are : words ≡ conversion_word c ∷ input ∷ output ∷ []
+  pub plain_words : IsFalse (list_any begins_with_dash words)
+
+-- `sim NET EVENTS`; no word begins with `-`
+pub record SimForm (words : List (List ℕ)) (netlist events : List ℕ) : Type 0 where
+  pub words_are : words ≡ codes "sim" ∷ netlist ∷ events ∷ []
   pub plain_words : IsFalse (list_any begins_with_dash words)
 
 -- the words have no form
-abbrev pub IsNoCommand : List (List ℕ) → Type 0
-IsNoCommand words = (input output : List ℕ) → CanonForm words input output → ⊥
+pub record IsNoCommand (words : List (List ℕ)) : Type 0 where
+  pub convert : (c : Conversion) (input output : List ℕ) → ConvertForm words c input output → ⊥
+  pub sim : (netlist events : List ℕ) → SimForm words netlist events → ⊥
 
 -- the command is the one that the words are; none where they have no form
 abbrev pub IsCommandOf : List (List ℕ) → Option Command → Type 0
 IsCommandOf words None = IsNoCommand words
-IsCommandOf words (Some (Canon input output)) = CanonForm words input.now output.now
+IsCommandOf words (Some (Convert c input output)) = ConvertForm words c input.now output.now
+IsCommandOf words (Some (Sim netlist events)) = SimForm words netlist.now events.now
 
--- `canon IN OUT` with two different names
-pub record RunsCanon (words : List (List ℕ)) (input output : List ℕ) : Type 0 where
-  pub form : CanonForm words input output
+-- a conversion with two different names
+pub record RunsConvert (words : List (List ℕ)) (c : Conversion) (input output : List ℕ) : Type 0 where
+  pub form : ConvertForm words c input output
   pub differ : input ≢ output
 
 -- the name is that of a file that the command writes
 abbrev pub Writes : List (List ℕ) → List ℕ → Type 0
-Writes words name = (input : List ℕ) × RunsCanon words input name
+Writes words name = (c : Conversion) × ((input : List ℕ) × RunsConvert words c input name)

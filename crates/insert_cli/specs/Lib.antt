@@ -1,4 +1,6 @@
 pub mod Commands
-pub mod Faults
-pub mod Canon
+pub mod Conversions
 pub mod Causes
+pub mod ConvertFaults
+pub mod Simulations
+pub mod SimFaults

@@ -1,14 +1,32 @@
-ghost use Rattle.std.specs.Prelude.{◌≡◌, map, string_bytes, IsTrue};
+ghost use Rattle.std.specs.Prelude.{◌≡◌, ◌↔◌, map, string_bytes, Some, IsTrue};
+ghost use Rattle.insert_cli.specs.declared.command.Conversion.{Conversion};
 ghost use Rattle.std.specs.List.{list_any};
 ghost use Rattle.insert_cli.specs.Commands as forms;
 
 use crate::words::WordList;
 
+/// Reads a text of one format, and writes its canonical text.
+#[derive(Clone, Copy, Debug, PartialEq, Eq)]
+pub enum Conversion {
+    /// Netlists, by the command `canon`.
+    Canon,
+    /// BSDL texts, by the command `showbsdl`.
+    ShowBsdl,
+}
+
 /// A command with the names of its files.
 #[derive(Clone, Copy, Debug)]
 pub enum Command<'a> {
-    /// Writes the canonical text of the module that a text spells.
-    Canon { input: &'a str, output: &'a str },
+    Convert {
+        conversion: Conversion,
+        input: &'a str,
+        output: &'a str,
+    },
+    /// Plays the events of one text on the netlist of another.
+    Sim {
+        netlist: &'a str,
+        events: &'a str,
+    },
 }
 
 fn begins_with_dash(word: &str) -> bool
@@ -31,6 +49,17 @@ fn has_option(words: &[String]) -> bool
     false
 }
 
+// The conversion whose command has this word.
+fn conversion_named(word: &str) -> Option<Conversion>
+    ensures some { (c : Conversion) → (result ≡ Some c) ↔ (word.now ≡ forms.conversion_word c) }
+{
+    match word {
+        "canon" => Some(Conversion::Canon),
+        "showbsdl" => Some(Conversion::ShowBsdl),
+        _ => None,
+    }
+}
+
 /// The command that the words are. None where they have the form of no command, or a word begins with `-`.
 pub fn command_of(words: &WordList) -> Option<Command<'_>>
     ensures { forms.IsCommandOf words.now result }
@@ -39,11 +68,21 @@ pub fn command_of(words: &WordList) -> Option<Command<'_>>
     if has_option(words) {
         return None;
     }
-    match words {
-        [command, input, output] if command.as_str() == "canon" => Some(Command::Canon {
-            input: input.as_str(),
-            output: output.as_str(),
+    let [command, first, second] = words else {
+        return None;
+    };
+    if command.as_str() == "sim" {
+        return Some(Command::Sim {
+            netlist: first.as_str(),
+            events: second.as_str(),
+        });
+    }
+    match conversion_named(command.as_str()) {
+        Some(conversion) => Some(Command::Convert {
+            conversion,
+            input: first.as_str(),
+            output: second.as_str(),
         }),
-        _ => None,
+        None => None,
     }
 }

@@ -1,4 +1,4 @@
-// Worked examples of `canon`, over a shelf and a sink in memory.
+// Worked examples of the commands, over a shelf and a sink in memory.
 use crate::{Status, WordList, run_tool};
 use edge_io::{MemShelf, MemSink, NeverFails, OutOfMemory, Shelf, Sink, Text};
 use std::alloc::Global;
@@ -175,6 +175,96 @@ fn a_text_may_fill_the_limit_and_not_pass_it(rt: HostRuntime) -> Result<(), Fail
         let mut sink = sink_with(rt.alloc(), 1000)?;
         let end = ended(rt.alloc(), &["canon", "in", "out"], &mut shelf, &mut sink);
         assert!(rt; end == Some(status));
+    }
+    Ok(())
+}
+
+#[test]
+fn a_refused_bsdl_text_has_its_line(rt: HostRuntime) -> Result<(), Fail> {
+    let rows: [(&[u8], &[u8]); 3] = [
+        (b"", b"BsdlSyntax 0 0\n"),
+        (b"a__b", b"BsdlWord 2\n"),
+        (b"entity e is port", b"BsdlSyntax 12 3\n"),
+    ];
+    for (text, line) in rows {
+        assert!(rt;
+            gives(
+                rt.alloc(),
+                &["showbsdl", "in", "out"],
+                text,
+                Status::Refused,
+                line,
+                None
+            )?
+        );
+    }
+    Ok(())
+}
+
+// The status of `sim` on this netlist and these events, if the sink then has this text.
+fn simulates(
+    alloc: Global,
+    netlist: &[u8],
+    events: &[u8],
+    text: &[u8],
+) -> Result<Option<Status>, OutOfMemory> {
+    let mut shelf = MemShelf::new(alloc);
+    shelf.place("net", netlist)?;
+    shelf.place("events", events)?;
+    let mut sink = sink_with(alloc, 1000)?;
+    let end = ended(alloc, &["sim", "net", "events"], &mut shelf, &mut sink);
+    if sink.given() != text {
+        return Ok(None);
+    }
+    Ok(end)
+}
+
+const TOGGLE: &[u8] =
+    b"module t(input ck, input rn, output q); wire d; not(d,q); DFFR f(.D(d),.CK(ck),.RN(rn),.Q(q)); endmodule";
+
+const CLOCKED_TWICE: &[u8] =
+    b"events 1\nstart ck 0\nstart rn 0\nexpect q 0\nset rn 1\nset ck 1\nexpect q 1\nset ck 0\nset ck 1\nexpect q 0\n";
+
+const WRONG_AT_7: &[u8] =
+    b"events 1\nstart ck 0\nstart rn 0\nexpect q 0\nset rn 1\nset ck 1\nexpect q 0\nset ck 0\nset ck 1\nexpect q 0\n";
+
+#[test]
+fn events_are_played_on_a_netlist(rt: HostRuntime) -> Result<(), Fail> {
+    let rows: [(&[u8], &[u8], Status, &[u8]); 6] = [
+        (
+            TOGGLE,
+            CLOCKED_TWICE,
+            Status::Done,
+            b"q 0\n@5\n@6\nq 1\n@8\n@9\nq 0\ndone 4 0\n",
+        ),
+        (
+            TOGGLE,
+            WRONG_AT_7,
+            Status::Missed,
+            b"q 0\n@5\n@6\nq 1\nmissed 7 q 0 1\n@8\n@9\nq 0\ndone 4 1\n",
+        ),
+        (
+            TOGGLE,
+            b"events 1\nstart ck 0\n",
+            Status::Refused,
+            b"EventIllegal 3\n",
+        ),
+        (TOGGLE, b"start ck 0\n", Status::Refused, b"EventLine 1\n"),
+        (
+            b"module m(input a, output y); nand g(y, a, y); endmodule",
+            b"",
+            Status::Refused,
+            b"Loop 0\n",
+        ),
+        (
+            b"module c(input ck, input d, output q); wire g, c1; DFF a(.D(d),.CK(ck),.Q(g)); and(c1,ck,g); DFF b(.D(d),.CK(c1),.Q(q)); endmodule",
+            b"",
+            Status::Refused,
+            b"DerivedClock b c1\n",
+        ),
+    ];
+    for (netlist, events, status, text) in rows {
+        assert!(rt; simulates(rt.alloc(), netlist, events, text)? == Some(status));
     }
     Ok(())
 }

@@ -1,42 +1,64 @@
-ghost use Rattle.std.specs.Prelude.{◌≡◌, ◌≢◌, ◌≤◌, ◌⊎◌, ℕ, List, Some, length, IfErr, OnOk};
+ghost use Rattle.std.specs.Prelude.{◌≡◌, ◌≢◌, ◌≤◌, ◌⊎◌, ℕ, List, Some, IfErr, IfOk};
 ghost use Rattle.edge_io.specs.Shelf.{Rose, SameTold, WhereTold};
-ghost use Rattle.insert_cli.specs.Causes.{OfCanon, Stands, IsWritten, IsCutShort};
-ghost use Rattle.insert_cli.specs.Canon.{IsAccepted};
-ghost use Rattle.insert_cli.specs.Commands.{RunsCanon, Writes};
-ghost use Rattle.insert_cli.specs.Faults.{status_of, line_of, PutsLine};
-ghost use Rattle.insert_cli.specs.declared.fault.Fault.{Fault};
-ghost use Rattle.insert_cli.specs.declared.fault.Status.{Status};
+ghost use Rattle.command_faults.specs.Statuses.{status_of};
+ghost use Rattle.command_faults.specs.declared.fault.Fault.{Fault};
+ghost use Rattle.command_faults.specs.declared.status.Status.{Status};
+ghost use Rattle.insert_cli.specs.Causes.{OfConvert, OfSim, Stands, IsWritten, IsCutShort, Gave, GivesLine};
+ghost use Rattle.insert_cli.specs.Commands.{RunsConvert, SimForm, Writes};
+ghost use Rattle.insert_cli.specs.Conversions.{IsAccepted};
+ghost use Rattle.insert_cli.specs.SimFaults.{IsPlayed, WhereBothTold};
+ghost use Rattle.insert_cli.specs.Simulations.{IsEnd, IsSimulable};
+ghost use Rattle.insert_cli.specs.declared.command.Conversion.{Conversion};
 
-use crate::canon::{LIMIT, canon};
 use crate::command::{Command, command_of};
-use crate::fault::{Fault, Status};
-use crate::lines::put_fault;
+use crate::convert::convert;
+use crate::reading::LIMIT;
+use crate::simulate::{faults_stand_apart, simulate};
 use crate::words::WordList;
+use command_faults::{Fault, Status, put_fault};
 use edge_io::shelf::Shelf;
 use edge_io::sink::Sink;
 use std::alloc::Global;
 
 // Runs the command that the words are, up to its fault.
-fn run<'a, S: Shelf>(alloc: Global, words: &'a WordList, shelf: &mut S) -> Result<(), Fault<'a>>
-    ensures done { OnOk result (OfCanon words.now (λ input output. WhereTold (S.held shelf.old input) (IsWritten LIMIT S.tells (S.written shelf.new output)))) }
-    ensures fault { IfErr result (Stands words.now (S.held shelf.old) LIMIT (Rose (S.faults shelf.old) (S.faults shelf.new))) }
+fn run<'a, S: Shelf, O: Sink>(
+    alloc: Global,
+    words: &'a WordList,
+    shelf: &mut S,
+    out: &mut O,
+) -> Result<Status, Fault<'a>>
+    ensures done { IfOk result (λ status. OfConvert words.now (λ c input output. (status ≡ Status.Done) × (O.given out.new ≡ O.given out.old)
+        × WhereTold (S.held shelf.old input) (IsWritten c LIMIT S.tells (S.written shelf.new output)))
+        ⊎ OfSim words.now (λ netlist events. WhereBothTold (S.held shelf.old netlist) (S.held shelf.old events)
+        (IsPlayed LIMIT status (O.given out.old) (O.given out.new)))) }
+    ensures ended { IfOk result IsEnd }
+    ensures fault { IfErr result (Stands words.now (S.held shelf.old) LIMIT (Rose (S.faults shelf.old) (S.faults shelf.new)) (Rose (O.faults out.old) (O.faults out.new))) }
+    ensures gave { IfErr result (λ fault. Gave words.now (S.held shelf.old) fault (O.given out.old) (O.given out.new)) }
     ensures unwritten { IfErr result (λ fault. (status_of fault ≢ Status.WriteFault) → SameTold (S.written shelf.old) (S.written shelf.new)) }
     ensures cut_short { IfErr result (λ fault. (status_of fault ≡ Status.WriteFault)
-        → OfCanon words.now (λ input output. IsCutShort S.tells (S.held shelf.old input) (S.written shelf.old output) (S.written shelf.new output))) }
+        → (c : Conversion) (input output : List ℕ) → RunsConvert words.now c input output
+        → IsCutShort c S.tells (S.held shelf.old input) (S.written shelf.old output) (S.written shelf.new output)) }
     ensures others { (name : List ℕ) → (Writes words.now name → ⊥) → S.written shelf.new name ≡ S.written shelf.old name }
     ensures held { SameTold (S.held shelf.old) (S.held shelf.new) }
     ensures later { S.faults shelf.old ≤ S.faults shelf.new }
+    ensures puts_later { O.faults out.old ≤ O.faults out.new }
 {
     let Some(command) = command_of(words) else {
         return Err(Fault::Usage);
     };
     match command {
-        Command::Canon { input, output } => {
+        Command::Convert {
+            conversion,
+            input,
+            output,
+        } => {
             if input == output {
                 return Err(Fault::SameName { name: output });
             }
-            canon(alloc, shelf, input, output)
+            convert(alloc, conversion, shelf, input, output)?;
+            Ok(Status::Done)
         }
+        Command::Sim { netlist, events } => simulate(alloc, shelf, out, netlist, events),
     }
 }
 
@@ -48,31 +70,38 @@ pub fn run_tool<S: Shelf, O: Sink>(
     shelf: &mut S,
     out: &mut O,
 ) -> Status
-    // At status 0 the output is the canonical text of the one tree that the input spells, and nothing is put.
-    ensures done { result ≡ Status.Done
-        → OfCanon words.now (λ input output. WhereTold (S.held shelf.old input) (IsWritten LIMIT S.tells (S.written shelf.new output))) }
-    ensures silent { result ≡ Status.Done → O.given out.new ≡ O.given out.old }
+    // At status 0 a conversion's output is the canonical text of the one tree or device that the input spells, and nothing is
+    // put. At status 0 or 6 a simulation put the text of the events' run, and the status is 6 where an expectation isn't met.
+    ensures done { IsEnd result → OfConvert words.now (λ c input output. (result ≡ Status.Done) × (O.given out.new ≡ O.given out.old)
+        × WhereTold (S.held shelf.old input) (IsWritten c LIMIT S.tells (S.written shelf.new output)))
+        ⊎ OfSim words.now (λ netlist events. WhereBothTold (S.held shelf.old netlist) (S.held shelf.old events)
+        (IsPlayed LIMIT result (O.given out.old) (O.given out.new))) }
 
-    // Any other status has a fault that stands, and the sink got its line.
-    ensures fault { result ≢ Status.Done → (fault : Fault) × (status_of fault ≡ result)
-        × Stands words.now (S.held shelf.old) LIMIT (Rose (S.faults shelf.old) (S.faults shelf.new)) fault
-        × PutsLine (line_of fault) (O.given out.old) (O.given out.new) (O.faults out.old) (O.faults out.new) }
+    // Any other status has a fault that stands, and the sink got its line; before it only a simulation whose giving failed put a
+    // front of its text.
+    ensures fault { (IsEnd result → ⊥) → (fault : Fault) × (status_of fault ≡ result)
+        × Stands words.now (S.held shelf.old) LIMIT (Rose (S.faults shelf.old) (S.faults shelf.new)) (Rose (O.faults out.old) (O.faults out.new)) fault
+        × GivesLine words.now (S.held shelf.old) fault (O.given out.old) (O.given out.new) (O.faults out.old) (O.faults out.new) }
 
     // Only a write that failed leaves anything changed, and only under the output's name.
-    ensures unwritten { result ≢ Status.Done → result ≢ Status.WriteFault → SameTold (S.written shelf.old) (S.written shelf.new) }
-    ensures cut_short { result ≡ Status.WriteFault
-        → OfCanon words.now (λ input output. IsCutShort S.tells (S.held shelf.old input) (S.written shelf.old output) (S.written shelf.new output)) }
+    ensures unwritten { (IsEnd result → ⊥) → result ≢ Status.WriteFault → SameTold (S.written shelf.old) (S.written shelf.new) }
+    ensures cut_short { result ≡ Status.WriteFault → (c : Conversion) (input output : List ℕ) → RunsConvert words.now c input output
+        → IsCutShort c S.tells (S.held shelf.old input) (S.written shelf.old output) (S.written shelf.new output) }
     ensures others { (name : List ℕ) → (Writes words.now name → ⊥) → S.written shelf.new name ≡ S.written shelf.old name }
     ensures held { SameTold (S.held shelf.old) (S.held shelf.new) }
 
-    // Where no fault stands in the words and the input, and the shelf's count doesn't rise, the command is done, or wants memory.
-    ensures complete { (input output bytes : List ℕ) → RunsCanon words.now input output → S.held shelf.old input ≡ Some bytes → IsAccepted LIMIT bytes
+    // Where no fault stands in the words and the texts, and no count of faults rises, the command comes to its end, or wants memory.
+    ensures complete { (c : Conversion) (input output bytes : List ℕ) → RunsConvert words.now c input output → S.held shelf.old input ≡ Some bytes → IsAccepted c LIMIT bytes
         → (Rose (S.faults shelf.old) (S.faults shelf.new) → ⊥) → (result ≡ Status.Done) ⊎ (result ≡ Status.Memory) }
+    ensures complete_sim { (netlist events net text : List ℕ) → SimForm words.now netlist events → S.held shelf.old netlist ≡ Some net → S.held shelf.old events ≡ Some text
+        → IsSimulable LIMIT net text → (Rose (S.faults shelf.old) (S.faults shelf.new) → ⊥) → (Rose (O.faults out.old) (O.faults out.new) → ⊥)
+        → IsEnd result ⊎ (result ≡ Status.Memory) }
     ensures later { S.faults shelf.old ≤ S.faults shelf.new }
     ensures puts_later { O.faults out.old ≤ O.faults out.new }
 {
-    let fault = match run(alloc, words, shelf) {
-        Ok(()) => return Status::Done,
+    faults_stand_apart();
+    let fault = match run(alloc, words, shelf, out) {
+        Ok(status) => return status,
         Err(fault) => fault,
     };
     let status = fault.status();

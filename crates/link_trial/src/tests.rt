@@ -1,14 +1,27 @@
-use crate::trial::{Trial, module_of_text};
-use edge_io::Text;
+ghost use Rattle.std.specs.Prelude.{IfSome};
+ghost use Rattle.verilog_tree.specs.IsTree.{IsTree};
+
+use crate::trial::{Trial, module_of_text, rewritten};
+use edge_io::{OutOfMemory, Text};
 use link_model::LinkFault;
+use netlist_link::link;
+use netlist_model::{NetId, What};
 use std::alloc::Global;
+use verilog_tree::Module;
+
+// The module of a text.
+fn module_of(alloc: Global, bytes: &[u8]) -> Option<Module>
+    ensures { IfSome result IsTree }
+{
+    match Text::from_bytes(alloc, bytes) {
+        Ok(text) => module_of_text(alloc, text),
+        Err(OutOfMemory) => None,
+    }
+}
 
 // What linking the module of a text comes to.
 fn trial_of(alloc: Global, bytes: &[u8]) -> Option<Trial> {
-    let Ok(text) = Text::from_bytes(alloc, bytes) else {
-        return None;
-    };
-    let tree = module_of_text(alloc, text)?;
+    let tree = module_of(alloc, bytes)?;
     Some(Trial::of(alloc, &tree))
 }
 
@@ -157,4 +170,102 @@ fn a_derived_clock_names_its_flip_flop_and_net(rt: HostRuntime) {
     };
     assert!(rt; flop.as_bytes() == b"b".as_slice());
     assert!(rt; net.name.as_bytes() == b"c1".as_slice() && net.index.is_none());
+}
+
+// Whether the net is that of a control port, and whether of a clock port.
+fn ports_of(alloc: Global, bytes: &[u8], net: u32) -> Option<(bool, bool)> {
+    let tree = module_of(alloc, bytes)?;
+    let linked = link(alloc, &tree).ok()?;
+    Some((linked.is_control(NetId(net)), linked.is_clock(NetId(net))))
+}
+
+#[test]
+fn control_and_clock_ports_are_found_through_gates(rt: HostRuntime) {
+    let gated =
+        b"module c(input ck, input en, input d, output q); wire c1, c2; buf(c1,ck); and(c2,c1,en); DFF f(.D(d),.CK(c2),.Q(q)); endmodule".as_slice();
+    let cleared =
+        b"module t(input ck, a, b, d, output q); wire r; nor(r, a, b); DFFR f(.D(d),.CK(ck),.RN(r),.Q(q)); endmodule".as_slice();
+    let rows = [
+        (gated, 0, (true, true)),
+        (gated, 1, (true, true)),
+        (gated, 2, (false, false)),
+        (gated, 3, (false, false)),
+        (gated, 5, (false, false)),
+        (gated, 6, (false, false)),
+        (cleared, 0, (true, true)),
+        (cleared, 1, (true, false)),
+        (cleared, 2, (true, false)),
+        (cleared, 3, (false, false)),
+        (cleared, 5, (false, false)),
+    ];
+    for (text, net, wanted) in rows {
+        let Some(found) = ports_of(rt.alloc(), text, net) else {
+            panic!(rt; "not linked");
+        };
+        assert!(rt; found == wanted, "net {net}");
+    }
+}
+
+// A module with so many buffers.
+fn buffers(alloc: Global, count: u32) -> Result<Text, OutOfMemory> {
+    let mut text = Text::from_bytes(alloc, b"module m(input a, output y);")?;
+    for _ in 0..count {
+        text.append(b"buf(y,a);")?;
+    }
+    text.append(b"endmodule")?;
+    Ok(text)
+}
+
+// How too many buffers are refused, by the count and the limit.
+fn refusal_of_buffers(alloc: Global, count: u32) -> Option<(u64, u64)> {
+    let tree = module_of_text(alloc, buffers(alloc, count).ok()?)?;
+    match Trial::of(alloc, &tree) {
+        Trial::Refused(
+            LinkFault::TooMany {
+                what: What::Cells,
+                count,
+                limit,
+            },
+        ) => Some((count, limit)),
+        _ => None,
+    }
+}
+
+#[test]
+fn one_buffer_above_the_limit_is_too_many(rt: HostRuntime) {
+    assert!(rt; refusal_of_buffers(rt.alloc(), 262_145) == Some((262_145, 262_144)));
+    assert!(rt; refusal_of_buffers(rt.alloc(), 262_144).is_none());
+}
+
+// Modules, and what they are written as after linking.
+const WRITTEN: [(&[u8], &[u8]); 4] = [
+    (
+        b"module m(input ck, d); DFF f(.CK(ck), .D(d), .Q()); endmodule",
+        b"module m (\n  input ck,\n  input d\n);\n  DFF f (.D(d), .CK(ck));\nendmodule\n",
+    ),
+    (
+        b"module m(input [3:1] a, output [0:0] y); wire [1:2] w; buf(w[1], a[3]); not n(w[2], w[1]); assign y = w[2]; endmodule",
+        b"module m (\n  input [3:1] a,\n  output [0:0] y\n);\n  wire [1:2] w;\n  buf (w[1], a[3]);\n  not n (w[2], w[1]);\n  assign y[0] = w[2];\nendmodule\n",
+    ),
+    (
+        b"module m(input a, output y); wire \\w+ , v; and(v, a, 1'b1, a); MUX2 x(.S(1'b0), .A(a), .B(v), .Y(\\w+ )); buf(y, \\w+ ); endmodule",
+        b"module m (\n  input a,\n  output y\n);\n  wire \\w+ ;\n  wire v;\n  and (v, a, 1'b1, a);\n  MUX2 x (.A(a), .B(v), .S(1'b0), .Y(\\w+ ));\n  buf (y, \\w+ );\nendmodule\n",
+    ),
+    (
+        b"module m; wire v; wire [2:0] u; endmodule",
+        b"module m ();\n  wire v;\n  wire [2:0] u;\nendmodule\n",
+    ),
+];
+
+#[test]
+fn what_is_linked_is_written_as_it_was(rt: HostRuntime) {
+    for (text, wanted) in WRITTEN {
+        let Some(tree) = module_of(rt.alloc(), text) else {
+            panic!(rt; "no module");
+        };
+        let Some(found) = rewritten(rt.alloc(), &tree) else {
+            panic!(rt; "no netlist");
+        };
+        assert!(rt; found.as_bytes() == wanted);
+    }
 }

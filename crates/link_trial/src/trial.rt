@@ -4,10 +4,15 @@ ghost use Rattle.verilog_tree.specs.IsTree.{IsTree};
 use edge_io::{Shelf, Text, read_whole};
 use link_model::LinkFault;
 use netlist_link::link;
+use netlist_unlink::{is_free_prefix, unlink};
 use std::alloc::Global;
 use std::fmt;
+use verilog_printing::print_module;
 use verilog_texts::read_module;
 use verilog_tree::Module;
+
+/// What the names of added nets and cells would begin with.
+const PREFIX: &[u8] = b"added_";
 
 /// The longest text that is read, in bytes.
 const LIMIT: u64 = 16_777_216;
@@ -65,4 +70,16 @@ pub(crate) fn module_of_file<S: Shelf>(alloc: Global, shelf: &mut S, name: &str)
         Ok(text) => module_of_text(alloc, text),
         Err(_) => None,
     }
+}
+
+/// The text of a module that was linked and written again.
+pub(crate) fn rewritten(alloc: Global, tree: &Module) -> Option<Text>
+    requires { IsTree tree.now }
+{
+    let linked = link(alloc, tree).ok()?;
+    if !is_free_prefix(&linked, PREFIX) {
+        return None;
+    }
+    let again = unlink(alloc, &linked, PREFIX).ok()?;
+    print_module(alloc, &again).ok()
 }

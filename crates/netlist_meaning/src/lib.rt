@@ -1,12 +1,20 @@
-// What a netlist of the arena means at work: its settled valuation, in one pass over an order of its cells.
-// Contracts cite the settled valuation, the runs and the orders of cells of netlist_model.
-// IEEE 1364, the chapter on gate level modelling; zero delay is own.
+// A linked netlist at work: what is outside its pins and in its flip-flops, how its nets settle, and its runs.
+// Contracts cite the settled valuation and the runs of netlist_model, and specs/Pins.antt, States.antt and Events.antt.
+// IEEE 1364, the chapter on gate level modelling; zero delay and the runs are own.
 #![tactic(auto)]
 
-mod cells;
-mod flops;
-mod moments;
-mod passes;
+mod event;
+mod laws;
+mod nets;
+mod pins;
+mod ports;
+mod sim;
+mod state;
+mod tables;
 
-pub use moments::{is_legal, reading, start, step};
-pub use passes::settle;
+pub use event::Event;
+pub use laws::events_are_legal_by_ports;
+pub use nets::{Nets, settle};
+pub use pins::Pins;
+pub use sim::Sim;
+pub use state::State;

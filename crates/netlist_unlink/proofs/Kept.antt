@@ -24,7 +24,7 @@ use Rattle.netlist_unlink.specs.Kept.{AreKept, IsKept}
 use Rattle.netlist_unlink.proofs.Facts.{library_count}
 use Rattle.netlist_unlink.proofs.Written.{assign_kind}
 
-gate_back : (k : Kind) (g : GateKind) → gate_of k ≡ Some g → kind_of_gate g ≡ k
+pub gate_back : (k : Kind) (g : GateKind) → gate_of k ≡ Some g → kind_of_gate g ≡ k
 gate_back kind.And g e = let same : gate.And ≡ g = grind arith in ap kind_of_gate (sym same)
 gate_back kind.Or g e = let same : gate.Or ≡ g = grind arith in ap kind_of_gate (sym same)
 gate_back kind.Nand g e = let same : gate.Nand ≡ g = grind arith in ap kind_of_gate (sym same)
@@ -47,7 +47,7 @@ flop_back Fall ToZero = refl
 flop_back Rise ToOne = refl
 flop_back Fall ToOne = refl
 
-library_back : (k : Kind) (library : List ℕ) → cell_name k ≡ Some library → kind_named library ≡ Some k
+pub library_back : (k : Kind) (library : List ℕ) → cell_name k ≡ Some library → kind_named library ≡ Some k
 library_back kind.Mux2 library e = let same : codes "MUX2" ≡ library = cc in ap kind_named (sym same)
 library_back (kind.Flop flop) library e = let same : flop_name flop.edge flop.reset ≡ library = cc in ap kind_named (sym same) ∙ flop_back flop.edge flop.reset
 library_back kind.And library e = absurd (cc)

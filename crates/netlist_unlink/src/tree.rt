@@ -4,8 +4,10 @@ ghost use Rattle.verilog_tree.specs.IsTree.{IsTree, IsTreeName};
 ghost use Rattle.netlist_model.specs.Formed.{IsLaidOut};
 ghost use Rattle.netlist_arena.specs.Looks.{IsLive};
 ghost use Rattle.netlist_link.specs.Linked.{IsLinked};
+ghost use Rattle.netlist_link.specs.Links.{IsLinkOf};
 ghost use Rattle.netlist_unlink.specs.Prefixes.{IsFreePrefix};
 ghost use Rattle.netlist_unlink.specs.Kept.{AreKept};
+ghost use Rattle.netlist_unlink.specs.Renumbered.{DenotesSame, IsWrittenAs};
 ghost use Rattle.netlist_unlink.specs.Trees.{naming_of, tree_of};
 
 use crate::cells::tree_items;
@@ -22,6 +24,7 @@ pub fn unlink(alloc: Global, linked: &Linked, prefix: &[u8]) -> Result<Module, O
     requires { IsFreePrefix linked.now prefix.now }
     ensures written { IfOk result (λ tree. tree ≡ tree_of linked.now prefix.now) }
     ensures tree { IfOk result IsTree }
+    ensures denotes { IfOk result (IsWrittenAs linked.now prefix.now) }
 {
     let tree = write_tree(alloc, linked, prefix)?;
     is_linked(linked);
@@ -34,6 +37,18 @@ pub fn items_keep_their_cells(linked: &Linked, prefix: &[u8])
 {
     is_linked(linked);
     let _length = prefix.len();
+}
+
+/// A law: what is written of a netlist that was just linked denotes what the linked tree denotes, and can be linked as that:
+/// nothing was added, so nets and cells keep their numbers.
+pub fn unlink_undoes_link(tree: &Module, linked: &Linked, prefix: &[u8])
+    requires linked { IsLinkOf tree.now linked.now }
+    requires free { IsFreePrefix linked.now prefix.now }
+    ensures { DenotesSame tree.now (tree_of linked.now prefix.now) }
+{
+    is_linked(linked);
+    let _length = prefix.len();
+    let _ports = tree.ports.len();
 }
 
 // The tree, of a netlist whose cells have numbers below 2^32.
@@ -53,8 +68,8 @@ fn write_tree(alloc: Global, linked: &Linked, prefix: &[u8]) -> Result<Module, O
     })
 }
 
-// Does nothing: what always holds of a linked netlist.
-fn is_linked(linked: &Linked)
+/// Does nothing: what always holds of a linked netlist.
+pub(crate) fn is_linked(linked: &Linked)
     ensures linked { IsLinked linked.now.arena.lists linked.now.names linked.now.order }
     ensures laid_out { IsLaidOut linked.now.arena.lists }
     ensures few { length linked.now.arena.lists.nets < 2 ^ 32 }

@@ -14,19 +14,24 @@ use std::time::Instant;
 use std::{env, io};
 
 fn main(rt: HostRuntime) -> io::Result<()> {
+    let mut words = env::args(&rt)?;
+    let _program = words.next();
+    let Some(name) = words.next() else {
+        return Ok(());
+    };
+    match linked_of_file(&rt, name.as_str()) {
+        Some(linked) => try_files(&rt, &linked, words),
+        None => println!(rt; "{}: no netlist", name.as_str()),
+    }
+}
+
+// Resolves the events of each file.
+fn try_files(rt: &HostRuntime, linked: &Linked, words: env::Args) -> io::Result<()> {
     let mut timed = false;
-    let mut netlist = None;
-    for word in env::args(&rt)?.skip(1) {
-        if word.as_str() == "time" {
-            timed = true;
-            continue;
-        }
-        match &netlist {
-            Some(linked) => try_file(&rt, linked, word.as_str(), timed)?,
-            None => match linked_of_file(&rt, word.as_str()) {
-                Some(linked) => netlist = Some(linked),
-                None => return println!(rt; "{}: no netlist", word.as_str()),
-            },
+    for word in words {
+        match word.as_str() {
+            "time" => timed = true,
+            name => try_file(rt, linked, name, timed)?,
         }
     }
     Ok(())

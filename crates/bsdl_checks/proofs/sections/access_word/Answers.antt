@@ -1,16 +1,9 @@
-use Rattle.std.proofs.Common.{ℕ, List, ap, arith}
-use Rattle.bsdl_checks.specs.Counts.{strings_count}
+use Rattle.std.proofs.Common.{arith}
 use Rattle.bsdl_checks.proofs.Words.{word-access, fits-access}
 use Rattle.bsdl_checks.proofs.sections.access_word.Goals as goal
-
-pub overflow_add-result : goal.overflow_add-result
-overflow_add-result c = omega (arith, word-access c.args.file.now, fits-access c.args.file.now)
-
-pub overflow_add-result-2 : goal.overflow_add-result-2
-overflow_add-result-2 c = omega (arith, word-access c.args.file.now, fits-access c.args.file.now, ap (λ (s : List (List ℕ)). strings_count s) c.as_slice.ensures)
 
 pub idcode_count-requires : goal.idcode_count-requires
 idcode_count-requires c = omega (arith, word-access c.args.file.now, fits-access c.args.file.now)
 
-pub overflow_add-result-3 : goal.overflow_add-result-3
-overflow_add-result-3 c = omega (arith, word-access c.args.file.now, fits-access c.args.file.now, ap (λ (s : List (List ℕ)). strings_count s) c.as_slice.ensures)
+pub overflow_add-result : goal.overflow_add-result
+overflow_add-result c = omega (arith, word-access c.args.file.now, fits-access c.args.file.now)

@@ -1,0 +1,10 @@
+use Rattle.std.proofs.Common.{ℕ, ◌<◌, ◌^◌, subst}
+use Rattle.bsdl_checks.proofs.Ordered.{all_words_are}
+use Rattle.bsdl_values.proofs.Faults.{rule_refused}
+use Rattle.bsdl_values.proofs.parse.check_meaning.Goals as goal
+
+pub first_fault-requires : goal.first_fault-requires
+first_fault-requires c = subst (λ (n : ℕ). n < 2 ^ 64) (all_words_are c.args.file.now) c.requires.few
+
+pub returns-in-Some-clause-fault : goal.returns-in-Some-clause-fault
+returns-in-Some-clause-fault c = rule_refused c.args.words.now c.args.file.now c.args.contents.now c.in_ok-first_fault.field-0 c.in-Some.rule c.place_of.result c.requires.spells c.requires.holds c.in_ok-first_fault.ensures c.in-Some.is c.place_of.ensures

@@ -1,0 +1,5 @@
+pub mod DeviceFaults
+pub mod FaultKinds
+pub mod Places
+pub mod Reading
+pub mod TextFaults

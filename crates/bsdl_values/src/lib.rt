@@ -1,0 +1,16 @@
+// From the words, or the bytes, of a BSDL text to the device that they describe.
+// The contracts of `parse_device` and `read_device` cite specs/DeviceFaults.antt and specs/Reading.antt, and `SpellsDevice`, `SpellsText` of bsdl_device.
+// IEEE Std 1149.1-2001: the annex on BSDL. Which fault comes first is own.
+#![tactic(auto)]
+
+mod fault;
+mod parse;
+mod places;
+mod reading;
+
+pub use fault::{DeviceFault, DeviceTextFault};
+pub use parse::parse_device;
+pub use reading::read_device;
+
+#[cfg(test)]
+mod tests;

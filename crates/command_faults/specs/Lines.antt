@@ -1,0 +1,98 @@
+-- The line of each fault: its name and its fields, with one blank between them, and LF. Own.
+use Rattle.std.specs.Prelude.{◌≡◌, ℕ, List, [], ◌∷◌, ◌++◌, map, codes}
+use Rattle.std.specs.Fmt.{decimal}
+use Rattle.link_model.specs.declared.fault.BitName.{BitName}
+use Rattle.link_model.specs.declared.fault.LinkFault.{LinkFault}
+use Rattle.link_model.specs.declared.fault.LinkFault.TheVariants as link
+use Rattle.verilog_texts.specs.declared.fault.TextFault.{TextFault}
+use Rattle.verilog_texts.specs.declared.fault.TextFault.TheVariants as text
+use Rattle.scan_vectors.specs.declared.fault.EventFault.{EventFault}
+use Rattle.scan_vectors.specs.declared.fault.EventFault.TheVariants as event
+use Rattle.event_scripts.specs.declared.fault.ScriptFault.{ScriptFault}
+use Rattle.event_scripts.specs.declared.fault.ScriptFault.TheVariants as script
+use Rattle.bsdl_values.specs.declared.fault.DeviceTextFault.{DeviceTextFault}
+use Rattle.bsdl_values.specs.declared.fault.DeviceTextFault.TheVariants as device
+use Rattle.output_lines.specs.Lines.{bit_text, words_line}
+use Rattle.command_faults.specs.declared.fault.Fault.{Fault}
+use Rattle.command_faults.specs.declared.fault.Fault.TheVariants as fault
+use Rattle.command_faults.specs.Words.{what_word, kind_word}
+
+abbrev pub memory_line : List ℕ
+memory_line = words_line (codes "OutOfMemory") []
+
+-- a fault with one name
+abbrev pub named_line : List ℕ → List ℕ → List ℕ
+named_line fault name = words_line fault (name ∷ [])
+
+-- a fault at a bit, as `name` or `name[index]`
+abbrev pub bit_line : List ℕ → BitName → List ℕ
+bit_line fault bit = words_line fault (bit_text bit.name bit.index ∷ [])
+
+-- a fault of an instance's port
+abbrev pub port_line : List ℕ → List ℕ → List ℕ → List ℕ
+port_line fault instance port = words_line fault (instance ∷ port ∷ [])
+
+-- a fault at a place, by its offset
+abbrev pub place_line : List ℕ → ℕ → List ℕ
+place_line fault place = words_line fault (decimal place ∷ [])
+
+-- a fault at a word, by its offset and its number
+abbrev pub word_line : List ℕ → ℕ → ℕ → List ℕ
+word_line fault place word = words_line fault (decimal place ∷ decimal word ∷ [])
+
+-- what there is too many of, how many there are, and how many there may be
+abbrev pub many_line : List ℕ → ℕ → ℕ → List ℕ
+many_line what count limit = words_line (codes "TooMany") (what ∷ decimal count ∷ decimal limit ∷ [])
+
+abbrev pub text_line : TextFault → List ℕ
+text_line (text.BadWord place) = place_line (codes "BadWord") place
+text_line (text.BadSyntax place word) = word_line (codes "BadSyntax") place word
+text_line text.OutOfMemory = memory_line
+
+abbrev pub link_line : LinkFault → List ℕ
+link_line (link.NameTwice name) = named_line (codes "NameTwice") name
+link_line (link.NameUnknown name) = named_line (codes "NameUnknown") name
+link_line (link.BitOutside name index) = words_line (codes "BitOutside") (name ∷ decimal index ∷ [])
+link_line (link.CellUnknown name) = named_line (codes "CellUnknown") name
+link_line (link.PortUnknown instance port) = port_line (codes "PortUnknown") instance port
+link_line (link.PortMissing instance port) = port_line (codes "PortMissing") instance port
+link_line (link.PortTwice instance port) = port_line (codes "PortTwice") instance port
+link_line (link.WrongWidth name) = named_line (codes "WrongWidth") name
+link_line (link.TwoDrivers bit) = bit_line (codes "TwoDrivers") bit
+link_line (link.InputDriven bit) = bit_line (codes "InputDriven") bit
+link_line (link.NotDriven bit) = bit_line (codes "NotDriven") bit
+link_line (link.TristateInside bit) = bit_line (codes "TristateInside") bit
+link_line (link.TristateRead bit) = bit_line (codes "TristateRead") bit
+link_line (link.InoutNotTristate bit) = bit_line (codes "InoutNotTristate") bit
+link_line (link.Loop numbers) = words_line (codes "Loop") (map decimal numbers)
+link_line (link.DerivedClock flop net) = words_line (codes "DerivedClock") (flop ∷ bit_text net.name net.index ∷ [])
+link_line (link.TooMany what count limit) = many_line (what_word what) count limit
+link_line link.OutOfMemory = memory_line
+
+abbrev pub event_line : EventFault → List ℕ
+event_line (event.EventLine line) = place_line (codes "EventLine") line
+event_line (event.TooMany what count limit) = many_line (what_word what) count limit
+event_line event.OutOfMemory = memory_line
+
+abbrev pub script_line : ScriptFault → List ℕ
+script_line (script.EventIllegal line) = place_line (codes "EventIllegal") line
+script_line script.OutOfMemory = memory_line
+
+abbrev pub device_line : DeviceTextFault → List ℕ
+device_line (device.BsdlWord place) = place_line (codes "BsdlWord") place
+device_line (device.BsdlSyntax place word) = word_line (codes "BsdlSyntax") place word
+device_line (device.BsdlMeaning kind place) = words_line (codes "BsdlMeaning") (kind_word kind ∷ decimal place ∷ [])
+device_line device.OutOfMemory = memory_line
+
+abbrev pub line_of : Fault → List ℕ
+line_of fault.Usage = words_line (codes "Usage") []
+line_of (fault.SameName name) = named_line (codes "SameName") name.now
+line_of (fault.ReadFault name) = named_line (codes "ReadFault") name.now
+line_of (fault.TooLong name) = named_line (codes "TooLong") name.now
+line_of (fault.Netlist f) = text_line f
+line_of (fault.Link f) = link_line f
+line_of (fault.Events f) = event_line f
+line_of (fault.Script f) = script_line f
+line_of (fault.Device f) = device_line f
+line_of fault.OutOfMemory = memory_line
+line_of (fault.WriteFault name) = named_line (codes "WriteFault") name.now

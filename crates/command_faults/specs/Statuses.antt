@@ -1,0 +1,59 @@
+-- The status with which a command ends by each fault, and its number. Own.
+use Rattle.std.specs.Prelude.{ℕ}
+use Rattle.command_faults.specs.declared.fault.Fault.{Fault}
+use Rattle.command_faults.specs.declared.fault.Fault.TheVariants as fault
+use Rattle.command_faults.specs.declared.status.Status.{Status}
+use Rattle.command_faults.specs.declared.status.Status.TheVariants as status
+use Rattle.verilog_texts.specs.declared.fault.TextFault.{TextFault}
+use Rattle.verilog_texts.specs.declared.fault.TextFault.TheVariants as text
+use Rattle.link_model.specs.declared.fault.LinkFault.{LinkFault}
+use Rattle.link_model.specs.declared.fault.LinkFault.TheVariants as link
+use Rattle.scan_vectors.specs.declared.fault.EventFault.{EventFault}
+use Rattle.scan_vectors.specs.declared.fault.EventFault.TheVariants as event
+use Rattle.event_scripts.specs.declared.fault.ScriptFault.{ScriptFault}
+use Rattle.event_scripts.specs.declared.fault.ScriptFault.TheVariants as script
+use Rattle.bsdl_values.specs.declared.fault.DeviceTextFault.{DeviceTextFault}
+use Rattle.bsdl_values.specs.declared.fault.DeviceTextFault.TheVariants as device
+
+abbrev pub text_status : TextFault → Status
+text_status text.OutOfMemory = status.Memory
+text_status f = status.Refused
+
+abbrev pub link_status : LinkFault → Status
+link_status link.OutOfMemory = status.Memory
+link_status f = status.Refused
+
+abbrev pub event_status : EventFault → Status
+event_status event.OutOfMemory = status.Memory
+event_status f = status.Refused
+
+abbrev pub script_status : ScriptFault → Status
+script_status script.OutOfMemory = status.Memory
+script_status f = status.Refused
+
+abbrev pub device_status : DeviceTextFault → Status
+device_status device.OutOfMemory = status.Memory
+device_status f = status.Refused
+
+abbrev pub status_of : Fault → Status
+status_of fault.Usage = status.Usage
+status_of (fault.SameName name) = status.Usage
+status_of (fault.ReadFault name) = status.ReadFault
+status_of (fault.TooLong name) = status.Refused
+status_of (fault.Netlist f) = text_status f
+status_of (fault.Link f) = link_status f
+status_of (fault.Events f) = event_status f
+status_of (fault.Script f) = script_status f
+status_of (fault.Device f) = device_status f
+status_of fault.OutOfMemory = status.Memory
+status_of (fault.WriteFault name) = status.WriteFault
+
+-- the number with which the program ends
+abbrev pub exit_number : Status → ℕ
+exit_number status.Done = 0
+exit_number status.Refused = 1
+exit_number status.Usage = 2
+exit_number status.Memory = 3
+exit_number status.ReadFault = 4
+exit_number status.WriteFault = 5
+exit_number status.Missed = 6

@@ -1,0 +1,108 @@
+ghost use Rattle.std.specs.Prelude.{◌≡◌};
+ghost use Rattle.command_faults.specs.Statuses as statuses;
+ghost use Rattle.command_faults.specs.declared.fault.Fault.TheVariants as made;
+
+use crate::status::Status;
+use bsdl_values::DeviceTextFault;
+use event_scripts::ScriptFault;
+use link_model::LinkFault;
+use scan_vectors::EventFault;
+use thiserror::Error;
+use verilog_texts::TextFault;
+
+/// Why a command is refused. Names are those of the command's words.
+#[derive(Debug, Drop, Error)]
+pub enum Fault<'a> {
+    #[error("the words are no command")]
+    Usage,
+    #[error("an output has the name of another file of the command")]
+    SameName { name: &'a str },
+    #[error("a file couldn't be read")]
+    ReadFault { name: &'a str },
+    #[error("a text is longer than 16,777,216 bytes")]
+    TooLong { name: &'a str },
+    /// A netlist's text is no module.
+    #[error("{0}")]
+    Netlist(TextFault),
+    /// A module is no netlist.
+    #[error("{0}")]
+    Link(LinkFault),
+    /// A text is none of events.
+    #[error("{0}")]
+    Events(EventFault),
+    /// Event lines aren't legal for a netlist.
+    #[error("{0}")]
+    Script(ScriptFault),
+    /// A BSDL text is no device.
+    #[error("{0}")]
+    Device(DeviceTextFault),
+    #[error("out of memory")]
+    OutOfMemory,
+    #[error("a file couldn't be written")]
+    WriteFault { name: &'a str },
+}
+
+impl From<TextFault> for Fault<'_> {
+    ghost from_gives = { λ fault given. given ≡ made.Netlist fault };
+
+    fn from(fault: TextFault) -> Self {
+        Fault::Netlist(fault)
+    }
+}
+
+impl From<LinkFault> for Fault<'_> {
+    ghost from_gives = { λ fault given. given ≡ made.Link fault };
+
+    fn from(fault: LinkFault) -> Self {
+        Fault::Link(fault)
+    }
+}
+
+impl From<EventFault> for Fault<'_> {
+    ghost from_gives = { λ fault given. given ≡ made.Events fault };
+
+    fn from(fault: EventFault) -> Self {
+        Fault::Events(fault)
+    }
+}
+
+impl From<ScriptFault> for Fault<'_> {
+    ghost from_gives = { λ fault given. given ≡ made.Script fault };
+
+    fn from(fault: ScriptFault) -> Self {
+        Fault::Script(fault)
+    }
+}
+
+impl From<DeviceTextFault> for Fault<'_> {
+    ghost from_gives = { λ fault given. given ≡ made.Device fault };
+
+    fn from(fault: DeviceTextFault) -> Self {
+        Fault::Device(fault)
+    }
+}
+
+impl Fault<'_> {
+    /// The status with which a command ends by this fault.
+    pub fn status(&self) -> Status
+        ensures { result ≡ statuses.status_of self.now }
+    {
+        match self {
+            Fault::Usage | Fault::SameName { .. } => Status::Usage,
+            Fault::ReadFault { .. } => Status::ReadFault,
+            Fault::TooLong { .. } => Status::Refused,
+            Fault::Netlist(TextFault::OutOfMemory)
+            | Fault::Link(LinkFault::OutOfMemory)
+            | Fault::Events(EventFault::OutOfMemory)
+            | Fault::Script(ScriptFault::OutOfMemory)
+            | Fault::Device(DeviceTextFault::OutOfMemory)
+            | Fault::OutOfMemory => Status::Memory,
+            Fault::Netlist(_)
+            | Fault::Link(_)
+            | Fault::Events(_)
+            | Fault::Script(_)
+            | Fault::Device(_) => Status::Refused,
+            Fault::WriteFault { .. } => Status::WriteFault,
+        }
+    }
+}

@@ -1,0 +1,35 @@
+ghost use Rattle.std.specs.Prelude.{◌≡◌, ℕ, ◌≤◌, take, OnErr, OnOk};
+ghost use Rattle.edge_io.specs.Shelf.{Rose, appended};
+ghost use Rattle.command_faults.specs.Lines.{line_of};
+
+use crate::fault::Fault;
+use crate::link_lines::{put_link_fault, put_named};
+use crate::text_lines::{
+    put_device_fault, put_event_fault, put_memory, put_script_fault, put_text_fault,
+};
+use edge_io::sink::Sink;
+use edge_io::whole::WriteFault;
+use output_lines::{Field, put_line};
+
+/// Puts the line of a fault on the sink: the fault's name and its fields, with one blank between them, and LF. It
+/// takes no memory.
+pub fn put_fault<O: Sink>(out: &mut O, fault: &Fault) -> Result<(), WriteFault>
+    ensures ok { OnOk result (O.given out.new ≡ appended (line_of fault.now) (O.given out.old)) }
+    ensures fault { OnErr result ((k : ℕ) × (O.given out.new ≡ appended (take k (line_of fault.now)) (O.given out.old))) }
+    ensures cause { OnErr result (Rose (O.faults out.old) (O.faults out.new)) }
+    ensures later { O.faults out.old ≤ O.faults out.new }
+{
+    match fault {
+        Fault::Usage => put_line(out, &Field::Word(b"Usage"), &[]),
+        Fault::SameName { name } => put_named(out, b"SameName", name.as_bytes()),
+        Fault::ReadFault { name } => put_named(out, b"ReadFault", name.as_bytes()),
+        Fault::TooLong { name } => put_named(out, b"TooLong", name.as_bytes()),
+        Fault::Netlist(fault) => put_text_fault(out, fault),
+        Fault::Link(fault) => put_link_fault(out, fault),
+        Fault::Events(fault) => put_event_fault(out, fault),
+        Fault::Script(fault) => put_script_fault(out, fault),
+        Fault::Device(fault) => put_device_fault(out, fault),
+        Fault::OutOfMemory => put_memory(out),
+        Fault::WriteFault { name } => put_named(out, b"WriteFault", name.as_bytes()),
+    }
+}

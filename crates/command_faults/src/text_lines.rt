@@ -1,0 +1,163 @@
+ghost use Rattle.std.specs.Prelude.{◌≡◌, ℕ, ◌≤◌, take, OnErr, OnOk};
+ghost use Rattle.edge_io.specs.Shelf.{Rose, appended};
+ghost use Rattle.bsdl_values.specs.declared.fault.DeviceTextFault.TheVariants as fault;
+ghost use Rattle.command_faults.specs.Lines as lines;
+ghost use Rattle.command_faults.specs.Words as words;
+
+// Lines of the faults of texts.
+
+use bsdl_device::MeaningKind;
+use bsdl_values::DeviceTextFault;
+use edge_io::sink::Sink;
+use edge_io::whole::WriteFault;
+use event_scripts::ScriptFault;
+use netlist_model::What;
+use output_lines::{Field, put_line};
+use scan_vectors::EventFault;
+use verilog_texts::TextFault;
+
+/// Puts the line that tells that memory was refused.
+pub fn put_memory<O: Sink>(out: &mut O) -> Result<(), WriteFault>
+    ensures ok { OnOk result (O.given out.new ≡ appended (lines.memory_line) (O.given out.old)) }
+    ensures fault { OnErr result ((k : ℕ) × (O.given out.new ≡ appended (take k (lines.memory_line)) (O.given out.old))) }
+    ensures cause { OnErr result (Rose (O.faults out.old) (O.faults out.new)) }
+    ensures later { O.faults out.old ≤ O.faults out.new }
+{
+    put_line(out, &Field::Word(b"OutOfMemory"), &[])
+}
+
+/// Puts the line of a place that can't stand, by its offset or the number of its line.
+pub fn put_place<O: Sink>(out: &mut O, fault: &[u8], place: u64) -> Result<(), WriteFault>
+    ensures ok { OnOk result (O.given out.new ≡ appended (lines.place_line fault.now place) (O.given out.old)) }
+    ensures fault { OnErr result ((k : ℕ) × (O.given out.new ≡ appended (take k (lines.place_line fault.now place)) (O.given out.old))) }
+    ensures cause { OnErr result (Rose (O.faults out.old) (O.faults out.new)) }
+    ensures later { O.faults out.old ≤ O.faults out.new }
+{
+    put_line(out, &Field::Word(fault), &[Field::Number(place)])
+}
+
+// The line of a word that can't stand, by its offset and its number.
+fn put_word<O: Sink>(out: &mut O, fault: &[u8], place: u64, word: u64) -> Result<(), WriteFault>
+    ensures ok { OnOk result (O.given out.new ≡ appended (lines.word_line fault.now place word) (O.given out.old)) }
+    ensures fault { OnErr result ((k : ℕ) × (O.given out.new ≡ appended (take k (lines.word_line fault.now place word)) (O.given out.old))) }
+    ensures cause { OnErr result (Rose (O.faults out.old) (O.faults out.new)) }
+    ensures later { O.faults out.old ≤ O.faults out.new }
+{
+    put_line(
+        out,
+        &Field::Word(fault),
+        &[Field::Number(place), Field::Number(word)],
+    )
+}
+
+/// Puts what there is too many of, how many there are, and how many there may be.
+pub fn put_many<O: Sink>(out: &mut O, what: What, count: u64, limit: u64) -> Result<(), WriteFault>
+    ensures ok { OnOk result (O.given out.new ≡ appended (lines.many_line (words.what_word what) count limit) (O.given out.old)) }
+    ensures fault { OnErr result ((k : ℕ) × (O.given out.new ≡ appended (take k (lines.many_line (words.what_word what) count limit)) (O.given out.old))) }
+    ensures cause { OnErr result (Rose (O.faults out.old) (O.faults out.new)) }
+    ensures later { O.faults out.old ≤ O.faults out.new }
+{
+    let fields = [
+        Field::Word(what_word(what)),
+        Field::Number(count),
+        Field::Number(limit),
+    ];
+    put_line(out, &Field::Word(b"TooMany"), &fields)
+}
+
+fn what_word(what: What) -> &'static [u8]
+    ensures { result.now ≡ words.what_word what }
+{
+    match what {
+        What::Cells => b"cells",
+        What::Nets => b"nets",
+        What::Ports => b"ports",
+        What::Operands => b"operands",
+        What::Lines => b"lines",
+    }
+}
+
+fn kind_word(kind: MeaningKind) -> &'static [u8]
+    ensures { result.now ≡ words.kind_word kind }
+{
+    match kind {
+        MeaningKind::Name => b"Name",
+        MeaningKind::PinMap => b"PinMap",
+        MeaningKind::Tap => b"Tap",
+        MeaningKind::Length => b"Length",
+        MeaningKind::Opcode => b"Opcode",
+        MeaningKind::Capture => b"Capture",
+        MeaningKind::Idcode => b"Idcode",
+        MeaningKind::Register => b"Register",
+        MeaningKind::Boundary => b"Boundary",
+        MeaningKind::Row => b"Row",
+        MeaningKind::Ports => b"Ports",
+    }
+}
+
+/// Puts the line of a text that is no module.
+pub fn put_text_fault<O: Sink>(out: &mut O, fault: &TextFault) -> Result<(), WriteFault>
+    ensures ok { OnOk result (O.given out.new ≡ appended (lines.text_line fault.now) (O.given out.old)) }
+    ensures fault { OnErr result ((k : ℕ) × (O.given out.new ≡ appended (take k (lines.text_line fault.now)) (O.given out.old))) }
+    ensures cause { OnErr result (Rose (O.faults out.old) (O.faults out.new)) }
+    ensures later { O.faults out.old ≤ O.faults out.new }
+{
+    match fault {
+        TextFault::BadWord { place } => put_place(out, b"BadWord", *place),
+        TextFault::BadSyntax { place, word } => put_word(out, b"BadSyntax", *place, *word),
+        TextFault::OutOfMemory => put_memory(out),
+    }
+}
+
+/// Puts the line of a text that is none of events.
+pub fn put_event_fault<O: Sink>(out: &mut O, fault: &EventFault) -> Result<(), WriteFault>
+    ensures ok { OnOk result (O.given out.new ≡ appended (lines.event_line fault.now) (O.given out.old)) }
+    ensures fault { OnErr result ((k : ℕ) × (O.given out.new ≡ appended (take k (lines.event_line fault.now)) (O.given out.old))) }
+    ensures cause { OnErr result (Rose (O.faults out.old) (O.faults out.new)) }
+    ensures later { O.faults out.old ≤ O.faults out.new }
+{
+    match fault {
+        EventFault::EventLine { line } => put_place(out, b"EventLine", *line),
+        EventFault::TooMany { what, count, limit } => put_many(out, *what, *count, *limit),
+        EventFault::OutOfMemory => put_memory(out),
+    }
+}
+
+/// Puts the line of event lines that aren't legal for a netlist.
+pub fn put_script_fault<O: Sink>(out: &mut O, fault: &ScriptFault) -> Result<(), WriteFault>
+    ensures ok { OnOk result (O.given out.new ≡ appended (lines.script_line fault.now) (O.given out.old)) }
+    ensures fault { OnErr result ((k : ℕ) × (O.given out.new ≡ appended (take k (lines.script_line fault.now)) (O.given out.old))) }
+    ensures cause { OnErr result (Rose (O.faults out.old) (O.faults out.new)) }
+    ensures later { O.faults out.old ≤ O.faults out.new }
+{
+    match fault {
+        ScriptFault::EventIllegal { line } => put_place(out, b"EventIllegal", *line),
+        ScriptFault::OutOfMemory => put_memory(out),
+    }
+}
+
+// The line of a rule that is broken, with the place of its section.
+fn put_meaning<O: Sink>(out: &mut O, kind: MeaningKind, place: u64) -> Result<(), WriteFault>
+    ensures ok { OnOk result (O.given out.new ≡ appended (lines.device_line (fault.BsdlMeaning kind place)) (O.given out.old)) }
+    ensures fault { OnErr result ((k : ℕ) × (O.given out.new ≡ appended (take k (lines.device_line (fault.BsdlMeaning kind place))) (O.given out.old))) }
+    ensures cause { OnErr result (Rose (O.faults out.old) (O.faults out.new)) }
+    ensures later { O.faults out.old ≤ O.faults out.new }
+{
+    let fields = [Field::Word(kind_word(kind)), Field::Number(place)];
+    put_line(out, &Field::Word(b"BsdlMeaning"), &fields)
+}
+
+/// Puts the line of a text that is no device.
+pub fn put_device_fault<O: Sink>(out: &mut O, fault: &DeviceTextFault) -> Result<(), WriteFault>
+    ensures ok { OnOk result (O.given out.new ≡ appended (lines.device_line fault.now) (O.given out.old)) }
+    ensures fault { OnErr result ((k : ℕ) × (O.given out.new ≡ appended (take k (lines.device_line fault.now)) (O.given out.old))) }
+    ensures cause { OnErr result (Rose (O.faults out.old) (O.faults out.new)) }
+    ensures later { O.faults out.old ≤ O.faults out.new }
+{
+    match fault {
+        DeviceTextFault::BsdlWord { place } => put_place(out, b"BsdlWord", *place),
+        DeviceTextFault::BsdlSyntax { place, word } => put_word(out, b"BsdlSyntax", *place, *word),
+        DeviceTextFault::BsdlMeaning { kind, place } => put_meaning(out, *kind, *place),
+        DeviceTextFault::OutOfMemory => put_memory(out),
+    }
+}

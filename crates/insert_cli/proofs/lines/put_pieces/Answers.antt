@@ -1,9 +1,0 @@
-use Rattle.std.proofs.Common.{List, ℕ, Bor}
-use Rattle.insert_cli.proofs.Pieces.{front-of_parts}
-use Rattle.insert_cli.proofs.lines.put_pieces.Goals as goal
-
-pub returns-in_default-clause-fault : goal.returns-in_default-clause-fault
-returns-in_default-clause-fault g c =
-    let fault = c.in_default.ensures.fault in
-    let text : Bor (List ℕ) → List ℕ = λ p. p.now in
-    front-of_parts text c.args.pieces.now c.loop-piece.piece-index _ (g.O.Sink.given c.args.out.now) (g.O.Sink.given c.loop-piece.out) (g.O.Sink.given c.put_whole.new.out) fault.0 c.loop-piece-test.true c.loop-piece.invariant.given fault.1

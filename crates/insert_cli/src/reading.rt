@@ -1,0 +1,33 @@
+ghost use Rattle.std.specs.Prelude.{◌≡◌, ◌≤◌, length, IfErr, IfOk};
+ghost use Rattle.edge_io.specs.Shelf.{Rose, SameTold, WhereTold};
+ghost use Rattle.insert_cli.specs.Causes.{StandsInReading};
+
+use command_faults::Fault;
+use edge_io::shelf::Shelf;
+use edge_io::text::Text;
+use edge_io::whole::{ReadIssue, read_whole};
+use std::alloc::Global;
+
+/// The longest text that is read, in bytes.
+pub const LIMIT: u64 = 16_777_216;
+
+/// Reads the whole text that lies under a name.
+pub fn read_text<'a, S: Shelf>(
+    alloc: Global,
+    shelf: &mut S,
+    name: &'a str,
+) -> Result<Text, Fault<'a>>
+    ensures ok { IfOk result (λ text. WhereTold (S.held shelf.old name.now) (λ bytes. text ≡ bytes)) }
+    ensures within { IfOk result (λ text. length text ≤ LIMIT) }
+    ensures fault { IfErr result (StandsInReading name.now (S.held shelf.old name.now) LIMIT (Rose (S.faults shelf.old) (S.faults shelf.new))) }
+    ensures held { SameTold (S.held shelf.old) (S.held shelf.new) }
+    ensures written { SameTold (S.written shelf.old) (S.written shelf.new) }
+    ensures later { S.faults shelf.old ≤ S.faults shelf.new }
+{
+    match read_whole(alloc, shelf, name, LIMIT) {
+        Ok(text) => Ok(text),
+        Err(ReadIssue::ReadFault) => Err(Fault::ReadFault { name }),
+        Err(ReadIssue::TooLong) => Err(Fault::TooLong { name }),
+        Err(ReadIssue::OutOfMemory) => Err(Fault::OutOfMemory),
+    }
+}

@@ -1,0 +1,98 @@
+-- What was looked up of a cell makes its turn, its step and its drive.
+use Rattle.std.proofs.Common.{◌≡◌, ℕ, zero, suc, ◌+◌, ◌<◌, ◌≤◌, true, false, List, [], ◌∷◌, length, map, take, set, refl, arith, Option, Some, None, add-one}
+use Rattle.std.specs.Option.{option_map, option_and_then, IsSome, IfSome}
+use Rattle.std.specs.List.{slice_get}
+use Rattle.signal_values.specs.declared.Sig.{Sig}
+use Rattle.signal_values.specs.declared.PinSig.{PinSig}
+use Rattle.signal_values.specs.Values.{pin_of}
+use Rattle.cell_library.specs.declared.Kind.{Kind}
+use Rattle.cell_library.specs.declared.Kind.TheVariants.{Flop}
+use Rattle.cell_library.specs.declared.FlopKind.{FlopKind}
+use Rattle.cell_library.specs.Gates.{is_flop, Takes}
+use Rattle.cell_library.specs.Flops.{flop_next}
+use Rattle.netlist_model.specs.declared.NetId.{NetId}
+use Rattle.netlist_model.specs.declared.CellId.{CellId}
+use Rattle.netlist_model.specs.declared.Dir.{Dir}
+use Rattle.netlist_model.specs.declared.Feed.{Feed}
+use Rattle.netlist_model.specs.Lists.{CellView, NetlistView, cell_at}
+use Rattle.netlist_model.specs.Settled.{feed_values, cell_drive, drive_by, driver_of}
+use Rattle.netlist_arena.proofs.Growth.{takes_few}
+use Rattle.netlist_settling.specs.Values.{value_at, feeds_of}
+use Rattle.netlist_settling.specs.Passes.{driven_value, after_turn}
+use Rattle.netlist_settling.specs.Flops.{kind_next, place_next}
+use Rattle.netlist_settling.specs.Tables.{IsDriverOf}
+
+-- one operand more is gathered
+gathered_suc : {X Y : Type 0} (f : X → Y) (xs : List X) (k : ℕ) (x : X) (y : Y) (buffer : List Y) → slice_get xs k ≡ Some x → y ≡ f x → k < length buffer → take k buffer ≡ map f (take k xs)
+    → take (suc k) (set buffer k y) ≡ map f (take (suc k) xs)
+gathered_suc f [] k x y buffer at is room so_far = absurd (cc)
+gathered_suc f (z ∷ xs) k x y [] at is room so_far = absurd (omega arith)
+gathered_suc f (z ∷ xs) zero x y (b ∷ buffer) at is room so_far = let same : z ≡ x = cc in rw (is, same) refl
+gathered_suc f (z ∷ xs) (suc k) x y (b ∷ buffer) at is room so_far =
+    let head : b ≡ f z = cc in
+    let tail : take k buffer ≡ map f (take k xs) = cc in
+    let rest = gathered_suc f xs k x y buffer at is (omega arith) tail in
+    rw (head, rest) refl
+
+pub gathered_next : {X Y : Type 0} (f : X → Y) (xs : List X) (k : ℕ) (x : X) (y : Y) (buffer : List Y) → slice_get xs k ≡ Some x → y ≡ f x → k < length buffer → take k buffer ≡ map f (take k xs)
+    → take (k + 1) (set buffer k y) ≡ map f (take (k + 1) xs)
+gathered_next f xs k x y buffer at is room so_far = rw (add-one k) (gathered_suc f xs k x y buffer at is room so_far)
+
+-- an operand that was looked up stands among the cell's operands
+pub feed_there : (found : Option CellView) (place : ℕ) (feed : Feed) → option_and_then (λ (cell : CellView). slice_get cell.feeds place) found ≡ Some feed → slice_get (feeds_of found) place ≡ Some feed
+feed_there None place feed at = absurd (cc)
+feed_there (Some cell) place feed at = at
+
+-- no cell has more than 256 operands
+pub count_few : (found : Option CellView) (count : ℕ) → IsSome found → IfSome found (λ cell. Takes cell.kind count) → count ≤ 256
+count_few None count live takes = absurd (let none : false ≡ true = live in cc)
+count_few (Some cell) count live takes = takes_few cell.kind count takes
+
+-- a cell that isn't connected changes no net
+pub turn_none : (found : Option CellView) (sides : ℕ → Option Dir) (pins : ℕ → PinSig) (kept : Sig) (values : List Sig) → option_map (λ (cell : CellView). cell.output) found ≡ Some None
+    → values ≡ after_turn sides pins kept found values
+turn_none None sides pins kept values is = refl
+turn_none (Some cell) sides pins kept values is = let output : cell.output ≡ None = cc in rw output refl
+
+pub turn_some : (found : Option CellView) (sides : ℕ → Option Dir) (pins : ℕ → PinSig) (kept : Sig) (values : List Sig) (net : NetId) (kind : Kind) (inputs : List Sig) (given : Sig)
+    → option_map (λ (cell : CellView). cell.output) found ≡ Some (Some net) → option_map (λ (cell : CellView). cell.kind) found ≡ Some kind
+    → inputs ≡ feed_values (value_at values) (feeds_of found) → given ≡ driven_value (sides net.0) kind inputs kept (pins net.0)
+    → set values net.0 given ≡ after_turn sides pins kept found values
+turn_some None sides pins kept values net kind inputs given output kinds gathered is = absurd (cc)
+turn_some (Some cell) sides pins kept values net kind inputs given output kinds gathered is =
+    let out : cell.output ≡ Some net = cc in
+    let same : cell.kind ≡ kind = cc in
+    rw (out, same, is, gathered) refl
+
+-- what a flip-flop holds next
+pub next_flop : (found : Option CellView) (before after : ℕ → Sig) (kept : Sig) (kind : FlopKind) (was is : List Sig) → option_map (λ (cell : CellView). cell.kind) found ≡ Some (Flop kind)
+    → was ≡ feed_values before (feeds_of found) → is ≡ feed_values after (feeds_of found) → flop_next kind was is kept ≡ place_next found before after kept
+next_flop None before after kept kind was is kinds b a = absurd (cc)
+next_flop (Some cell) before after kept kind was is kinds b a =
+    let same : cell.kind ≡ Flop kind = cc in rw (same, b, a) refl
+
+kept_gate : (kind : Kind) (before after : List Sig) (kept : Sig) → is_flop kind ≡ false → kept ≡ kind_next kind before after kept
+kept_gate (Flop kind) before after kept gate = absurd (cc)
+kept_gate kind before after kept gate = refl
+
+pub next_gate : (found : Option CellView) (before after : ℕ → Sig) (kept : Sig) (kind : Kind) → option_map (λ (cell : CellView). cell.kind) found ≡ Some kind → is_flop kind ≡ false
+    → kept ≡ place_next found before after kept
+next_gate None before after kept kind kinds gate = refl
+next_gate (Some cell) before after kept kind kinds gate =
+    let same : cell.kind ≡ kind = cc in
+    kept_gate cell.kind (feed_values before cell.feeds) (feed_values after cell.feeds) kept (rw same gate)
+
+-- what the driver of a net gives it
+pub drive_none : (N : NetlistView) (net : ℕ) (driver : Option CellId) (value : ℕ → Sig) → IsDriverOf N net driver → driver ≡ None → pin_of (value net) ≡ drive_by (driver_of N.cells net) value net
+drive_none N net None value is none = rw is refl
+drive_none N net (Some id) value is none = absurd (cc)
+
+pub drive_some : (N : NetlistView) (net : ℕ) (id : CellId) (value : ℕ → Sig) (kind : Kind) (inputs : List Sig) → IsDriverOf N net (Some id)
+    → option_map (λ (cell : CellView). cell.kind) (cell_at N id.0) ≡ Some kind → inputs ≡ feed_values value (feeds_of (cell_at N id.0))
+    → cell_drive kind inputs (value net) ≡ drive_by (driver_of N.cells net) value net
+drive_some N net id value kind inputs is kinds gathered =
+    let live = is.1 in
+    let named : Some is.0.kind ≡ Some kind = rw live at kinds in
+    let same : is.0.kind ≡ kind = cc in
+    let here : inputs ≡ feed_values value is.0.feeds = rw live at gathered in
+    rw (is.2, ← same, here) refl

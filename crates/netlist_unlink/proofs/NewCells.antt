@@ -1,0 +1,235 @@
+-- The cell of an item is the netlist's cell, with new numbers.
+use Rattle.std.proofs.Common.{◌≡◌, ℕ, suc, ◌+◌, ◌<◌, List, [], ◌∷◌, ◌++◌, length, map, refl, ap, sym, ◌∙◌, subst, Option, Some, None, arith}
+use Rattle.std.specs.Prelude.{slice_get, unwrap_or, option_and_then, codes, IsSome}
+use Rattle.std.specs.Option.{option_map}
+use Rattle.verilog_tree.specs.declared.tree.GateKind.{GateKind}
+use Rattle.verilog_tree.specs.declared.tree.Link.{Link}
+use Rattle.cell_library.specs.declared.Kind.{Kind}
+use Rattle.cell_library.specs.declared.Kind.TheVariants as kind
+use Rattle.cell_library.specs.declared.ResetTo.{ResetTo}
+use Rattle.cell_library.specs.declared.ResetTo.TheVariants.{Nothing, Zero as ToZero, One as ToOne}
+use Rattle.cell_library.specs.Gates.{Takes, is_flop}
+use Rattle.cell_library.specs.Library.{cell_name, flop_ports, kind_named, operand_ports, output_port}
+use Rattle.netlist_model.specs.declared.Feed.{Feed}
+use Rattle.netlist_model.specs.declared.Feed.TheVariants.{Net, Const}
+use Rattle.netlist_model.specs.declared.Name.{Name}
+use Rattle.netlist_model.specs.declared.NetId.{NetId}
+use Rattle.netlist_model.specs.Lists.{CellView, NetlistView, cell_at, live_cell}
+use Rattle.netlist_model.specs.Formed.{IsLaidOut}
+use Rattle.link_model.specs.Nets.{Declared, net_of}
+use Rattle.link_model.specs.Cells.{NamedCell, cell_of, feed_of, library_cell, port_feed, port_net}
+use Rattle.netlist_unlink.specs.Trees.{Naming, bit_of, cell_text, first_operand, gate_of, item_of, items_from, operand_links, operand_of, output_bit, output_links, written}
+use Rattle.netlist_unlink.specs.Renumbered.{cells_from, new_cell, new_feed, new_net}
+use Rattle.netlist_unlink.proofs.Facts.{gate_no_flop, gate_no_mux, library_count}
+use Rattle.netlist_unlink.proofs.Kept.{gate_back, library_back}
+use Rattle.netlist_unlink.proofs.Members.{map_same, map_twice}
+use Rattle.netlist_unlink.proofs.Nets.{AreNamed}
+use Rattle.netlist_unlink.proofs.Written.{assign_kind}
+
+-- an operand that is a net is one of the netlist's
+abbrev pub IsBelow : NetlistView → Feed → Type 0
+IsBelow N (Net net) = net.0 < length N.nets
+IsBelow N (Const value) = Unit {0}
+
+abbrev pub AreBelow : NetlistView → List Feed → Type 0
+AreBelow N feeds = (place : ℕ) (feed : Feed) → slice_get feeds place ≡ Some feed → IsBelow N feed
+
+pub feeds_below : (N : NetlistView) (i : ℕ) (cell : CellView) → IsLaidOut N → cell_at N i ≡ Some cell → AreBelow N cell.feeds
+feeds_below N i cell laid at place (Net net) read = laid.operands i cell place net.0 (record { live = at; operand = read })
+feeds_below N i cell laid at place (Const value) read = tt
+
+pub output_below : (N : NetlistView) (i : ℕ) (cell : CellView) (net : NetId) → IsLaidOut N → cell_at N i ≡ Some cell → cell.output ≡ Some net → net.0 < length N.nets
+output_below N i cell net laid at out = laid.outputs i cell net.0 (record { live = at; output = out })
+
+-- the bits of nets name their new numbers
+abbrev pub NamesNets : NetlistView → Naming → List ℕ → List (List ℕ × Declared) → Type 0
+NamesNets N naming order names = (net : NetId) → net.0 < length N.nets → net_of names (bit_of naming net) ≡ new_net order net
+
+-- Operands.
+
+new_operand : (N : NetlistView) (naming : Naming) (order : List ℕ) (names : List (List ℕ × Declared)) (feed : Feed) → NamesNets N naming order names → IsBelow N feed
+    → feed_of names (operand_of naming feed) ≡ new_feed order feed
+new_operand N naming order names (Net net) named below = ap Net (named net below)
+new_operand N naming order names (Const value) named below = refl
+
+new_operands : (N : NetlistView) (naming : Naming) (order : List ℕ) (names : List (List ℕ × Declared)) (feeds : List Feed) → NamesNets N naming order names → AreBelow N feeds
+    → map (λ (f : Feed). feed_of names (operand_of naming f)) feeds ≡ map (new_feed order) feeds
+new_operands N naming order names feeds named below =
+    map_same (λ (f : Feed). feed_of names (operand_of naming f)) (new_feed order) feeds (λ place feed at. new_operand N naming order names feed named (below place feed at))
+
+pub same_cell : (a b : NamedCell) → a.kind ≡ b.kind → a.name ≡ b.name → a.feeds ≡ b.feeds → a.output ≡ b.output → a ≡ b
+same_cell a b k n f o =
+    ap (λ x. record { kind = x; name = a.name; feeds = a.feeds; output = a.output }) k ∙ ap (λ x. record { kind = b.kind; name = x; feeds = a.feeds; output = a.output }) n
+    ∙ ap (λ x. record { kind = b.kind; name = b.name; feeds = x; output = a.output }) f ∙ ap (λ x. record { kind = b.kind; name = b.name; feeds = b.feeds; output = x }) o
+
+-- the net of an output
+new_output : (N : NetlistView) (naming : Naming) (order : List ℕ) (names : List (List ℕ × Declared)) (i : ℕ) (cell : CellView) → NamesNets N naming order names → IsLaidOut N → cell_at N i ≡ Some cell
+    → option_map (λ (net : NetId). net_of names (bit_of naming net)) cell.output ≡ option_map (new_net order) cell.output
+new_output N naming order names i cell named laid at = go cell.output refl
+  where
+    go : (o : Option NetId) → cell.output ≡ o → option_map (λ (net : NetId). net_of names (bit_of naming net)) o ≡ option_map (new_net order) o
+    go None e = refl
+    go (Some net) e = ap Some (named net (output_below N i cell net laid at e))
+
+driven : (naming : Naming) (names : List (List ℕ × Declared)) (o : Option NetId) → IsSome o → Some (net_of names (output_bit naming o)) ≡ option_map (λ (net : NetId). net_of names (bit_of naming net)) o
+driven naming names None some = absurd (cc)
+driven naming names (Some net) some = refl
+
+-- Instances: what their links connect.
+
+abbrev pub links_of : Naming → List (List ℕ) → Option (List ℕ) → List Feed → Option NetId → List Link
+links_of naming ports out feeds output = operand_links naming ports feeds ++ output_links naming out output
+
+mux_feeds : (naming : Naming) (names : List (List ℕ × Declared)) (feeds : List Feed) (output : Option NetId) → length feeds ≡ 3
+    → map (port_feed names (links_of naming (operand_ports kind.Mux2) (output_port kind.Mux2) feeds output)) (operand_ports kind.Mux2) ≡ map (λ (f : Feed). feed_of names (operand_of naming f)) feeds
+mux_feeds naming names [] output e = absurd (omega arith)
+mux_feeds naming names (a ∷ []) output e = absurd (omega arith)
+mux_feeds naming names (a ∷ b ∷ []) output e = absurd (omega arith)
+mux_feeds naming names (a ∷ b ∷ c ∷ []) output e = refl
+mux_feeds naming names (a ∷ b ∷ c ∷ d ∷ feeds) output e = absurd (omega arith)
+
+mux_output : (naming : Naming) (names : List (List ℕ × Declared)) (feeds : List Feed) (output : Option NetId) → length feeds ≡ 3
+    → option_and_then (port_net names (links_of naming (operand_ports kind.Mux2) (output_port kind.Mux2) feeds output)) (output_port kind.Mux2) ≡ option_map (λ (net : NetId). net_of names (bit_of naming net)) output
+mux_output naming names [] output e = absurd (omega arith)
+mux_output naming names (a ∷ []) output e = absurd (omega arith)
+mux_output naming names (a ∷ b ∷ []) output e = absurd (omega arith)
+mux_output naming names (a ∷ b ∷ c ∷ []) None e = refl
+mux_output naming names (a ∷ b ∷ c ∷ []) (Some net) e = refl
+mux_output naming names (a ∷ b ∷ c ∷ d ∷ feeds) output e = absurd (omega arith)
+
+abbrev flop_output : Option (List ℕ)
+flop_output = Some (codes "Q")
+
+flop_feeds : (naming : Naming) (names : List (List ℕ × Declared)) (reset : ResetTo) (feeds : List Feed) (output : Option NetId) → length feeds ≡ length (flop_ports reset)
+    → map (port_feed names (links_of naming (flop_ports reset) flop_output feeds output)) (flop_ports reset) ≡ map (λ (f : Feed). feed_of names (operand_of naming f)) feeds
+flop_feeds naming names Nothing [] output e = absurd (omega arith)
+flop_feeds naming names Nothing (a ∷ []) output e = absurd (omega arith)
+flop_feeds naming names Nothing (a ∷ b ∷ []) output e = refl
+flop_feeds naming names Nothing (a ∷ b ∷ c ∷ feeds) output e = absurd (omega arith)
+flop_feeds naming names ToZero [] output e = absurd (omega arith)
+flop_feeds naming names ToZero (a ∷ []) output e = absurd (omega arith)
+flop_feeds naming names ToZero (a ∷ b ∷ []) output e = absurd (omega arith)
+flop_feeds naming names ToZero (a ∷ b ∷ c ∷ []) output e = refl
+flop_feeds naming names ToZero (a ∷ b ∷ c ∷ d ∷ feeds) output e = absurd (omega arith)
+flop_feeds naming names ToOne [] output e = absurd (omega arith)
+flop_feeds naming names ToOne (a ∷ []) output e = absurd (omega arith)
+flop_feeds naming names ToOne (a ∷ b ∷ []) output e = absurd (omega arith)
+flop_feeds naming names ToOne (a ∷ b ∷ c ∷ []) output e = refl
+flop_feeds naming names ToOne (a ∷ b ∷ c ∷ d ∷ feeds) output e = absurd (omega arith)
+
+flop_net : (naming : Naming) (names : List (List ℕ × Declared)) (reset : ResetTo) (feeds : List Feed) (output : Option NetId) → length feeds ≡ length (flop_ports reset)
+    → option_and_then (port_net names (links_of naming (flop_ports reset) flop_output feeds output)) flop_output ≡ option_map (λ (net : NetId). net_of names (bit_of naming net)) output
+flop_net naming names Nothing [] output e = absurd (omega arith)
+flop_net naming names Nothing (a ∷ []) output e = absurd (omega arith)
+flop_net naming names Nothing (a ∷ b ∷ []) None e = refl
+flop_net naming names Nothing (a ∷ b ∷ []) (Some net) e = refl
+flop_net naming names Nothing (a ∷ b ∷ c ∷ feeds) output e = absurd (omega arith)
+flop_net naming names ToZero [] output e = absurd (omega arith)
+flop_net naming names ToZero (a ∷ []) output e = absurd (omega arith)
+flop_net naming names ToZero (a ∷ b ∷ []) output e = absurd (omega arith)
+flop_net naming names ToZero (a ∷ b ∷ c ∷ []) None e = refl
+flop_net naming names ToZero (a ∷ b ∷ c ∷ []) (Some net) e = refl
+flop_net naming names ToZero (a ∷ b ∷ c ∷ d ∷ feeds) output e = absurd (omega arith)
+flop_net naming names ToOne [] output e = absurd (omega arith)
+flop_net naming names ToOne (a ∷ []) output e = absurd (omega arith)
+flop_net naming names ToOne (a ∷ b ∷ []) output e = absurd (omega arith)
+flop_net naming names ToOne (a ∷ b ∷ c ∷ []) None e = refl
+flop_net naming names ToOne (a ∷ b ∷ c ∷ []) (Some net) e = refl
+flop_net naming names ToOne (a ∷ b ∷ c ∷ d ∷ feeds) output e = absurd (omega arith)
+
+-- operands and output of an instance's cell
+record AreLinked (naming : Naming) (names : List (List ℕ × Declared)) (k : Kind) (feeds : List Feed) (output : Option NetId) : Type 0 where
+  operands : map (port_feed names (links_of naming (operand_ports k) (output_port k) feeds output)) (operand_ports k) ≡ map (λ (f : Feed). feed_of names (operand_of naming f)) feeds
+  out : option_and_then (port_net names (links_of naming (operand_ports k) (output_port k) feeds output)) (output_port k) ≡ option_map (λ (net : NetId). net_of names (bit_of naming net)) output
+
+are_linked : (naming : Naming) (names : List (List ℕ × Declared)) (k : Kind) (library : List ℕ) (feeds : List Feed) (output : Option NetId) → cell_name k ≡ Some library → length feeds ≡ length (operand_ports k)
+    → AreLinked naming names k feeds output
+are_linked naming names kind.Mux2 library feeds output known e = record { operands = mux_feeds naming names feeds output e; out = mux_output naming names feeds output e }
+are_linked naming names (kind.Flop flop) library feeds output known e = record { operands = flop_feeds naming names flop.reset feeds output e; out = flop_net naming names flop.reset feeds output e }
+are_linked naming names kind.And library feeds output known e = absurd (cc)
+are_linked naming names kind.Or library feeds output known e = absurd (cc)
+are_linked naming names kind.Nand library feeds output known e = absurd (cc)
+are_linked naming names kind.Nor library feeds output known e = absurd (cc)
+are_linked naming names kind.Xor library feeds output known e = absurd (cc)
+are_linked naming names kind.Xnor library feeds output known e = absurd (cc)
+are_linked naming names kind.Buf library feeds output known e = absurd (cc)
+are_linked naming names kind.Not library feeds output known e = absurd (cc)
+are_linked naming names kind.Bufif0 library feeds output known e = absurd (cc)
+are_linked naming names kind.Bufif1 library feeds output known e = absurd (cc)
+are_linked naming names kind.Assign library feeds output known e = absurd (cc)
+
+-- Cells.
+
+one_feed : (naming : Naming) (names : List (List ℕ × Declared)) (feeds : List Feed) → length feeds ≡ 1
+    → feed_of names (first_operand naming feeds) ∷ [] ≡ map (λ (f : Feed). feed_of names (operand_of naming f)) feeds
+one_feed naming names [] e = absurd (omega arith)
+one_feed naming names (a ∷ []) e = refl
+one_feed naming names (a ∷ b ∷ feeds) e = absurd (omega arith)
+
+pub cell_is : (N : NetlistView) (naming : Naming) (order : List ℕ) (names : List (List ℕ × Declared)) (i : ℕ) (cell : CellView) → naming.nets ≡ N.nets → AreNamed naming.table N → NamesNets N naming order names
+    → cell_at N i ≡ Some cell → cell_of names (item_of naming i cell) ≡ new_cell naming order i cell
+cell_is N naming order names i cell nets w named at = by_gate (gate_of cell.kind) refl
+  where
+    operands : map (λ (f : Feed). feed_of names (operand_of naming f)) cell.feeds ≡ map (new_feed order) cell.feeds
+    operands = new_operands N naming order names cell.feeds named (feeds_below N i cell w.laid at)
+
+    output : option_map (λ (net : NetId). net_of names (bit_of naming net)) cell.output ≡ option_map (new_net order) cell.output
+    output = new_output N naming order names i cell named w.laid at
+
+    assigned : gate_of cell.kind ≡ None → cell_name cell.kind ≡ None → cell_of names (written naming i cell None None) ≡ new_cell naming order i cell
+    assigned no_gate no_library =
+        let is = assign_kind cell.kind no_gate no_library in
+        let T : Kind → Type 0 = λ k. Takes k (length cell.feeds) in
+        let one : length cell.feeds ≡ 1 = subst T is (w.formed.counts i cell at) in
+        let none = w.named.assign_unnamed i cell at is in
+        let some = w.named.connected i cell at (ap is_flop is) (λ mux. let bad : kind.Assign ≡ kind.Mux2 = sym is ∙ mux in cc) in
+        same_cell (cell_of names (written naming i cell None None)) (new_cell naming order i cell) (sym is) (sym (ap (option_map (cell_text naming i)) none))
+        (one_feed naming names cell.feeds one ∙ operands) (driven naming names cell.output some ∙ output)
+
+    instanced : (library : List ℕ) → cell_name cell.kind ≡ Some library → gate_of cell.kind ≡ None → cell_of names (written naming i cell None (Some library)) ≡ new_cell naming order i cell
+    instanced library is none =
+        let back : unwrap_or (kind_named library) kind.Buf ≡ cell.kind = ap (λ (o : Option Kind). unwrap_or o kind.Buf) (library_back cell.kind library is) in
+        let count = library_count cell.kind library (length cell.feeds) is (w.formed.counts i cell at) in
+        let are = are_linked naming names cell.kind library cell.feeds cell.output is count in
+        let name = some_text cell.name (w.named.library_named i cell at (rw is refl)) in
+        let text : List ℕ = unwrap_or (option_map (cell_text naming i) cell.name) [] in
+        let links : List Link = links_of naming (operand_ports cell.kind) (output_port cell.kind) cell.feeds cell.output in
+        let cell_as : Kind → NamedCell = λ k. library_cell names (record { cell = library; name = text; links = links }) k in
+        ap cell_as back ∙ same_cell (cell_as cell.kind) (new_cell naming order i cell) refl name (are.operands ∙ operands) (are.out ∙ output)
+      where
+        some_text : (o : Option Name) → IsSome o → Some (unwrap_or (option_map (cell_text naming i) o) []) ≡ option_map (cell_text naming i) o
+        some_text None some = absurd (cc)
+        some_text (Some name) some = refl
+
+    gated : (g : GateKind) (library : Option (List ℕ)) → gate_of cell.kind ≡ Some g → cell_of names (written naming i cell (Some g) library) ≡ new_cell naming order i cell
+    gated g library is =
+        let some = w.named.connected i cell at (gate_no_flop cell.kind g is) (gate_no_mux cell.kind g is) in
+        same_cell (cell_of names (written naming i cell (Some g) library)) (new_cell naming order i cell) (gate_back cell.kind g is) refl
+        (map_twice (feed_of names) (operand_of naming) cell.feeds ∙ operands) (driven naming names cell.output some ∙ output)
+
+    by_library : (l : Option (List ℕ)) → cell_name cell.kind ≡ l → gate_of cell.kind ≡ None → cell_of names (written naming i cell None l) ≡ new_cell naming order i cell
+    by_library None e none = assigned none e
+    by_library (Some library) e none = instanced library e none
+
+    by_gate : (g : Option GateKind) → gate_of cell.kind ≡ g → cell_of names (written naming i cell g (cell_name cell.kind)) ≡ new_cell naming order i cell
+    by_gate None e = by_library (cell_name cell.kind) refl e
+    by_gate (Some g) e = gated g (cell_name cell.kind) e
+
+-- all cells
+pub cells_are : (N : NetlistView) (naming : Naming) (order : List ℕ) (names : List (List ℕ × Declared)) (number : ℕ) (cells : List (Option CellView))
+    → ((k : ℕ) (cell : CellView) → live_cell (slice_get cells k) ≡ Some cell → cell_of names (item_of naming (number + k) cell) ≡ new_cell naming order (number + k) cell)
+    → map (cell_of names) (items_from naming number cells) ≡ cells_from naming order number cells
+cells_are N naming order names number [] each = refl
+cells_are N naming order names number (None ∷ cells) each =
+    cells_are N naming order names (number + 1) cells (λ k cell at.
+    let P : ℕ → Type 0 = λ n. cell_of names (item_of naming n cell) ≡ new_cell naming order n cell in
+    let same : number + suc k ≡ (number + 1) + k = omega arith in
+    subst P same (each (suc k) cell at))
+cells_are N naming order names number (Some first ∷ cells) each =
+    let zeroth : number + 0 ≡ number = omega arith in
+    let F : ℕ → Type 0 = λ n. cell_of names (item_of naming n first) ≡ new_cell naming order n first in
+    let rest = cells_are N naming order names (number + 1) cells (λ k cell at.
+    let P : ℕ → Type 0 = λ n. cell_of names (item_of naming n cell) ≡ new_cell naming order n cell in
+    let same : number + suc k ≡ (number + 1) + k = omega arith in
+    subst P same (each (suc k) cell at)) in
+    ap (λ (c : NamedCell). c ∷ map (cell_of names) (items_from naming (number + 1) cells)) (subst F zeroth (each 0 first refl)) ∙ ap (λ (cs : List NamedCell). new_cell naming order number first ∷ cs) rest

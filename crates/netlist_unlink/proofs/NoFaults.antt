@@ -1,0 +1,312 @@
+-- No fault of the text stands in the tree of a linked netlist, but what is too many.
+use Rattle.std.proofs.Common.{◌≡◌, ℕ, suc, ◌+◌, ◌<◌, ◌≤◌, false, List, [], ◌∷◌, ◌++◌, length, map, refl, ap, sym, ◌∙◌, subst, Option, Some, None, arith}
+use Rattle.std.specs.Prelude.{slice_get, unwrap_or, option_and_then, codes, nat_lt, is_none, IsSome, if◌then◌else◌}
+use Rattle.std.specs.Option.{option_map}
+use Rattle.std.specs.List.{AllByRecursion, flat_map}
+use Rattle.std.proofs.lemmas.Bool.Decides.{nat_tests}
+use Rattle.std.proofs.lemmas.List.{length-map}
+use Rattle.verilog_tree.specs.declared.tree.Bit.{Bit}
+use Rattle.verilog_tree.specs.declared.tree.GateKind.{GateKind}
+use Rattle.verilog_tree.specs.declared.tree.Instance.{Instance}
+use Rattle.verilog_tree.specs.declared.tree.Item.{Item}
+use Rattle.verilog_tree.specs.declared.tree.Link.{Link}
+use Rattle.cell_library.specs.declared.Edge.{Edge}
+use Rattle.cell_library.specs.declared.Kind.{Kind}
+use Rattle.cell_library.specs.declared.Kind.TheVariants as kind
+use Rattle.cell_library.specs.declared.ResetTo.{ResetTo}
+use Rattle.cell_library.specs.declared.ResetTo.TheVariants.{Nothing, Zero as ToZero, One as ToOne}
+use Rattle.cell_library.specs.Gates.{Takes, is_flop}
+use Rattle.cell_library.specs.Library.{cell_name, flop_ports, operand_ports, output_port, port_named}
+use Rattle.netlist_model.specs.declared.Feed.{Feed}
+use Rattle.netlist_model.specs.declared.Feed.TheVariants.{Net, Const}
+use Rattle.netlist_model.specs.declared.NetId.{NetId}
+use Rattle.netlist_model.specs.declared.What.TheVariants as what
+use Rattle.netlist_model.specs.Lists.{CellView, NetlistView, cell_at, live_cell}
+use Rattle.link_model.specs.declared.fault.LinkFault.{LinkFault}
+use Rattle.link_model.specs.declared.fault.LinkFault.TheVariants as fault
+use Rattle.link_model.specs.Lists.{first_in, or_else}
+use Rattle.link_model.specs.Nets.{Declared}
+use Rattle.link_model.specs.Faults.{at_bit, at_instance, cell_unknown, gate_operands, is_output_place, item_bits, item_width, link_bits, link_width, operand_bits, port_missing, port_twice, port_unknown, too_many, wrong_width}
+use Rattle.netlist_unlink.specs.Trees.{Naming, bit_of, cell_text, first_operand, gate_of, item_of, items_from, operand_links, operand_of, output_bit, output_links, written}
+use Rattle.netlist_unlink.proofs.Facts.{gate_no_flop, gate_no_mux, library_count}
+use Rattle.netlist_unlink.proofs.Kept.{library_back}
+use Rattle.netlist_unlink.proofs.Lists.{all_joined}
+use Rattle.netlist_unlink.proofs.Nets.{AreNamed}
+use Rattle.netlist_unlink.proofs.NewCells.{AreBelow, IsBelow, feeds_below, links_of, output_below}
+use Rattle.netlist_unlink.proofs.Written.{assign_kind}
+
+-- No fault along a list.
+
+pub none_along : {X Y : Type 0} (test : X → Option Y) (xs : List X) → AllByRecursion (λ x. test x ≡ None) xs → first_in test xs ≡ None
+none_along test [] all = refl
+none_along test (x ∷ xs) all = rw all.0 (none_along test xs all.1)
+
+-- the items of live cells
+pub none_of_items : (test : Item → Option LinkFault) (naming : Naming) (number : ℕ) (cells : List (Option CellView))
+    → ((k : ℕ) (cell : CellView) → live_cell (slice_get cells k) ≡ Some cell → test (item_of naming (number + k) cell) ≡ None) → first_in test (items_from naming number cells) ≡ None
+none_of_items test naming number [] each = refl
+none_of_items test naming number (None ∷ cells) each =
+    none_of_items test naming (number + 1) cells (λ k cell at.
+    let P : ℕ → Type 0 = λ n. test (item_of naming n cell) ≡ None in
+    let same : number + suc k ≡ (number + 1) + k = omega arith in
+    subst P same (each (suc k) cell at))
+none_of_items test naming number (Some first ∷ cells) each =
+    let zeroth : number + 0 ≡ number = omega arith in
+    let F : ℕ → Type 0 = λ n. test (item_of naming n first) ≡ None in
+    let here = subst F zeroth (each 0 first refl) in
+    rw here (none_of_items test naming (number + 1) cells (λ k cell at.
+    let P : ℕ → Type 0 = λ n. test (item_of naming n cell) ≡ None in
+    let same : number + suc k ≡ (number + 1) + k = omega arith in
+    subst P same (each (suc k) cell at)))
+
+-- Bits of items.
+
+abbrev OfNets : NetlistView → Naming → (Bit → Type 0) → Type 0
+OfNets N naming P = (net : NetId) → net.0 < length N.nets → P (bit_of naming net)
+
+feed_bits : (N : NetlistView) (naming : Naming) (P : Bit → Type 0) (feed : Feed) → OfNets N naming P → IsBelow N feed → AllByRecursion P (operand_bits (operand_of naming feed))
+feed_bits N naming P (Net net) all below = (all net below, tt)
+feed_bits N naming P (Const value) all below = tt
+
+feeds_bits : (N : NetlistView) (naming : Naming) (P : Bit → Type 0) (feeds : List Feed) → OfNets N naming P → AreBelow N feeds → AllByRecursion P (flat_map operand_bits (map (operand_of naming) feeds))
+feeds_bits N naming P [] all below = tt
+feeds_bits N naming P (feed ∷ feeds) all below =
+    all_joined P (operand_bits (operand_of naming feed)) (flat_map operand_bits (map (operand_of naming) feeds)) (feed_bits N naming P feed all (below 0 feed refl))
+    (feeds_bits N naming P feeds all (λ place f at. below (suc place) f at))
+
+links_bits : (N : NetlistView) (naming : Naming) (P : Bit → Type 0) (ports : List (List ℕ)) (feeds : List Feed) (rest : List Link) → OfNets N naming P → AreBelow N feeds → AllByRecursion P (flat_map link_bits rest)
+    → AllByRecursion P (flat_map link_bits (operand_links naming ports feeds ++ rest))
+links_bits N naming P [] feeds rest all below more = more
+links_bits N naming P (port ∷ ports) [] rest all below more = more
+links_bits N naming P (port ∷ ports) (feed ∷ feeds) rest all below more =
+    all_joined P (operand_bits (operand_of naming feed)) (flat_map link_bits (operand_links naming ports feeds ++ rest)) (feed_bits N naming P feed all (below 0 feed refl))
+    (links_bits N naming P ports feeds rest all (λ place f at. below (suc place) f at) more)
+
+-- the net that a cell drives is one of the netlist's
+abbrev DrivesBelow : NetlistView → Option NetId → Type 0
+DrivesBelow N output = (net : NetId) → output ≡ Some net → net.0 < length N.nets
+
+output_bits : (N : NetlistView) (naming : Naming) (P : Bit → Type 0) (port : Option (List ℕ)) (output : Option NetId) → OfNets N naming P → DrivesBelow N output
+    → AllByRecursion P (flat_map link_bits (output_links naming port output))
+output_bits N naming P None output all below = tt
+output_bits N naming P (Some port) None all below = tt
+output_bits N naming P (Some port) (Some net) all below = (all net (below net refl), tt)
+
+first_bits : (N : NetlistView) (naming : Naming) (P : Bit → Type 0) (feeds : List Feed) → OfNets N naming P → AreBelow N feeds → AllByRecursion P (operand_bits (first_operand naming feeds))
+first_bits N naming P [] all below = tt
+first_bits N naming P (feed ∷ feeds) all below = feed_bits N naming P feed all (below 0 feed refl)
+
+driven_bit : (N : NetlistView) (naming : Naming) (P : Bit → Type 0) (output : Option NetId) → OfNets N naming P → DrivesBelow N output → IsSome output → P (output_bit naming output)
+driven_bit N naming P None all below some = absurd (cc)
+driven_bit N naming P (Some net) all below some = all net (below net refl)
+
+-- each bit of an item is that of a net
+pub bits_of_item : (N : NetlistView) (naming : Naming) (P : Bit → Type 0) (i : ℕ) (cell : CellView) → AreNamed naming.table N → OfNets N naming P → cell_at N i ≡ Some cell → AllByRecursion P (item_bits (item_of naming i cell))
+bits_of_item N naming P i cell w all at = by_gate (gate_of cell.kind) refl
+  where
+    below : AreBelow N cell.feeds
+    below = feeds_below N i cell w.laid at
+
+    drives : DrivesBelow N cell.output
+    drives net e = output_below N i cell net w.laid at e
+
+    by_library : (l : Option (List ℕ)) → cell_name cell.kind ≡ l → gate_of cell.kind ≡ None → AllByRecursion P (item_bits (written naming i cell None l))
+    by_library None e none =
+        let is = assign_kind cell.kind none e in
+        let some = w.named.connected i cell at (ap is_flop is) (λ mux. let bad : kind.Assign ≡ kind.Mux2 = sym is ∙ mux in cc) in
+        (driven_bit N naming P cell.output all drives some, first_bits N naming P cell.feeds all below)
+    by_library (Some library) e none =
+        links_bits N naming P (operand_ports cell.kind) cell.feeds (output_links naming (output_port cell.kind) cell.output) all below (output_bits N naming P (output_port cell.kind) cell.output all drives)
+
+    by_gate : (g : Option GateKind) → gate_of cell.kind ≡ g → AllByRecursion P (item_bits (written naming i cell g (cell_name cell.kind)))
+    by_gate None e = by_library (cell_name cell.kind) refl e
+    by_gate (Some g) e =
+        let some = w.named.connected i cell at (gate_no_flop cell.kind g e) (gate_no_mux cell.kind g e) in
+        (driven_bit N naming P cell.output all drives some, feeds_bits N naming P cell.feeds all below)
+
+-- Instances.
+
+-- no fault of an instance's links
+record HasNoFault (i : Instance) (k : Kind) : Type 0 where
+  unknown : port_unknown i k ≡ None
+  missing : port_missing i k ≡ None
+  twice : port_twice i k ≡ None
+
+abbrev instance_with : List ℕ → List ℕ → List Link → Instance
+instance_with library name links = record { cell = library; name = name; links = links }
+
+mux_links : (naming : Naming) (library name : List ℕ) (feeds : List Feed) (output : Option NetId) → length feeds ≡ 3
+    → HasNoFault (instance_with library name (links_of naming (operand_ports kind.Mux2) (output_port kind.Mux2) feeds output)) kind.Mux2
+mux_links naming library name [] output e = absurd (omega arith)
+mux_links naming library name (a ∷ []) output e = absurd (omega arith)
+mux_links naming library name (a ∷ b ∷ []) output e = absurd (omega arith)
+mux_links naming library name (a ∷ b ∷ c ∷ []) None e = record { unknown = refl; missing = refl; twice = refl }
+mux_links naming library name (a ∷ b ∷ c ∷ []) (Some net) e = record { unknown = refl; missing = refl; twice = refl }
+mux_links naming library name (a ∷ b ∷ c ∷ d ∷ feeds) output e = absurd (omega arith)
+
+abbrev flop_kind : Edge → ResetTo → Kind
+flop_kind edge reset = kind.Flop (record { edge = edge; reset = reset })
+
+flop_links : (naming : Naming) (library name : List ℕ) (edge : Edge) (reset : ResetTo) (feeds : List Feed) (output : Option NetId) → length feeds ≡ length (flop_ports reset)
+    → HasNoFault (instance_with library name (links_of naming (flop_ports reset) (Some (codes "Q")) feeds output)) (flop_kind edge reset)
+flop_links naming library name edge Nothing [] output e = absurd (omega arith)
+flop_links naming library name edge Nothing (a ∷ []) output e = absurd (omega arith)
+flop_links naming library name edge Nothing (a ∷ b ∷ []) None e = record { unknown = refl; missing = refl; twice = refl }
+flop_links naming library name edge Nothing (a ∷ b ∷ []) (Some net) e = record { unknown = refl; missing = refl; twice = refl }
+flop_links naming library name edge Nothing (a ∷ b ∷ c ∷ feeds) output e = absurd (omega arith)
+flop_links naming library name edge ToZero [] output e = absurd (omega arith)
+flop_links naming library name edge ToZero (a ∷ []) output e = absurd (omega arith)
+flop_links naming library name edge ToZero (a ∷ b ∷ []) output e = absurd (omega arith)
+flop_links naming library name edge ToZero (a ∷ b ∷ c ∷ []) None e = record { unknown = refl; missing = refl; twice = refl }
+flop_links naming library name edge ToZero (a ∷ b ∷ c ∷ []) (Some net) e = record { unknown = refl; missing = refl; twice = refl }
+flop_links naming library name edge ToZero (a ∷ b ∷ c ∷ d ∷ feeds) output e = absurd (omega arith)
+flop_links naming library name edge ToOne [] output e = absurd (omega arith)
+flop_links naming library name edge ToOne (a ∷ []) output e = absurd (omega arith)
+flop_links naming library name edge ToOne (a ∷ b ∷ []) output e = absurd (omega arith)
+flop_links naming library name edge ToOne (a ∷ b ∷ c ∷ []) None e = record { unknown = refl; missing = refl; twice = refl }
+flop_links naming library name edge ToOne (a ∷ b ∷ c ∷ []) (Some net) e = record { unknown = refl; missing = refl; twice = refl }
+flop_links naming library name edge ToOne (a ∷ b ∷ c ∷ d ∷ feeds) output e = absurd (omega arith)
+
+links_fit : (naming : Naming) (k : Kind) (library name : List ℕ) (feeds : List Feed) (output : Option NetId) → cell_name k ≡ Some library → length feeds ≡ length (operand_ports k)
+    → HasNoFault (instance_with library name (links_of naming (operand_ports k) (output_port k) feeds output)) k
+links_fit naming kind.Mux2 library name feeds output known e = mux_links naming library name feeds output e
+links_fit naming (kind.Flop flop) library name feeds output known e = flop_links naming library name flop.edge flop.reset feeds output e
+links_fit naming kind.And library name feeds output known e = absurd (cc)
+links_fit naming kind.Or library name feeds output known e = absurd (cc)
+links_fit naming kind.Nand library name feeds output known e = absurd (cc)
+links_fit naming kind.Nor library name feeds output known e = absurd (cc)
+links_fit naming kind.Xor library name feeds output known e = absurd (cc)
+links_fit naming kind.Xnor library name feeds output known e = absurd (cc)
+links_fit naming kind.Buf library name feeds output known e = absurd (cc)
+links_fit naming kind.Not library name feeds output known e = absurd (cc)
+links_fit naming kind.Bufif0 library name feeds output known e = absurd (cc)
+links_fit naming kind.Bufif1 library name feeds output known e = absurd (cc)
+links_fit naming kind.Assign library name feeds output known e = absurd (cc)
+
+-- no port of an operand is an output
+abbrev AreInputs : Kind → List (List ℕ) → Type 0
+AreInputs k ports = AllByRecursion (λ port. is_output_place (port_named k port) ≡ false) ports
+
+flop_inputs : (edge : Edge) (reset : ResetTo) → AreInputs (flop_kind edge reset) (flop_ports reset)
+flop_inputs edge Nothing = (refl, (refl, tt))
+flop_inputs edge ToZero = (refl, (refl, (refl, tt)))
+flop_inputs edge ToOne = (refl, (refl, (refl, tt)))
+
+are_inputs : (k : Kind) → AreInputs k (operand_ports k)
+are_inputs kind.Mux2 = (refl, (refl, (refl, tt)))
+are_inputs (kind.Flop flop) = flop_inputs flop.edge flop.reset
+are_inputs kind.And = tt
+are_inputs kind.Or = tt
+are_inputs kind.Nand = tt
+are_inputs kind.Nor = tt
+are_inputs kind.Xor = tt
+are_inputs kind.Xnor = tt
+are_inputs kind.Buf = tt
+are_inputs kind.Not = tt
+are_inputs kind.Bufif0 = tt
+are_inputs kind.Bufif1 = tt
+are_inputs kind.Assign = tt
+
+-- the bits have the right width
+abbrev pub AreNarrow : NetlistView → Naming → List (List ℕ × Declared) → Type 0
+AreNarrow N naming names = (net : NetId) → net.0 < length N.nets → at_bit wrong_width names (bit_of naming net) ≡ None
+
+link_fits : (N : NetlistView) (naming : Naming) (names : List (List ℕ × Declared)) (i : Instance) (k : Kind) (port : List ℕ) (feed : Feed) → AreNarrow N naming names → IsBelow N feed
+    → is_output_place (port_named k port) ≡ false → link_width names i k (record { port = port; operand = Some (operand_of naming feed) }) ≡ None
+link_fits N naming names i k port (Net net) narrow below input = narrow net below
+link_fits N naming names i k port (Const value) narrow below input = rw input refl
+
+links_narrow : (N : NetlistView) (naming : Naming) (names : List (List ℕ × Declared)) (i : Instance) (k : Kind) (ports : List (List ℕ)) (feeds : List Feed) (rest : List Link) → AreNarrow N naming names → AreBelow N feeds
+    → AreInputs k ports → first_in (link_width names i k) rest ≡ None → first_in (link_width names i k) (operand_links naming ports feeds ++ rest) ≡ None
+links_narrow N naming names i k [] feeds rest narrow below inputs more = more
+links_narrow N naming names i k (port ∷ ports) [] rest narrow below inputs more = more
+links_narrow N naming names i k (port ∷ ports) (feed ∷ feeds) rest narrow below inputs more =
+    let here = link_fits N naming names i k port feed narrow (below 0 feed refl) inputs.0 in
+    let later = links_narrow N naming names i k ports feeds rest narrow (λ place f at. below (suc place) f at) inputs.1 more in
+    ap (λ (o : Option LinkFault). or_else o (first_in (link_width names i k) (operand_links naming ports feeds ++ rest))) here ∙ later
+
+output_narrow : (N : NetlistView) (naming : Naming) (names : List (List ℕ × Declared)) (i : Instance) (k : Kind) (port : Option (List ℕ)) (output : Option NetId) → AreNarrow N naming names → DrivesBelow N output
+    → first_in (link_width names i k) (output_links naming port output) ≡ None
+output_narrow N naming names i k None output narrow below = refl
+output_narrow N naming names i k (Some port) None narrow below = refl
+output_narrow N naming names i k (Some port) (Some net) narrow below = let here = narrow net (below net refl) in ap (λ (o : Option LinkFault). or_else o None) here
+
+-- an item has no fault of its own
+pub record HasNoItemFault (names : List (List ℕ × Declared)) (x : Item) : Type 0 where
+  pub cell : cell_unknown x ≡ None
+  pub unknown : at_instance port_unknown x ≡ None
+  pub missing : at_instance port_missing x ≡ None
+  pub twice : at_instance port_twice x ≡ None
+  pub width : item_width names x ≡ None
+  pub operands : too_many what.Operands 256 (gate_operands x) ≡ None
+
+few_enough : (count : ℕ) → count ≤ 256 → too_many what.Operands 256 count ≡ None
+few_enough count few = let no : nat_lt 256 count ≡ false = grind (arith, nat_tests) in rw no refl
+
+gate_takes : (k : Kind) (g : GateKind) (count : ℕ) → gate_of k ≡ Some g → Takes k count → count ≤ 256
+gate_takes kind.And g count e t = t.1
+gate_takes kind.Or g count e t = t.1
+gate_takes kind.Nand g count e t = t.1
+gate_takes kind.Nor g count e t = t.1
+gate_takes kind.Xor g count e t = t.1
+gate_takes kind.Xnor g count e t = t.1
+gate_takes kind.Buf g count e t = let one : count ≡ 1 = t in omega arith
+gate_takes kind.Not g count e t = let one : count ≡ 1 = t in omega arith
+gate_takes kind.Bufif0 g count e t = let two : count ≡ 2 = t in omega arith
+gate_takes kind.Bufif1 g count e t = let two : count ≡ 2 = t in omega arith
+gate_takes kind.Assign g count e t = absurd (cc)
+gate_takes kind.Mux2 g count e t = absurd (cc)
+gate_takes (kind.Flop flop) g count e t = absurd (cc)
+
+pub item_fits : (N : NetlistView) (naming : Naming) (names : List (List ℕ × Declared)) (i : ℕ) (cell : CellView) → AreNamed naming.table N → AreNarrow N naming names → cell_at N i ≡ Some cell
+    → HasNoItemFault names (item_of naming i cell)
+item_fits N naming names i cell w narrow at = by_gate (gate_of cell.kind) refl
+  where
+    narrow_bits : AllByRecursion (λ (bit : Bit). at_bit wrong_width names bit ≡ None) (item_bits (item_of naming i cell))
+    narrow_bits = bits_of_item N naming (λ (bit : Bit). at_bit wrong_width names bit ≡ None) i cell w narrow at
+
+    instanced : (library : List ℕ) → cell_name cell.kind ≡ Some library → HasNoItemFault names (written naming i cell None (Some library))
+    instanced library is =
+        let known = library_back cell.kind library is in
+        let text : List ℕ = unwrap_or (option_map (cell_text naming i) cell.name) [] in
+        let links : List Link = links_of naming (operand_ports cell.kind) (output_port cell.kind) cell.feeds cell.output in
+        let x : Instance = instance_with library text links in
+        let fit = links_fit naming cell.kind library text cell.feeds cell.output is (library_count cell.kind library (length cell.feeds) is (w.formed.counts i cell at)) in
+        let width = links_narrow N naming names x cell.kind (operand_ports cell.kind) cell.feeds (output_links naming (output_port cell.kind) cell.output) narrow (feeds_below N i cell w.laid at) (are_inputs cell.kind)
+        (output_narrow N naming names x cell.kind (output_port cell.kind) cell.output narrow (λ net e. output_below N i cell net w.laid at e)) in
+        record {
+          cell = ap (λ (o : Option Kind). if is_none o then Some (fault.CellUnknown library) else None) known;
+          unknown = ap (option_and_then (port_unknown x)) known ∙ fit.unknown;
+          missing = ap (option_and_then (port_missing x)) known ∙ fit.missing;
+          twice = ap (option_and_then (port_twice x)) known ∙ fit.twice;
+          width = ap (option_and_then (λ (k : Kind). first_in (link_width names x k) links)) known ∙ width;
+          operands = refl;
+        }
+
+    by_library : (l : Option (List ℕ)) → cell_name cell.kind ≡ l → AllByRecursion (λ (bit : Bit). at_bit wrong_width names bit ≡ None) (item_bits (written naming i cell None l))
+        → HasNoItemFault names (written naming i cell None l)
+    by_library None e bits = record {
+      cell = refl;
+      unknown = refl;
+      missing = refl;
+      twice = refl;
+      width = none_along (at_bit wrong_width names) (item_bits (written naming i cell None None)) bits;
+      operands = refl;
+    }
+    by_library (Some library) e bits = instanced library e
+
+    gated : (g : GateKind) (library : Option (List ℕ)) → gate_of cell.kind ≡ Some g → AllByRecursion (λ (bit : Bit). at_bit wrong_width names bit ≡ None) (item_bits (written naming i cell (Some g) library))
+        → HasNoItemFault names (written naming i cell (Some g) library)
+    gated g library e bits = record {
+      cell = refl;
+      unknown = refl;
+      missing = refl;
+      twice = refl;
+      width = none_along (at_bit wrong_width names) (item_bits (written naming i cell (Some g) library)) bits;
+      operands = few_enough (length (map (operand_of naming) cell.feeds))
+          (let few = gate_takes cell.kind g (length cell.feeds) e (w.formed.counts i cell at) in let same = length-map cell.feeds (operand_of naming) in omega arith);
+    }
+
+    by_gate : (g : Option GateKind) → gate_of cell.kind ≡ g → HasNoItemFault names (written naming i cell (gate_of cell.kind) (cell_name cell.kind))
+    by_gate None e = rw e (by_library (cell_name cell.kind) refl (rw e at narrow_bits))
+    by_gate (Some g) e = rw e (gated g (cell_name cell.kind) e (rw e at narrow_bits))

@@ -1,0 +1,5 @@
+pub mod Shown
+pub mod Runs
+pub mod Outputs
+pub mod Bits
+pub mod Playing
