@@ -11,6 +11,7 @@ use std::alloc::Global;
 
 // Each list has an entry at least, and commas between its entries.
 
+/// The pins of a vector.
 pub fn pins(alloc: Global, reader: &mut ContentReader) -> Result<Row<Text>, PartFault>
     ensures gives { Gives result reader.new (list_at pin_at reader.old) }
     ensures within { length reader.new ≤ length reader.old }
@@ -23,6 +24,7 @@ pub fn pins(alloc: Global, reader: &mut ContentReader) -> Result<Row<Text>, Part
     Ok(list)
 }
 
+/// The names of a register's instructions.
 pub fn identifiers(alloc: Global, reader: &mut ContentReader) -> Result<Row<Text>, PartFault>
     ensures gives { Gives result reader.new (list_at identifier_at reader.old) }
     ensures within { length reader.new ≤ length reader.old }
@@ -35,6 +37,7 @@ pub fn identifiers(alloc: Global, reader: &mut ContentReader) -> Result<Row<Text
     Ok(list)
 }
 
+/// The ports of a pin map, each with its pins.
 pub fn pin_entries(alloc: Global, reader: &mut ContentReader) -> Result<Row<PinEntry>, PartFault>
     ensures gives { Gives result reader.new (list_at pin_entry_at reader.old) }
     ensures within { length reader.new ≤ length reader.old }
@@ -47,6 +50,7 @@ pub fn pin_entries(alloc: Global, reader: &mut ContentReader) -> Result<Row<PinE
     Ok(list)
 }
 
+/// Instructions, each with an opcode.
 pub fn opcodes(alloc: Global, reader: &mut ContentReader) -> Result<Row<OpcodeEntry>, PartFault>
     ensures gives { Gives result reader.new (list_at opcode_at reader.old) }
     ensures within { length reader.new ≤ length reader.old }
@@ -59,6 +63,7 @@ pub fn opcodes(alloc: Global, reader: &mut ContentReader) -> Result<Row<OpcodeEn
     Ok(list)
 }
 
+/// Registers, each with the instructions that select it.
 pub fn accesses(alloc: Global, reader: &mut ContentReader) -> Result<Row<AccessEntry>, PartFault>
     ensures gives { Gives result reader.new (list_at access_at reader.old) }
     ensures within { length reader.new ≤ length reader.old }
@@ -71,6 +76,7 @@ pub fn accesses(alloc: Global, reader: &mut ContentReader) -> Result<Row<AccessE
     Ok(list)
 }
 
+/// Rows of the boundary register.
 pub fn rows(alloc: Global, reader: &mut ContentReader) -> Result<Row<RowEntry>, PartFault>
     ensures gives { Gives result reader.new (list_at row_at reader.old) }
     ensures within { length reader.new ≤ length reader.old }

@@ -127,6 +127,7 @@ impl<'a> Piece<'a> {
         }
     }
 
+    /// The cell's kind that the word is.
     pub fn cell(self) -> Option<BoundaryKind>
         ensures { result ≡ cell_in (word_of self.entry) }
     {
@@ -143,6 +144,7 @@ impl<'a> Piece<'a> {
         }
     }
 
+    /// The cell's function that the word is.
     pub fn function(self) -> Option<Function>
         ensures { result ≡ function_in (word_of self.entry) }
     {
@@ -163,6 +165,7 @@ impl<'a> Piece<'a> {
         }
     }
 
+    /// The safe value that the word is.
     pub fn safe(self) -> Option<Safe>
         ensures { result ≡ safe_in (word_of self.entry) }
     {
@@ -190,6 +193,7 @@ impl<'a> Piece<'a> {
         }
     }
 
+    /// The register that the word is.
     pub fn register(self) -> Option<Register>
         ensures { result ≡ register_in (word_of self.entry) }
     {

@@ -147,6 +147,7 @@ impl<'a> ContentReader<'a> {
         Ok(Text::from_bytes(alloc, pin)?)
     }
 
+    /// The value of an integer.
     pub fn integer(&mut self) -> Result<u32, PartFault>
         ensures gives { Gives result self.new (take_at integer_in self.old) }
         ensures within { length self.new ≤ length self.old }
@@ -161,6 +162,7 @@ impl<'a> ContentReader<'a> {
         Ok(integer)
     }
 
+    /// A pattern of bits.
     pub fn bits(&mut self) -> Result<Bits, PartFault>
         ensures gives { Gives result self.new (take_at pattern_in self.old) }
         ensures within { length self.new ≤ length self.old }
@@ -175,6 +177,7 @@ impl<'a> ContentReader<'a> {
         Ok(bits)
     }
 
+    /// A cell's kind.
     pub fn cell(&mut self) -> Result<BoundaryKind, PartFault>
         ensures gives { Gives result self.new (take_at cell_in self.old) }
         ensures within { length self.new ≤ length self.old }
@@ -189,6 +192,7 @@ impl<'a> ContentReader<'a> {
         Ok(cell)
     }
 
+    /// A cell's function.
     pub fn function(&mut self) -> Result<Function, PartFault>
         ensures gives { Gives result self.new (take_at function_in self.old) }
         ensures within { length self.new ≤ length self.old }
@@ -203,6 +207,7 @@ impl<'a> ContentReader<'a> {
         Ok(function)
     }
 
+    /// A safe value.
     pub fn safe(&mut self) -> Result<Safe, PartFault>
         ensures gives { Gives result self.new (take_at safe_in self.old) }
         ensures within { length self.new ≤ length self.old }
@@ -217,6 +222,7 @@ impl<'a> ContentReader<'a> {
         Ok(safe)
     }
 
+    /// One digit, 0 or 1.
     pub fn bit(&mut self) -> Result<bool, PartFault>
         ensures gives { Gives result self.new (take_at bit_in self.old) }
         ensures within { length self.new ≤ length self.old }
@@ -231,6 +237,7 @@ impl<'a> ContentReader<'a> {
         Ok(bit)
     }
 
+    /// A register of the profile.
     pub fn register(&mut self) -> Result<Register, PartFault>
         ensures gives { Gives result self.new (take_at register_in self.old) }
         ensures within { length self.new ≤ length self.old }
@@ -245,6 +252,7 @@ impl<'a> ContentReader<'a> {
         Ok(register)
     }
 
+    /// The value of 32 bits.
     pub fn code(&mut self) -> Result<u32, PartFault>
         ensures gives { Gives result self.new (take_at code_in self.old) }
         ensures within { length self.new ≤ length self.old }

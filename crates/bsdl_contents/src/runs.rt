@@ -42,6 +42,7 @@ fn are_bits(run: &[u8]) -> bool
     run.iter().all(|b| *b == b'0' || *b == b'1')
 }
 
+/// Whether the run is an integer, of at most 9 digits.
 pub fn is_integer(run: &[u8]) -> bool
     ensures test { result ≡ runs.is_integer run.now }
     ensures few { IsTrue result → length run.now ≤ 9 }
@@ -50,6 +51,7 @@ pub fn is_integer(run: &[u8]) -> bool
     1 <= run.len() && run.len() <= 9 && are_digits(run)
 }
 
+/// Whether the run is a pattern of at most 32 bits.
 pub fn is_pattern(run: &[u8]) -> bool
     ensures test { result ≡ runs.is_pattern run.now }
     ensures few { IsTrue result → length run.now ≤ 32 }
@@ -58,6 +60,7 @@ pub fn is_pattern(run: &[u8]) -> bool
     1 <= run.len() && run.len() <= 32 && are_bits(run)
 }
 
+/// Whether the run is a pin, of at most 32 bytes.
 pub fn is_pin(run: &[u8]) -> bool
     ensures { result ≡ runs.is_pin run.now }
 {
@@ -85,6 +88,7 @@ fn has_single_underscores(run: &[u8]) -> bool
     true
 }
 
+/// Whether the run is an identifier, reserved or not.
 pub fn is_identifier(run: &[u8]) -> bool
     ensures { result ≡ runs.is_identifier run.now }
 {

@@ -23,6 +23,7 @@ fn joined(alloc: Global, strings: &[Text]) -> Result<Text, OutOfMemory>
     Ok(bytes)
 }
 
+/// What the strings of the pin map hold.
 #[tactic(auto, unfolding(crate::specs::Reading::section_at))]
 pub fn pin_map(alloc: Global, strings: &[Text]) -> Result<Row<PinEntry>, PartFault>
     ensures { Tells result (reading.section_at reading.pin_map_at strings.now) }
@@ -34,6 +35,7 @@ pub fn pin_map(alloc: Global, strings: &[Text]) -> Result<Row<PinEntry>, PartFau
     Ok(entries)
 }
 
+/// What the strings of INSTRUCTION_OPCODE hold.
 #[tactic(auto, unfolding(crate::specs::Reading::section_at))]
 pub fn opcodes(alloc: Global, strings: &[Text]) -> Result<Row<OpcodeEntry>, PartFault>
     ensures { Tells result (reading.section_at reading.opcodes_at strings.now) }
@@ -45,6 +47,7 @@ pub fn opcodes(alloc: Global, strings: &[Text]) -> Result<Row<OpcodeEntry>, Part
     Ok(entries)
 }
 
+/// What the strings of INSTRUCTION_CAPTURE hold.
 #[tactic(auto, unfolding(crate::specs::Reading::section_at))]
 pub fn capture(alloc: Global, strings: &[Text]) -> Result<Bits, PartFault>
     ensures { Tells result (reading.section_at reading.bits_at strings.now) }
@@ -78,6 +81,7 @@ pub fn idcode(alloc: Global, attribute: &Option<StringAttribute>) -> Result<Opti
     }
 }
 
+/// What the strings of REGISTER_ACCESS hold.
 #[tactic(auto, unfolding(crate::specs::Reading::section_at))]
 pub fn accesses(alloc: Global, strings: &[Text]) -> Result<Row<AccessEntry>, PartFault>
     ensures { Tells result (reading.section_at reading.accesses_at strings.now) }
@@ -89,6 +93,7 @@ pub fn accesses(alloc: Global, strings: &[Text]) -> Result<Row<AccessEntry>, Par
     Ok(entries)
 }
 
+/// What the strings of BOUNDARY_REGISTER hold.
 #[tactic(auto, unfolding(crate::specs::Reading::section_at))]
 pub fn rows(alloc: Global, strings: &[Text]) -> Result<Row<RowEntry>, PartFault>
     ensures { Tells result (reading.section_at reading.rows_at strings.now) }

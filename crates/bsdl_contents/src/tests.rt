@@ -1,4 +1,4 @@
-// Sections like the counter's of the format's document, and contents that are refused.
+// Sections like those of examples/counter8.bsd, and contents that are refused.
 use crate::fault::PartFault;
 use crate::sections;
 use edge_io::{OutOfMemory, Text};

@@ -55,6 +55,7 @@ impl<'a> PortTable<'a> {
         Ok(PortTable { ports, places })
     }
 
+    /// The ports.
     pub fn as_slice(&self) -> &[DeclaredPort]
         ensures { result.now ≡ self.now }
     {

@@ -1,5 +1,6 @@
 pub mod DeviceFaults
 pub mod FaultKinds
+pub mod Laws
 pub mod Places
 pub mod Reading
 pub mod TextFaults

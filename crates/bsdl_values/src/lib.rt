@@ -4,11 +4,13 @@
 #![tactic(auto)]
 
 mod fault;
+mod laws;
 mod parse;
 mod places;
 mod reading;
 
 pub use fault::{DeviceFault, DeviceTextFault};
+pub use laws::spells_one_device;
 pub use parse::parse_device;
 pub use reading::read_device;
 

@@ -1,6 +1,6 @@
 // Rows of the word grammar, and each call once with ample memory.
 use super::*;
-use edge_io::Text;
+use edge_io::{OutOfMemory, Text};
 use std::alloc::Global;
 use std::test::Fail;
 
@@ -65,13 +65,29 @@ fn what_can_follow_is_cut(rt: HostRuntime) -> Result<(), Fail> {
     Ok(())
 }
 
-#[test]
-fn a_name_has_at_most_255_bytes(rt: HostRuntime) -> Result<(), Fail> {
-    let mut text = Text::new(rt.alloc());
-    for _ in 0..254 {
+fn letters(alloc: Global, count: usize) -> Result<Text, OutOfMemory> {
+    let mut text = Text::new(alloc);
+    for _ in 0..count {
         text.push(b'a')?;
     }
-    assert_eq!(rt; fault_place(rt.alloc(), text.as_bytes()), None);
+    Ok(text)
+}
+
+#[test]
+fn a_name_has_at_most_255_bytes(rt: HostRuntime) -> Result<(), Fail> {
+    for (count, place) in [(254, None), (255, None), (256, Some(255))] {
+        let name = letters(rt.alloc(), count)?;
+        assert_eq!(rt; fault_place(rt.alloc(), name.as_bytes()), place);
+    }
+    let name = letters(rt.alloc(), 255)?;
+    let words = cut(rt.alloc(), name.as_bytes())?;
+    assert_eq!(rt; words.len(), 1);
+    Ok(())
+}
+
+#[test]
+fn the_255th_byte_of_a_name_is_no_underscore(rt: HostRuntime) -> Result<(), Fail> {
+    let mut text = letters(rt.alloc(), 254)?;
     text.push(b'_')?;
     assert_eq!(rt; fault_place(rt.alloc(), text.as_bytes()), Some(254));
     Ok(())

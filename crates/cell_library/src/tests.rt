@@ -22,6 +22,15 @@ fn gates_of_three_inputs_fold_from_the_left(rt: HostRuntime) {
 }
 
 #[test]
+fn gates_of_five_inputs_look_at_the_last(rt: HostRuntime) {
+    let last = [ZERO, ZERO, ZERO, ZERO, ONE];
+    assert_eq!(rt; eval(Kind::Or, &last), ONE);
+    assert_eq!(rt; eval(Kind::Nor, &last), ZERO);
+    assert_eq!(rt; eval(Kind::Xor, &last), ONE);
+    assert_eq!(rt; eval(Kind::Xnor, &last), ZERO);
+}
+
+#[test]
 fn gates_of_one_input_pass_or_invert(rt: HostRuntime) {
     let one = [ONE];
     for kind in [Kind::And, Kind::Or, Kind::Xor, Kind::Buf, Kind::Assign] {
@@ -58,6 +67,8 @@ fn three_state_gates_are_enabled_by_their_polarity(rt: HostRuntime) {
     assert_eq!(rt; eval_pin(Kind::Bufif0, ONE, ZERO), PinSig::One);
     assert_eq!(rt; eval_pin(Kind::Bufif0, ONE, ONE), PinSig::HighZ);
     assert_eq!(rt; eval_pin(Kind::Bufif0, ONE, UNKNOWN), PinSig::Unknown);
+    assert_eq!(rt; eval_pin(Kind::Bufif1, UNKNOWN, ONE), PinSig::Unknown);
+    assert_eq!(rt; eval_pin(Kind::Bufif1, ONE, UNKNOWN), PinSig::Unknown);
 }
 
 #[test]
@@ -112,6 +123,22 @@ fn library_ports_have_their_places(rt: HostRuntime) {
 }
 
 #[test]
+fn falling_flip_flops_have_the_same_ports(rt: HostRuntime) {
+    let falling = |reset: ResetTo| Kind::Flop(FlopKind {
+        edge: Edge::Fall,
+        reset,
+    });
+    let preset = falling(ResetTo::One);
+    assert_eq!(rt; port_of(preset, b"CK"), Some(PortPlace::Input(1)));
+    assert_eq!(rt; port_of(preset, b"SN"), Some(PortPlace::Input(2)));
+    assert_eq!(rt; port_of(preset, b"RN"), None);
+    let plain = falling(ResetTo::Nothing);
+    assert_eq!(rt; port_of(plain, b"D"), Some(PortPlace::Input(0)));
+    assert_eq!(rt; port_of(plain, b"RN"), None);
+    assert_eq!(rt; port_of(plain, b"Q"), Some(PortPlace::Output));
+}
+
+#[test]
 fn counts_of_operands_are_those_of_the_kinds(rt: HostRuntime) {
     assert_eq!(rt; operand_count(Kind::Xnor), None);
     assert_eq!(rt; operand_count(Kind::Assign), Some(1));
@@ -122,5 +149,6 @@ fn counts_of_operands_are_those_of_the_kinds(rt: HostRuntime) {
         reset,
     });
     assert_eq!(rt; operand_count(rising(ResetTo::Nothing)), Some(2));
+    assert_eq!(rt; operand_count(rising(ResetTo::Zero)), Some(3));
     assert_eq!(rt; operand_count(rising(ResetTo::One)), Some(3));
 }

@@ -77,7 +77,9 @@ impl<F: Write> Writing<F> {
 
 impl<'a, R: Files> FileShelf<'a, R> {
     /// A shelf that has no file open, and takes no memory yet.
-    pub fn new(rt: &'a R, alloc: Global) -> FileShelf<'a, R> {
+    pub fn new(rt: &'a R, alloc: Global) -> FileShelf<'a, R>
+        ensures { result.faults ≡ 0 }
+    {
         FileShelf {
             rt,
             alloc,

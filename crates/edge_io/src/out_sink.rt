@@ -1,4 +1,4 @@
-ghost use Rattle.std.specs.Prelude.{◌<◌, ◌≤◌, ℕ, None, IfSome, length};
+ghost use Rattle.std.specs.Prelude.{◌≡◌, ◌<◌, ◌≤◌, ℕ, None, IfSome, length};
 
 use crate::calls::one_more;
 use crate::shelf::Failed;
@@ -12,7 +12,10 @@ pub struct OutSink<'a, R: Print> {
 }
 
 impl<'a, R: Print> OutSink<'a, R> {
-    pub fn new(rt: &'a R) -> OutSink<'a, R> {
+    /// Standard output, with no fault yet.
+    pub fn new(rt: &'a R) -> OutSink<'a, R>
+        ensures { result.faults ≡ 0 }
+    {
         OutSink { rt, faults: 0 }
     }
 

@@ -46,11 +46,12 @@ fn each_vertex_follows_what_it_reads(rt: HostRuntime) -> Result<(), Fail> {
 
 #[test]
 fn a_ring_is_named_from_reader_to_read(rt: HostRuntime) -> Result<(), Fail> {
-    let rows: [(&[&[u32]], &[u32]); 4] = [
+    let rows: [(&[&[u32]], &[u32]); 5] = [
         (&[&[0]], &[0]),
         (&[&[1], &[0]], &[1, 0]),
         (&[&[1], &[2], &[1]], &[2, 1]),
         (&[&[1], &[2], &[3], &[0]], &[3, 2, 1, 0]),
+        (&[&[1], &[2], &[3], &[4], &[5], &[0]], &[5, 4, 3, 2, 1, 0]),
     ];
     for (reads, cycle) in rows {
         let graph = graph_of(rt.alloc(), reads)?;

@@ -1,7 +1,8 @@
 -- What was added stays, and what a flip-flop does.
-use Rattle.std.proofs.Common.{◌≡◌, ℕ, suc, ◌+◌, ◌-◌, List, [], ◌∷◌, refl, ◌∙◌, arith, ap, None, Some, inl, inr}
+use Rattle.std.proofs.Common.{◌≡◌, ℕ, zero, suc, ◌+◌, ◌-◌, ◌<◌, ◌≤◌, List, [], ◌∷◌, length, All, refl, ◌∙◌, arith, ap, None, Some, inl, inr}
 use Rattle.std.proofs.lemmas.Bool.{cases_lt}
-use Rattle.std.specs.List.{slice_get}
+use Rattle.std.specs.List.{slice_get, range_with_len}
+use Rattle.std.proofs.lemmas.List.FromFn.{length-range_with_len, get_or-range_with_len}
 use Rattle.signal_values.specs.declared.Sig.{Sig}
 use Rattle.cell_library.specs.declared.Kind.{Kind}
 use Rattle.cell_library.specs.declared.Kind.TheVariants.{Flop}
@@ -10,7 +11,7 @@ use Rattle.cell_library.specs.Flops.{flop_next, flop_start}
 use Rattle.netlist_model.specs.declared.Feed.{Feed}
 use Rattle.netlist_model.specs.Lists.{CellView, NetlistView, cell_at, cell_count}
 use Rattle.netlist_model.specs.Settled.{feed_values, cell_value, Meets}
-use Rattle.netlist_model.specs.Contained.{HasCells}
+use Rattle.netlist_model.specs.Contained.{Contains, HasCells}
 use Rattle.netlist_arena.specs.Arena.{ArenaView}
 use Rattle.netlist_arena.proofs.Puts.{dense_past}
 use Rattle.gate_parts.specs.Appended.{Appended, Grows}
@@ -24,8 +25,17 @@ has_from N first (cell ∷ cells) at = (
   has_from N (suc first) cells (λ k. let e : first + suc k ≡ suc first + k = omega arith in rw e at (at (suc k))),
 )
 
+-- the numbers of a range lie below its end
+range_below : (first count nets : ℕ) → nets ≡ first + count → All (λ net. net < nets) (range_with_len first count)
+range_below first count nets end = λ k d h.
+    let inside : k < count = (let e = length-range_with_len first count in omega (arith, e)) in
+    let at = get_or-range_with_len first count k d inside in omega (arith, at)
+
 pub appended_there : AppendedIsThere
-appended_there = λ old new count part added. has_from new.lists (cell_count old.lists) part added.added
+appended_there = λ old new count part added. record {
+  nets = range_below (length old.lists.nets) count (length new.lists.nets) (appended_count old new count part added);
+  cells = has_from new.lists (cell_count old.lists) part added.added;
+}
 
 -- a cell of a dense netlist has a number below the count
 kept_at : (old new : ArenaView) (count : ℕ) (part : List CellView) → Appended old new count part → (number : ℕ) (cell : CellView) → cell_at old.lists number ≡ Some cell
@@ -48,8 +58,14 @@ kept : (old new : NetlistView) (part : List CellView) → Grows old new → HasC
 kept old new [] grows has = tt
 kept old new (cell ∷ cells) grows has = (record { number = has.0.number; name = has.0.name; live = grows.cells has.0.number _ has.0.live }, kept old new cells grows has.1)
 
-pub growth_keeps_cells : GrowthKeeps
-growth_keeps_cells = λ old new part grows has. kept old new part grows has
+more_below : (nets more : ℕ) (numbers : List ℕ) → nets ≤ more → All (λ net. net < nets) numbers → All (λ net. net < more) numbers
+more_below nets more numbers h below = λ k d inside. let at = below k d inside in omega (arith, at)
+
+pub growth_keeps_all : GrowthKeeps
+growth_keeps_all = λ old new numbers part grows contains. record {
+  nets = more_below (length old.nets) (length new.nets) numbers grows.nets contains.nets;
+  cells = kept old new part grows contains.cells;
+}
 
 flop_value : (kind : Kind) (flop : FlopKind) (inputs : List Sig) (state : Sig) → kind ≡ Flop flop → cell_value kind inputs state ≡ state
 flop_value kind flop inputs state is = rw is refl
@@ -66,7 +82,7 @@ flop_starts_by = λ N kind feeds net on given m start.
     let here = flop_holds N _ m.state m.value kind feeds net on start.settled in
     let held = start.flops.each on.has.number (record on.cell { name = on.has.name }) kind on.has.live on.kind_is in
     let operands = ap (λ (fs : List Feed). flop_start kind (feed_values m.value fs) (given on.has.number)) on.feeds_are in
-    (given on.has.number, here ∙ held ∙ operands)
+    here ∙ held ∙ operands
 
 pub flop_steps_by : FlopSteps
 flop_steps_by = λ N kind feeds net on event m m' settled step.

@@ -1,5 +1,6 @@
 -- What was added to a netlist stays there, and what its flip-flops do.
-use Rattle.std.specs.Prelude.{◌≡◌, ℕ, false, List, Some}
+use Rattle.std.specs.Prelude.{◌≡◌, ℕ, false, List, length, Some}
+use Rattle.std.specs.List.{range_with_len}
 use Rattle.signal_values.specs.declared.Sig.{Sig}
 use Rattle.cell_library.specs.declared.FlopKind.{FlopKind}
 use Rattle.cell_library.specs.declared.Kind.TheVariants.{Flop}
@@ -8,13 +9,14 @@ use Rattle.netlist_model.specs.declared.Feed.{Feed}
 use Rattle.netlist_model.specs.Lists.{CellView, NetlistView, direction}
 use Rattle.netlist_model.specs.Settled.{feed_values, follows_pin, IsSettled}
 use Rattle.netlist_model.specs.Runs.{Moment, PinEvent, IsStart, IsStep}
-use Rattle.netlist_model.specs.Contained.{HasCells, Has}
+use Rattle.netlist_model.specs.Contained.{Contains, Has}
 use Rattle.netlist_arena.specs.Arena.{ArenaView}
 use Rattle.gate_parts.specs.Appended.{Appended, Grows}
 
--- own: the netlist contains the cells that were added to it
+-- own: the netlist contains the nets and cells that were added to it
 abbrev pub AppendedIsThere : Type 0
-AppendedIsThere = (old new : ArenaView) (count : ℕ) (part : List CellView) → Appended old new count part → HasCells new.lists part
+AppendedIsThere = (old new : ArenaView) (count : ℕ) (part : List CellView) → Appended old new count part
+    → Contains new.lists (range_with_len (length old.lists.nets) count) part
 
 -- own: a netlist to which a part is added grows
 abbrev pub AppendedGrows : Type 0
@@ -22,7 +24,7 @@ AppendedGrows = (old new : ArenaView) (count : ℕ) (part : List CellView) → A
 
 -- own: what a netlist contains, it contains when it has grown
 abbrev pub GrowthKeeps : Type 0
-GrowthKeeps = (old new : NetlistView) (part : List CellView) → Grows old new → HasCells old part → HasCells new part
+GrowthKeeps = (old new : NetlistView) (numbers : List ℕ) (part : List CellView) → Grows old new → Contains old numbers part → Contains new numbers part
 
 -- own: a flip-flop of these operands drives a net that is no pin's
 pub record FlopOn (N : NetlistView) (kind : FlopKind) (feeds : List Feed) (net : ℕ) : Type 0 where
@@ -33,10 +35,10 @@ pub record FlopOn (N : NetlistView) (kind : FlopKind) (feeds : List Feed) (net :
   pub output : cell.output ≡ Some (record { 0 = net })
   pub inside : follows_pin (direction N.ports net) ≡ false
 
--- own: at a start the net of a flip-flop has the cleared or preset value where RN or SN is 0, else some given one
+-- own: at a start the net of a flip-flop has the cleared or preset value where RN or SN is 0, else the one that was given for the flip-flop
 abbrev pub FlopStarts : Type 0
-FlopStarts = (N : NetlistView) (kind : FlopKind) (feeds : List Feed) (net : ℕ) → FlopOn N kind feeds net → (given : ℕ → Sig) (m : Moment) → IsStart N given m
-    → (other : Sig) × (m.value net ≡ flop_start kind (feed_values m.value feeds) other)
+FlopStarts = (N : NetlistView) (kind : FlopKind) (feeds : List Feed) (net : ℕ) (on : FlopOn N kind feeds net) (given : ℕ → Sig) (m : Moment) → IsStart N given m
+    → m.value net ≡ flop_start kind (feed_values m.value feeds) (given on.has.number)
 
 -- own: a step takes the net of a flip-flop to the next value, from the operands before and after it
 abbrev pub FlopSteps : Type 0

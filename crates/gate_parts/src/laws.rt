@@ -1,7 +1,7 @@
 ghost use Rattle.gate_parts.specs.Laws.{AppendedIsThere, AppendedGrows, GrowthKeeps, FlopStarts, FlopSteps};
 ghost use Rattle.gate_parts.specs.Levels.{LevelsNumber};
 
-/// A netlist contains the cells that were added to it.
+/// A netlist contains the nets and cells that were added to it.
 pub fn appended_is_there()
     ensures { AppendedIsThere }
 {}

@@ -1,7 +1,11 @@
+ghost use Rattle.std.specs.Prelude.{◌≡◌, IfSome, Some};
+ghost use Rattle.netlist_arena.specs.Looks.{feed_at};
+
 use crate::{Gate, Pin, Pins, add_part};
 use cell_library::{Edge, FlopKind, Kind, ResetTo};
 use netlist_arena::Netlist;
 use netlist_model::{CellId, Feed, Name, NetId};
+use std::alloc::Global;
 use std::test::Fail;
 
 const CLEARED: FlopKind = FlopKind {
@@ -194,18 +198,51 @@ const STATES: [Gate; 44] = [
     }, // 43: before UpdateIr
 ];
 
-#[test]
-fn a_part_of_forty_four_gates(rt: HostRuntime) -> Result<(), Fail> {
-    let mut netlist = Netlist::new(rt.alloc());
+// A netlist of three nets, and the part that they are handed to.
+fn with_states(alloc: Global) -> Result<(Netlist, NetId), Fail> {
+    let mut netlist = Netlist::new(alloc);
     netlist.reserve(44, 47, 0)?;
     let clock = netlist.add_net(Name::Original(0), None);
     let mode = netlist.add_net(Name::Original(1), None);
     let reset = netlist.add_net(Name::Original(2), None);
     let given = [Feed::Net(clock), Feed::Net(mode), Feed::Net(reset)];
     let first = add_part(&mut netlist, &STATES, &given);
+    Ok((netlist, first))
+}
+
+#[test]
+fn a_part_of_forty_four_gates(rt: HostRuntime) -> Result<(), Fail> {
+    let (netlist, first) = with_states(rt.alloc())?;
     assert_eq!(rt; first, NetId(3));
     assert_eq!(rt; netlist.net_count(), 47);
     assert_eq!(rt; netlist.cell_count(), 44);
     assert_eq!(rt; netlist.is_live(CellId(43)), true);
+    Ok(())
+}
+
+// The operand at a place, if it is there.
+fn operand(netlist: &Netlist, cell: CellId, place: u32) -> Option<Feed>
+    ensures { IfSome result (λ feed. feed_at netlist.now.lists cell.0 place ≡ Some feed) }
+{
+    if netlist.is_live(cell) && place < netlist.feed_count(cell) {
+        Some(netlist.feed(cell, place))
+    } else {
+        None
+    }
+}
+
+#[test]
+fn a_gate_of_a_part_stands_on_its_own_net(rt: HostRuntime) -> Result<(), Fail> {
+    let (netlist, _) = with_states(rt.alloc())?;
+    let (gate, net) = (CellId(17), NetId(20));
+    if !netlist.is_live(gate) || netlist.net_count() <= net.0 {
+        return Err(Fail::new("no gate or no net"));
+    }
+    assert_eq!(rt; netlist.kind(gate), Kind::And);
+    assert_eq!(rt; operand(&netlist, gate, 0), Some(Feed::Net(NetId(36))));
+    assert_eq!(rt; operand(&netlist, gate, 1), Some(Feed::Net(NetId(1))));
+    assert_eq!(rt; netlist.output(gate), Some(net));
+    assert_eq!(rt; netlist.cell_name(gate), Some(Name::Added(17)));
+    assert_eq!(rt; netlist.net_name(NetId(3)), Name::Added(3));
     Ok(())
 }

@@ -41,7 +41,7 @@ link_memory law m f ok IsLinkFault.memory = refl
 -- a netlist that can be linked has no fault of linking
 has_link_memory : FaultsForbidLinks → (limit : ℕ) (f : LinkFault) (net events : List ℕ) → IsSimulable limit net events → HasLinkFault f net → link_status f ≡ status.Memory
 has_link_memory law limit f net events ok bad =
-    link_memory law bad.tree f (subst IsLinkable (bad.read.only ok.tree ok.spells) ok.linkable) bad.fault
+    link_memory law bad.tree f (subst IsLinkable (bad.only ok.tree ok.spells) ok.linkable) bad.fault
 
 event_memory : SpelledIsFaultless → (bytes : List ℕ) (lines : Lines) (f : EventFault) → first_fault bytes ≡ None → IsFault bytes f → event_status f ≡ status.Memory
 event_memory law bytes lines (event.EventLine number) none bad = absurd (no_some (event.EventLine number) (sym none ∙ bad))
@@ -51,8 +51,8 @@ event_memory law bytes lines event.OutOfMemory none bad = refl
 -- legal lines have no fault for the netlist
 script_memory : Laws → (limit : ℕ) (f : ScriptFault) (net events : List ℕ) → IsSimulable limit net events → HasScriptFault f net events → script_status f ≡ status.Memory
 script_memory laws limit (script.EventIllegal number) net events ok bad =
-    let same : ok.tree ≡ bad.tree = bad.read.only ok.tree ok.spells in
-    let lines : ok.lines ≡ bad.lines = laws.once events ok.lines bad.lines ok.spells_lines bad.spells in
+    let same : ok.tree ≡ bad.tree = bad.only ok.tree ok.spells in
+    let lines : ok.lines ≡ bad.lines = laws.once events ok.lines bad.lines ok.spells_lines bad.spells_lines in
     let legal : AreLegal bad.linked ok.lines = ok.legal bad.linked (subst (λ (m : Module). IsLinkOf m bad.linked) (sym same) bad.links) in
     absurd (laws.legal bad.linked bad.lines number (subst (λ (l : Lines). AreLegal bad.linked l) lines legal) bad.fault)
 script_memory laws limit script.OutOfMemory net events ok bad = refl
@@ -78,7 +78,11 @@ only_memory_sim laws words held limit Risen SinkRisen fault.Usage n e net text f
 only_memory_sim laws words held limit Risen SinkRisen (fault.SameName name) n e net text form told too ok calm still stands =
     absurd (no_sim words stands.0 name.now name.now n e stands.1 form)
 only_memory_sim laws words held limit Risen SinkRisen (fault.ReadFault name) n e net text form told too ok calm still stands =
-    absurd (calm ((of_both words held limit Risen SinkRisen (fault.ReadFault name) n e net text form told too stands).1))
+    absurd (calm (rose (of_both words held limit Risen SinkRisen (fault.ReadFault name) n e net text form told too stands)))
+  where
+    rose : StandsInSim n e (Some net) (Some text) limit Risen SinkRisen (fault.ReadFault name) → Risen
+    rose (inl (same, risen)) = risen
+    rose (inr (same, risen, short)) = risen
 only_memory_sim laws words held limit Risen SinkRisen (fault.TooLong name) n e net text form told too ok calm still stands =
     absurd (too_long (of_both words held limit Risen SinkRisen (fault.TooLong name) n e net text form told too stands))
   where

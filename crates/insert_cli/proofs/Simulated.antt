@@ -37,7 +37,7 @@ pub net_unread : (netlist events : List ℕ) (told events_told : Option (List �
     → StandsInSim netlist events told events_told limit Risen SinkRisen f
 net_unread netlist events told events_told limit Risen SinkRisen fault.Usage stands = stands
 net_unread netlist events told events_told limit Risen SinkRisen (fault.SameName name) stands = stands
-net_unread netlist events told events_told limit Risen SinkRisen (fault.ReadFault name) stands = (inl stands.0, stands.1)
+net_unread netlist events told events_told limit Risen SinkRisen (fault.ReadFault name) stands = inl stands
 net_unread netlist events told events_told limit Risen SinkRisen (fault.TooLong name) stands = inl stands
 net_unread netlist events told events_told limit Risen SinkRisen (fault.Netlist f) stands = absurd stands
 net_unread netlist events told events_told limit Risen SinkRisen (fault.Link f) stands = absurd stands
@@ -51,7 +51,8 @@ pub events_unread : (netlist events : List ℕ) (told events_told : Option (List
     → (Late → Risen) → StandsInReading events events_told limit Late f → StandsInSim netlist events told events_told limit Risen SinkRisen f
 events_unread netlist events told events_told limit Late Risen SinkRisen fault.Usage net is short later stands = stands
 events_unread netlist events told events_told limit Late Risen SinkRisen (fault.SameName name) net is short later stands = stands
-events_unread netlist events told events_told limit Late Risen SinkRisen (fault.ReadFault name) net is short later stands = (inr stands.0, later stands.1)
+events_unread netlist events told events_told limit Late Risen SinkRisen (fault.ReadFault name) net is short later stands =
+    inr (stands.0, later stands.1, told_as told net (λ bytes. length bytes ≤ limit) is short)
 events_unread netlist events told events_told limit Late Risen SinkRisen (fault.TooLong name) net is short later stands =
     inr (stands.0, stands.1, told_as told net (λ bytes. length bytes ≤ limit) is short)
 events_unread netlist events told events_told limit Late Risen SinkRisen (fault.Netlist f) net is short later stands = absurd stands
@@ -181,11 +182,12 @@ pub simulation_made : (net events bytes text : List ℕ) (missed : ℕ) (tree : 
     → bytes ≡ events → SpellsLines bytes lines → IsResolved linked lines script → IsOutput linked lines.list script text missed → IsSimulation net events text missed
 simulation_made net events bytes text missed tree linked lines script read links same spells resolved output = record {
   tree = tree;
-  read = read;
+  spells = read.spells;
+  only = read.only;
   linked = linked;
   links = links;
   lines = lines;
-  spells = subst (λ (b : List ℕ). SpellsLines b lines) same spells;
+  spells_lines = subst (λ (b : List ℕ). SpellsLines b lines) same spells;
   script = script;
   resolved = resolved;
   output = output;

@@ -7,6 +7,10 @@ use Rattle.insert_cli.specs.declared.command.Conversion.TheVariants as conversio
 use Rattle.insert_cli.specs.declared.command.Command.{Command}
 use Rattle.insert_cli.specs.declared.command.Command.TheVariants.{Convert, Sim}
 
+-- the longest text that is read, in bytes
+abbrev pub text_limit : ℕ
+text_limit = 16777216
+
 -- a word that begins with `-`
 abbrev pub begins_with_dash : List ℕ → Bool
 begins_with_dash [] = false

@@ -3,7 +3,6 @@
 use Rattle.std.specs.Prelude.{◌≡◌, ℕ, ◌≤◌, ◌==◌, ◌⊎◌, List, length, if◌then◌else◌}
 use Rattle.verilog_tree.specs.declared.tree.Module.{Module}
 use Rattle.verilog_tree.specs.Texts.{SpellsText}
-use Rattle.verilog_texts.specs.Reading.{IsReadAs}
 use Rattle.link_model.specs.Late.{IsLinkable}
 use Rattle.link_model.specs.declared.fault.LinkFault.{LinkFault}
 use Rattle.netlist_link.specs.Linked.{LinkedView}
@@ -22,11 +21,12 @@ use Rattle.command_faults.specs.declared.status.Status.TheVariants as status
 -- the text is that of their run, in which so many expectations aren't met.
 pub record IsSimulation (net events text : List ℕ) (missed : ℕ) : Type 0 where
   pub tree : Module
-  pub read : IsReadAs net tree
+  pub spells : SpellsText net tree
+  pub only : (other : Module) → SpellsText net other → other ≡ tree
   pub linked : LinkedView
   pub links : IsLinkOf tree linked
   pub lines : Lines
-  pub spells : SpellsLines events lines
+  pub spells_lines : SpellsLines events lines
   pub script : List ScriptLine
   pub resolved : IsResolved linked lines script
   pub output : IsOutput linked lines.list script text missed
@@ -34,7 +34,8 @@ pub record IsSimulation (net events text : List ℕ) (missed : ℕ) : Type 0 whe
 -- own: the netlist's bytes spell a tree in which this fault of linking stands
 pub record HasLinkFault (f : LinkFault) (net : List ℕ) : Type 0 where
   pub tree : Module
-  pub read : IsReadAs net tree
+  pub spells : SpellsText net tree
+  pub only : (other : Module) → SpellsText net other → other ≡ tree
   pub fault : IsLinkFault tree f
 
 -- own: the netlist's bytes spell a tree that can be linked
@@ -46,11 +47,12 @@ pub record SpellsLinkable (net : List ℕ) : Type 0 where
 -- own: the lines of the events have this fault for the netlist
 pub record HasScriptFault (f : ScriptFault) (net events : List ℕ) : Type 0 where
   pub tree : Module
-  pub read : IsReadAs net tree
+  pub spells : SpellsText net tree
+  pub only : (other : Module) → SpellsText net other → other ≡ tree
   pub linked : LinkedView
   pub links : IsLinkOf tree linked
   pub lines : Lines
-  pub spells : SpellsLines events lines
+  pub spells_lines : SpellsLines events lines
   pub fault : IsScriptFault linked lines f
 
 -- own: no fault stands in the bytes of the netlist and of the events

@@ -3,13 +3,14 @@ ghost use Rattle.edge_io.specs.Shelf.{Rose, SameTold, WhereTold};
 ghost use Rattle.command_faults.specs.Statuses.{status_of};
 ghost use Rattle.command_faults.specs.declared.status.Status.{Status};
 ghost use Rattle.insert_cli.specs.Causes.{StandsInConvert, IsWritten, IsCutShort, IsModuleFault, IsDeviceFault};
+ghost use Rattle.insert_cli.specs.Commands.{text_limit};
 ghost use Rattle.insert_cli.specs.Conversions.{IsCanonicalDevice, IsCanonicalModule, IsConverted};
 ghost use Rattle.verilog_texts.specs.TextFaults.{IsTextFault};
 ghost use Rattle.bsdl_values.specs.TextFaults.{IsDeviceTextFault};
 ghost use Rattle.insert_cli.specs.ConvertFaults.{StandsInText};
 
 use crate::command::Conversion;
-use crate::reading::{LIMIT, read_text};
+use crate::reading::read_text;
 use bsdl_printing::print_device;
 use bsdl_values::{DeviceTextFault, read_device};
 use command_faults::Fault;
@@ -58,8 +59,8 @@ pub fn convert<'a, S: Shelf>(
     input: &'a str,
     output: &'a str,
 ) -> Result<(), Fault<'a>>
-    ensures done { OnOk result (WhereTold (S.held shelf.old input.now) (IsWritten conversion LIMIT S.tells (S.written shelf.new output.now))) }
-    ensures fault { IfErr result (StandsInConvert conversion input.now output.now (S.held shelf.old input.now) LIMIT (Rose (S.faults shelf.old) (S.faults shelf.new))) }
+    ensures done { OnOk result (WhereTold (S.held shelf.old input.now) (IsWritten conversion text_limit S.tells (S.written shelf.new output.now))) }
+    ensures fault { IfErr result (StandsInConvert conversion input.now output.now (S.held shelf.old input.now) text_limit (Rose (S.faults shelf.old) (S.faults shelf.new))) }
 
     // Only a write that failed leaves anything changed, and only under the output's name.
     ensures unwritten { IfErr result (λ fault. (status_of fault ≢ Status.WriteFault) → SameTold (S.written shelf.old) (S.written shelf.new)) }

@@ -3,17 +3,24 @@
 // IEEE Std 1364-2001 and IEEE Std 1149.1-2001 for the texts that are read and written; commands, faults and statuses are own.
 #![tactic(auto)]
 
-pub mod command;
-pub mod convert;
+mod command;
+mod convert;
 mod reading;
-pub mod simulate;
-pub mod tool;
-pub mod words;
+mod simulate;
+mod tool;
+mod words;
 
-pub use command::{Command, Conversion, command_of};
 pub use command_faults::{Fault, Status};
 pub use tool::run_tool;
 pub use words::WordList;
 
+#[cfg(test)]
+mod counter;
+#[cfg(test)]
+mod link_tests;
+#[cfg(test)]
+mod runs;
+#[cfg(test)]
+mod sim_tests;
 #[cfg(test)]
 mod tests;

@@ -1,6 +1,7 @@
 ghost use Rattle.std.specs.Prelude.{◌≡◌, ◌≤◌, length, IfErr, IfOk};
 ghost use Rattle.edge_io.specs.Shelf.{Rose, SameTold, WhereTold};
 ghost use Rattle.insert_cli.specs.Causes.{StandsInReading};
+ghost use Rattle.insert_cli.specs.Commands.{text_limit};
 
 use command_faults::Fault;
 use edge_io::shelf::Shelf;
@@ -8,8 +9,8 @@ use edge_io::text::Text;
 use edge_io::whole::{ReadIssue, read_whole};
 use std::alloc::Global;
 
-/// The longest text that is read, in bytes.
-pub const LIMIT: u64 = 16_777_216;
+// The longest text that is read, in bytes.
+const LIMIT: u64 = 16_777_216;
 
 /// Reads the whole text that lies under a name.
 pub fn read_text<'a, S: Shelf>(
@@ -18,8 +19,8 @@ pub fn read_text<'a, S: Shelf>(
     name: &'a str,
 ) -> Result<Text, Fault<'a>>
     ensures ok { IfOk result (λ text. WhereTold (S.held shelf.old name.now) (λ bytes. text ≡ bytes)) }
-    ensures within { IfOk result (λ text. length text ≤ LIMIT) }
-    ensures fault { IfErr result (StandsInReading name.now (S.held shelf.old name.now) LIMIT (Rose (S.faults shelf.old) (S.faults shelf.new))) }
+    ensures within { IfOk result (λ text. length text ≤ text_limit) }
+    ensures fault { IfErr result (StandsInReading name.now (S.held shelf.old name.now) text_limit (Rose (S.faults shelf.old) (S.faults shelf.new))) }
     ensures held { SameTold (S.held shelf.old) (S.held shelf.new) }
     ensures written { SameTold (S.written shelf.old) (S.written shelf.new) }
     ensures later { S.faults shelf.old ≤ S.faults shelf.new }

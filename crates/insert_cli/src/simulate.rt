@@ -6,10 +6,11 @@ ghost use Rattle.netlist_link.specs.Links.{IsLinkOf};
 ghost use Rattle.netlist_link.specs.Laws.{FaultsForbidLinks};
 ghost use Rattle.scan_vectors.specs.Exactly.{SpelledOnce, SpelledIsFaultless};
 ghost use Rattle.event_scripts.specs.Laws.{LegalIsNotIllegal};
+ghost use Rattle.insert_cli.specs.Commands.{text_limit};
 ghost use Rattle.insert_cli.specs.Simulations.{IsEnd, IsSimulation, run_status};
 ghost use Rattle.insert_cli.specs.SimFaults.{StandsInNetlist, StandsInTexts, StandsInSim, GaveFront, GaveInSim, IsPlayed, WhereBothTold};
 
-use crate::reading::{LIMIT, read_text};
+use crate::reading::read_text;
 use command_faults::{Fault, Status};
 use edge_io::shelf::Shelf;
 use edge_io::sink::Sink;
@@ -99,8 +100,8 @@ pub fn simulate<'a, S: Shelf, O: Sink>(
     events: &'a str,
 ) -> Result<Status, Fault<'a>>
     ensures done { IfOk result (λ status. WhereBothTold (S.held shelf.old netlist.now) (S.held shelf.old events.now)
-        (IsPlayed LIMIT status (O.given out.old) (O.given out.new))) }
-    ensures fault { IfErr result (StandsInSim netlist.now events.now (S.held shelf.old netlist.now) (S.held shelf.old events.now) LIMIT
+        (IsPlayed text_limit status (O.given out.old) (O.given out.new))) }
+    ensures fault { IfErr result (StandsInSim netlist.now events.now (S.held shelf.old netlist.now) (S.held shelf.old events.now) text_limit
         (Rose (S.faults shelf.old) (S.faults shelf.new)) (Rose (O.faults out.old) (O.faults out.new))) }
     ensures front { IfErr result (λ fault. GaveInSim (S.held shelf.old netlist.now) (S.held shelf.old events.now) fault (O.given out.old) (O.given out.new)) }
     ensures ended { IfOk result IsEnd }

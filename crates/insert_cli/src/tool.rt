@@ -4,7 +4,7 @@ ghost use Rattle.command_faults.specs.Statuses.{status_of};
 ghost use Rattle.command_faults.specs.declared.fault.Fault.{Fault};
 ghost use Rattle.command_faults.specs.declared.status.Status.{Status};
 ghost use Rattle.insert_cli.specs.Causes.{OfConvert, OfSim, Stands, IsWritten, IsCutShort, Gave, GivesLine};
-ghost use Rattle.insert_cli.specs.Commands.{RunsConvert, SimForm, Writes};
+ghost use Rattle.insert_cli.specs.Commands.{RunsConvert, SimForm, Writes, text_limit};
 ghost use Rattle.insert_cli.specs.Conversions.{IsAccepted};
 ghost use Rattle.insert_cli.specs.SimFaults.{IsPlayed, WhereBothTold};
 ghost use Rattle.insert_cli.specs.Simulations.{IsEnd, IsSimulable};
@@ -12,7 +12,6 @@ ghost use Rattle.insert_cli.specs.declared.command.Conversion.{Conversion};
 
 use crate::command::{Command, command_of};
 use crate::convert::convert;
-use crate::reading::LIMIT;
 use crate::simulate::{faults_stand_apart, simulate};
 use crate::words::WordList;
 use command_faults::{Fault, Status, put_fault};
@@ -28,11 +27,11 @@ fn run<'a, S: Shelf, O: Sink>(
     out: &mut O,
 ) -> Result<Status, Fault<'a>>
     ensures done { IfOk result (λ status. OfConvert words.now (λ c input output. (status ≡ Status.Done) × (O.given out.new ≡ O.given out.old)
-        × WhereTold (S.held shelf.old input) (IsWritten c LIMIT S.tells (S.written shelf.new output)))
+        × WhereTold (S.held shelf.old input) (IsWritten c text_limit S.tells (S.written shelf.new output)))
         ⊎ OfSim words.now (λ netlist events. WhereBothTold (S.held shelf.old netlist) (S.held shelf.old events)
-        (IsPlayed LIMIT status (O.given out.old) (O.given out.new)))) }
+        (IsPlayed text_limit status (O.given out.old) (O.given out.new)))) }
     ensures ended { IfOk result IsEnd }
-    ensures fault { IfErr result (Stands words.now (S.held shelf.old) LIMIT (Rose (S.faults shelf.old) (S.faults shelf.new)) (Rose (O.faults out.old) (O.faults out.new))) }
+    ensures fault { IfErr result (Stands words.now (S.held shelf.old) text_limit (Rose (S.faults shelf.old) (S.faults shelf.new)) (Rose (O.faults out.old) (O.faults out.new))) }
     ensures gave { IfErr result (λ fault. Gave words.now (S.held shelf.old) fault (O.given out.old) (O.given out.new)) }
     ensures unwritten { IfErr result (λ fault. (status_of fault ≢ Status.WriteFault) → SameTold (S.written shelf.old) (S.written shelf.new)) }
     ensures cut_short { IfErr result (λ fault. (status_of fault ≡ Status.WriteFault)
@@ -73,14 +72,14 @@ pub fn run_tool<S: Shelf, O: Sink>(
     // At status 0 a conversion's output is the canonical text of the one tree or device that the input spells, and nothing is
     // put. At status 0 or 6 a simulation put the text of the events' run, and the status is 6 where an expectation isn't met.
     ensures done { IsEnd result → OfConvert words.now (λ c input output. (result ≡ Status.Done) × (O.given out.new ≡ O.given out.old)
-        × WhereTold (S.held shelf.old input) (IsWritten c LIMIT S.tells (S.written shelf.new output)))
+        × WhereTold (S.held shelf.old input) (IsWritten c text_limit S.tells (S.written shelf.new output)))
         ⊎ OfSim words.now (λ netlist events. WhereBothTold (S.held shelf.old netlist) (S.held shelf.old events)
-        (IsPlayed LIMIT result (O.given out.old) (O.given out.new))) }
+        (IsPlayed text_limit result (O.given out.old) (O.given out.new))) }
 
     // Any other status has a fault that stands, and the sink got its line; before it only a simulation whose giving failed put a
     // front of its text.
     ensures fault { (IsEnd result → ⊥) → (fault : Fault) × (status_of fault ≡ result)
-        × Stands words.now (S.held shelf.old) LIMIT (Rose (S.faults shelf.old) (S.faults shelf.new)) (Rose (O.faults out.old) (O.faults out.new)) fault
+        × Stands words.now (S.held shelf.old) text_limit (Rose (S.faults shelf.old) (S.faults shelf.new)) (Rose (O.faults out.old) (O.faults out.new)) fault
         × GivesLine words.now (S.held shelf.old) fault (O.given out.old) (O.given out.new) (O.faults out.old) (O.faults out.new) }
 
     // Only a write that failed leaves anything changed, and only under the output's name.
@@ -91,10 +90,10 @@ pub fn run_tool<S: Shelf, O: Sink>(
     ensures held { SameTold (S.held shelf.old) (S.held shelf.new) }
 
     // Where no fault stands in the words and the texts, and no count of faults rises, the command comes to its end, or wants memory.
-    ensures complete { (c : Conversion) (input output bytes : List ℕ) → RunsConvert words.now c input output → S.held shelf.old input ≡ Some bytes → IsAccepted c LIMIT bytes
+    ensures complete { (c : Conversion) (input output bytes : List ℕ) → RunsConvert words.now c input output → S.held shelf.old input ≡ Some bytes → IsAccepted c text_limit bytes
         → (Rose (S.faults shelf.old) (S.faults shelf.new) → ⊥) → (result ≡ Status.Done) ⊎ (result ≡ Status.Memory) }
     ensures complete_sim { (netlist events net text : List ℕ) → SimForm words.now netlist events → S.held shelf.old netlist ≡ Some net → S.held shelf.old events ≡ Some text
-        → IsSimulable LIMIT net text → (Rose (S.faults shelf.old) (S.faults shelf.new) → ⊥) → (Rose (O.faults out.old) (O.faults out.new) → ⊥)
+        → IsSimulable text_limit net text → (Rose (S.faults shelf.old) (S.faults shelf.new) → ⊥) → (Rose (O.faults out.old) (O.faults out.new) → ⊥)
         → IsEnd result ⊎ (result ≡ Status.Memory) }
     ensures later { S.faults shelf.old ≤ S.faults shelf.new }
     ensures puts_later { O.faults out.old ≤ O.faults out.new }

@@ -38,27 +38,27 @@ pub struct Built {
     pub names: NameTable,
 }
 
-/// The netlist that the module denotes, with room for no more than it has.
+/// The netlist that the module denotes, and the table of its names.
 pub fn build(
     alloc: Global,
-    module: &Module,
+    tree: &Module,
     nets: &[NetBit],
     cells: &[ItemCell],
 ) -> Result<Built, OutOfMemory>
-    requires tree { IsTree module.now }
-    requires clear { text_fault module.now ≡ None }
-    requires nets { nets.now ≡ nets_in (declared_nets module.now) }
-    requires cells { cells.now ≡ cells_in module.now }
+    requires tree { IsTree tree.now }
+    requires clear { text_fault tree.now ≡ None }
+    requires nets { nets.now ≡ nets_in (declared_nets tree.now) }
+    requires cells { cells.now ≡ cells_in tree.now }
     requires fits { FitCells (length nets.now) cells.now }
     requires driven { driver_fault nets.now cells.now ≡ None }
-    ensures named { IfOk result (λ built. IsNamed built.names built.netlist.lists (denoted module.now)) }
+    ensures named { IfOk result (λ built. IsNamed built.names built.netlist.lists (denoted tree.now)) }
     ensures dense { IfOk result (λ built. IsDense built.netlist.lists) }
-    ensures names { IfOk result (λ built. built.names ≡ names_of module.now) }
+    ensures names { IfOk result (λ built. built.names ≡ names_of tree.now) }
 {
-    let names = names_of_module(alloc, module)?;
-    let mut netlist = netlist_with_room(alloc, module, nets.len(), cells.len())?;
+    let names = names_of_module(alloc, tree)?;
+    let mut netlist = netlist_with_room(alloc, tree, nets.len(), cells.len())?;
     add_nets(&mut netlist, &names, nets);
-    add_ports(alloc, &mut netlist, &names, module.ports.as_slice())?;
+    add_ports(alloc, &mut netlist, &names, tree.ports.as_slice())?;
     add_cells(&mut netlist, &names, cells)?;
     Ok(Built { netlist, names })
 }

@@ -14,14 +14,14 @@ use std::alloc::Global;
 use verilog_tree::{Item, Module, Port, Wire};
 
 /// The table of the names of ports, wires and items, in the order of the text.
-pub fn names_of_module(alloc: Global, module: &Module) -> Result<NameTable, OutOfMemory>
-    requires { repeated (names_of module.now) ≡ None }
-    ensures { IfOk result (λ names. names ≡ names_of module.now) }
+pub fn names_of_module(alloc: Global, tree: &Module) -> Result<NameTable, OutOfMemory>
+    requires { repeated (names_of tree.now) ≡ None }
+    ensures { IfOk result (λ names. names ≡ names_of tree.now) }
 {
     let mut names = NameTable::new(alloc);
-    enter_ports(&mut names, module.ports.as_slice())?;
-    enter_wires(&mut names, module.wires.as_slice())?;
-    enter_items(&mut names, module.items.as_slice())?;
+    enter_ports(&mut names, tree.ports.as_slice())?;
+    enter_wires(&mut names, tree.wires.as_slice())?;
+    enter_items(&mut names, tree.items.as_slice())?;
     Ok(names)
 }
 

@@ -11,21 +11,17 @@ use verilog_tree::{Module, Port, Range};
 /// An empty netlist with room for the module's.
 pub fn netlist_with_room(
     alloc: Global,
-    module: &Module,
+    tree: &Module,
     nets: usize,
     cells: usize,
 ) -> Result<Netlist, OutOfMemory>
     requires cells { cells ≤ 262144 }
     requires nets { nets ≤ 524288 }
-    requires ports { bits_in (map port_nets module.now.ports) ≤ 4096 }
-    ensures { IfOk result (λ netlist. HasRoomFor netlist cells nets (bits_in (map port_nets module.now.ports))) }
+    requires ports { bits_in (map port_nets tree.now.ports) ≤ 4096 }
+    ensures { IfOk result (λ netlist. HasRoomFor netlist cells nets (bits_in (map port_nets tree.now.ports))) }
 {
     let mut netlist = Netlist::new(alloc);
-    match netlist.reserve(
-        cells as u32,
-        nets as u32,
-        port_bits(module.ports.as_slice()),
-    ) {
+    match netlist.reserve(cells as u32, nets as u32, port_bits(tree.ports.as_slice())) {
         Ok(()) => Ok(netlist),
         Err(ReserveFault::OutOfMemory) => Err(OutOfMemory),
         Err(

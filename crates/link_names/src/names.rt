@@ -62,6 +62,7 @@ fn first_repeated<'a>(alloc: Global, names: &[&'a [u8]]) -> Result<Option<&'a [u
     ensures { IfOk result (λ found. bytes_of found ≡ repeated (texts names.now)) }
 {
     let mut table = IndexSet::new(alloc);
+    table.reserve(names.len())?;
     for name in names {
         let name = *name;
         if !note(&mut table, name)? {

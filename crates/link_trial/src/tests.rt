@@ -1,8 +1,9 @@
-ghost use Rattle.std.specs.Prelude.{IfSome};
+ghost use Rattle.std.specs.Prelude.{◌<◌, IfSome};
 ghost use Rattle.verilog_tree.specs.IsTree.{IsTree};
 
 use crate::trial::{Trial, module_of_text, rewritten};
-use edge_io::{OutOfMemory, Text};
+use edge_io::{OutOfMemory, Row, Text};
+use itoa::Buffer;
 use link_model::LinkFault;
 use netlist_link::link;
 use netlist_model::{NetId, What};
@@ -148,16 +149,34 @@ fn each_fault_has_its_module(rt: HostRuntime) {
     }
 }
 
-#[test]
-fn a_loop_names_its_items(rt: HostRuntime) {
-    let found = trial_of(
-        rt.alloc(),
+// Modules with a loop, and the items of the loop, each of which reads the one before.
+const LOOPS: [(&[u8], &[u32]); 2] = [
+    (
         b"module m(input a, output y); nand g(y, a, y); endmodule",
-    );
-    let Some(Trial::Refused(LinkFault::Loop { numbers })) = found else {
-        panic!(rt; "no loop");
-    };
-    assert!(rt; numbers.as_slice() == [0u32].as_slice());
+        &[0],
+    ),
+    (
+        b"module m(output y); wire a,b,c,d,e; not(a,y); not(b,a); not(c,b); not(d,c); not(e,d); not(y,e); endmodule",
+        &[1, 2, 3, 4, 5, 0],
+    ),
+];
+
+// The items of a module's loop.
+fn loop_of(alloc: Global, bytes: &[u8]) -> Option<Row<u32>> {
+    match trial_of(alloc, bytes)? {
+        Trial::Refused(LinkFault::Loop { numbers }) => Some(numbers),
+        _ => None,
+    }
+}
+
+#[test]
+fn a_loop_names_its_items_in_turn(rt: HostRuntime) {
+    for (text, wanted) in LOOPS {
+        let Some(numbers) = loop_of(rt.alloc(), text) else {
+            panic!(rt; "no loop");
+        };
+        assert!(rt; numbers.as_slice() == wanted);
+    }
 }
 
 #[test]
@@ -234,7 +253,147 @@ fn refusal_of_buffers(alloc: Global, count: u32) -> Option<(u64, u64)> {
 #[test]
 fn one_buffer_above_the_limit_is_too_many(rt: HostRuntime) {
     assert!(rt; refusal_of_buffers(rt.alloc(), 262_145) == Some((262_145, 262_144)));
-    assert!(rt; refusal_of_buffers(rt.alloc(), 262_144).is_none());
+}
+
+fn append_number(text: &mut Text, number: u32) -> Result<(), OutOfMemory> {
+    let mut digits = Buffer::new();
+    text.append(digits.format(number).as_bytes())
+}
+
+// A buffer that drives a bit of the vector from the bit before.
+fn append_buffer(text: &mut Text, number: u32) -> Result<(), OutOfMemory>
+    requires { 0 < number }
+{
+    text.append(b"buf(w[")?;
+    append_number(text, number)?;
+    text.append(b"],w[")?;
+    append_number(text, number - 1)?;
+    text.append(b"]);")
+}
+
+// As many buffers as a netlist may have, each of which reads the one before.
+fn chain_of_buffers(alloc: Global) -> Result<Text, OutOfMemory> {
+    let mut text = Text::from_bytes(
+        alloc,
+        b"module m(input a, output y); wire [262142:0] w; buf(w[0],a);",
+    )?;
+    for number in 1..262_143 {
+        append_buffer(&mut text, number)?;
+    }
+    text.append(b"buf(y,w[262142]); endmodule")?;
+    Ok(text)
+}
+
+// The module of the chain.
+fn chain_module(alloc: Global) -> Option<Module>
+    ensures { IfSome result IsTree }
+{
+    match chain_of_buffers(alloc) {
+        Ok(text) => module_of_text(alloc, text),
+        Err(OutOfMemory) => None,
+    }
+}
+
+#[test]
+fn a_chain_at_the_limit_is_linked(rt: HostRuntime) {
+    let Some(tree) = chain_module(rt.alloc()) else {
+        panic!(rt; "no module");
+    };
+    let counts = counts_of(Trial::of(rt.alloc(), &tree));
+    assert!(rt; counts == Some((262_144, 262_145, 0)));
+}
+
+#[test]
+fn a_chain_at_the_limit_is_written(rt: HostRuntime) {
+    let Some(tree) = chain_module(rt.alloc()) else {
+        panic!(rt; "no module");
+    };
+    assert!(rt; rewritten(rt.alloc(), &tree).is_some());
+}
+
+// The counts of cells, nets and flip-flops.
+fn counts_of(trial: Trial) -> Option<(u32, u32, u32)> {
+    match trial {
+        Trial::Linked { cells, nets, flops } => Some((cells, nets, flops)),
+        Trial::Refused(_) => None,
+    }
+}
+
+#[test]
+fn all_cells_of_the_library_are_linked(rt: HostRuntime) {
+    let text =
+        b"module m(input ck, d, s, r, output q0, q1, q2, q3, q4, q5, y); DFF a(.D(d),.CK(ck),.Q(q0)); DFFN b(.D(d),.CK(ck),.Q(q1)); DFFR c(.D(d),.CK(ck),.RN(r),.Q(q2)); DFFNR e(.D(d),.CK(ck),.RN(r),.Q(q3)); DFFS f(.D(d),.CK(ck),.SN(r),.Q(q4)); DFFNS g(.D(d),.CK(ck),.SN(r),.Q(q5)); MUX2 h(.A(d),.B(q0),.S(s),.Y(y)); endmodule";
+    let Some(trial) = trial_of(rt.alloc(), text) else {
+        panic!(rt; "no module");
+    };
+    assert!(rt; counts_of(trial) == Some((7, 11, 6)));
+}
+
+// Modules, and the order of their cells: each gate stands after the drivers of what it reads.
+const ORDERS: [(&[u8], &[u32]); 3] = [
+    (
+        b"module b(input p, input e, inout io, output r); bufif1(io,p,e); buf(r,io); endmodule",
+        &[0, 1],
+    ),
+    (
+        b"module b(input p, input e, inout io, output r); buf(r,io); bufif1(io,p,e); endmodule",
+        &[1, 0],
+    ),
+    (
+        b"module m(input a, output y); wire v, w; buf(y,w); buf(w,v); buf(v,a); endmodule",
+        &[2, 1, 0],
+    ),
+];
+
+// The order of a module's cells, by their numbers.
+fn order_of(alloc: Global, bytes: &[u8]) -> Option<Row<u32>> {
+    let tree = module_of(alloc, bytes)?;
+    let linked = link(alloc, &tree).ok()?;
+    let mut numbers = Row::new(alloc);
+    for cell in linked.order() {
+        numbers.push(cell.0).ok()?;
+    }
+    Some(numbers)
+}
+
+#[test]
+fn a_gate_stands_after_what_it_reads(rt: HostRuntime) {
+    for (text, wanted) in ORDERS {
+        let Some(numbers) = order_of(rt.alloc(), text) else {
+            panic!(rt; "not linked");
+        };
+        assert!(rt; numbers.as_slice() == wanted);
+    }
+}
+
+// Words, and the port and the bit from the left that each names: a scalar before the bit of a vector.
+const PINS: [(&[u8], Option<(u32, u32)>); 11] = [
+    (b"a[0]", Some((1, 0))),
+    (b"a[1]", Some((0, 0))),
+    (b"a[00]", Some((0, 1))),
+    (b"a[000000000]", Some((0, 1))),
+    (b"a[0000000000]", None),
+    (b"a[]", None),
+    (b"a[2]", None),
+    (b"v", None),
+    (b"v[3]", Some((2, 0))),
+    (b"v[03]", Some((2, 0))),
+    (b"", None),
+];
+
+#[test]
+fn a_word_names_the_bit_of_a_port(rt: HostRuntime) {
+    let text = b"module m(input [1:0] a, input \\a[0] , input [3:3] v); endmodule";
+    let Some(tree) = module_of(rt.alloc(), text) else {
+        panic!(rt; "no module");
+    };
+    let Ok(linked) = link(rt.alloc(), &tree) else {
+        panic!(rt; "not linked");
+    };
+    for (word, wanted) in PINS {
+        let found = linked.find_pin(word).map(|pin| (pin.port.0, pin.bit));
+        assert!(rt; found == wanted);
+    }
 }
 
 // Modules, and what they are written as after linking.

@@ -3,27 +3,14 @@ use Rattle.std.proofs.Common.{◌≡◌, ℕ, suc, zero, ◌+◌, ◌<◌, ◌�
 use Rattle.std.specs.Prelude.{nat_lt, slice_get, if◌then◌else◌}
 use Rattle.std.specs.List.{position, position_or_len, list_any, IsDistinct, AllByRecursion}
 use Rattle.std.specs.Str.{bytes_eq}
-use Rattle.std.specs.declared.vec.Vec.{Vec}
 use Rattle.std.proofs.Common.{length-append}
 use Rattle.std.proofs.lemmas.Bool.{lt-ltb, le-ltb}
 use borrow.Author.Tests.{ltb-true}
 use Rattle.std.proofs.lemmas.Slice.Eq.{bytes_eq-Decides}
-use Rattle.name_table.specs.Names.{texts, number_of, with_name, IsOnce}
+use Rattle.name_table.specs.Names.{number_of, with_name, IsOnce}
 
 bytes_eq-same : (name : List ℕ) → bytes_eq name name ≡ true
 bytes_eq-same name = (bytes_eq-Decides name name).1 refl
-
--- what stands in the texts is counted as in the list
-place-texts : {A : Type 0} (name : List ℕ) (ks : List (Vec ℕ A)) → position_or_len (λ (k : Vec ℕ A). bytes_eq name k.items) ks ≡ position_or_len (bytes_eq name) (texts ks)
-place-texts name [] = refl
-place-texts name (k ∷ ks) = ap (λ n. cond (not (bytes_eq name k.items)) (1 + n) 0) (place-texts name ks)
-
-length-texts : {A : Type 0} (ks : List (Vec ℕ A)) → length (texts ks) ≡ length ks
-length-texts [] = refl
-length-texts (k ∷ ks) = ap (λ (n : ℕ). suc n) (length-texts ks)
-
-pub number_of-texts : {A : Type 0} (name : List ℕ) (ks : List (Vec ℕ A)) → position (λ (k : Vec ℕ A). bytes_eq name k.items) ks ≡ number_of name (texts ks)
-number_of-texts name ks = rw (place-texts name ks, length-texts ks) refl
 
 -- a name is there where its place is inside the list
 inside : {X : Type 0} (p : X → Bool) (xs : List X) → list_any p xs ≡ true → position_or_len p xs < length xs
@@ -62,14 +49,6 @@ absent name names h = by (list_any (bytes_eq name) names) refl
     by true e = let some = sym h ∙ at-inside (position_or_len (bytes_eq name) names) (length names) (inside (bytes_eq name) names e) in absurd (cc)
     by false e = e
 
-pub list_any-texts : {A : Type 0} (name : List ℕ) (ks : List (Vec ℕ A)) → list_any (λ (k : Vec ℕ A). bytes_eq name k.items) ks ≡ list_any (bytes_eq name) (texts ks)
-list_any-texts name [] = refl
-list_any-texts name (k ∷ ks) = ap (λ b. bytes_eq name k.items || b) (list_any-texts name ks)
-
-pub texts-push : {A : Type 0} (ks : List (Vec ℕ A)) (k : Vec ℕ A) → texts (ks ++ k ∷ []) ≡ texts ks ++ k.items ∷ []
-texts-push [] k = refl
-texts-push (x ∷ xs) k = ap (λ (l : List (List ℕ)). x.items ∷ l) (texts-push xs k)
-
 -- a new name has the next number
 place-push : (name : List ℕ) (names : List (List ℕ)) → list_any (bytes_eq name) names ≡ false → position_or_len (bytes_eq name) (names ++ name ∷ []) ≡ length names
 place-push name [] h = rw (bytes_eq-same name) refl
@@ -85,19 +64,19 @@ number_of-new name names h =
     let place = place-push name names h in
     at-inside (position_or_len (bytes_eq name) (names ++ name ∷ [])) (length (names ++ name ∷ [])) (omega (arith, place, length-append names (name ∷ []))) ∙ ap (λ (n : ℕ). Some n) place
 
--- distinct keys have distinct texts
-differs : {A : Type 0} (name : List ℕ) (ks : List (Vec ℕ A)) (j : ℕ) → AllByRecursion (λ (k : Vec ℕ A). bytes_eq name k.items ≡ false) ks → slice_get (texts ks) j ≡ Some name → ⊥
+-- no name stands among names that are all other
+differs : (name : List ℕ) (names : List (List ℕ)) (j : ℕ) → AllByRecursion (λ n. bytes_eq name n ≡ false) names → slice_get names j ≡ Some name → ⊥
 differs name [] j all here = cc
-differs name (k ∷ ks) zero all here = let same : k.items ≡ name = cc in let no : true ≡ false = sym (bytes_eq-same name) ∙ ap (bytes_eq name) (sym same) ∙ all.0 in cc
-differs name (k ∷ ks) (suc j) all here = differs name ks j all.1 here
+differs name (n ∷ ns) zero all here = let same : n ≡ name = cc in let no : true ≡ false = sym (bytes_eq-same name) ∙ ap (bytes_eq name) (sym same) ∙ all.0 in cc
+differs name (n ∷ ns) (suc j) all here = differs name ns j all.1 here
 
-pub once-distinct : {A : Type 0} (ks : List (Vec ℕ A)) → IsDistinct (λ (a b : Vec ℕ A). bytes_eq a.items b.items) ks → IsOnce (texts ks)
+pub once-distinct : (names : List (List ℕ)) → IsDistinct bytes_eq names → IsOnce names
 unfolding IsDistinct
 once-distinct [] distinct i j name here there = absurd (cc)
-once-distinct (k ∷ ks) distinct zero zero name here there = refl
-once-distinct {A} (k ∷ ks) distinct zero (suc j) name here there = let same : k.items ≡ name = cc in absurd (differs k.items ks j distinct.0 (there ∙ ap (λ (n : List ℕ). Some n) (sym same)))
-once-distinct {A} (k ∷ ks) distinct (suc i) zero name here there = let same : k.items ≡ name = cc in absurd (differs k.items ks i distinct.0 (here ∙ ap (λ (n : List ℕ). Some n) (sym same)))
-once-distinct (k ∷ ks) distinct (suc i) (suc j) name here there = ap (λ (n : ℕ). suc n) (once-distinct ks distinct.1 i j name here there)
+once-distinct (n ∷ ns) distinct zero zero name here there = refl
+once-distinct (n ∷ ns) distinct zero (suc j) name here there = let same : n ≡ name = cc in absurd (differs n ns j distinct.0 (there ∙ ap (λ (m : List ℕ). Some m) (sym same)))
+once-distinct (n ∷ ns) distinct (suc i) zero name here there = let same : n ≡ name = cc in absurd (differs n ns i distinct.0 (here ∙ ap (λ (m : List ℕ). Some m) (sym same)))
+once-distinct (n ∷ ns) distinct (suc i) (suc j) name here there = ap (λ (m : ℕ). suc m) (once-distinct ns distinct.1 i j name here there)
 
 -- the name stands under its number
 place-at : (name : List ℕ) (names : List (List ℕ)) → position_or_len (bytes_eq name) names < length names → slice_get names (position_or_len (bytes_eq name) names) ≡ Some name
@@ -122,13 +101,10 @@ number_of-at name names number h = by (nat_lt (position_or_len (bytes_eq name) n
         rw (← place) (place-at name names (ltb-true (position_or_len (bytes_eq name) names) (length names) e))
     by false e = let no : None ≡ Some number = rw e at h in absurd (cc)
 
--- what a new key comes to
-pub pushed : {A : Type 0} (name : List ℕ) (names : List (List ℕ)) (ks new : List (Vec ℕ A)) (key : Vec ℕ A) → key.items ≡ name → names ≡ texts ks → number_of name names ≡ None
-    → new ≡ (if list_any (λ (k : Vec ℕ A). bytes_eq key.items k.items) ks then ks else ks ++ key ∷ [])
-    → (texts new ≡ with_name name names) × (number_of name (texts new) ≡ Some (length ks))
-pushed {A = A} name names ks new key items are none grown =
+-- what a new name comes to
+pub pushed : (name : List ℕ) (names new : List (List ℕ)) → number_of name names ≡ None → new ≡ with_name name names
+    → number_of name new ≡ Some (length names)
+pushed name names new none grown =
     let gone = absent name names none in
-    let unseen : list_any (λ (k : Vec ℕ A). bytes_eq key.items k.items) ks ≡ false = list_any-texts key.items ks ∙ ap (λ (n : List ℕ). list_any (bytes_eq n) (texts ks)) items ∙ ap (list_any (bytes_eq name)) (sym are) ∙ gone in
-    let longer : new ≡ ks ++ key ∷ [] = grown ∙ rw unseen refl in
-    let seen : texts new ≡ names ++ name ∷ [] = ap (texts {A = A}) longer ∙ texts-push ks key ∙ ap (λ (l : List (List ℕ)). l ++ key.items ∷ []) (sym are) ∙ ap (λ (n : List ℕ). names ++ n ∷ []) items in
-    (seen ∙ sym (rw gone refl), ap (number_of name) seen ∙ number_of-new name names gone ∙ ap (λ (n : ℕ). Some n) (ap length are ∙ length-texts ks))
+    let longer : new ≡ names ++ name ∷ [] = grown ∙ rw gone refl in
+    ap (number_of name) longer ∙ number_of-new name names gone

@@ -1,15 +1,7 @@
 -- A list of names, in bytes, each under the number of its place.
-use Rattle.std.specs.Prelude.{◌≡◌, ℕ, List, [], ◌∷◌, ◌++◌, map, position, slice_get, Option, Some, if◌then◌else◌}
+use Rattle.std.specs.Prelude.{◌≡◌, ℕ, List, [], ◌∷◌, ◌++◌, position, slice_get, Option, Some, if◌then◌else◌}
 use Rattle.std.specs.List.{list_any}
 use Rattle.std.specs.Str.{bytes_eq}
-use Rattle.std.specs.declared.vec.Vec.{Vec}
-
--- own: the bytes of each
-abbrev pub text : {A : Type 0} → Vec ℕ A → List ℕ
-text name = name.items
-
-abbrev pub texts : {A : Type 0} → List (Vec ℕ A) → List (List ℕ)
-texts names = map text names
 
 -- own: the number of a name, which is the first place where it stands
 abbrev pub number_of : List ℕ → List (List ℕ) → Option ℕ

@@ -6,9 +6,11 @@
 ghost use Rattle.std.specs.Prelude.{◌≡◌, ◌↔◌, ◌<◌, [], IsTrue, length, slice_get, Some, None, IfOk, IfSome, OnOk, OnErr};
 ghost use Rattle.name_table.specs.Names.{IsOnce, number_of, with_name};
 
+mod key;
 #[cfg(test)]
 mod tests;
 
+use crate::key::Key;
 use edge_io::OutOfMemory;
 use indexmap::IndexSet;
 use std::alloc::Global;
@@ -17,17 +19,16 @@ use std::marker::Model;
 /// Names under the numbers 0, 1, 2 and so on.
 #[derive(Drop)]
 pub struct NameTable {
-    names: IndexSet<Vec<u8>>,
+    names: IndexSet<Key>,
     alloc: Global,
 }
 
 impl Model for NameTable {
     ghost use Rattle.std.specs.Prelude.{◌≤◌, ◌^◌, ℕ, List, length};
-    ghost use Rattle.name_table.specs.Names.{texts};
 
     ghost Value = { List (List ℕ) };
 
-    ghost view = { λ t. texts t.names.keys };
+    ghost view = { λ t. t.names.keys };
 
     ghost invariant = { λ t. length t.names.keys ≤ 2 ^ 32 };
 }
@@ -77,7 +78,7 @@ impl NameTable {
         if number > u32::MAX as usize {
             return Err(OutOfMemory);
         }
-        let key = Vec::from_slice(self.alloc, name)?;
+        let key = Key::new(self.alloc, name)?;
         self.names.insert(key)?;
         Ok(number as u32)
     }
@@ -97,7 +98,7 @@ impl NameTable {
         ensures { slice_get self.now number ≡ Some result.now }
     {
         match self.names.get_index(number as usize) {
-            Some(name) => name.as_slice(),
+            Some(name) => name.as_bytes(),
             None => unreachable!(),
         }
     }

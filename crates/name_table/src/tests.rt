@@ -15,3 +15,14 @@ fn a_name_keeps_its_first_number(rt: HostRuntime) -> Result<(), Fail> {
     assert_eq!(rt; table.len(), 2);
     Ok(())
 }
+
+#[test]
+fn the_last_of_70000_names_is_found(rt: HostRuntime) -> Result<(), Fail> {
+    let mut table = NameTable::new(rt.alloc());
+    for number in 0u32..70_000 {
+        let _given = table.enter(&number.to_le_bytes())?;
+    }
+    assert_eq!(rt; table.len(), 70_000);
+    assert_eq!(rt; table.find(&69_999u32.to_le_bytes()), Some(69_999));
+    Ok(())
+}

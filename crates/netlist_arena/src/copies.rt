@@ -7,11 +7,12 @@ use smallvec::SmallVec;
 use std::alloc::Global;
 
 impl Netlist {
-    /// An equal netlist, with as much room.
+    /// An equal netlist, with as much room. A walk over the readers of a net goes on in it.
     #[tactic(auto, using(crate::proofs::Single::single_same))]
     pub fn copy(&self, alloc: Global) -> Result<Netlist, OutOfMemory>
         ensures lists { IfOk result (λ copy. copy.lists ≡ self.now.lists) }
         ensures spare { IfOk result (λ copy. copy.spare ≡ self.now.spare) }
+        ensures walks { IfOk result (λ copy. copy.walks ≡ self.now.walks) }
     {
         let ports = copied_ports(alloc, &self.ports, self.spare_pins)?;
         let nets = copied_nets(alloc, &self.nets, self.spare_nets)?;

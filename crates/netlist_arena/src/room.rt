@@ -44,6 +44,7 @@ impl Netlist {
         ensures answer { MatchOption (too_many self.old.lists cells nets ports)
             (IsOkUnless result ReserveFault.OutOfMemory) (λ fault. result ≡ Err fault) }
         ensures lists { self.new.lists ≡ self.old.lists }
+        ensures walks { self.new.walks ≡ self.old.walks }
         ensures ok { OnOk result (self.new.spare ≡ raised self.old.spare cells nets ports) }
         ensures err { OnErr result (self.new.spare ≡ self.old.spare) }
     {

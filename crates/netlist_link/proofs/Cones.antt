@@ -42,7 +42,7 @@ gate_reads-named table N cells net other all g =
       reads = record { place = g.place; operand = ap (λ feeds. slice_get feeds g.place) (sym n.is.feeds) ∙ g.reads.operand };
     }
 
-gate_reads-live : (table : List (List ℕ)) (N : NetlistView) (cells : List NamedCell) (net other : ℕ) → AreCells table N cells → late.GateReads cells net other → GateReads N net other
+pub gate_reads-live : (table : List (List ℕ)) (N : NetlistView) (cells : List NamedCell) (net other : ℕ) → AreCells table N cells → late.GateReads cells net other → GateReads N net other
 gate_reads-live table N cells net other all g =
     let l = live_at table N cells g.number g.cell all g.gate.there in
     record {

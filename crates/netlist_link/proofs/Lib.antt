@@ -11,4 +11,8 @@ pub mod TableLaws
 pub mod Assembled
 pub mod LinkFaults
 pub mod Unlinkable
+pub mod FirstFault
+pub mod Drivers
+pub mod Loops
+pub mod Converse
 pub mod Spelled

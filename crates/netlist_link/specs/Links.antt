@@ -15,10 +15,12 @@ use Rattle.link_model.specs.Denoted.{IsNamed, denoted}
 use Rattle.link_order.specs.Orders.{IsItemOrder}
 use Rattle.netlist_link.specs.Linked.{LinkedView}
 
--- own: the module can be linked, and the netlist is the one that it denotes, under its name and without gaps
+-- own: the module can be linked, and the netlist is the one that it denotes, under its name and without gaps; the table has
+-- the names of the text and no more
 pub record IsLinkOf (m : Module) (linked : LinkedView) : Type 0 where
   pub linkable : IsLinkable m
   pub denoted : IsNamed linked.names linked.arena.lists (denoted m)
+  pub names : linked.names ≡ names_of m
   pub title : linked.module_name ≡ m.name
   pub dense : IsDense linked.arena.lists
 

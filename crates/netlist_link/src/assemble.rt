@@ -9,6 +9,7 @@ ghost use Rattle.netlist_link.specs.WellNamed.{IsWellNamed};
 use crate::linked::Linked;
 use crate::tables::{cell_ids, count_flops, input_flags, ports_by_name};
 use edge_io::{OutOfMemory, Text};
+use link_arena::Built;
 use link_drivers::nets_have_their_drivers;
 use link_model::{ItemCell, NetBit};
 use link_order::{CellOrder, ControlNets, controls_are_links};
@@ -17,7 +18,7 @@ use netlist_arena::Netlist;
 use std::alloc::Global;
 use verilog_tree::Module;
 
-/// A linked netlist from a module's netlist and names, where no fault stands.
+/// A linked netlist from what was built of a module, where no fault stands.
 pub fn assemble(
     alloc: Global,
     tree: &Module,
@@ -25,8 +26,7 @@ pub fn assemble(
     cells: &[ItemCell],
     order: &CellOrder,
     controls: &ControlNets,
-    netlist: Netlist,
-    names: NameTable,
+    built: Built,
 ) -> Result<Linked, OutOfMemory>
     requires these { AreNetsAndCells tree.now nets.now cells.now }
     requires drivers { driver_fault nets.now cells.now ≡ None }
@@ -35,9 +35,10 @@ pub fn assemble(
     requires lengths { (length controls.now.control ≡ length nets.now) × (length controls.now.clock ≡ length nets.now) }
     requires control { (net : ℕ) → Marked controls.now.control net ↔ IsControlNet cells.now net }
     requires clock { (net : ℕ) → Marked controls.now.clock net ↔ IsClockNet cells.now net }
-    requires built { IsBuilt tree.now netlist.lists names }
+    requires built { IsBuilt tree.now built.netlist.lists built.names }
     ensures { IfOk result (IsLinkOf tree.now) }
 {
+    let Built { netlist, names } = built;
     nets_have_their_drivers();
     controls_are_links();
     is_well_named(tree, nets, cells, &netlist, &names);
@@ -71,5 +72,6 @@ fn is_well_named(
     requires built { IsBuilt tree.now netlist.now.lists names.now }
     ensures { IsWellNamed names.now netlist.now.lists }
 {
+    // Looked at so that the proof has its facts.
     let _count = names.len();
 }

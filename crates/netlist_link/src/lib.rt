@@ -11,6 +11,6 @@ mod pins;
 mod tables;
 mod words;
 
-pub use laws::faults_forbid_links;
+pub use laws::{faults_forbid_links, one_fault_is_first, well_formed_can_be_linked};
 pub use linked::Linked;
 pub use linking::link;

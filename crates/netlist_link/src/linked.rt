@@ -94,6 +94,7 @@ impl Linked {
         self.flops
     }
 
+    /// The name of the module, in bytes.
     pub fn module_name(&self) -> &[u8]
         ensures name { result.now ≡ self.now.module_name }
         ensures spelled { IsTreeName self.now.module_name }

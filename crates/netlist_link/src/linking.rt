@@ -109,14 +109,5 @@ fn link_sound(
 {
     let controls = control_nets(alloc, nets, cells, order)?;
     let built = build(alloc, tree, nets, cells)?;
-    assemble(
-        alloc,
-        tree,
-        nets,
-        cells,
-        order,
-        &controls,
-        built.netlist,
-        built.names,
-    )
+    assemble(alloc, tree, nets, cells, order, &controls, built)
 }

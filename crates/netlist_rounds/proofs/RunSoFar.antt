@@ -16,6 +16,7 @@ use Rattle.netlist_rounds.specs.Moments.{moment_of, moment_at}
 -- the moments after so many of the events
 pub record RunSoFar (N : NetlistView) (pins : List PinSig) (given : List Sig) (events : List PinEvent) (moments : List PlainMoment) (count : ℕ) : Type 0 where
   pub many : length moments ≡ count + 1
+  pub first : (net : ℕ) → (moment_at moments 0).pins net ≡ pin_at pins net
   pub start : IsSound N → KnowsControls N (pin_at pins) → IsStart N (value_at given) (moment_at moments 0)
   pub steps : (t : ℕ) (event : PinEvent) → t < count → slice_get events t ≡ Some event → IsSound N → IsLegal N event → IsStep N event (moment_at moments t) (moment_at moments (suc t))
 
@@ -57,10 +58,11 @@ step_along N event a a' b b' e f h =
     subst Q (sym f) (subst P (sym e) h)
 
 pub run_begins : (N : NetlistView) (pins : List PinSig) (given : List Sig) (events : List PinEvent) (none moments : List PlainMoment) (m : PlainMoment) → none ≡ [] → moments ≡ none ++ m ∷ []
-    → (IsSound N → KnowsControls N (pin_at pins) → IsStart N (value_at given) (moment_of m)) → RunSoFar N pins given events moments 0
-run_begins N pins given events none moments m empty e start =
+    → ((net : ℕ) → (moment_of m).pins net ≡ pin_at pins net) → (IsSound N → KnowsControls N (pin_at pins) → IsStart N (value_at given) (moment_of m))
+    → RunSoFar N pins given events moments 0
+run_begins N pins given events none moments m empty e first start =
     let same : moments ≡ m ∷ [] = e ∙ ap (λ (ms : List PlainMoment). ms ++ m ∷ []) empty in
-    rw same (record { many = refl; start = start; steps = λ t event h. absurd (omega arith) })
+    rw same (record { many = refl; first = first; start = start; steps = λ t event h. absurd (omega arith) })
 
 pub run_grows : (N : NetlistView) (pins : List PinSig) (given : List Sig) (events : List PinEvent) (moments more : List PlainMoment) (count : ℕ) (m r : PlainMoment) (last : PinEvent)
     → RunSoFar N pins given events moments count → more ≡ moments ++ m ∷ [] → r ≡ get_or moments count r → count < length events → last ≡ get_or events count last
@@ -69,6 +71,7 @@ run_grows N pins given events moments more count m r last so_far grown here insi
     let many = so_far.many in
     rw grown (record {
       many = simp length-append (omega arith);
+      first = λ net. ap (λ (x : Moment). x.pins net) (moment_at-front moments m 0 (omega arith)) ∙ so_far.first net;
       start = λ sound known. (let P : Moment → Type 0 = λ x. IsStart N (value_at given) x in
           subst P (sym (moment_at-front moments m 0 (omega arith))) (so_far.start sound known));
       steps = λ t event h at sound legal. elim (eqb_tells t count) [

@@ -129,7 +129,8 @@ pub fn start(
     pins: Vec<PinSig>,
     given: &[Sig],
 ) -> Result<PlainMoment, AllocError>
-    ensures { IfOk result (λ m. IsSound netlist.now → KnowsControls netlist.now (pin_at pins.items) → IsStart netlist.now (value_at given.now) (moment_of m)) }
+    ensures pins { IfOk result (λ m. (net : ℕ) → (moment_of m).pins net ≡ pin_at pins.items net) }
+    ensures start { IfOk result (λ m. IsSound netlist.now → KnowsControls netlist.now (pin_at pins.items) → IsStart netlist.now (value_at given.now) (moment_of m)) }
 {
     let first = settle(alloc, netlist, pins.as_slice(), given)?;
     let state = next_states(
@@ -205,6 +206,7 @@ pub fn run(
     events: &[Event],
 ) -> Result<Vec<PlainMoment>, AllocError>
     ensures count { IfOk result (λ moments. length moments.items ≡ length events.now + 1) }
+    ensures pins { IfOk result (λ moments. (net : ℕ) → (moment_at moments.items 0).pins net ≡ pin_at pins.items net) }
     ensures run { IfOk result (λ moments. IsSound netlist.now → KnowsControls netlist.now (pin_at pins.items) → All (IsLegal netlist.now) events.now
         → IsRun netlist.now (value_at given.now) events.now (moment_at moments.items)) }
 {

@@ -125,6 +125,7 @@ pub fn settle(
     state: &[Sig],
 ) -> Result<Vec<Sig>, AllocError>
     ensures count { IfOk result (λ values. length values.items ≡ length netlist.now.nets) }
+    ensures rest { IfOk result (λ values. values.items ≡ round_of netlist.now (pin_at pins.now) (value_at state.now) values.items) }
     ensures settled { IfOk result (λ values. IsLaidOut netlist.now → IsWellFormed netlist.now
         → IsSettled netlist.now (pin_at pins.now) (value_at state.now) (value_at values.items)) }
 {

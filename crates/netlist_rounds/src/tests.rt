@@ -358,16 +358,27 @@ fn a_toggling_flip_flop_divides_its_clock(rt: HostRuntime) -> Result<(), Fail> {
 }
 
 #[test]
-fn a_preset_that_is_tied_to_zero_holds_always(rt: HostRuntime) -> Result<(), Fail> {
+fn a_clear_or_preset_that_is_tied_to_zero_holds_always(rt: HostRuntime) -> Result<(), Fail> {
     let alloc = rt.alloc();
-    let rows = [(
-        flop(Edge::Rise, ResetTo::One),
-        2,
-        &[net(0), net(1), Feed::Const(false)][..],
-    )];
-    let chip = chip(alloc, b"iio", 3, &rows)?;
-    let all = moments(alloc, &chip, b"00", &[(1, b'1'), (1, b'0')])?;
-    assert!(rt; has_history(alloc, &chip, &all, 2, b"111")?);
+    let feeds = [net(0), net(1), Feed::Const(false)];
+    for (reset, start, wanted) in [
+        (ResetTo::Zero, b"10", b"000"),
+        (ResetTo::One, b"00", b"111"),
+    ] {
+        let chip = chip(alloc, b"iio", 3, &[(flop(Edge::Rise, reset), 2, &feeds)])?;
+        let all = moments(alloc, &chip, start, &[(1, b'1'), (1, b'0')])?;
+        assert!(rt; has_history(alloc, &chip, &all, 2, wanted)?);
+    }
+    Ok(())
+}
+
+#[test]
+fn an_event_past_the_handed_pins_counts(rt: HostRuntime) -> Result<(), Fail> {
+    let alloc = rt.alloc();
+    let chip = chip(alloc, b"iio", 3, &[(Kind::Buf, 2, &[net(1)])])?;
+    let all = moments(alloc, &chip, b"", &[(1, b'1'), (1, b'0')])?;
+    assert!(rt; has_history(alloc, &chip, &all, 0, b"xxx")?);
+    assert!(rt; has_history(alloc, &chip, &all, 2, b"x10")?);
     Ok(())
 }
 

@@ -24,7 +24,5 @@ pub mod Denotes
 pub mod Undone
 pub mod Again
 pub mod Free
-pub mod Drivers
-pub mod Loops
 pub mod Linkable
 pub mod Law

@@ -34,15 +34,15 @@ use Rattle.link_model.specs.Late.InCone.{itself as late_itself, behind as late_b
 use Rattle.link_model.specs.Late.{ControlLink, IsDerivedAt, IsLinkable, IsLoop, bit_links, control_links, flop_links, item_links}
 use Rattle.link_drivers.specs.Drivers.{DrivesNet, HasDriver, HasItsDrivers, ReadsNet, dir_at}
 use Rattle.netlist_link.specs.Linked.{LinkedView}
+use Rattle.netlist_link.proofs.Drivers.{no_driver_fault}
+use Rattle.netlist_link.proofs.Loops.{IsRising, feeds_lower, no_loop}
 use Rattle.netlist_unlink.specs.Trees.{Naming, bit_of, cell_text, gate_of, item_of, items_from, naming_of, operand_of, tree_of, written}
 use Rattle.netlist_unlink.specs.Renumbered.{IsEachOnce, cells_from, named_net, net_order, new_cell, new_feed, new_net, passed_limit, place_of, renumbered}
 use Rattle.netlist_unlink.proofs.Bits.{bit_found, each_once}
 use Rattle.netlist_unlink.proofs.Denotes.{denotes, text_is}
-use Rattle.netlist_unlink.proofs.Drivers.{no_driver_fault}
 use Rattle.netlist_unlink.proofs.Facts.{library_count}
 use Rattle.netlist_unlink.proofs.Keys.{CanName}
 use Rattle.netlist_unlink.proofs.Kept.{library_back}
-use Rattle.netlist_unlink.proofs.Loops.{IsRising, no_loop}
 use Rattle.netlist_unlink.proofs.Members.{IsIn, joined_source, mapped_source}
 use Rattle.netlist_unlink.proofs.NewCells.{links_of}
 
@@ -259,16 +259,6 @@ has_drivers naming N order w = record {
 }
 
 -- Loops.
-
-feeds_lower : (rank : ℕ → ℕ) (feeds : List Feed) (bound place : ℕ) (net : NetId) → FeedsBelow rank feeds bound → slice_get feeds place ≡ Some (Net net) → rank net.0 < bound
-feeds_lower rank [] bound place net below at = absurd (cc)
-feeds_lower rank (Net n ∷ feeds) bound zero net below at = let same : n ≡ net = cc in ap_less n net same below.0
-  where
-    ap_less : (a b : NetId) → a ≡ b → rank a.0 < bound → rank b.0 < bound
-    ap_less a b e h = let P : NetId → Type 0 = λ x. rank x.0 < bound in subst P e h
-feeds_lower rank (Const value ∷ feeds) bound zero net below at = absurd (cc)
-feeds_lower rank (Net n ∷ feeds) bound (suc place) net below at = feeds_lower rank feeds bound place net below.1 at
-feeds_lower rank (Const value ∷ feeds) bound (suc place) net below at = feeds_lower rank feeds bound place net below at
 
 -- a gate reads the net and drives the other, as the old netlist has it
 record GateOld (naming : Naming) (N : NetlistView) (order : List ℕ) (net other : ℕ) : Type 0 where

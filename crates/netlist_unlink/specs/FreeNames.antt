@@ -14,6 +14,7 @@ use Rattle.netlist_unlink.specs.Trees.{original}
 abbrev pub is_word_byte : ℕ → Bool
 is_word_byte byte = is_letter byte || is_digit byte
 
+-- own: a letter or `_`, then letters, digits and `_`, 1 to 32 in all
 abbrev pub is_prefix : List ℕ → Bool
 is_prefix [] = false
 is_prefix (first ∷ rest) = nat_le (length (first ∷ rest)) 32 && (is_letter first && list_all is_word_byte rest)
@@ -23,6 +24,7 @@ abbrev pub is_free_name : List (List ℕ) → List ℕ → Name → Bool
 is_free_name table prefix (Original number) = not (starts_with nat_eq (original table number) prefix)
 is_free_name table prefix (Added number) = true
 
+-- own: so is a name that may be absent
 abbrev pub has_free_name : List (List ℕ) → List ℕ → Option Name → Bool
 has_free_name table prefix None = true
 has_free_name table prefix (Some name) = is_free_name table prefix name
@@ -32,9 +34,11 @@ abbrev pub is_free_cell : List (List ℕ) → List ℕ → Option CellView → B
 is_free_cell table prefix None = true
 is_free_cell table prefix (Some cell) = has_free_name table prefix cell.name
 
+-- own: so are the names of these ports
 abbrev pub ports_are_free : List (List ℕ) → List ℕ → List PortView → Bool
 ports_are_free table prefix ports = list_all (λ (p : PortView). is_free_name table prefix p.name) ports
 
+-- own: so are the names of these nets
 abbrev pub nets_are_free : List (List ℕ) → List ℕ → List NetView → Bool
 nets_are_free table prefix nets = list_all (λ (n : NetView). is_free_name table prefix n.name) nets
 
@@ -42,6 +46,7 @@ nets_are_free table prefix nets = list_all (λ (n : NetView). is_free_name table
 abbrev pub cells_are_free : LinkedView → List ℕ → List CellId → Bool
 cells_are_free linked prefix order = list_all (λ (c : CellId). is_free_cell linked.names prefix (cell_at linked.arena.lists c.0)) order
 
+-- own: the bytes can be a prefix, and no original name of the netlist begins with them
 abbrev pub is_free_prefix : LinkedView → List ℕ → Bool
 is_free_prefix linked prefix =
     is_prefix prefix && (ports_are_free linked.names prefix linked.arena.lists.ports

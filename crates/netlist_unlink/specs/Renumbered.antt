@@ -34,10 +34,12 @@ is_wire None (Original number) = true
 is_wire None (Added number) = false
 is_wire (Some dir) name = false
 
+-- own: the name was added
 abbrev pub is_added : Name → Bool
 is_added (Original number) = false
 is_added (Added number) = true
 
+-- own: the number alone, or none
 abbrev pub one_if : Bool → ℕ → List ℕ
 one_if true number = number ∷ []
 one_if false number = []
@@ -47,9 +49,11 @@ abbrev pub numbers_from : (ℕ → NetView → Bool) → ℕ → List NetView �
 numbers_from test number [] = []
 numbers_from test number (view ∷ nets) = one_if (test number view) number ++ numbers_from test (number + 1) nets
 
+-- own: the net with this number is an original wire
 abbrev pub wire_test : List PortView → ℕ → NetView → Bool
 wire_test ports number view = is_wire (direction ports number) view.name
 
+-- own: the net was added
 abbrev pub added_test : ℕ → NetView → Bool
 added_test number view = is_added view.name
 
@@ -68,10 +72,12 @@ place_of (first ∷ numbers) number = if first == number then 0 else suc (place_
 abbrev pub new_net : List ℕ → NetId → NetId
 new_net order net = net_id (place_of order net.0)
 
+-- own: an operand by the new number of its net
 abbrev pub new_feed : List ℕ → Feed → Feed
 new_feed order (Net net) = Net (new_net order net)
 new_feed order (Const value) = Const value
 
+-- own: a port by the new numbers of its nets
 abbrev pub new_port : List (List ℕ) → List ℕ → PortView → NamedPort
 new_port table order port = record { name = port_text table port.name; dir = port.dir; range = port.range; nets = map (new_net order) port.nets }
 
@@ -94,6 +100,7 @@ cells_from naming order number [] = []
 cells_from naming order number (None ∷ cells) = cells_from naming order (number + 1) cells
 cells_from naming order number (Some cell ∷ cells) = new_cell naming order number cell ∷ cells_from naming order (number + 1) cells
 
+-- own: the netlist, with each net at its place in the order and without the gaps between cells
 abbrev pub renumbered : Naming → NetlistView → NamedNetlist
 renumbered naming N = record {
   ports = map (new_port naming.table (net_order N)) N.ports;
@@ -124,6 +131,7 @@ pub record IsWritten (naming : Naming) (N : NetlistView) (tree : Module) : Type 
   pub denotes : denoted tree ≡ renumbered naming N
   pub nets : IsEachOnce (length N.nets) (net_order N)
 
+-- own: so it is for a linked netlist and a prefix
 abbrev pub IsWrittenAs : LinkedView → List ℕ → Module → Type 0
 IsWrittenAs linked prefix tree = IsWritten (naming_of linked prefix) linked.arena.lists tree
 

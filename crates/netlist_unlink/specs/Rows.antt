@@ -27,6 +27,7 @@ abbrev pub named_row : List PortView → Option ℕ → Name → Option NetRow
 named_row ports index (Original number) = if has_port_name ports number then None else Some (record { name = number; range = option_map one_index index })
 named_row ports index (Added number) = None
 
+-- own: the row of a net, if it is an original wire
 abbrev pub row_of : List PortView → NetView → Option NetRow
 row_of ports view = named_row ports view.index view.name
 
@@ -41,6 +42,7 @@ abbrev pub before : NetRow → List NetRow → List NetRow
 before row [] = row ∷ []
 before row (next ∷ rows) = if row.name == next.name then record { name = row.name; range = joined_range row.range next.range } ∷ rows else row ∷ next ∷ rows
 
+-- own: a row before others, if there is one
 abbrev pub with_row : Option NetRow → List NetRow → List NetRow
 with_row None rows = rows
 with_row (Some row) rows = before row rows

@@ -57,9 +57,11 @@ abbrev pub view_bit : Naming → ℕ → Option NetView → Bit
 view_bit naming net None = record { net = []; index = None }
 view_bit naming net (Some view) = record { net = spelled naming 110 net view.name; index = view.index }
 
+-- own: the bit that a net is
 abbrev pub bit_of : Naming → NetId → Bit
 bit_of naming net = view_bit naming net.0 (slice_get naming.nets net.0)
 
+-- own: what a cell reads: a bit or a constant
 abbrev pub operand_of : Naming → Feed → Operand
 operand_of naming (Net net) = operand.Bit (bit_of naming net)
 operand_of naming (Const value) = operand.Const value
@@ -69,6 +71,7 @@ abbrev pub output_bit : Naming → Option NetId → Bit
 output_bit naming None = record { net = []; index = None }
 output_bit naming (Some net) = bit_of naming net
 
+-- own: the first operand, or 0 where there is none
 abbrev pub first_operand : Naming → List Feed → Operand
 first_operand naming [] = operand.Const false
 first_operand naming (feed ∷ feeds) = operand_of naming feed
@@ -120,6 +123,7 @@ written naming number cell None (Some library) = item.Instance (record {
 })
 written naming number cell None None = item.Assign (output_bit naming cell.output) (first_operand naming cell.feeds)
 
+-- own: the item of a cell, by its kind
 abbrev pub item_of : Naming → ℕ → CellView → Item
 item_of naming number cell = written naming number cell (gate_of cell.kind) (cell_name cell.kind)
 
@@ -129,11 +133,13 @@ items_from naming number [] = []
 items_from naming number (None ∷ cells) = items_from naming (number + 1) cells
 items_from naming number (Some cell ∷ cells) = item_of naming number cell ∷ items_from naming (number + 1) cells
 
+-- own: a direction as the tree has it
 abbrev pub dir_of : Dir → tree.Dir
 dir_of dir.Input = tree_dir.Input
 dir_of dir.Output = tree_dir.Output
 dir_of dir.Inout = tree_dir.Inout
 
+-- own: a range as the tree has it
 abbrev pub range_of : Range → tree_range.Range
 range_of range = record { left = range.left; right = range.right }
 
@@ -142,9 +148,11 @@ abbrev pub port_text : List (List ℕ) → Name → List ℕ
 port_text table (Original number) = original table number
 port_text table (Added number) = []
 
+-- own: a port as the tree has it
 abbrev pub port_of : List (List ℕ) → PortView → Port
 port_of table port = record { name = port_text table port.name; dir = dir_of port.dir; range = option_map range_of port.range }
 
+-- own: a row of nets as a wire
 abbrev pub wire_of : List (List ℕ) → NetRow → Wire
 wire_of table row = record { name = original table row.name; range = row.range }
 
@@ -158,6 +166,7 @@ abbrev pub added_from : List ℕ → ℕ → List NetView → List Wire
 added_from prefix number [] = []
 added_from prefix number (view ∷ nets) = added_wire prefix number view.name ++ added_from prefix (number + 1) nets
 
+-- own: what the names of a linked netlist are spelled by
 abbrev pub naming_of : LinkedView → List ℕ → Naming
 naming_of linked prefix = record { table = linked.names; prefix = prefix; nets = linked.arena.lists.nets }
 

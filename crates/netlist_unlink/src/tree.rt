@@ -36,6 +36,7 @@ pub fn items_keep_their_cells(linked: &Linked, prefix: &[u8])
     ensures { AreKept linked.now.arena.lists (naming_of linked.now prefix.now) }
 {
     is_linked(linked);
+    // Looked at so that the proof has its facts.
     let _length = prefix.len();
 }
 
@@ -47,6 +48,7 @@ pub fn unlink_undoes_link(tree: &Module, linked: &Linked, prefix: &[u8])
     ensures { DenotesSame tree.now (tree_of linked.now prefix.now) }
 {
     is_linked(linked);
+    // Looked at so that the proof has their facts.
     let _length = prefix.len();
     let _ports = tree.ports.len();
 }
@@ -77,6 +79,7 @@ pub(crate) fn is_linked(linked: &Linked)
 {
     let netlist = linked.netlist();
     netlist.is_laid_out();
+    // Looked at so that the proof has their facts.
     let _count = netlist.net_count();
     let _title = linked.module_name();
 }

@@ -8,6 +8,7 @@ use crate::lines::Act;
 use crate::words::next_word;
 use signal_values::{PinSig, read_sig};
 
+/// What a line is of: skipped, the header, an event, or none of these forms.
 #[derive(Drop)]
 pub enum Form<'a> {
     Skipped,

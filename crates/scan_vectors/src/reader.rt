@@ -12,6 +12,7 @@ use std::alloc::Global;
 
 const LIMIT: usize = 1_000_000;
 
+/// What the lines so far come to.
 #[derive(Drop)]
 pub struct Reader {
     /// The header was read.
@@ -34,6 +35,7 @@ impl Reader {
     ghost use Rattle.std.specs.Prelude.{ℕ, List, ◌∷◌, [], true, false, IfErr, OnOk};
     ghost use Rattle.scan_vectors.specs.Reading.{IsBefore, IsBehind, IsReading, HasRead, AddsLine, CannotAdd};
 
+    /// Before the first line.
     pub fn new(alloc: Global) -> Reader
         ensures begun { result.begun ≡ false }
         ensures list { result.lines.list ≡ [] }

@@ -1,5 +1,6 @@
 use super::*;
 use edge_io::{OutOfMemory, Text};
+use netlist_model::What;
 use signal_values::PinSig;
 use std::alloc::Global;
 use std::test::Fail;
@@ -40,6 +41,42 @@ fn line_at_fault(alloc: Global, bytes: &[u8]) -> u64 {
         Err(EventFault::EventLine { line }) => line,
         _ => 0,
     }
+}
+
+// A header, a million event lines, and this last line.
+fn million_lines(alloc: Global, last: &[u8]) -> Result<Text, OutOfMemory> {
+    let mut text = Text::from_bytes(alloc, b"events 1\n")?;
+    for _ in 0..1_000_000 {
+        text.append(b"set a 1\n")?;
+    }
+    text.append(last)?;
+    Ok(text)
+}
+
+// How many lines are too many, or 0.
+fn lines_too_many(alloc: Global, bytes: &[u8]) -> u64 {
+    match read_events(alloc, bytes) {
+        Err(
+            EventFault::TooMany {
+                what: What::Lines,
+                count,
+                limit: 1_000_000,
+            },
+        ) => count,
+        _ => 0,
+    }
+}
+
+#[test]
+fn a_million_lines_are_read_and_one_more_is_too_many(rt: HostRuntime) -> Result<(), Fail> {
+    let text = million_lines(rt.alloc(), b"")?;
+    let lines = read_events(rt.alloc(), text.as_bytes())?;
+    assert_eq!(rt; lines.list.len(), 1_000_000);
+    let text = million_lines(rt.alloc(), b"set a 1")?;
+    assert_eq!(rt; lines_too_many(rt.alloc(), text.as_bytes()), 1_000_001);
+    let text = million_lines(rt.alloc(), b"hold")?;
+    assert_eq!(rt; line_at_fault(rt.alloc(), text.as_bytes()), 1_000_002);
+    Ok(())
 }
 
 #[test]

@@ -1,13 +1,22 @@
 use crate::trial::{Trial, linked_of_text};
 use edge_io::Text;
+use netlist_link::Linked;
+use netlist_meaning::{Event, Nets, Pins, Sim, State, settle};
+use netlist_model::{NetId, PinBit, PortId};
+use signal_values::{PinSig, Sig};
 use std::alloc::Global;
+
+// The linked netlist of a module's text.
+fn linked_of(alloc: Global, module: &[u8]) -> Option<Linked> {
+    match Text::from_bytes(alloc, module) {
+        Ok(text) => linked_of_text(alloc, text),
+        Err(_) => None,
+    }
+}
 
 // What the events come to on the module of a text.
 fn trial_of(alloc: Global, module: &[u8], events: &[u8]) -> Option<Trial> {
-    let Ok(text) = Text::from_bytes(alloc, module) else {
-        return None;
-    };
-    let linked = linked_of_text(alloc, text)?;
+    let linked = linked_of(alloc, module)?;
     Some(Trial::of(alloc, &linked, events))
 }
 
@@ -121,4 +130,69 @@ fn a_module_without_inputs_needs_no_start(rt: HostRuntime) {
         (1, 0)
     );
     assert_eq!(rt; outcome(rt.alloc(), module, b"events 1\nset y 0"), (0, 2));
+}
+
+// The values of the toggle flip-flop's nets ck, rn, q and d, with this in the flip-flop: before they settle, and after.
+fn values_of(alloc: Global, held: Sig) -> Option<([Sig; 4], [Sig; 4])> {
+    let linked = linked_of(alloc, TOGGLE)?;
+    let pins = Pins::new(alloc, &linked).ok()?;
+    let mut state = State::new(alloc, &linked).ok()?;
+    let mut nets = Nets::new(alloc, &linked).ok()?;
+    if linked.flop_count() != 1 {
+        return None;
+    }
+    state.set(0, held);
+    let first = four_values(&nets);
+    settle(&linked, &pins, &state, &mut nets);
+    Some((first, four_values(&nets)))
+}
+
+fn four_values(nets: &Nets) -> [Sig; 4] {
+    [
+        nets.value(NetId(0)),
+        nets.value(NetId(1)),
+        nets.value(NetId(2)),
+        nets.value(NetId(3)),
+    ]
+}
+
+#[test]
+fn nets_settle_for_what_is_in_the_flip_flop(rt: HostRuntime) {
+    let unknown = [Sig::Unknown; 4];
+    let rows = [
+        (
+            Sig::Unknown,
+            [Sig::Zero, Sig::Zero, Sig::Unknown, Sig::Unknown],
+        ),
+        (Sig::One, [Sig::Zero, Sig::Zero, Sig::One, Sig::Zero]),
+        (Sig::Zero, [Sig::Zero, Sig::Zero, Sig::Zero, Sig::One]),
+    ];
+    for (held, settled) in rows {
+        assert_eq!(rt; values_of(rt.alloc(), held), Some((unknown, settled)));
+    }
+}
+
+// Whether the event of this value on the first bit of a port of the toggle flip-flop is legal.
+fn is_legal(alloc: Global, port: u32, value: PinSig) -> Option<bool> {
+    let linked = linked_of(alloc, TOGGLE)?;
+    let sim = Sim::new(alloc, &linked).ok()?;
+    let pin = PinBit {
+        port: PortId(port),
+        bit: 0,
+    };
+    Some(sim.is_legal(Event { pin, value }))
+}
+
+#[test]
+fn events_are_legal_on_inputs_and_known_on_clocks(rt: HostRuntime) {
+    let rows = [
+        (0, PinSig::One, true),
+        (0, PinSig::Unknown, false),
+        (0, PinSig::HighZ, false),
+        (2, PinSig::Zero, false),
+        (7, PinSig::Zero, false),
+    ];
+    for (port, value, legal) in rows {
+        assert_eq!(rt; is_legal(rt.alloc(), port, value), Some(legal));
+    }
 }

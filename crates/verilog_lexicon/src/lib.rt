@@ -4,6 +4,7 @@
 #![tactic(auto)]
 
 pub mod keywords;
+mod laws;
 pub mod reader;
 pub mod reserved;
 pub mod spelling;
@@ -11,6 +12,7 @@ pub mod symbol;
 pub mod word;
 pub mod words;
 
+pub use laws::key_words_are_found_by_their_bytes;
 pub use reader::WordReader;
 pub use reserved::Reserved;
 pub use symbol::Symbol;

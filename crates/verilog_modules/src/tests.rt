@@ -26,7 +26,11 @@ fn fault_of(alloc: Global, text: &[u8]) -> Option<(u64, u64)> {
 fn faults_stand_at_the_word_with_which_no_module_goes_on(rt: HostRuntime) {
     let rows = [
         (b"".as_slice(), (0, 0)),
+        (b" \n ".as_slice(), (3, 0)),
+        (b"module m  ".as_slice(), (10, 2)),
         (b"module m(input a".as_slice(), (16, 5)),
+        (b"module m(input a; endmodule".as_slice(), (16, 5)),
+        (b"module m(a); input b; endmodule".as_slice(), (19, 7)),
         (b"module m(a); input a; input b;".as_slice(), (22, 9)),
         (b"module m(a); input a, b;".as_slice(), (20, 8)),
         (b"module m(a); endmodule".as_slice(), (13, 6)),

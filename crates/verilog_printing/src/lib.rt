@@ -4,8 +4,10 @@
 #![tactic(auto)]
 
 mod items;
+mod laws;
 mod names;
 mod ports;
 mod print;
 
+pub use laws::{canonical_texts_spell_their_trees, spelled_trees_keep_the_conditions};
 pub use print::print_module;

@@ -1,39 +1,10 @@
 // Names and numbers as they stand in a text.
 ghost use Rattle.std.specs.Prelude.{◌≡◌, ◌++◌, OnOk};
 ghost use Rattle.std.specs.Fmt.{decimal};
-ghost use Rattle.std.specs.List.{list_all};
-ghost use Rattle.verilog_lexicon.specs.Bytes as bytes;
 ghost use Rattle.verilog_tree.specs.Canonical as text_of;
 
 use edge_io::{OutOfMemory, Text};
-use verilog_lexicon::keywords::reserved_of;
-
-fn is_letter(byte: u8) -> bool
-    ensures { result ≡ bytes.is_letter byte }
-{
-    matches!(byte, b'A'..=b'Z' | b'a'..=b'z' | b'_')
-}
-
-fn is_name_byte(byte: u8) -> bool
-    ensures { result ≡ bytes.is_name_byte byte }
-{
-    is_letter(byte) || matches!(byte, b'0'..=b'9' | b'$')
-}
-
-fn are_name_bytes(name: &[u8]) -> bool
-    ensures { result ≡ list_all bytes.is_name_byte name.now }
-{
-    name.iter().all(|byte| is_name_byte(*byte))
-}
-
-fn is_simple_name(name: &[u8]) -> bool
-    ensures { result ≡ bytes.is_simple_name name.now }
-{
-    match name {
-        [] => false,
-        [first, ..] => is_letter(*first) && are_name_bytes(name),
-    }
-}
+use verilog_lexicon::keywords::{is_simple_name, reserved_of};
 
 fn is_plain(name: &[u8]) -> bool
     ensures { result ≡ text_of.is_plain name.now }

@@ -22,7 +22,7 @@ SpellsOneSource = (s t : Source) → IsSource s → IsSource t → source_words 
 abbrev pub FaultsSpellNothing : Type 0
 FaultsSpellNothing = (ws left : List Word) (s : Source) → source_at ws ≡ (None, left) → IsSource s → ws ≡ source_words s → ⊥
 
--- a module's words that begin with these
+-- a module's words that begin with these; its names and numbers may be such as no text spells, which matters for no words that come from a text
 pub record Begun (ws : List Word) : Type 0 where
   pub source : Source
   pub keeps : IsSource source

@@ -4,9 +4,11 @@
 #![tactic(auto)]
 
 mod fault;
+mod laws;
 mod reading;
 
 pub use fault::TextFault;
+pub use laws::bytes_spell_one_tree;
 pub use reading::read_module;
 
 #[cfg(test)]

@@ -272,6 +272,7 @@ impl Cutter {
         ensures { Steps self.old self.new (step self.old.at (state_of self.old) byte) result }
     {
         if is_name_byte(byte) {
+            // No directive is so long as the second test: it bounds what is kept.
             if !goes_on(directive, self.pending.as_bytes(), byte) || self.pending.len() >= 255 {
                 return Err(WordFault::BadWord { place: self.at });
             }

@@ -6,10 +6,12 @@
 mod classes;
 mod cutter;
 mod fault;
+mod laws;
 mod mode;
 
 pub use cutter::Cutter;
 pub use fault::WordFault;
+pub use laws::bytes_have_one_list_of_words;
 pub use verilog_lexicon::{Reserved, Spanned, Symbol, Word, WordReader, Words};
 
 #[cfg(test)]

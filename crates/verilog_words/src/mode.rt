@@ -60,6 +60,7 @@ impl Enclosure {
 impl Directive {
     ghost use Rattle.verilog_words.specs.Machine.{directive_name, takes_line};
 
+    /// The bytes behind the accent.
     pub fn name(self) -> &'static [u8]
         ensures { result.now ≡ directive_name self }
     {

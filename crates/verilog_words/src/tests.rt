@@ -1,6 +1,6 @@
 // Worked rows of the word grammar, and each call once with ample memory.
 use super::*;
-use edge_io::Text;
+use edge_io::{OutOfMemory, Text};
 use std::alloc::Global;
 use std::test::Fail;
 
@@ -55,6 +55,31 @@ fn a_name_has_at_most_255_bytes(rt: HostRuntime) -> Result<(), Fail> {
     Ok(())
 }
 
+fn escaped_name(alloc: Global, count: u64) -> Result<Text, OutOfMemory> {
+    let mut text = Text::from_bytes(alloc, b"\\")?;
+    for _ in 0..count {
+        text.push(b'+')?;
+    }
+    text.push(b' ')?;
+    Ok(text)
+}
+
+#[test]
+fn an_escaped_name_has_at_most_255_bytes(rt: HostRuntime) -> Result<(), Fail> {
+    for (count, place) in [(255, None), (256, Some(256))] {
+        let text = escaped_name(rt.alloc(), count)?;
+        assert_eq!(rt; fault_place(rt.alloc(), text.as_bytes()), place);
+    }
+    Ok(())
+}
+
+#[test]
+fn a_number_may_have_nine_digits(rt: HostRuntime) -> Result<(), Fail> {
+    let words = cut(rt.alloc(), &[b"999999999".as_slice()])?;
+    assert_eq!(rt; words.number_at(0), Some(999_999_999));
+    Ok(())
+}
+
 #[test]
 fn an_escaped_name_that_is_cut_is_one_name(rt: HostRuntime) -> Result<(), Fail> {
     let words = cut(rt.alloc(), &[b"\\a+b".as_slice(), b" ".as_slice()])?;
@@ -64,6 +89,24 @@ fn an_escaped_name_that_is_cut_is_one_name(rt: HostRuntime) -> Result<(), Fail> 
     let word = words.get(rt.alloc(), 0)?.ok_or("no word")?;
     assert_eq!(rt; word.at, 0);
     assert_eq!(rt; word.len, 5);
+    Ok(())
+}
+
+#[test]
+fn a_text_that_is_cut_in_a_name_has_the_same_words(rt: HostRuntime) -> Result<(), Fail> {
+    let text = b"module m(input \\a+b , output y); buf(y,\\a+b ); endmodule".as_slice();
+    let whole = cut(rt.alloc(), &[text])?;
+    let parts = cut(rt.alloc(), &[&text[..19], &text[19..]])?;
+    assert_eq!(rt; whole.len(), 18);
+    assert_eq!(rt; parts.len(), 18);
+    assert_eq!(rt; parts.end(), 56);
+    assert!(rt; parts.name_at(4).unwrap_or(b"".as_slice()) == b"a+b".as_slice());
+    for number in 0..18 {
+        assert_eq!(rt; parts.place_of(number), whole.place_of(number));
+        assert_eq!(rt; parts.reserved_at(number), whole.reserved_at(number));
+        assert_eq!(rt; parts.symbol_at(number), whole.symbol_at(number));
+        assert_eq!(rt; parts.name_at(number), whole.name_at(number));
+    }
     Ok(())
 }
 

@@ -38,6 +38,7 @@ fn ports(alloc: Global) -> Result<Row<DevPort>, OutOfMemory> {
     ports.push(vector(alloc, b"r", 2, 3)?)?;
     ports.push(scalar(alloc, b"TCK", PortMode::Input, b"3")?)?;
     ports.push(scalar(alloc, b"TDO", PortMode::Output, b"4")?)?;
+    ports.push(vector(alloc, b"s", 3, 3)?)?;
     ports.push(scalar(alloc, b"GND", PortMode::Linkage, b"A1")?)?;
     Ok(ports)
 }
@@ -127,8 +128,8 @@ fn prints_the_sections(rt: HostRuntime) -> Result<(), Fail> {
     let text = print_device(rt.alloc(), &device)?;
     let parts = [
         "entity e is\n  generic (PHYSICAL_PIN_MAP : string := \"P\");\n  port (\n    q : inout bit_vector(1 downto 0);\n",
-        "    r : inout bit_vector(2 to 3);\n    TCK : in bit;\n    TDO : out bit;\n    GND : linkage bit\n  );\n  use STD_1149_1_2001.all;\n",
-        "  constant P : PIN_MAP_STRING :=\n    \"q:(7,8),\" &\n    \"r:(7,8),\" &\n    \"TCK:3,\" &\n    \"TDO:4,\" &\n    \"GND:A1\";\n",
+        "    r : inout bit_vector(2 to 3);\n    TCK : in bit;\n    TDO : out bit;\n    s : inout bit_vector(3 to 3);\n    GND : linkage bit\n  );\n  use STD_1149_1_2001.all;\n",
+        "  constant P : PIN_MAP_STRING :=\n    \"q:(7,8),\" &\n    \"r:(7,8),\" &\n    \"TCK:3,\" &\n    \"TDO:4,\" &\n    \"s:(7,8),\" &\n    \"GND:A1\";\n",
         "  attribute TAP_SCAN_OUT of TDO : signal is true;\n",
         "  attribute TAP_SCAN_CLOCK of TCK : signal is (10.0e6, BOTH);\n  attribute INSTRUCTION_LENGTH of e : entity is 3;\n",
         "    \"HIGHZ (011),\" &\n    \"BYPASS (111),\" &\n    \"PRELOAD (001),\" &\n    \"EXTEST (000),\" &\n    \"IDCODE (100)\";\n",

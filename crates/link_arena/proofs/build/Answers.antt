@@ -10,24 +10,24 @@ use Rattle.link_arena.proofs.build.Goals as goal
 
 pub netlist_with_room-requires-clause-nets : goal.netlist_with_room-requires-clause-nets
 netlist_with_room-requires-clause-nets c =
-    let few = few_nets c.args.module.now c.requires.clear in
-    let count = ap length c.requires.nets ∙ length-nets_in (declared_nets c.args.module.now) in omega (arith, few, count)
+    let few = few_nets c.args.tree.now c.requires.clear in
+    let count = ap length c.requires.nets ∙ length-nets_in (declared_nets c.args.tree.now) in omega (arith, few, count)
 
 pub add_nets-requires-clause-names : goal.add_nets-requires-clause-names
-add_nets-requires-clause-names c = nets_in_table c.in_ok-names.names c.args.nets.now c.args.module.now c.in_ok-names.ensures c.requires.nets
+add_nets-requires-clause-names c = nets_in_table c.in_ok-names.names c.args.nets.now c.args.tree.now c.in_ok-names.ensures c.requires.nets
 
 pub add_ports-requires-clause-nets : goal.add_ports-requires-clause-nets
 add_ports-requires-clause-nets c =
     let added = AreAll-length (IsNet c.in_ok-names.names) c.add_nets.new.netlist.lists.nets c.args.nets.now c.add_nets.ensures.nets in
-    let count = ap length c.requires.nets ∙ length-nets_in (declared_nets c.args.module.now) in
-    let few = port-bits-few c.args.module.now in
-    let same = bits-of c.as_slice.result.now c.args.module.now.ports c.as_slice.ensures in omega (arith, added, count, few, same)
+    let count = ap length c.requires.nets ∙ length-nets_in (declared_nets c.args.tree.now) in
+    let few = port-bits-few c.args.tree.now in
+    let same = bits-of c.as_slice.result.now c.args.tree.now.ports c.as_slice.ensures in omega (arith, added, count, few, same)
 
 pub add_ports-requires-clause-names : goal.add_ports-requires-clause-names
-add_ports-requires-clause-names c = ports_in_table c.in_ok-names.names c.as_slice.result.now c.args.module.now c.in_ok-names.ensures c.as_slice.ensures
+add_ports-requires-clause-names c = ports_in_table c.in_ok-names.names c.as_slice.result.now c.args.tree.now c.in_ok-names.ensures c.as_slice.ensures
 
 pub add_cells-requires-clause-names : goal.add_cells-requires-clause-names
-add_cells-requires-clause-names c = cells_in_table c.in_ok-names.names c.args.cells.now c.args.module.now c.in_ok-names.ensures c.requires.cells
+add_cells-requires-clause-names c = cells_in_table c.in_ok-names.names c.args.cells.now c.args.tree.now c.in_ok-names.ensures c.requires.cells
 
 pub add_cells-requires-clause-fits : goal.add_cells-requires-clause-fits
 add_cells-requires-clause-fits c =
@@ -38,5 +38,5 @@ add_cells-requires-clause-fits c =
 pub add_cells-requires-clause-apart : goal.add_cells-requires-clause-apart
 add_cells-requires-clause-apart c =
     let P : List Port → Type 0 = λ ps. AreAll (IsPort c.in_ok-names.names) c.add_ports.new.netlist.lists.ports (ports_from 0 ps) in
-    drive_apart c.in_ok-names.names c.add_ports.new.netlist.lists c.args.module.now c.args.nets.now c.args.cells.now c.requires.nets c.requires.fits c.requires.driven
+    drive_apart c.in_ok-names.names c.add_ports.new.netlist.lists c.args.tree.now c.args.nets.now c.args.cells.now c.requires.nets c.requires.fits c.requires.driven
     (subst P c.as_slice.ensures c.in_ok-add_ports.ensures.ports)

@@ -1,13 +1,13 @@
 use Rattle.std.proofs.Common.{◌∙◌, ap, refl}
 use Rattle.edge_io.specs.Shelf.{told_if}
-use Rattle.insert_cli.specs.declared.reading.TheConstants.{LIMIT}
+use Rattle.insert_cli.specs.Commands.{text_limit}
 use Rattle.insert_cli.proofs.Told.{rose_earlier, accepted_told, written_told, cut_told}
 use Rattle.insert_cli.proofs.convert.convert.Goals as goal
 
 pub returns-in_default-clause-fault : goal.returns-in_default-clause-fault
 returns-in_default-clause-fault g c = (
   refl,
-  accepted_told c.args.conversion LIMIT (g.S.Shelf.held c.args.shelf.now c.args.input.now) c.in_ok-text.text c.in_ok-printed.printed c.in_ok-text.ensures.ok c.in_ok-text.ensures.within c.in_ok-printed.ensures.found,
+  accepted_told c.args.conversion text_limit (g.S.Shelf.held c.args.shelf.now c.args.input.now) c.in_ok-text.text c.in_ok-printed.printed c.in_ok-text.ensures.ok c.in_ok-text.ensures.within c.in_ok-printed.ensures.found,
   rose_earlier (g.S.Shelf.faults c.args.shelf.now) (g.S.Shelf.faults c.read_text.new.shelf) (g.S.Shelf.faults c.write_whole.new.shelf) c.in_ok-text.ensures.later c.in_default.ensures.cause,
 )
 
@@ -19,5 +19,5 @@ returns-in_default-clause-cut_short g c = λ _.
 
 pub returns-clause-done : goal.returns-clause-done
 returns-clause-done g c =
-    written_told c.args.conversion LIMIT g.S.Shelf.tells (g.S.Shelf.held c.args.shelf.now c.args.input.now) (g.S.Shelf.written c.write_whole.new.shelf c.args.output.now) c.in_ok-text.text
+    written_told c.args.conversion text_limit g.S.Shelf.tells (g.S.Shelf.held c.args.shelf.now c.args.input.now) (g.S.Shelf.written c.write_whole.new.shelf c.args.output.now) c.in_ok-text.text
     c.in_ok-printed.printed c.in_ok-text.ensures.ok c.in_ok-text.ensures.within c.in_ok-printed.ensures.found (c.in-Ok.ensures.ok.there ∙ ap (told_if g.S.Shelf.tells) c.as_bytes.ensures)

@@ -8,7 +8,7 @@ use Rattle.netlist_link.proofs.assemble.assemble.Goals as goal
 
 pub invariant_of-result : goal.invariant_of-result
 invariant_of-result c =
-    let N = c.args.netlist.lists in
+    let N = c.args.built.netlist.lists in
     let m = c.args.tree.now in
     let nets = c.args.nets.now in
     let cells = c.args.cells.now in
@@ -27,10 +27,10 @@ invariant_of-result c =
       clock_flags = subst Clock c.as_slice-2.ensures c.in_ok-clock.ensures;
       flops_are = c.count_flops-flops.ensures;
     }) in
-    let all = kept c.args.names N m order control clock c.in_ok-control.control c.in_ok-clock.clock c.count_flops-flops.result c.requires.built.named c.is_well_named.ensures
+    let all = kept c.args.built.names N m order control clock c.in_ok-control.control c.in_ok-clock.clock c.count_flops-flops.result c.requires.built.named c.is_well_named.ensures
     (c.controls_are_links.ensures m c.requires.derived) found in
     let ids : map cell_id order ≡ c.in_ok-order.order = sym (c.in_ok-order.ensures ∙ ap (map cell_id) c.numbers.ensures) in
-    let Linked : List CellId → Type 0 = IsLinked N c.args.names in
+    let Linked : List CellId → Type 0 = IsLinked N c.args.built.names in
     record {
       linked = subst Linked ids all.linked;
       title = subst IsTreeName (sym c.in_ok-title.ensures) (rw c.as_bytes.ensures c.requires.these.tree.name);

@@ -3,7 +3,7 @@ use Rattle.netlist_rounds.proofs.RunSoFar.{run_begins, run_grows, run_ends}
 use Rattle.netlist_rounds.proofs.moments.run.Goals as goal
 
 pub loop-number-init : goal.loop-number-init
-loop-number-init c = run_begins c.args.netlist.now c.args.pins.items c.args.given.now c.args.events.now _ _ _ c.new-moments.ensures.items c.in_ok-push.ensures.items c.in_ok-start.ensures
+loop-number-init c = run_begins c.args.netlist.now c.args.pins.items c.args.given.now c.args.events.now _ _ _ c.new-moments.ensures.items c.in_ok-push.ensures.items c.in_ok-start.ensures.pins c.in_ok-start.ensures.start
 
 pub loop-number-preserved : goal.loop-number-preserved
 loop-number-preserved c =

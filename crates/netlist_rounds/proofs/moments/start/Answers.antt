@@ -2,8 +2,8 @@ use Rattle.std.proofs.Common.{refl}
 use Rattle.netlist_rounds.proofs.Stepped.{is_start, settled_of, next_of}
 use Rattle.netlist_rounds.proofs.moments.start.Goals as goal
 
-pub returns : goal.returns
-returns c =
+pub returns-clause-start : goal.returns-clause-start
+returns-clause-start c =
     is_start c.args.netlist.now c.args.pins.items c.args.given.now c.in_ok-first.first.items c.in_ok-state.state.items c.in_ok-values.values.items
     (settled_of c.args.netlist.now c.args.pins.items c.args.given.now _ _ c.in_ok-first.first.items c.as_slice.ensures.value refl c.in_ok-first.ensures.settled)
     (next_of c.args.netlist.now c.in_ok-first.first.items c.in_ok-first.first.items c.args.given.now _ _ _ _ c.in_ok-state.state.items

@@ -40,6 +40,10 @@ pub returns-then-are_same-clause-count : goal.returns-then-are_same-clause-count
 returns-then-are_same-clause-count c =
     at_rest-length c.args.netlist.now (pin_at c.args.pins.now) (value_at c.args.state.now) _ (at_rest c.args.netlist.now (pin_at c.args.pins.now) (value_at c.args.state.now) _ _ _ _ _ c.as_slice.ensures.value c.in_ok-next.ensures c.as_slice-in-loop-values.ensures.value c.as_slice-in-loop-values-2.ensures.value c.if-are_same.ensures)
 
+pub returns-then-are_same-clause-rest : goal.returns-then-are_same-clause-rest
+returns-then-are_same-clause-rest c =
+    at_rest c.args.netlist.now (pin_at c.args.pins.now) (value_at c.args.state.now) _ _ _ _ _ c.as_slice.ensures.value c.in_ok-next.ensures c.as_slice-in-loop-values.ensures.value c.as_slice-in-loop-values-2.ensures.value c.if-are_same.ensures
+
 pub returns-then-are_same-clause-settled : goal.returns-then-are_same-clause-settled
 returns-then-are_same-clause-settled c =
     at_rest-settled c.args.netlist.now (pin_at c.args.pins.now) (value_at c.args.state.now) _ (at_rest c.args.netlist.now (pin_at c.args.pins.now) (value_at c.args.state.now) _ _ _ _ _ c.as_slice.ensures.value c.in_ok-next.ensures c.as_slice-in-loop-values.ensures.value c.as_slice-in-loop-values-2.ensures.value c.if-are_same.ensures)

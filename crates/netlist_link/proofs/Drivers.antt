@@ -1,9 +1,10 @@
 -- Where each net has the drivers that it may have, no fault of drivers stands.
-use Rattle.std.proofs.Common.{◌≡◌, ◌⊎◌, inl, inr, ℕ, suc, ◌+◌, ◌≤◌, List, [], ◌∷◌, refl, sym, ◌∙◌, ap, subst, arith, Option, Some, None, Bool, true, false, ◌&&◌, not, cond, ◌==◌}
+use Rattle.std.proofs.Common.{◌≡◌, ◌⊎◌, inl, inr, ℕ, zero, suc, ◌+◌, ◌≤◌, List, [], ◌∷◌, refl, sym, ◌∙◌, ap, subst, arith, Option, Some, None, Bool, true, false, ◌&&◌, ◌||◌, not, cond, ◌==◌}
 use Rattle.std.specs.Prelude.{nat_le, if◌then◌else◌, slice_get}
 use Rattle.std.specs.List.{enumerate_from, count_by, list_any}
 use Rattle.std.specs.Option.{is_none}
 use Rattle.std.proofs.lemmas.List.Sums.{sum_by-cons}
+use Rattle.std.proofs.lemmas.Option.{same_Some}
 use Rattle.std.proofs.lemmas.Bool.Decides.{nat_tests}
 use Rattle.cell_library.specs.Gates.{is_three_state}
 use Rattle.netlist_model.specs.declared.NetId.{NetId}
@@ -17,7 +18,6 @@ use Rattle.link_model.specs.Nets.{NamedNet}
 use Rattle.link_model.specs.Cells.{NamedCell}
 use Rattle.link_model.specs.Faults.{drives, reads, feeds_from, is_driven, is_driven_by_bufif, is_read, is_input, is_output, is_inout, needs_driver, two_drivers, input_driven, not_driven, tristate_inside, tristate_read, inout_not_tristate, first_net, driver_fault}
 use Rattle.link_drivers.specs.Drivers.{dir_at, DrivesNet, ReadsNet, HasDriver, HasItsDrivers}
-use Rattle.netlist_unlink.proofs.Nets.{some_passes}
 
 none_enumerated : (test : ℕ × NamedNet → Option LinkFault) (first : ℕ) (nets : List NamedNet) → ((k : ℕ) (net : NamedNet) → slice_get nets k ≡ Some net → test (first + k, net) ≡ None)
     → first_in test (enumerate_from first nets) ≡ None
@@ -29,6 +29,15 @@ none_enumerated test first (net ∷ nets) each =
     ap (λ (o : Option LinkFault). or_else o (first_in test (enumerate_from (first + 1) nets))) here ∙ rest
 
 -- tests and what they mean
+
+some_passes : {X : Type 0} (p : X → Bool) (xs : List X) (k : ℕ) (x : X) → slice_get xs k ≡ Some x → p x ≡ true → list_any p xs ≡ true
+some_passes p [] k x at passes = absurd (cc)
+some_passes p (y ∷ ys) zero x at passes = let same : y ≡ x = same_Some y x at in ap (λ (b : Bool). b || list_any p ys) (ap p same ∙ passes)
+some_passes p (y ∷ ys) (suc k) x at passes = ap (λ (b : Bool). p y || b) (some_passes p ys k x at passes) ∙ or_true (p y)
+  where
+    or_true : (b : Bool) → (b || true) ≡ true
+    or_true true = refl
+    or_true false = refl
 
 -- an element that passes
 record IsPassed {X : Type 0} (p : X → Bool) (xs : List X) : Type 0 where

@@ -1,0 +1,83 @@
+"""What the benchmarks share: netlists, and runs that are timed."""
+import os, subprocess, sys, time
+
+TOP = os.path.dirname(os.path.dirname(os.path.abspath(__file__)))
+PROGRAM = os.path.join(TOP, "crates/lavkhind/out/lavkhind")
+RUNS = 5
+
+
+def drawing_from(number):
+    """Numbers drawn by a linear congruence that starts at the number."""
+    state = number
+
+    def draw(below):
+        nonlocal state
+        state = (state * 6364136223846793005 + 1442695040888963407) % 2**64
+        return (state >> 33) % below
+
+    return draw
+
+
+def random_netlist(number):
+    """Gates, flip-flops and buffers over vectors, drawn from the number: 10 * number + 148 cells."""
+    draw = drawing_from(number)
+    gates = 100 + 10 * number
+    pool = [f"d[{i}]" for i in range(16)] + [f"f[{i}]" for i in range(32)]
+    yield from ("module demo (", "  input clk,", "  input rn,", "  input [15:0] d,", "  output [15:0] q", ");")
+    yield from ("  wire [31:0] f;", f"  wire [{gates - 1}:0] g;")
+    kinds = ["and", "or", "nand", "nor", "xor", "xnor"]
+    for k in range(gates):
+        kind = kinds[draw(6)]
+        first = pool[draw(len(pool))]
+        second = pool[draw(len(pool))]
+        yield f"  {kind} (g[{k}], {first}, {second});"
+        pool.append(f"g[{k}]")
+    for i in range(32):
+        yield f"  DFFR f_{i} (.D({pool[draw(len(pool))]}), .CK(clk), .RN(rn), .Q(f[{i}]));"
+    for j in range(16):
+        yield f"  buf (q[{j}], {pool[draw(len(pool))]});"
+    yield "endmodule"
+
+
+def buffers(count):
+    """A chain of named buffers over scalar wires."""
+    yield "module chain (input a, output y);"
+    for i in range(count - 1):
+        yield f"  wire n{i};"
+    last = "a"
+    for i in range(count - 1):
+        yield f"  buf b{i} (n{i}, {last});"
+        last = f"n{i}"
+    yield f"  buf last (y, {last});"
+    yield "endmodule"
+
+
+def make(path, lines):
+    """Writes the text in a process of its own, so that the one that measures stays small."""
+    child = os.fork()
+    if child == 0:
+        with open(path, "w") as file:
+            for line in lines:
+                file.write(line + "\n")
+        os._exit(0)
+    os.waitpid(child, 0)
+
+
+def run(words):
+    """The best time of the runs, in seconds, and the peak memory of a run, in bytes."""
+    best, peak = None, 0
+    for _ in range(RUNS):
+        start = time.perf_counter()
+        process = subprocess.Popen(words, stdout=subprocess.DEVNULL, env={**os.environ, "LC_ALL": "C"})
+        _, status, usage = os.wait4(process.pid, 0)
+        spent = time.perf_counter() - start
+        if status != 0:
+            sys.exit(f"{' '.join(words)} ended with status {os.waitstatus_to_exitcode(status)}")
+        best = spent if best is None else min(best, spent)
+        peak = max(peak, usage.ru_maxrss * 1024)
+    return best, peak
+
+
+def build():
+    """Proves and builds the program, where it isn't yet, by a run of its own."""
+    subprocess.run([os.path.join(TOP, "lavkhind")], stdout=subprocess.DEVNULL)
