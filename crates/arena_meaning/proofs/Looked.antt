@@ -4,9 +4,8 @@ use Rattle.std.specs.Option.{option_map, option_and_then, unwrap_or}
 use Rattle.std.specs.List.{slice_get}
 use Rattle.std.proofs.lemmas.List.{take_more}
 use Rattle.std.proofs.lemmas.Option.{slice_get_within, get_or_from_slice_get}
-use Rattle.netlist_model.specs.declared.NetId.{NetId}
 use Rattle.netlist_model.specs.declared.Feed.{Feed}
-use Rattle.netlist_model.specs.Lists.{PortView, CellView, NetlistView, cell_at}
+use Rattle.netlist_model.specs.Lists.{CellView, NetlistView, cell_at}
 
 -- the front of a list, and the next element
 pub taken_more : {X : Type 0} (xs : List X) (i : ℕ) (x : X) (front new : List X) → slice_get xs i ≡ Some x → front ≡ take i xs → new ≡ front ++ x ∷ [] → new ≡ take (i + 1) xs
@@ -22,10 +21,6 @@ parts f o = unwrap_or (option_map f o) []
 pub parts_at : {V X : Type 0} (f : V → List X) (o : Option V) (i : ℕ) → slice_get (parts f o) i ≡ option_and_then (λ (v : V). slice_get (f v) i) o
 parts_at f None i = refl
 parts_at f (Some v) i = refl
-
--- the nets of a port
-abbrev pub bits_at : NetlistView → ℕ → List NetId
-bits_at N p = parts (λ (port : PortView). port.nets) (slice_get N.ports p)
 
 -- the operands of a cell
 abbrev pub feeds_at : NetlistView → ℕ → List Feed

@@ -160,3 +160,27 @@ fn a_removed_cell_leaves_its_place(rt: HostRuntime) -> Result<(), Fail> {
     assert_eq!(rt; plain.nets().len(), 8);
     Ok(())
 }
+
+// A chain of so many buffers behind a port.
+fn chain(alloc: Global, count: u32) -> Option<Netlist> {
+    let mut netlist = Netlist::new(alloc);
+    let mut last = port(&mut netlist, 0, Dir::Input)?;
+    for number in 0..count {
+        let next = wire(&mut netlist, number)?;
+        let _buffer = gate(&mut netlist, Kind::Buf, last, next)?;
+        last = next;
+    }
+    Some(netlist)
+}
+
+#[test]
+fn a_chain_of_5000_buffers_has_all_its_cells(rt: HostRuntime) -> Result<(), Fail> {
+    let alloc = rt.alloc();
+    let Some(netlist) = chain(alloc, 5_000) else {
+        assert!(rt; false);
+        return Ok(());
+    };
+    let plain = plain_netlist(alloc, &netlist)?;
+    assert_eq!(rt; plain.cells().len(), 5_000);
+    Ok(())
+}

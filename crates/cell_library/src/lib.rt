@@ -11,8 +11,10 @@ ghost use Rattle.cell_library.specs.Laws.{GatesKeepOrder, ThreeStateGatesKeepOrd
 ghost use Rattle.signal_values.specs.Values.{sig_and, sig_or, sig_xor};
 
 mod codes;
+mod flops;
 
 pub use codes::{Bits, BoundaryKind, Function, Instr, Opcode};
+pub use flops::flop_next;
 use signal_values::{PinSig, Sig, and, drive, mux, not, or, xor};
 
 /// What a cell computes. A `Bufif0` or `Bufif1` drives its net only while it is enabled.

@@ -1,14 +1,12 @@
 // The table of the nets of input and inout bits.
-ghost use Rattle.std.specs.Prelude.{◌≡◌, ◌+◌, ◌<◌, true, length, IfOk, IfSome};
-ghost use Rattle.netlist_model.specs.Formed.{width_of};
+ghost use Rattle.std.specs.Prelude.{◌≡◌, ◌+◌, ◌<◌, true, length, IfOk};
 ghost use Rattle.netlist_model.specs.Settled.{follows_pin};
-ghost use Rattle.netlist_link.specs.WellNamed.{IsShortRange};
 ghost use Rattle.event_scripts.specs.Pins.{side_at};
 ghost use Rattle.event_scripts.specs.Starts.{AreMarked, IsPortBefore};
 
 use edge_io::OutOfMemory;
 use netlist_link::Linked;
-use netlist_model::{Dir, PinBit, PortId, Range};
+use netlist_model::{Dir, PinBit, PortId, width_of};
 use std::alloc::Global;
 
 /// Of each net, whether it is that of an input or inout bit.
@@ -47,18 +45,11 @@ fn mark_bits(flags: &mut [bool], linked: &Linked, port: PortId)
     netlist.is_laid_out();
     let width = width_of(netlist.port_range(port));
     for bit in 0..width {
-        let net = netlist.pin_net(PinBit { port, bit });
+        let pin = PinBit {
+            port,
+            bit: bit as u32,
+        };
+        let net = netlist.pin_net(pin);
         flags[net.0 as usize] = true;
-    }
-}
-
-// How many bits a range has; a scalar has one.
-fn width_of(range: Option<Range>) -> u32
-    requires { IfSome range IsShortRange }
-    ensures { result ≡ width_of range }
-{
-    match range {
-        Some(range) => range.left.abs_diff(range.right) + 1,
-        None => 1,
     }
 }

@@ -8,6 +8,7 @@ use crate::room::push_reserved;
 use crate::{Netlist, Port};
 use edge_io::OutOfMemory;
 use netlist_model::{Dir, Name, NetId, PinBit, PortId, Range};
+use std::alloc::Global;
 
 impl Netlist {
     /// Adds a scalar port, which takes one spare port bit.
@@ -117,6 +118,19 @@ impl Netlist {
     {
         let found = &self.ports[port.0 as usize];
         found.range
+    }
+
+    /// The nets of a port from the left.
+    pub fn port_nets(&self, alloc: Global, port: PortId) -> Result<Vec<NetId>, OutOfMemory>
+        requires { port.0 < length self.now.lists.ports }
+        ensures { IfOk result (λ nets. option_map (λ (found : PortView). found.nets) (slice_get self.now.lists.ports port.0)
+            ≡ Some nets.items) }
+    {
+        let found = &self.ports[port.0 as usize];
+        let mut nets = Vec::new(alloc);
+        nets.push(found.first)?;
+        nets.extend_from_slice(found.rest.as_slice())?;
+        Ok(nets)
     }
 
     /// The net of a port bit, counted from the left.

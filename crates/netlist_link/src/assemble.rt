@@ -12,7 +12,7 @@ use edge_io::{OutOfMemory, Text};
 use link_arena::Built;
 use link_drivers::nets_have_their_drivers;
 use link_model::{ItemCell, NetBit};
-use link_order::{CellOrder, ControlNets, controls_are_links};
+use link_order::{ControlNets, controls_are_links};
 use name_table::NameTable;
 use netlist_arena::Netlist;
 use std::alloc::Global;
@@ -24,13 +24,13 @@ pub fn assemble(
     tree: &Module,
     nets: &[NetBit],
     cells: &[ItemCell],
-    order: &CellOrder,
+    numbers: &[u32],
     controls: &ControlNets,
     built: Built,
 ) -> Result<Linked, OutOfMemory>
     requires these { AreNetsAndCells tree.now nets.now cells.now }
     requires drivers { driver_fault nets.now cells.now ≡ None }
-    requires ordered { AreInOrder cells.now order.now.order }
+    requires ordered { AreInOrder cells.now numbers.now }
     requires derived { HasNoDerived tree.now }
     requires lengths { (length controls.now.control ≡ length nets.now) × (length controls.now.clock ≡ length nets.now) }
     requires control { (net : ℕ) → Marked controls.now.control net ↔ IsControlNet cells.now net }
@@ -45,7 +45,7 @@ pub fn assemble(
     let control = input_flags(alloc, nets, controls.control.as_slice())?;
     let clock = input_flags(alloc, nets, controls.clock.as_slice())?;
     let ports = ports_by_name(alloc, &netlist, &names)?;
-    let order = cell_ids(alloc, order.numbers())?;
+    let order = cell_ids(alloc, numbers)?;
     let title = Text::from_bytes(alloc, tree.name.as_bytes())?;
     let flops = count_flops(cells);
     Ok(Linked {

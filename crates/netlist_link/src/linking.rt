@@ -61,7 +61,7 @@ fn link_driven(
 {
     nets_have_their_drivers();
     match order_cells(alloc, nets, cells) {
-        Ok(order) => link_ordered(alloc, tree, nets, cells, &order),
+        Ok(order) => link_ordered(alloc, tree, nets, cells, order),
         Err(fault) => Err(fault),
     }
 }
@@ -72,17 +72,17 @@ fn link_ordered(
     tree: &Module,
     nets: &[NetBit],
     cells: &[ItemCell],
-    order: &CellOrder,
+    order: CellOrder,
 ) -> Result<Linked, LinkFault>
     requires these { AreNetsAndCells tree.now nets.now cells.now }
     requires drivers { driver_fault nets.now cells.now ≡ None }
-    requires ordered { AreInOrder cells.now order.now.order }
-    requires of_these { AreOrdered (length nets.now) cells.now order.now }
+    requires ordered { AreInOrder cells.now order.order }
+    requires of_these { AreOrdered (length nets.now) cells.now order }
     ensures ok { IfOk result (IsLinkOf tree.now) }
     ensures fault { IfErr result (IsLinkFault tree.now) }
 {
     nets_have_their_drivers();
-    match find_derived(alloc, tree, nets, cells, order) {
+    match find_derived(alloc, tree, nets, cells, &order) {
         Ok(Some(fault)) => Err(fault),
         Ok(None) => match link_sound(alloc, tree, nets, cells, order) {
             Ok(linked) => Ok(linked),
@@ -92,22 +92,31 @@ fn link_ordered(
     }
 }
 
-// Builds the netlist where no fault stands.
+// Builds the netlist where no fault stands. What cells read is given back before that, since both are large.
 fn link_sound(
     alloc: Global,
     tree: &Module,
     nets: &[NetBit],
     cells: &[ItemCell],
-    order: &CellOrder,
+    order: CellOrder,
 ) -> Result<Linked, OutOfMemory>
     requires these { AreNetsAndCells tree.now nets.now cells.now }
     requires drivers { driver_fault nets.now cells.now ≡ None }
-    requires ordered { AreInOrder cells.now order.now.order }
-    requires of_these { AreOrdered (length nets.now) cells.now order.now }
+    requires ordered { AreInOrder cells.now order.order }
+    requires of_these { AreOrdered (length nets.now) cells.now order }
     requires derived { HasNoDerived tree.now }
     ensures { IfOk result (IsLinkOf tree.now) }
 {
-    let controls = control_nets(alloc, nets, cells, order)?;
+    let controls = control_nets(alloc, nets, cells, &order)?;
+    let numbers = order.into_numbers();
     let built = build(alloc, tree, nets, cells)?;
-    assemble(alloc, tree, nets, cells, order, &controls, built)
+    assemble(
+        alloc,
+        tree,
+        nets,
+        cells,
+        numbers.as_slice(),
+        &controls,
+        built,
+    )
 }

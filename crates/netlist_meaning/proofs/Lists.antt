@@ -1,12 +1,8 @@
 -- Lists that are made from the front, and what is left of a list.
-use Rattle.std.proofs.Common.{◌≡◌, ℕ, zero, suc, ◌+◌, ◌≤◌, ap, length, List, [], ◌∷◌, ◌++◌, take, drop, refl, arith, Option, Some, None}
-use Rattle.std.specs.Option.{option_and_then}
+use Rattle.std.proofs.Common.{◌≡◌, ℕ, zero, suc, ◌+◌, ◌≤◌, ap, length, List, [], ◌∷◌, ◌++◌, take, drop, refl, arith, Some}
 use Rattle.std.specs.List.{slice_get}
 use Rattle.std.proofs.lemmas.List.{take_more}
 use Rattle.std.proofs.lemmas.Option.{slice_get_within, get_or_from_slice_get}
-use Rattle.netlist_model.specs.declared.NetId.{NetId}
-use Rattle.netlist_model.specs.Lists.{PortView}
-use Rattle.netlist_meaning.specs.Tables.{nets_of}
 
 -- the front of a list, and the next element
 pub taken_more : {X : Type 0} (xs : List X) (i : ℕ) (x : X) (front new : List X) → slice_get xs i ≡ Some x → front ≡ take i xs → new ≡ front ++ x ∷ [] → new ≡ take (i + 1) xs
@@ -20,11 +16,6 @@ pub left_at : {X : Type 0} (xs : List X) (i : ℕ) (x : X) → slice_get xs i �
 left_at [] i x at = absurd (cc)
 left_at (y ∷ xs) zero x at = let same : y ≡ x = grind arith in rw same refl
 left_at (y ∷ xs) (suc i) x at = left_at xs i x at
-
--- the net of a bit of a port
-pub net_at : (found : Option PortView) (bit : ℕ) → slice_get (nets_of found) bit ≡ option_and_then (λ (port : PortView). slice_get port.nets bit) found
-net_at None bit = refl
-net_at (Some port) bit = refl
 
 -- the front of two lists that has the length of the first is the first
 pub front_of : {X : Type 0} (xs ys : List X) (n : ℕ) → n ≡ length xs → take n (xs ++ ys) ≡ xs

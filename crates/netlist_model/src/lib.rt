@@ -3,8 +3,9 @@
 // IEEE 1364: module instances and ports, gate level modelling, nets; zero delay and the flip-flops are own.
 #![tactic(auto)]
 
-ghost use Rattle.std.specs.Prelude.{◌≡◌, false};
+ghost use Rattle.std.specs.Prelude.{◌≡◌, ◌≤◌, ◌^◌, false};
 ghost use Rattle.netlist_model.specs.declared.Feed.TheVariants.{Const};
+ghost use Rattle.netlist_model.specs.Formed.{width_of};
 
 /// A net, by its number.
 #[derive(Clone, Copy, Debug, PartialEq, Eq)]
@@ -54,6 +55,18 @@ pub enum Dir {
 pub struct Range {
     pub left: u32,
     pub right: u32,
+}
+
+/// How many bits a port or a wire of this range has: a scalar has one.
+pub fn width_of(range: Option<Range>) -> u64
+    ensures value { result ≡ width_of range }
+    ensures bound { result ≤ 2 ^ 32 }
+{
+    match range {
+        None => 1,
+        Some(range) if range.left < range.right => u64::from(range.right - range.left) + 1,
+        Some(range) => u64::from(range.left - range.right) + 1,
+    }
 }
 
 /// A bit of a port, counted from the left.

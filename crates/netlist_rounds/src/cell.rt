@@ -7,8 +7,7 @@ ghost use Rattle.netlist_model.specs.Settled.{feed_value, feed_values, cell_valu
 ghost use Rattle.netlist_rounds.specs.Values.{value_at};
 ghost use Rattle.netlist_rounds.specs.Next.{kind_next};
 
-use crate::flops::flop_next;
-use cell_library::{Kind, eval, eval_pin, operand_count};
+use cell_library::{Kind, eval, eval_pin, flop_next, operand_count};
 use netlist_model::{Feed, Name, NetId};
 use signal_values::{PinSig, Sig, pin_of, see};
 use std::alloc::{AllocError, Global};

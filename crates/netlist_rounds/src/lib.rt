@@ -7,7 +7,6 @@ ghost use Rattle.netlist_rounds.specs.Inverter.{inverter};
 ghost use Rattle.netlist_rounds.specs.Start.{IsSound};
 
 mod cell;
-mod flops;
 mod lists;
 mod moments;
 mod rounds;

@@ -172,6 +172,27 @@ fn nets_settle_for_what_is_in_the_flip_flop(rt: HostRuntime) {
     }
 }
 
+// The values of two nets, the second the last, of a netlist of 262,145 nets.
+fn values_of_many_nets(alloc: Global) -> Option<[Sig; 2]> {
+    let linked = linked_of(
+        alloc,
+        b"module m(input a, output y); wire [262142:0] w; buf(y,1'b1); buf(w[0],1'b0); endmodule",
+    )?;
+    let pins = Pins::new(alloc, &linked).ok()?;
+    let state = State::new(alloc, &linked).ok()?;
+    let mut nets = Nets::new(alloc, &linked).ok()?;
+    settle(&linked, &pins, &state, &mut nets);
+    Some([nets.value(NetId(1)), nets.value(NetId(262_144))])
+}
+
+#[test]
+fn many_nets_have_their_values(rt: HostRuntime) {
+    assert_eq!(rt;
+        values_of_many_nets(rt.alloc()),
+        Some([Sig::One, Sig::Zero])
+    );
+}
+
 // Whether the event of this value on the first bit of a port of the toggle flip-flop is legal.
 fn is_legal(alloc: Global, port: u32, value: PinSig) -> Option<bool> {
     let linked = linked_of(alloc, TOGGLE)?;

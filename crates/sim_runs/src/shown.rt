@@ -1,12 +1,11 @@
 // The bits whose readings are told.
 
-ghost use Rattle.std.specs.Prelude.{◌≡◌, ◌≤◌, ◌<◌, ◌^◌, ◌++◌, length, map, slice_get, IfOk, OnOk};
-ghost use Rattle.netlist_model.specs.Formed.{width_of};
+ghost use Rattle.std.specs.Prelude.{◌≡◌, ◌<◌, ◌++◌, length, map, slice_get, IfOk, OnOk};
 ghost use Rattle.sim_runs.specs.Bits.{AreBits, HavePins, net_at, port_nets, shown_at, told_of, untold};
 
 use edge_io::OutOfMemory;
 use netlist_arena::Netlist;
-use netlist_model::{Dir, NetId, PinBit, PortId, Range};
+use netlist_model::{Dir, NetId, PinBit, PortId, width_of};
 use signal_values::PinSig;
 use std::alloc::Global;
 
@@ -70,16 +69,4 @@ fn add_bits(netlist: &Netlist, port: PortId, bits: &mut Vec<Shown>) -> Result<()
         bits.push(Shown { pin, net })?;
     }
     Ok(())
-}
-
-// How many bits a port of this range has.
-fn width_of(range: Option<Range>) -> u64
-    ensures value { result ≡ width_of range }
-    ensures bound { result ≤ 2 ^ 32 }
-{
-    match range {
-        None => 1,
-        Some(range) if range.left < range.right => u64::from(range.right - range.left) + 1,
-        Some(range) => u64::from(range.left - range.right) + 1,
-    }
 }

@@ -18,7 +18,7 @@ returns c =
     let N = c.args.linked.now.arena.lists in
     let port = c.args.port.0 in
     let range = c.port_range.result in
-    let all : c.loop-bit.bit ≡ width_of range = omega (arith, c.width_of-width.ensures) in
+    let all : c.loop-bit.bit ≡ width_of range = omega (arith, c.width_of-width.ensures.value) in
     let P : ℕ → Type 0 = λ bits. AreMarked N (IsBitBefore port bits) c.loop-bit.flags in
     marked_port N port range c.loop-bit.flags (rw c.netlist-netlist.ensures.netlist at c.is_laid_out.ensures.laid_out)
     (has_range N port range (rw c.netlist-netlist.ensures.netlist at c.port_range.ensures)) (subst P all c.loop-bit.invariant)

@@ -12,7 +12,7 @@ invariant_of-result c =
     let m = c.args.tree.now in
     let nets = c.args.nets.now in
     let cells = c.args.cells.now in
-    let order = c.args.order.now.order in
+    let order = c.args.numbers.now in
     let control = c.args.controls.now.control in
     let clock = c.args.controls.now.clock in
     let Control : List Bool → Type 0 = λ marks. AreFlagsOf nets marks (length nets) c.in_ok-control.control in
@@ -29,7 +29,7 @@ invariant_of-result c =
     }) in
     let all = kept c.args.built.names N m order control clock c.in_ok-control.control c.in_ok-clock.clock c.count_flops-flops.result c.requires.built.named c.is_well_named.ensures
     (c.controls_are_links.ensures m c.requires.derived) found in
-    let ids : map cell_id order ≡ c.in_ok-order.order = sym (c.in_ok-order.ensures ∙ ap (map cell_id) c.numbers.ensures) in
+    let ids : map cell_id order ≡ c.in_ok-order.order = sym c.in_ok-order.ensures in
     let Linked : List CellId → Type 0 = IsLinked N c.args.built.names in
     record {
       linked = subst Linked ids all.linked;
