@@ -38,19 +38,19 @@ pub struct Built {
     pub names: NameTable,
 }
 
-/// The netlist that the module denotes, and the table of its names.
+/// The netlist that the module denotes, and the table of its names. The nets are given back before the cells are added.
 pub fn build(
     alloc: Global,
     tree: &Module,
-    nets: &[NetBit],
+    nets: Vec<NetBit>,
     cells: &[ItemCell],
 ) -> Result<Built, OutOfMemory>
     requires tree { IsTree tree.now }
     requires clear { text_fault tree.now ≡ None }
-    requires nets { nets.now ≡ nets_in (declared_nets tree.now) }
+    requires nets { nets.items ≡ nets_in (declared_nets tree.now) }
     requires cells { cells.now ≡ cells_in tree.now }
-    requires fits { FitCells (length nets.now) cells.now }
-    requires driven { driver_fault nets.now cells.now ≡ None }
+    requires fits { FitCells (length nets.items) cells.now }
+    requires driven { driver_fault nets.items cells.now ≡ None }
     ensures named { IfOk result (λ built. IsNamed built.names built.netlist.lists (denoted tree.now)) }
     ensures dense { IfOk result (λ built. IsDense built.netlist.lists) }
     ensures names { IfOk result (λ built. built.names ≡ names_of tree.now) }

@@ -35,11 +35,11 @@ fn sample(alloc: Global) -> Result<Module, OutOfMemory>
 #[test]
 fn a_port_has_its_nets_from_the_left(rt: HostRuntime) -> Result<(), Fail> {
     let module = sample(rt.alloc())?;
-    let nets = [
+    let nets = vec![in rt.alloc();
         NetBit::new(b"a", Some(1), Some(Dir::Input)),
         NetBit::new(b"a", Some(0), Some(Dir::Input)),
-    ];
-    let built = build(rt.alloc(), &module, &nets, &[])?;
+    ]?;
+    let built = build(rt.alloc(), &module, nets, &[])?;
     assert_eq!(rt; built.netlist.net_count(), 2);
     assert_eq!(rt; built.netlist.port_count(), 1);
     assert_eq!(rt; built.names.find(b"a"), Some(0));

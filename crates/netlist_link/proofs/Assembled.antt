@@ -1,9 +1,10 @@
 -- A linked netlist that is put together from what was found of a module.
 use Rattle.std.proofs.Common.{◌≡◌, subst, ℕ, suc, ◌+◌, ◌<◌, Bool, cond, zero-add, List, [], ◌∷◌, length, map, refl, ap, sym, ◌∙◌, Option, Some, None, arith}
-use Rattle.std.specs.Prelude.{slice_get, ◌↔◌, IsSome, count_by}
+use Rattle.std.specs.Prelude.{slice_get, IsSome, count_by}
 use Rattle.std.proofs.lemmas.List.Sums.{sum_by-cons}
 use Rattle.cell_library.specs.Gates.{is_flop}
 use Rattle.verilog_tree.specs.declared.tree.Module.{Module}
+use Rattle.netlist_model.specs.declared.CellId.{CellId}
 use Rattle.netlist_model.specs.Lists.{CellView, NetlistView, live_cell}
 use Rattle.netlist_model.specs.Cones.{IsClockPort, IsControlPort}
 use Rattle.link_model.specs.Nets.{NamedNet, declared_nets, nets_in}
@@ -13,35 +14,13 @@ use Rattle.link_model.specs.Faults.{driver_fault, cells_in}
 use Rattle.link_model.specs.Late.{HasNoDerived, IsLinkable, IsLoop}
 use Rattle.link_model.specs.Denoted.{AreCells, IsLive, IsNamed, denoted}
 use Rattle.link_drivers.specs.Drivers.{HasItsDrivers}
-use Rattle.link_order.specs.Orders.{IsItemOrder}
-use Rattle.link_order.specs.Cones.{IsClockNet, IsControlNet}
-use Rattle.net_cones.specs.Cone.{Marked}
+use Rattle.netlist_link.specs.declared.tables.Tables.{Tables}
 use Rattle.netlist_link.specs.Linked.{IsLinked, AreFlags, flop_count, is_live_flop}
-use Rattle.netlist_link.specs.Links.{AreInOrder, AreNetsAndCells}
-use Rattle.netlist_link.specs.Tables.{AreFlagsOf, cell_id, is_named_flop}
+use Rattle.netlist_link.specs.Steps.{AreInOrder, AreNetsAndCells, IsSound}
+use Rattle.netlist_link.specs.Tables.{AreTablesOf, IsClockInput, IsControlInput, cell_id, is_named_flop}
 use Rattle.netlist_link.specs.WellNamed.{IsWellNamed}
 use Rattle.netlist_link.proofs.Cones.{clock_nets, control_nets}
 use Rattle.netlist_link.proofs.Formed.{HasNoDerivedOperand, cell_order, direction_is, well_formed}
-use Rattle.netlist_link.proofs.TableLaws.{flags_are}
-
--- what was found of the nets and cells
-pub record Found (order : List ℕ) (control clock controls clocks : List Bool) (flops : ℕ) (nets : List NamedNet) (cells : List NamedCell) : Type 0 where
-  pub fits : FitCells (length nets) cells
-  pub drivers : HasItsDrivers nets cells
-  pub ordered : IsItemOrder cells order
-  pub control_nets : (net : ℕ) → Marked control net ↔ IsControlNet cells net
-  pub clock_nets : (net : ℕ) → Marked clock net ↔ IsClockNet cells net
-  pub control_flags : AreFlagsOf nets control (length nets) controls
-  pub clock_flags : AreFlagsOf nets clock (length nets) clocks
-  pub flops_are : flops ≡ count_by is_named_flop cells
-
--- the same of the tree's nets and cells
-pub of_tree : (m : Module) (nets : List NamedNet) (cells : List NamedCell) (order : List ℕ) (control clock controls clocks : List Bool) (flops : ℕ) → AreNetsAndCells m nets cells
-    → Found order control clock controls clocks flops nets cells → Found order control clock controls clocks flops (nets_in (declared_nets m)) (cells_in m)
-of_tree m nets cells order control clock controls clocks flops these found =
-    let P : List NamedNet → Type 0 = λ ns. Found order control clock controls clocks flops ns cells in
-    let Q : List NamedCell → Type 0 = λ cs. Found order control clock controls clocks flops (nets_in (declared_nets m)) cs in
-    subst Q these.cells_are (subst P these.nets_are found)
 
 -- as many flip-flops stand in the netlist as among the named cells
 flops_of : (table : List (List ℕ)) (places : List (Option CellView)) (cells : List NamedCell) → ((i : ℕ) (named : NamedCell) → slice_get cells i ≡ Some named → IsLive table (live_cell (slice_get places i)) named)
@@ -60,52 +39,73 @@ flops_of table (Some cell ∷ places) (c ∷ cells) each only =
 pub flops_are : (table : List (List ℕ)) (N : NetlistView) (cells : List NamedCell) → AreCells table N cells → flop_count N ≡ count_by is_named_flop cells
 flops_are table N cells are = flops_of table N.cells cells are.each are.only
 
--- flags of marked inputs are those of control and clock ports
-control_flags : (table : List (List ℕ)) (N : NetlistView) (m : Module) (marks flags : List Bool) → IsNamed table N (denoted m) → AreFlagsOf (nets_in (declared_nets m)) marks (length (nets_in (declared_nets m))) flags
-    → ((net : ℕ) → Marked marks net ↔ IsControlNet (cells_in m) net) → AreFlags (IsControlPort N) flags
-control_flags table N m marks flags is are marked net =
-    let found = flags_are (nets_in (declared_nets m)) marks flags are net in
+-- flags of inputs are those of control and clock ports
+control_flags : (table : List (List ℕ)) (N : NetlistView) (m : Module) (flags : List Bool) → IsNamed table N (denoted m) → AreFlags (IsControlInput (nets_in (declared_nets m)) (cells_in m)) flags
+    → AreFlags (IsControlPort N) flags
+control_flags table N m flags is are net =
     let cone = control_nets table N (cells_in m) net is.cells in
     let dir = direction_is table N m net is in (
-      λ flag. let p = found.0 flag in (dir ∙ p.0, cone.0 ((marked net).0 p.1)),
-      λ port. found.1 (sym dir ∙ port.0, (marked net).1 (cone.1 port.1)),
+      λ flag. let p = (are net).0 flag in (dir ∙ p.0, cone.0 p.1),
+      λ port. (are net).1 (sym dir ∙ port.0, cone.1 port.1),
     )
 
-clock_flags : (table : List (List ℕ)) (N : NetlistView) (m : Module) (marks flags : List Bool) → IsNamed table N (denoted m) → AreFlagsOf (nets_in (declared_nets m)) marks (length (nets_in (declared_nets m))) flags
-    → ((net : ℕ) → Marked marks net ↔ IsClockNet (cells_in m) net) → AreFlags (IsClockPort N) flags
-clock_flags table N m marks flags is are marked net =
-    let found = flags_are (nets_in (declared_nets m)) marks flags are net in
+clock_flags : (table : List (List ℕ)) (N : NetlistView) (m : Module) (flags : List Bool) → IsNamed table N (denoted m) → AreFlags (IsClockInput (nets_in (declared_nets m)) (cells_in m)) flags
+    → AreFlags (IsClockPort N) flags
+clock_flags table N m flags is are net =
     let cone = clock_nets table N (cells_in m) net is.cells in
     let dir = direction_is table N m net is in (
-      λ flag. let p = found.0 flag in (dir ∙ p.0, cone.0 ((marked net).0 p.1)),
-      λ port. found.1 (sym dir ∙ port.0, (marked net).1 (cone.1 port.1)),
+      λ flag. let p = (are net).0 flag in (dir ∙ p.0, cone.0 p.1),
+      λ port. (are net).1 (sym dir ∙ port.0, cone.1 port.1),
     )
 
 -- what a linked netlist keeps
-pub record Kept (N : NetlistView) (names : List (List ℕ)) (order : List ℕ) (controls clocks : List Bool) (flops : ℕ) : Type 0 where
-  pub linked : IsLinked N names (map cell_id order)
-  pub control : AreFlags (IsControlPort N) controls
-  pub clock : AreFlags (IsClockPort N) clocks
-  pub flops_are : flops ≡ flop_count N
+pub record Kept (N : NetlistView) (names : List (List ℕ)) (tables : Tables) : Type 0 where
+  pub linked : IsLinked N names tables.order
+  pub control : AreFlags (IsControlPort N) tables.control
+  pub clock : AreFlags (IsClockPort N) tables.clock
+  pub flops_are : tables.flops ≡ flop_count N
 
-pub kept : (table : List (List ℕ)) (N : NetlistView) (m : Module) (order : List ℕ) (control clock controls clocks : List Bool) (flops : ℕ) → IsNamed table N (denoted m) → IsWellNamed table N
-    → HasNoDerivedOperand (nets_in (declared_nets m)) (cells_in m) → Found order control clock controls clocks flops (nets_in (declared_nets m)) (cells_in m)
-    → Kept N table order controls clocks flops
-kept table N m order control clock controls clocks flops is named derived found = record {
-  linked = record {
-    formed = well_formed table N m order is found.fits found.drivers found.ordered derived;
-    named = named;
-    ordered = cell_order table N (cells_in m) order is.cells found.ordered;
-  };
-  control = control_flags table N m control controls is found.control_flags found.control_nets;
-  clock = clock_flags table N m clock clocks is found.clock_flags found.clock_nets;
-  flops_are = found.flops_are ∙ sym (flops_are table N (cells_in m) is.cells);
-}
+pub kept : (table : List (List ℕ)) (N : NetlistView) (m : Module) (tables : Tables) → IsSound m → IsNamed table N (denoted m) → IsWellNamed table N
+    → HasItsDrivers (nets_in (declared_nets m)) (cells_in m) → HasNoDerivedOperand (nets_in (declared_nets m)) (cells_in m)
+    → AreTablesOf (nets_in (declared_nets m)) (cells_in m) tables → Kept N table tables
+kept table N m tables sound is named drivers derived found =
+    let Linked : List CellId → Type 0 = IsLinked N table in
+    let linked : Linked (map cell_id found.numbers) = record {
+      formed = well_formed table N m found.numbers is sound.fits drivers found.ordered derived;
+      named = named;
+      ordered = cell_order table N (cells_in m) found.numbers is.cells found.ordered;
+    } in
+    record {
+      linked = subst Linked (sym found.order_is) linked;
+      control = control_flags table N m tables.control is found.control;
+      clock = clock_flags table N m tables.clock is found.clock;
+      flops_are = found.flops_are ∙ sym (flops_are table N (cells_in m) is.cells);
+    }
 
--- a module without faults can be linked
-pub linkable : (m : Module) (nets : List NamedNet) (cells : List NamedCell) (order : List ℕ) → AreNetsAndCells m nets cells → driver_fault nets cells ≡ None → AreInOrder cells order → HasNoDerived m → IsLinkable m
-linkable m nets cells order these drivers ordered derived =
-    let no_fault : driver_fault (nets_in (declared_nets m)) (cells_in m) ≡ None =
-    ap (λ ns. driver_fault ns (cells_in m)) (sym these.nets_are) ∙ ap (driver_fault nets) (sym these.cells_are) ∙ drivers in
-    let P : List NamedCell → Type 0 = λ cs. (numbers : List ℕ) → IsLoop cs numbers → ⊥ in
-    record { early = rw (these.clear, no_fault) refl; loops = subst P these.cells_are ordered.no_loop; derived = derived }
+-- a module in which no fault stands can be linked
+pub linkable : (m : Module) → IsSound m → IsLinkable m
+linkable m sound = record { early = rw (sound.clear, sound.drivers) refl; loops = sound.no_loop; derived = sound.derived }
+
+-- no fault stands in the module of these nets and cells
+pub sound : (m : Module) (nets : List NamedNet) (cells : List NamedCell) (order : List ℕ) → AreNetsAndCells m nets cells → driver_fault nets cells ≡ None → AreInOrder cells order → HasNoDerived m → IsSound m
+sound m nets cells order these drivers ordered derived =
+    let Fit : List NamedNet → List NamedCell → Type 0 = λ ns cs. FitCells (length ns) cs in
+    let Nets : List NamedNet → Type 0 = λ ns. Fit ns cells in
+    let Cells : List NamedCell → Type 0 = Fit (nets_in (declared_nets m)) in
+    let Loops : List NamedCell → Type 0 = λ cs. (numbers : List ℕ) → IsLoop cs numbers → ⊥ in
+    record {
+      tree = these.tree;
+      clear = these.clear;
+      fits = subst Cells these.cells_are (subst Nets these.nets_are these.fits);
+      drivers = ap (λ ns. driver_fault ns (cells_in m)) (sym these.nets_are) ∙ ap (driver_fault nets) (sym these.cells_are) ∙ drivers;
+      no_loop = subst Loops these.cells_are ordered.no_loop;
+      derived = derived;
+    }
+
+-- tables of the module's nets and cells
+pub tables_of_module : (m : Module) (nets : List NamedNet) (cells : List NamedCell) (tables : Tables) → AreNetsAndCells m nets cells → AreTablesOf nets cells tables
+    → AreTablesOf (nets_in (declared_nets m)) (cells_in m) tables
+tables_of_module m nets cells tables these are =
+    let Nets : List NamedNet → Type 0 = λ ns. AreTablesOf ns cells tables in
+    let Cells : List NamedCell → Type 0 = λ cs. AreTablesOf (nets_in (declared_nets m)) cs tables in
+    subst Cells these.cells_are (subst Nets these.nets_are are)

@@ -1,5 +1,5 @@
 -- A module in whose text no fault stands can be linked, if the netlist that it denotes is well formed.
-use Rattle.std.proofs.Common.{◌≡◌, ℕ, zero, suc, ◌<◌, ◌⊎◌, inl, inr, Bool, true, false, ◌||◌, ◌==◌, List, [], ◌∷◌, length, refl, ap, sym, ◌∙◌, subst, Option, Some, None, arith}
+use Rattle.std.proofs.Common.{◌≡◌, ℕ, zero, suc, ◌⊎◌, inl, inr, Bool, true, false, ◌||◌, ◌==◌, List, [], ◌∷◌, refl, ap, sym, ◌∙◌, subst, Option, Some, None, arith}
 use Rattle.std.specs.Prelude.{slice_get, find, option_and_then, if◌then◌else◌}
 use Rattle.std.specs.Option.{option_map}
 use Rattle.std.proofs.lemmas.Option.{none-some, same_Some, slice_get-map, option_and_then_some}
@@ -22,7 +22,7 @@ use Rattle.link_model.specs.Nets.{NamedNet, declared_names, declared_nets, nets_
 use Rattle.link_model.specs.Cells.{NamedCell, cell_of}
 use Rattle.link_model.specs.Denoted.{IsNamed, denoted}
 use Rattle.link_model.specs.Faults.{cells_in, driver_fault, text_fault}
-use Rattle.link_model.specs.Late.{ControlLink, HasNoDerived, IsDerivedAt, IsInoutNet, IsKept, IsLinkable, control_links}
+use Rattle.link_model.specs.Late.{ControlLink, HasNoDerived, IsInoutNet, IsKept, IsLinkable, control_links}
 use Rattle.link_drivers.specs.Drivers.{HasDriver, HasItsDrivers, dir_at}
 use Rattle.link_order.specs.Cones.{FlopReads}
 use Rattle.link_order.specs.Links.{control_net, feed_net, found_item, found_link, found_net, is_found_net, operand_net, placed_net}

@@ -1,11 +1,11 @@
 -- One fault stands first in a module.
-use Rattle.std.proofs.Common.{◌≡◌, ℕ, ◌<◌, ◌≤◌, Bool, true, false, List, refl, ap, sym, ◌∙◌, subst, Some, None, arith, ltb-true, ltb-false}
+use Rattle.std.proofs.Common.{◌≡◌, ℕ, ◌≤◌, Bool, true, false, List, refl, ap, sym, ◌∙◌, subst, Some, None, arith, ltb-true, ltb-false}
 use Rattle.std.specs.Prelude.{slice_get, nat_lt}
 use Rattle.verilog_tree.specs.declared.tree.Module.{Module}
 use Rattle.link_model.specs.declared.fault.BitName.{BitName}
 use Rattle.link_model.specs.declared.fault.LinkFault.{LinkFault}
 use Rattle.link_model.specs.declared.fault.LinkFault.TheVariants.{DerivedClock}
-use Rattle.link_model.specs.Nets.{NamedNet, declared_nets, nets_in}
+use Rattle.link_model.specs.Nets.{declared_nets, nets_in}
 use Rattle.link_model.specs.Faults.{bit_name}
 use Rattle.link_model.specs.Late.{ControlLink, IsFirstDerived, StandsFirst, control_links}
 use Rattle.link_model.specs.Late.StandsFirst.{early as early_first, looped as loop_first, derived as derived_first}

@@ -11,8 +11,9 @@ use Rattle.link_model.specs.Late.StandsFirst.{early, looped, derived as derived_
 use Rattle.link_order.specs.Faults.{IsOrderFault, IsDerivedFault}
 use Rattle.link_order.specs.Faults.IsOrderFault.{looped as loop_told, memory as no_memory}
 use Rattle.link_order.specs.Faults.IsDerivedFault.{derived as clock_told}
-use Rattle.netlist_link.specs.Links.{AreInOrder, AreNetsAndCells, IsLinkFault}
+use Rattle.netlist_link.specs.Links.{IsLinkFault}
 use Rattle.netlist_link.specs.Links.IsLinkFault.{stands, memory}
+use Rattle.netlist_link.specs.Steps.{AreInOrder, AreNetsAndCells}
 
 -- the drivers of the tree's nets
 pub tree_drivers : (m : Module) (nets : List NamedNet) (cells : List NamedCell) → AreNetsAndCells m nets cells → driver_fault (nets_in (declared_nets m)) (cells_in m) ≡ driver_fault nets cells

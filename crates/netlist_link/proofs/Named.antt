@@ -13,7 +13,7 @@ use Rattle.verilog_tree.specs.declared.tree.Wire.{Wire}
 use Rattle.verilog_tree.specs.declared.tree.Item.{Item}
 use Rattle.verilog_tree.specs.declared.tree.Item.TheVariants as item
 use Rattle.verilog_tree.specs.declared.tree.Range as tree
-use Rattle.verilog_tree.specs.IsTree.{IsTree, IsTreeName, IsTreeRange, IsTreePort, IsTreeWire}
+use Rattle.verilog_tree.specs.IsTree.{IsTree, IsTreeRange, IsTreePort, IsTreeWire}
 use Rattle.verilog_tree.specs.declared.tree.Instance.{Instance}
 use Rattle.cell_library.specs.declared.Kind.{Kind}
 use Rattle.cell_library.specs.declared.Kind.TheVariants as kind

@@ -1,19 +1,23 @@
 -- The tables that a linked netlist keeps.
-use Rattle.std.proofs.Common.{◌≡◌, ◌≢◌, subst, ℕ, zero, suc, ◌+◌, ◌<◌, inl, inr, Bool, true, false, List, [], ◌∷◌, ◌++◌, length, refl, ap, sym, ◌∙◌, Option, Some, None, arith, length-append}
-use Rattle.std.specs.Prelude.{slice_get, slice_set, ◌↔◌, ◌&&◌, slice_index_or}
+use Rattle.std.proofs.Common.{rules, length-set, max, ◌≡◌, ◌≢◌, subst, ℕ, zero, suc, ◌+◌, ◌<◌, ◌≤◌, inl, inr, Bool, true, false, List, [], ◌∷◌, ◌++◌, length, refl, ap, sym, ◌∙◌, Option, Some, None, arith, length-append}
+use Rattle.std.specs.Option.{option_map}
+use Rattle.std.specs.Ordering.{nat_cmp, ord_max}
+use Rattle.std.specs.Prelude.{slice_get, slice_set, replicate, ◌↔◌, ◌&&◌, slice_index_or}
+use Rattle.std.proofs.lemmas.List.{length-replicate}
 use Rattle.std.proofs.lemmas.Bool.{cases_lt, cases_eq}
 use Rattle.std.proofs.lemmas.Option.{same_Some, slice_get_within, option_and_then_some}
 use Rattle.netlist_model.specs.declared.Dir.{Dir}
 use Rattle.netlist_model.specs.declared.Dir.TheVariants.{Input, Output, Inout}
 use Rattle.netlist_model.specs.declared.PortId.{PortId}
-use Rattle.netlist_model.specs.declared.Name.TheVariants.{Original}
+use Rattle.netlist_model.specs.declared.Name.TheVariants.{Original, Added}
 use Rattle.netlist_model.specs.Lists.{PortView, NetlistView}
 use Rattle.link_model.specs.Nets.{NamedNet}
 use Rattle.link_model.specs.Faults.{is_input}
 use Rattle.link_drivers.specs.Drivers.{dir_at}
 use Rattle.net_cones.specs.Cone.{Marked}
 use Rattle.netlist_link.specs.PortNames.{ArePortNames, HasOriginal}
-use Rattle.netlist_link.specs.Tables.{AreFlagsOf, HasPortsBelow, flag_at}
+use Rattle.netlist_link.specs.Linked.{AreFlags}
+use Rattle.netlist_link.specs.Tables.{AreFlagsOf, AreNamedBelow, HasPortsBelow, flag_at}
 use Rattle.netlist_link.specs.WellNamed.{IsWellNamed}
 use Rattle.netlist_link.proofs.Lists.{slice_get-append_left, slice_get-append_right}
 
@@ -42,7 +46,7 @@ both_true true b e = (refl, e)
 both_true false b e = absurd (cc)
 
 -- the flags are those of marked inputs
-pub flags_are : (nets : List NamedNet) (marks flags : List Bool) → AreFlagsOf nets marks (length nets) flags → (net : ℕ)
+flags_are : (nets : List NamedNet) (marks flags : List Bool) → AreFlagsOf nets marks (length nets) flags → (net : ℕ)
     → (slice_get flags net ≡ Some true) ↔ ((dir_at nets net ≡ Some Input) × Marked marks net)
 flags_are nets marks flags are net = (
   λ e.
@@ -57,7 +61,19 @@ flags_are nets marks flags are net = (
       are.each net within ∙ ap Some (rw (p.0, p.1) refl)),
 )
 
+-- so they are of inputs in a set of nets, where that is what is marked
+pub marked_flags : (IsIn : ℕ → Type 0) (nets : List NamedNet) (marks flags : List Bool) → AreFlagsOf nets marks (length nets) flags → ((net : ℕ) → Marked marks net ↔ IsIn net)
+    → AreFlags (λ net. (dir_at nets net ≡ Some Input) × IsIn net) flags
+marked_flags IsIn nets marks flags are marked net =
+    let found = flags_are nets marks flags are net in (
+      λ flag. let p = found.0 flag in (p.0, (marked net).0 p.1),
+      λ input. found.1 (input.0, (marked net).1 input.1),
+    )
+
 -- Ports by the numbers of their names.
+
+same_number : (a b : ℕ) → Original a ≡ Original b → a ≡ b
+same_number a b e = grind arith
 
 slice_get-set_same : {X : Type 0} (xs : List X) (k : ℕ) (x : X) → k < length xs → slice_get (slice_set xs k x) k ≡ Some x
 slice_get-set_same [] k x h = absurd (omega arith)
@@ -72,9 +88,10 @@ slice_get-set_other (y ∷ xs) (suc k) zero x h = refl
 slice_get-set_other (y ∷ xs) (suc k) (suc j) x h = slice_get-set_other xs k j x (λ e. h (ap suc e))
 
 -- one port more
-pub ports_noted : (table : List (List ℕ)) (N : NetlistView) (ports : List (Option PortId)) (number p : ℕ) → IsWellNamed table N → length ports ≡ length table → HasOriginal N number p
-    → number < length table → HasPortsBelow N p ports → HasPortsBelow N (p + 1) (slice_set ports number (Some (record { 0 = p })))
-ports_noted table N ports number p well room here less before = record {
+pub ports_noted : (table : List (List ℕ)) (N : NetlistView) (ports : List (Option PortId)) (number p : ℕ) → IsWellNamed table N → HasOriginal N number p
+    → number < length ports → HasPortsBelow N p ports → HasPortsBelow N (p + 1) (slice_set ports number (Some (record { 0 = p })))
+ports_noted table N ports number p well here less before = record {
+  room = λ other q within has. let small = before.room other q within has in let count = length-set ports number (Some (record { 0 = p })) in omega (arith, small, count);
   each = λ other q low has. elim (cases_eq other number) [
     | inl same ↦
         let Here : ℕ → Type 0 = λ k. HasOriginal N k q in
@@ -106,9 +123,22 @@ ports_noted table N ports number p well room here less before = record {
     | inr apart ↦ before.only other q (sym (slice_get-set_other ports number other (Some (record { 0 = p })) apart) ∙ at)
   ];
 }
+
+-- a list without ports, with room
+pub none_noted : (N : NetlistView) (ports : List (Option PortId)) (bound : ℕ) → AreNamedBelow N (length N.ports) bound → ports ≡ replicate bound None → HasPortsBelow N 0 ports
+none_noted N ports bound below is =
+    let none : Option PortId = None in
+    let P : List (Option PortId) → Type 0 = λ given. HasPortsBelow N 0 given in
+    subst P (sym is) (record {
+      room = λ number p less has. let small = below number p less has in let count : length (replicate bound none) ≡ bound = length-replicate bound none in omega (arith, small, count);
+      each = λ number p less has. absurd (omega (arith, less));
+      only = λ number p at. absurd (nothing bound number (record { 0 = p }) at);
+    })
   where
-    same_number : (a b : ℕ) → Original a ≡ Original b → a ≡ b
-    same_number a b e = grind arith
+    nothing : (n number : ℕ) (port : PortId) → slice_get (replicate n None) number ≡ Some (Some port) → ⊥
+    nothing zero number port e = absurd (cc)
+    nothing (suc n) zero port e = absurd (cc)
+    nothing (suc n) (suc number) port e = nothing n number port e
 
 -- all are noted
 pub all_noted : (table : List (List ℕ)) (N : NetlistView) (ports : List (Option PortId)) → HasPortsBelow N (length N.ports) ports → ArePortNames N ports
@@ -117,14 +147,39 @@ all_noted table N ports noted number p = (
   λ has. noted.each number p (slice_get_within N.ports p has.port has.there) has,
 )
 
--- the name of a port has a number in the table
-pub original_known : (table : List (List ℕ)) (N : NetlistView) (number p : ℕ) → IsWellNamed table N → HasOriginal N number p → number < length table
-original_known table N number p well has =
-    let known = well.port_names p has.port has.there in
-    let names : Original known.0 ≡ Original number = sym known.1 ∙ has.named in
-    let same : known.0 ≡ number = original_number known.0 number names in
-    let less : known.0 < length table = known.2 in
-    rw (sym same) less
+-- one port's name more below the greater of two bounds
+pub named_below : (N : NetlistView) (done before after bound : ℕ) → AreNamedBelow N done before → ((number : ℕ) → HasOriginal N number done → number < after) → before ≤ bound → after ≤ bound
+    → AreNamedBelow N (done + 1) bound
+named_below N done before after bound are here low high number p less has = elim (cases_lt p done) [
+  | inl earlier ↦ let below = are number p earlier has in omega (arith, below, low)
+  | inr late ↦
+      let at : p ≡ done = omega arith in
+      let Here : ℕ → Type 0 = HasOriginal N number in
+      let below = here number (subst Here at has) in omega (arith, below, high)
+]
+
+-- a name of the text that a port has
+pub has_original : (N : NetlistView) (number p : ℕ) → option_map (λ (found : PortView). found.name) (slice_get N.ports p) ≡ Some (Original number) → HasOriginal N number p
+has_original N number p e = go (slice_get N.ports p) refl e
   where
-    original_number : (a b : ℕ) → Original a ≡ Original b → a ≡ b
-    original_number a b e = grind arith
+    go : (o : Option PortView) → slice_get N.ports p ≡ o → option_map (λ (found : PortView). found.name) o ≡ Some (Original number) → HasOriginal N number p
+    go None at is = absurd (cc)
+    go (Some port) at is = record { port = port; there = at; named = same_Some port.name (Original number) is }
+
+-- a port has one name
+pub original_is : (N : NetlistView) (number p other : ℕ) → HasOriginal N number p → option_map (λ (found : PortView). found.name) (slice_get N.ports p) ≡ Some (Original other) → number ≡ other
+original_is N number p other has is =
+    let named : option_map (λ (found : PortView). found.name) (slice_get N.ports p) ≡ Some (Original number) = ap (option_map (λ (found : PortView). found.name)) has.there ∙ ap Some has.named in
+    same_number number other (same_Some (Original number) (Original other) (sym named ∙ is))
+
+pub added_is_none : (N : NetlistView) (number p other : ℕ) → HasOriginal N number p → option_map (λ (found : PortView). found.name) (slice_get N.ports p) ≡ Some (Added other) → ⊥
+added_is_none N number p other has is =
+    let named : option_map (λ (found : PortView). found.name) (slice_get N.ports p) ≡ Some (Original number) = ap (option_map (λ (found : PortView). found.name)) has.there ∙ ap Some has.named in
+    let same : Original number ≡ Added other = same_Some (Original number) (Added other) (sym named ∙ is) in
+    cc
+
+-- the greater of two numbers
+pub greater_of : (a b r : ℕ) → r ≡ ord_max nat_cmp a b → (a ≤ r) × (b ≤ r)
+greater_of a b r e =
+    let is : ord_max nat_cmp a b ≡ max a b = search rules in
+    let same : r ≡ max a b = e ∙ is in (grind (arith, same), grind (arith, same))

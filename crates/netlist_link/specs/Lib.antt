@@ -5,4 +5,5 @@ pub mod PortNames
 pub mod Tables
 pub mod Linked
 pub mod Links
+pub mod Steps
 pub mod Laws

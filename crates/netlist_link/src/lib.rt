@@ -8,6 +8,7 @@ mod laws;
 mod linked;
 mod linking;
 mod pins;
+mod port_names;
 mod tables;
 mod words;
 

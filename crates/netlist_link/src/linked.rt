@@ -21,7 +21,7 @@ pub struct Linked {
     pub(crate) names: NameTable,
     pub(crate) title: Text,
     pub(crate) order: Row<CellId>,
-    // The port under each number of a name.
+    // The port under each number of a name, up to the last that a port has.
     pub(crate) ports: Row<Option<PortId>>,
     // Of each net, whether it is a control port, and whether it is a clock port.
     pub(crate) control: Row<bool>,

@@ -3,16 +3,18 @@ ghost use Rattle.verilog_tree.specs.IsTree.{IsTree};
 ghost use Rattle.link_model.specs.Faults.{driver_fault};
 ghost use Rattle.link_model.specs.Late.{HasNoDerived};
 ghost use Rattle.link_order.specs.Drivers.{AreOrdered};
-ghost use Rattle.netlist_link.specs.Links.{AreInOrder, AreNetsAndCells, IsLinkFault, IsLinkOf};
+ghost use Rattle.netlist_link.specs.Links.{IsLinkFault, IsLinkOf};
+ghost use Rattle.netlist_link.specs.Steps.{AreInOrder, AreNetsAndCells};
 
 use crate::assemble::assemble;
 use crate::linked::Linked;
+use crate::tables::tables_of;
 use edge_io::OutOfMemory;
 use link_arena::build;
 use link_drivers::{find_driver_fault, nets_have_their_drivers};
-use link_model::{ItemCell, LinkFault, NetBit};
-use link_names::resolve;
-use link_order::{CellOrder, control_nets, find_derived, order_cells};
+use link_model::LinkFault;
+use link_names::{Resolved, resolve};
+use link_order::{CellOrder, find_derived, order_cells};
 use std::alloc::Global;
 use verilog_tree::Module;
 
@@ -24,44 +26,34 @@ pub fn link(alloc: Global, tree: &Module) -> Result<Linked, LinkFault>
     ensures fault { IfErr result (IsLinkFault tree.now) }
 {
     match resolve(alloc, tree) {
-        Ok(resolved) => link_resolved(alloc, tree, &resolved.nets, &resolved.cells),
+        Ok(resolved) => link_resolved(alloc, tree, resolved),
         Err(fault) => Err(fault),
     }
 }
 
 // Goes on where no fault stands in the text.
-fn link_resolved(
-    alloc: Global,
-    tree: &Module,
-    nets: &[NetBit],
-    cells: &[ItemCell],
-) -> Result<Linked, LinkFault>
-    requires { AreNetsAndCells tree.now nets.now cells.now }
+fn link_resolved(alloc: Global, tree: &Module, resolved: Resolved) -> Result<Linked, LinkFault>
+    requires { AreNetsAndCells tree.now resolved.nets.items resolved.cells.items }
     ensures ok { IfOk result (IsLinkOf tree.now) }
     ensures fault { IfErr result (IsLinkFault tree.now) }
 {
-    match find_driver_fault(alloc, nets, cells) {
+    match find_driver_fault(alloc, &resolved.nets, &resolved.cells) {
         Ok(Some(fault)) => Err(fault),
-        Ok(None) => link_driven(alloc, tree, nets, cells),
+        Ok(None) => link_driven(alloc, tree, resolved),
         Err(OutOfMemory) => Err(LinkFault::OutOfMemory),
     }
 }
 
 // Goes on where each net has the drivers that it may have.
-fn link_driven(
-    alloc: Global,
-    tree: &Module,
-    nets: &[NetBit],
-    cells: &[ItemCell],
-) -> Result<Linked, LinkFault>
-    requires these { AreNetsAndCells tree.now nets.now cells.now }
-    requires drivers { driver_fault nets.now cells.now ≡ None }
+fn link_driven(alloc: Global, tree: &Module, resolved: Resolved) -> Result<Linked, LinkFault>
+    requires these { AreNetsAndCells tree.now resolved.nets.items resolved.cells.items }
+    requires drivers { driver_fault resolved.nets.items resolved.cells.items ≡ None }
     ensures ok { IfOk result (IsLinkOf tree.now) }
     ensures fault { IfErr result (IsLinkFault tree.now) }
 {
     nets_have_their_drivers();
-    match order_cells(alloc, nets, cells) {
-        Ok(order) => link_ordered(alloc, tree, nets, cells, order),
+    match order_cells(alloc, &resolved.nets, &resolved.cells) {
+        Ok(order) => link_ordered(alloc, tree, resolved, order),
         Err(fault) => Err(fault),
     }
 }
@@ -70,21 +62,20 @@ fn link_driven(
 fn link_ordered(
     alloc: Global,
     tree: &Module,
-    nets: &[NetBit],
-    cells: &[ItemCell],
+    resolved: Resolved,
     order: CellOrder,
 ) -> Result<Linked, LinkFault>
-    requires these { AreNetsAndCells tree.now nets.now cells.now }
-    requires drivers { driver_fault nets.now cells.now ≡ None }
-    requires ordered { AreInOrder cells.now order.order }
-    requires of_these { AreOrdered (length nets.now) cells.now order }
+    requires these { AreNetsAndCells tree.now resolved.nets.items resolved.cells.items }
+    requires drivers { driver_fault resolved.nets.items resolved.cells.items ≡ None }
+    requires ordered { AreInOrder resolved.cells.items order.order }
+    requires of_these { AreOrdered (length resolved.nets.items) resolved.cells.items order }
     ensures ok { IfOk result (IsLinkOf tree.now) }
     ensures fault { IfErr result (IsLinkFault tree.now) }
 {
     nets_have_their_drivers();
-    match find_derived(alloc, tree, nets, cells, &order) {
+    match find_derived(alloc, tree, &resolved.nets, &resolved.cells, &order) {
         Ok(Some(fault)) => Err(fault),
-        Ok(None) => match link_sound(alloc, tree, nets, cells, order) {
+        Ok(None) => match link_sound(alloc, tree, resolved, order) {
             Ok(linked) => Ok(linked),
             Err(OutOfMemory) => Err(LinkFault::OutOfMemory),
         },
@@ -92,31 +83,23 @@ fn link_ordered(
     }
 }
 
-// Builds the netlist where no fault stands. What cells read is given back before that, since both are large.
+// Builds the netlist where no fault stands. What cells read is given back before that, and the nets on the way, since each
+// is large.
 fn link_sound(
     alloc: Global,
     tree: &Module,
-    nets: &[NetBit],
-    cells: &[ItemCell],
+    resolved: Resolved,
     order: CellOrder,
 ) -> Result<Linked, OutOfMemory>
-    requires these { AreNetsAndCells tree.now nets.now cells.now }
-    requires drivers { driver_fault nets.now cells.now ≡ None }
-    requires ordered { AreInOrder cells.now order.order }
-    requires of_these { AreOrdered (length nets.now) cells.now order }
+    requires these { AreNetsAndCells tree.now resolved.nets.items resolved.cells.items }
+    requires drivers { driver_fault resolved.nets.items resolved.cells.items ≡ None }
+    requires ordered { AreInOrder resolved.cells.items order.order }
+    requires of_these { AreOrdered (length resolved.nets.items) resolved.cells.items order }
     requires derived { HasNoDerived tree.now }
     ensures { IfOk result (IsLinkOf tree.now) }
 {
-    let controls = control_nets(alloc, nets, cells, &order)?;
-    let numbers = order.into_numbers();
-    let built = build(alloc, tree, nets, cells)?;
-    assemble(
-        alloc,
-        tree,
-        nets,
-        cells,
-        numbers.as_slice(),
-        &controls,
-        built,
-    )
+    let tables = tables_of(alloc, &resolved.nets, &resolved.cells, order)?;
+    let Resolved { nets, cells } = resolved;
+    let built = build(alloc, tree, nets, &cells)?;
+    assemble(alloc, tree, tables, built)
 }

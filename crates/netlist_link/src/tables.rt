@@ -1,20 +1,60 @@
-ghost use Rattle.std.specs.Prelude.{◌≡◌, ◌+◌, ◌<◌, ◌≤◌, ◌^◌, ℕ, map, length, count_by, List, IfOk};
+ghost use Rattle.std.specs.Prelude.{◌≡◌, ◌<◌, ◌^◌, map, length, count_by, IfOk};
 ghost use Rattle.cell_library.specs.Gates.{is_flop};
 ghost use Rattle.link_model.specs.Faults.{is_input};
-ghost use Rattle.netlist_link.specs.PortNames.{ArePortNames};
-ghost use Rattle.netlist_link.specs.Tables.{AreFlagsOf, HasPortsBelow, cell_id, is_named_flop};
-ghost use Rattle.netlist_link.specs.WellNamed.{IsWellNamed};
+ghost use Rattle.link_model.specs.Fits.{FitCells};
+ghost use Rattle.link_order.specs.Drivers.{AreOrdered};
+ghost use Rattle.link_order.specs.Orders.{IsItemOrder};
+ghost use Rattle.netlist_link.specs.Tables.{AreFlagsOf, AreTablesOf, cell_id, is_named_flop};
 
 use cell_library::Kind;
 use edge_io::{OutOfMemory, Row};
 use link_model::{ItemCell, NetBit};
-use name_table::NameTable;
-use netlist_arena::Netlist;
-use netlist_model::{CellId, Dir, Name, PortId};
+use link_order::{CellOrder, control_nets};
+use netlist_model::{CellId, Dir};
 use std::alloc::Global;
 
-/// The cells of these numbers.
-pub fn cell_ids(alloc: Global, numbers: &[u32]) -> Result<Row<CellId>, OutOfMemory>
+/// What a linked netlist keeps of its module's nets and cells.
+#[derive(Drop)]
+pub struct Tables {
+    /// The cells in order.
+    pub order: Row<CellId>,
+    /// Of each net, whether it is a control port.
+    pub control: Row<bool>,
+    /// Of each net, whether it is a clock port.
+    pub clock: Row<bool>,
+    /// How many flip-flops there are.
+    pub flops: u32,
+}
+
+/// The tables of these nets and cells. Drivers and links of the order are given back.
+pub fn tables_of(
+    alloc: Global,
+    nets: &[NetBit],
+    cells: &[ItemCell],
+    order: CellOrder,
+) -> Result<Tables, OutOfMemory>
+    requires few { length cells.now < 2 ^ 32 }
+    requires fits { FitCells (length nets.now) cells.now }
+    requires ordered { IsItemOrder cells.now order.order }
+    requires of_these { AreOrdered (length nets.now) cells.now order }
+    ensures { IfOk result (AreTablesOf nets.now cells.now) }
+{
+    let marks = control_nets(alloc, nets, cells, &order)?;
+    let numbers = order.into_numbers();
+    let ids = cell_ids(alloc, numbers.as_slice())?;
+    let control = input_flags(alloc, nets, marks.control.as_slice())?;
+    let clock = input_flags(alloc, nets, marks.clock.as_slice())?;
+    let flops = count_flops(cells);
+    Ok(Tables {
+        order: ids,
+        control,
+        clock,
+        flops,
+    })
+}
+
+// The cells of these numbers.
+fn cell_ids(alloc: Global, numbers: &[u32]) -> Result<Row<CellId>, OutOfMemory>
     ensures { IfOk result (λ ids. ids ≡ map cell_id numbers.now) }
 {
     let mut ids = Row::new(alloc);
@@ -24,8 +64,8 @@ pub fn cell_ids(alloc: Global, numbers: &[u32]) -> Result<Row<CellId>, OutOfMemo
     Ok(ids)
 }
 
-/// How many of the cells are flip-flops.
-pub fn count_flops(cells: &[ItemCell]) -> u32
+// How many of the cells are flip-flops.
+fn count_flops(cells: &[ItemCell]) -> u32
     requires { length cells.now < 2 ^ 32 }
     ensures { result ≡ count_by is_named_flop cells.now }
 {
@@ -44,8 +84,8 @@ fn is_input(dir: Option<Dir>) -> bool
     matches!(dir, Some(Dir::Input))
 }
 
-/// Of each net, whether it is a marked input.
-pub fn input_flags(alloc: Global, nets: &[NetBit], marks: &[bool]) -> Result<Row<bool>, OutOfMemory>
+// Of each net, whether it is a marked input.
+fn input_flags(alloc: Global, nets: &[NetBit], marks: &[bool]) -> Result<Row<bool>, OutOfMemory>
     requires { length marks.now ≡ length nets.now }
     ensures { IfOk result (λ flags. AreFlagsOf nets.now marks.now (length nets.now) flags) }
 {
@@ -54,35 +94,4 @@ pub fn input_flags(alloc: Global, nets: &[NetBit], marks: &[bool]) -> Result<Row
         flags.push(is_input(net.dir()) && marks[number])?;
     }
     Ok(flags)
-}
-
-/// The port under each number of a name.
-pub fn ports_by_name(
-    alloc: Global,
-    netlist: &Netlist,
-    names: &NameTable,
-) -> Result<Row<Option<PortId>>, OutOfMemory>
-    requires { IsWellNamed names.now netlist.now.lists }
-    ensures { IfOk result (λ ports. ArePortNames netlist.now.lists ports) }
-{
-    let mut ports: Vec<Option<PortId>> = vec![in alloc; None; names.len() as usize]?;
-    let count = netlist.port_count();
-    for number in 0..count {
-        note_port(ports.as_mut_slice(), netlist, names, PortId(number));
-    }
-    Ok(Row::from(ports))
-}
-
-// Notes a port under the number of its name.
-fn note_port(ports: &mut [Option<PortId>], netlist: &Netlist, names: &NameTable, port: PortId)
-    requires named { IsWellNamed names.now netlist.now.lists }
-    requires room { length ports.old ≡ length names.now }
-    requires there { port.0 < length netlist.now.lists.ports }
-    requires before { HasPortsBelow netlist.now.lists port.0 ports.old }
-    ensures { HasPortsBelow netlist.now.lists (port.0 + 1) ports.new }
-{
-    match netlist.port_name(port) {
-        Name::Original(number) => ports[number as usize] = Some(port),
-        Name::Added(_) => {}
-    }
 }

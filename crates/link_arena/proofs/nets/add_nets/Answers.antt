@@ -24,8 +24,9 @@ loop-net-preserved c =
     let spare = c.add_net-id.ensures.spare in
     let left = ap (λ (s : SpareView). s.nets) spare in
     let room = c.requires.room in
+    let item = c.net-item.is ∙ ap (λ (items : List NamedNet). get_or items c.loop-net.net-index c.net-item.result) c.deref-net-items.ensures.value in
     record {
-      nets = nets-more c.args.names.now c.loop-net.netlist.lists c.add_net-id.new.self.lists c.args.nets.now c.loop-net.net-index c.net-item.result c.original-name.result c.index.result (omega arith) c.net-item.is
+      nets = nets-more c.args.names.now c.loop-net.netlist.lists c.add_net-id.new.self.lists c.args.nets.items c.loop-net.net-index c.net-item.result c.original-name.result c.index.result (omega arith) item
           (c.original-name.ensures ∙ ap Some c.name.ensures) c.index.ensures lists i.nets;
       ports = ap (λ (N : NetlistView). N.ports) lists ∙ i.ports;
       cells = ap (λ (N : NetlistView). N.cells) lists ∙ i.cells;

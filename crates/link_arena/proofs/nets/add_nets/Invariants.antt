@@ -4,7 +4,7 @@ use Rattle.link_arena.proofs.nets.add_nets.Given as goal
 
 abbrev pub invariant-loop-net : goal.invariant-loop-net
 invariant-loop-net l = record {
-  nets : AreAll (IsNet l.names) l.netlist.lists.nets (take l.net-index l.nets);
+  nets : AreAll (IsNet l.names) l.netlist.lists.nets (take l.net-index l.fn.nets.items);
   ports : l.netlist.lists.ports ≡ l.fn.netlist.lists.ports;
   cells : l.netlist.lists.cells ≡ l.fn.netlist.lists.cells;
   spare : l.netlist.spare.nets + l.net-index ≡ l.fn.netlist.spare.nets;
