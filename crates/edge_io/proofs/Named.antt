@@ -1,4 +1,4 @@
-use Rattle.std.proofs.Common.{◌≡◌, ℕ, ◌<◌, Bool, true, false, cond, ltb, List, [], ◌∷◌, ◌++◌, length, get_or, set, Option, Some, None, position, refl, sym, ap, subst, ◌∙◌}
+use Rattle.std.proofs.Common.{◌≡◌, ℕ, ◌<◌, Bool, true, false, cond, List, [], ◌∷◌, ◌++◌, length, get_or, set, Option, Some, None, position, refl, sym, ap, subst, ◌∙◌}
 use Rattle.std.specs.Prelude.{find, nat_lt}
 use Rattle.std.specs.List.{position_or_len}
 use Rattle.std.specs.Option.{option_map, option_or}
@@ -10,7 +10,7 @@ use Rattle.std.proofs.lemmas.List.Sums.{passes_at_first}
 use Rattle.std.proofs.lemmas.List.Folds.{find-set, find_at, find_past, find-append}
 use Rattle.edge_io.specs.declared.entries.Entry.{Entry}
 use Rattle.edge_io.specs.Entries.{value_of}
-use Rattle.edge_io.specs.Shelf.{ChangesOne, SameTold}
+use Rattle.edge_io.specs.Shelf.{ChangesOne}
 
 not_true : (b : Bool) → (b ≡ true → ⊥) → b ≡ false
 not_true true h = absurd (h refl)

@@ -1,5 +1,5 @@
-use Rattle.std.proofs.Common.{◌≡◌, ◌↔◌, ◌⊎◌, ◌<◌, ◌≤◌, ◌-◌, ◌++◌, ℕ, Bool, true, false, List, [], Option, Some, None, length, take, min, refl, sym, ap, subst, ◌∙◌, inl, inr, arith}
-use Rattle.std.specs.Prelude.{IsNone, IsSome, IfSome, IsTrue, option_and_then, unwrap_or}
+use Rattle.std.proofs.Common.{◌≡◌, ◌↔◌, ◌⊎◌, ◌<◌, ◌≤◌, ◌-◌, ◌++◌, ℕ, Bool, true, false, List, [], Option, Some, None, length, min, refl, sym, ap, subst, inl, inr, arith}
+use Rattle.std.specs.Prelude.{IsNone, IfSome, option_and_then, unwrap_or}
 use Rattle.std.specs.Option.{option_map}
 use Rattle.edge_io.specs.declared.outputs.Output.{Output}
 use Rattle.edge_io.specs.Outputs.{bytes_if_started}

@@ -5,6 +5,14 @@ use Rattle.std.specs.Option.{option_map}
 abbrev pub Rose : ℕ → ℕ → Type 0
 Rose before now = min (before + 1) (2 ^ 64 - 1) ≤ now
 
+-- own: the count of a name rose, or stands at its last value
+abbrev pub RoseAt : (List ℕ → ℕ) → (List ℕ → ℕ) → List ℕ → Type 0
+RoseAt before now name = Rose (before name) (now name)
+
+-- own: no name's count fell
+abbrev pub NoneFell : (List ℕ → ℕ) → (List ℕ → ℕ) → Type 0
+NoneFell before now = (name : List ℕ) → before name ≤ now name
+
 -- own: the count after one more fault, which stays at its last value
 abbrev pub raised : ℕ → ℕ
 raised faults = max faults (min (faults + 1) (2 ^ 64 - 1))

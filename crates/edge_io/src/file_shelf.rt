@@ -9,7 +9,7 @@ use std::fs;
 use std::io::{Read, Seek, SeekFrom, Write};
 use std::rt::Files;
 
-/// The files of the machine, each under its path. It tells no content.
+/// The files of the machine, each under its path. It tells no content, and counts the faults of all names together.
 ///
 /// It keeps open the file that it last read and the one that it last started, so that a file is read, or
 /// written, from its beginning to its end with one open and no seek. An append to a name other than the one
@@ -142,7 +142,7 @@ impl<R: Files> Shelf for FileShelf<'_, R> {
 
     ghost tells = { false };
 
-    ghost faults = { λ s. s.faults };
+    ghost faults = { λ s _. s.faults };
 
     fn read_at(&mut self, name: &str, at: u64, into: &mut [u8]) -> Result<usize, Failed> {
         match self.read(name, at, into) {

@@ -2,7 +2,7 @@ ghost use Rattle.std.specs.Prelude.{◌≡◌, ◌↔◌, ◌+◌, ◌-◌, ◌<
 ghost use Rattle.std.specs.Option.{option_copied};
 ghost use Rattle.edge_io.specs.Calls.{call_made};
 ghost use Rattle.edge_io.specs.MemShelf.{FailsToAppend, FailsToRead, FailsToStart, ShelfState, placed_bytes, room_of, spare_room, written_bytes};
-ghost use Rattle.edge_io.specs.Shelf.{ChangesOne, Reads, Rose, SameTold, WhereTold, appended, told_if};
+ghost use Rattle.edge_io.specs.Shelf.{ChangesOne, NoneFell, Reads, RoseAt, SameTold, WhereTold, appended, told_if};
 
 use crate::calls::Calls;
 use crate::entries::{Entry, set_value, value_in};
@@ -12,7 +12,8 @@ use crate::text::{OutOfMemory, Text};
 use std::alloc::Global;
 use std::marker::Model;
 
-/// A shelf in memory, whose faults its owner chooses. Its calls as a [`Shelf`] take no memory.
+/// A shelf in memory, whose faults its owner chooses. Its calls as a [`Shelf`] take no memory, and the faults of all names
+/// are counted together.
 ///
 /// Such a call fails exactly where its number is listed, a read has a name under which nothing was placed,
 /// a start has a name for which no room was made, an append has a name that wasn't started, or no byte of a
@@ -121,15 +122,15 @@ impl Shelf for MemShelf {
 
     ghost tells = { true };
 
-    ghost faults = { λ s. s.calls.faults };
+    ghost faults = { λ s _. s.calls.faults };
 
     fn read_at(&mut self, name: &str, at: u64, into: &mut [u8]) -> Result<usize, Failed>
         ensures count { IfOk result (λ n. n ≤ length into.new) }
         ensures bytes { IfOk result (λ n. WhereTold (placed_bytes self.old name.now) (Reads at n into.new)) }
         ensures held { SameTold (placed_bytes self.old) (placed_bytes self.new) }
         ensures written { SameTold (written_bytes self.old) (written_bytes self.new) }
-        ensures later { self.old.calls.faults ≤ self.new.calls.faults }
-        ensures cause { OnErr result (Rose self.old.calls.faults self.new.calls.faults) }
+        ensures later { NoneFell (λ _. self.old.calls.faults) (λ _. self.new.calls.faults) }
+        ensures cause { OnErr result (RoseAt (λ _. self.old.calls.faults) (λ _. self.new.calls.faults) name.now) }
 
         // When it fails, and all that changes.
         ensures exact { IsErr result ↔ FailsToRead self.old name.now }
@@ -147,8 +148,8 @@ impl Shelf for MemShelf {
             (λ before after. after ≡ told_if true [])) }
         ensures failed { OnErr result (SameTold (written_bytes self.old) (written_bytes self.new)) }
         ensures held { SameTold (placed_bytes self.old) (placed_bytes self.new) }
-        ensures later { self.old.calls.faults ≤ self.new.calls.faults }
-        ensures cause { OnErr result (Rose self.old.calls.faults self.new.calls.faults) }
+        ensures later { NoneFell (λ _. self.old.calls.faults) (λ _. self.new.calls.faults) }
+        ensures cause { OnErr result (RoseAt (λ _. self.old.calls.faults) (λ _. self.new.calls.faults) name.now) }
 
         // When it fails, and what else changes.
         ensures exact { IsErr result ↔ FailsToStart self.old name.now }
@@ -170,8 +171,8 @@ impl Shelf for MemShelf {
             (λ before after. after ≡ appended (take n piece.now) before)) }
         ensures failed { OnErr result (SameTold (written_bytes self.old) (written_bytes self.new)) }
         ensures held { SameTold (placed_bytes self.old) (placed_bytes self.new) }
-        ensures later { self.old.calls.faults ≤ self.new.calls.faults }
-        ensures cause { OnErr result (Rose self.old.calls.faults self.new.calls.faults) }
+        ensures later { NoneFell (λ _. self.old.calls.faults) (λ _. self.new.calls.faults) }
+        ensures cause { OnErr result (RoseAt (λ _. self.old.calls.faults) (λ _. self.new.calls.faults) name.now) }
 
         // When it fails, how much fits, and what else changes.
         ensures exact { IsErr result ↔ FailsToAppend self.old name.now (length piece.now) }

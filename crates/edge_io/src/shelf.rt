@@ -1,5 +1,5 @@
 ghost use Rattle.std.specs.Prelude.{◌≡◌, ℕ, Bool, ◌≤◌, ◌<◌, List, [], take, length, Option, IfOk, OnOk, OnErr};
-ghost use Rattle.edge_io.specs.Shelf.{Rose, SameTold, WhereTold, Reads, ChangesOne, appended, told_if};
+ghost use Rattle.edge_io.specs.Shelf.{NoneFell, RoseAt, SameTold, WhereTold, Reads, ChangesOne, appended, told_if};
 
 use thiserror::Error;
 
@@ -23,8 +23,9 @@ pub trait Shelf {
     /// Whether the shelf tells what was written.
     ghost tells: { Bool };
 
-    /// How many faults there were. The count stays at its last value, `u64::MAX`.
-    ghost faults: { Self → ℕ };
+    /// How many faults of calls under a name there were: those of several names may be counted together, but none is left
+    /// out. A count stays at its last value, `u64::MAX`.
+    ghost faults: { Self → List ℕ → ℕ };
 
     /// Reads what lies under the name from byte `at` on. `Ok(n)` filled the first `n` bytes of `into`, and
     /// `n` is 0 only at the end of the text or where `into` is empty.
@@ -33,8 +34,8 @@ pub trait Shelf {
         ensures bytes { IfOk result (λ n. WhereTold (held self.old name.now) (Reads at n into.new)) }
         ensures held { SameTold (held self.old) (held self.new) }
         ensures written { SameTold (written self.old) (written self.new) }
-        ensures later { faults self.old ≤ faults self.new }
-        ensures cause { OnErr result (Rose (faults self.old) (faults self.new)) };
+        ensures later { NoneFell (faults self.old) (faults self.new) }
+        ensures cause { OnErr result (RoseAt (faults self.old) (faults self.new) name.now) };
 
     /// Begins to write under the name: what was written there before is gone.
     fn start(&mut self, name: &str) -> Result<(), Failed>
@@ -42,8 +43,8 @@ pub trait Shelf {
             (λ before after. after ≡ told_if tells [])) }
         ensures failed { OnErr result (SameTold (written self.old) (written self.new)) }
         ensures held { SameTold (held self.old) (held self.new) }
-        ensures later { faults self.old ≤ faults self.new }
-        ensures cause { OnErr result (Rose (faults self.old) (faults self.new)) };
+        ensures later { NoneFell (faults self.old) (faults self.new) }
+        ensures cause { OnErr result (RoseAt (faults self.old) (faults self.new) name.now) };
 
     /// Adds to what was written under the name. `Ok(n)` took the first `n` bytes of the piece, at least
     /// one of a piece that has any.
@@ -54,6 +55,6 @@ pub trait Shelf {
             (λ before after. after ≡ appended (take n piece.now) before)) }
         ensures failed { OnErr result (SameTold (written self.old) (written self.new)) }
         ensures held { SameTold (held self.old) (held self.new) }
-        ensures later { faults self.old ≤ faults self.new }
-        ensures cause { OnErr result (Rose (faults self.old) (faults self.new)) };
+        ensures later { NoneFell (faults self.old) (faults self.new) }
+        ensures cause { OnErr result (RoseAt (faults self.old) (faults self.new) name.now) };
 }

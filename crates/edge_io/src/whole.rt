@@ -1,5 +1,5 @@
 ghost use Rattle.std.specs.Prelude.{◌≡◌, ℕ, [], ◌≤◌, ◌<◌, ◌⊎◌, take, length, IfOk, OnOk, OnErr, IsErrOf};
-ghost use Rattle.edge_io.specs.Shelf.{Rose, SameTold, WhereTold, ChangesOne, appended, told_if};
+ghost use Rattle.edge_io.specs.Shelf.{NoneFell, Rose, RoseAt, SameTold, WhereTold, ChangesOne, appended, told_if};
 
 use crate::shelf::Shelf;
 use crate::sink::Sink;
@@ -38,8 +38,8 @@ pub fn read_whole<S: Shelf>(
     ensures within { IfOk result (λ text. length text ≤ limit) }
     ensures too_long { IsErrOf result ReadIssue.TooLong
         → WhereTold (S.held shelf.old name.now) (λ bytes. limit < length bytes) }
-    ensures fault { IsErrOf result ReadIssue.ReadFault → Rose (S.faults shelf.old) (S.faults shelf.new) }
-    ensures later { S.faults shelf.old ≤ S.faults shelf.new }
+    ensures fault { IsErrOf result ReadIssue.ReadFault → RoseAt (S.faults shelf.old) (S.faults shelf.new) name.now }
+    ensures later { NoneFell (S.faults shelf.old) (S.faults shelf.new) }
     ensures held { SameTold (S.held shelf.old) (S.held shelf.new) }
     ensures written { SameTold (S.written shelf.old) (S.written shelf.new) }
 {
@@ -70,8 +70,8 @@ fn read_pieces<S: Shelf>(
     ensures within { IfOk result (λ text. length text ≤ limit) }
     ensures too_long { IsErrOf result ReadIssue.TooLong
         → WhereTold (S.held shelf.old name.now) (λ bytes. limit < length bytes) }
-    ensures fault { IsErrOf result ReadIssue.ReadFault → Rose (S.faults shelf.old) (S.faults shelf.new) }
-    ensures later { S.faults shelf.old ≤ S.faults shelf.new }
+    ensures fault { IsErrOf result ReadIssue.ReadFault → RoseAt (S.faults shelf.old) (S.faults shelf.new) name.now }
+    ensures later { NoneFell (S.faults shelf.old) (S.faults shelf.new) }
     ensures held { SameTold (S.held shelf.old) (S.held shelf.new) }
     ensures written { SameTold (S.written shelf.old) (S.written shelf.new) }
 {
@@ -93,14 +93,14 @@ fn read_pieces<S: Shelf>(
 }
 
 /// Writes a text under a name, in place of what was written there. It is `Ok` wherever the shelf's count of
-/// faults neither rises nor stands at its last value.
+/// faults under that name neither rises nor stands at its last value.
 pub fn write_whole<S: Shelf>(shelf: &mut S, name: &str, text: &[u8]) -> Result<(), WriteFault>
     ensures ok { OnOk result (ChangesOne (S.written shelf.old) (S.written shelf.new) name.now
         (λ before after. after ≡ told_if S.tells text.now)) }
     ensures fault { OnErr result (ChangesOne (S.written shelf.old) (S.written shelf.new) name.now
         (λ before after. (after ≡ before) ⊎ ((k : ℕ) × (after ≡ told_if S.tells (take k text.now))))) }
-    ensures cause { OnErr result (Rose (S.faults shelf.old) (S.faults shelf.new)) }
-    ensures later { S.faults shelf.old ≤ S.faults shelf.new }
+    ensures cause { OnErr result (RoseAt (S.faults shelf.old) (S.faults shelf.new) name.now) }
+    ensures later { NoneFell (S.faults shelf.old) (S.faults shelf.new) }
     ensures held { SameTold (S.held shelf.old) (S.held shelf.new) }
 {
     let Ok(()) = shelf.start(name) else {

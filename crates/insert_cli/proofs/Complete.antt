@@ -15,22 +15,22 @@ use Rattle.bsdl_device.specs.Spelled.{SpellsDevice}
 use Rattle.insert_cli.specs.declared.command.Conversion.{Conversion}
 use Rattle.insert_cli.specs.declared.command.Conversion.TheVariants.{Canon, ShowBsdl}
 use Rattle.insert_cli.specs.Commands.{RunsConvert}
-use Rattle.verilog_texts.specs.Reading.{HasBadSyntax}
 use Rattle.insert_cli.specs.Conversions.{IsAccepted, IsSpelled}
 use Rattle.insert_cli.specs.SimFaults.{StandsInSim}
 use Rattle.insert_cli.specs.Causes.{Stands, StandsInConvert, OfConvert, OfSim, IsModuleFault, IsDeviceFault}
 use Rattle.insert_cli.proofs.FormLaws.{input_once, output_once, conversion_once, no_sim}
 
--- the same, where the input is the one that is accepted
-of_input : (words : List (List ℕ)) (held : List ℕ → Option (List ℕ)) (limit : ℕ) (Risen : Type 0) (f : Fault) (c : Conversion) (input output bytes : List ℕ) → RunsConvert words c input output
-    → held input ≡ Some bytes → OfConvert words (λ d i o. StandsInConvert d i o (held i) limit Risen f) → (o : List ℕ) × StandsInConvert c input o (Some bytes) limit Risen f
+-- the same, where the names are those of the command and the input is the one that is accepted
+of_input : (words : List (List ℕ)) (held : List ℕ → Option (List ℕ)) (limit : ℕ) (Risen : List ℕ → Type 0) (f : Fault) (c : Conversion) (input output bytes : List ℕ) → RunsConvert words c input output
+    → held input ≡ Some bytes → OfConvert words (λ d i o. StandsInConvert d i o (held i) limit Risen f) → StandsInConvert c input output (Some bytes) limit Risen f
 of_input words held limit Risen f c input output bytes runs told (d, (i, (o, (other, stands)))) =
-    let same : i ≡ input = input_once words c d input output i o runs.form other.form in
-    let kind : d ≡ c = conversion_once words c d input output i o runs.form other.form in (
-      o,
-      subst (λ (t : Option (List ℕ)). StandsInConvert c input o t limit Risen f) told (subst (λ (n : List ℕ). StandsInConvert c n o (held n) limit Risen f) same
-          (subst (λ (k : Conversion). StandsInConvert k i o (held i) limit Risen f) kind stands)),
-    )
+    let first : i ≡ input = input_once words c d input output i o runs.form other.form in
+    let second : o ≡ output = output_once words c d input output i o runs.form other.form in
+    let kind : d ≡ c = conversion_once words c d input output i o runs.form other.form in
+    subst (λ (t : Option (List ℕ)). StandsInConvert c input output t limit Risen f) told
+    (subst (λ (n : List ℕ). StandsInConvert c n output (held n) limit Risen f) first
+    (subst (λ (n : List ℕ). StandsInConvert c i n (held i) limit Risen f) second
+    (subst (λ (k : Conversion). StandsInConvert k i o (held i) limit Risen f) kind stands)))
 
 -- a text that spells a tree has no fault but want of memory
 pub module_memory : (c : Conversion) (bytes : List ℕ) (f : TextFault) → IsSpelled c bytes → IsModuleFault c f bytes → text_status f ≡ status.Memory
@@ -51,33 +51,33 @@ device_memory ShowBsdl bytes (device.BsdlMeaning kind place) (d, spells) bad =
 device_memory ShowBsdl bytes device.OutOfMemory spelled bad = refl
 
 -- words that convert simulate nothing
-of_either : (words : List (List ℕ)) (held : List ℕ → Option (List ℕ)) (limit : ℕ) (Risen SinkRisen : Type 0) (f : Fault) (c : Conversion) (input output bytes : List ℕ) → RunsConvert words c input output
+of_either : (words : List (List ℕ)) (held : List ℕ → Option (List ℕ)) (limit : ℕ) (Risen : List ℕ → Type 0) (SinkRisen : Type 0) (f : Fault) (c : Conversion) (input output bytes : List ℕ) → RunsConvert words c input output
     → held input ≡ Some bytes
     → OfConvert words (λ d i o. StandsInConvert d i o (held i) limit Risen f) ⊎ OfSim words (λ n e. StandsInSim n e (held n) (held e) limit Risen SinkRisen f)
-    → (o : List ℕ) × StandsInConvert c input o (Some bytes) limit Risen f
+    → StandsInConvert c input output (Some bytes) limit Risen f
 of_either words held limit Risen SinkRisen f c input output bytes runs told (inl stands) = of_input words held limit Risen f c input output bytes runs told stands
 of_either words held limit Risen SinkRisen f c input output bytes runs told (inr (n, (e, (form, stands)))) = absurd (no_sim words c input output n e runs.form form)
 
-pub only_memory : (words : List (List ℕ)) (held : List ℕ → Option (List ℕ)) (limit : ℕ) (Risen SinkRisen : Type 0) (f : Fault) (c : Conversion) (input output bytes : List ℕ) → RunsConvert words c input output
-    → held input ≡ Some bytes → IsAccepted c limit bytes → (Risen → ⊥) → Stands words held limit Risen SinkRisen f → status_of f ≡ status.Memory
-only_memory words held limit Risen SinkRisen fault.Usage c input output bytes runs told ok calm stands = absurd (stands.convert c input output runs.form)
-only_memory words held limit Risen SinkRisen (fault.SameName name) c input output bytes runs told ok calm stands =
+pub only_memory : (words : List (List ℕ)) (held : List ℕ → Option (List ℕ)) (limit : ℕ) (Risen : List ℕ → Type 0) (SinkRisen : Type 0) (f : Fault) (c : Conversion) (input output bytes : List ℕ) → RunsConvert words c input output
+    → held input ≡ Some bytes → IsAccepted c limit bytes → (Risen input → ⊥) → (Risen output → ⊥) → Stands words held limit Risen SinkRisen f → status_of f ≡ status.Memory
+only_memory words held limit Risen SinkRisen fault.Usage c input output bytes runs told ok calm still stands = absurd (stands.convert c input output runs.form)
+only_memory words held limit Risen SinkRisen (fault.SameName name) c input output bytes runs told ok calm still stands =
     absurd (runs.differ (sym (input_once words c stands.0 input output name.now name.now runs.form stands.1) ∙ output_once words c stands.0 input output name.now name.now runs.form stands.1))
-only_memory words held limit Risen SinkRisen (fault.ReadFault name) c input output bytes runs told ok calm stands =
-    absurd (calm ((of_either words held limit Risen SinkRisen (fault.ReadFault name) c input output bytes runs told stands).1.1))
-only_memory words held limit Risen SinkRisen (fault.TooLong name) c input output bytes runs told ok calm stands =
-    let long : limit < length bytes = (of_either words held limit Risen SinkRisen (fault.TooLong name) c input output bytes runs told stands).1.1 in
+only_memory words held limit Risen SinkRisen (fault.ReadFault name) c input output bytes runs told ok calm still stands =
+    absurd (calm ((of_either words held limit Risen SinkRisen (fault.ReadFault name) c input output bytes runs told stands).1))
+only_memory words held limit Risen SinkRisen (fault.TooLong name) c input output bytes runs told ok calm still stands =
+    let long : limit < length bytes = (of_either words held limit Risen SinkRisen (fault.TooLong name) c input output bytes runs told stands).1 in
     absurd (omega (arith, long, ok.short))
-only_memory words held limit Risen SinkRisen (fault.Netlist f) c input output bytes runs told ok calm stands =
-    module_memory c bytes f ok.spelled ((of_either words held limit Risen SinkRisen (fault.Netlist f) c input output bytes runs told stands).1.1)
-only_memory words held limit Risen SinkRisen (fault.Link f) c input output bytes runs told ok calm stands =
-    absurd ((of_either words held limit Risen SinkRisen (fault.Link f) c input output bytes runs told stands).1)
-only_memory words held limit Risen SinkRisen (fault.Events f) c input output bytes runs told ok calm stands =
-    absurd ((of_either words held limit Risen SinkRisen (fault.Events f) c input output bytes runs told stands).1)
-only_memory words held limit Risen SinkRisen (fault.Script f) c input output bytes runs told ok calm stands =
-    absurd ((of_either words held limit Risen SinkRisen (fault.Script f) c input output bytes runs told stands).1)
-only_memory words held limit Risen SinkRisen (fault.Device f) c input output bytes runs told ok calm stands =
-    device_memory c bytes f ok.spelled ((of_either words held limit Risen SinkRisen (fault.Device f) c input output bytes runs told stands).1.1)
-only_memory words held limit Risen SinkRisen (fault.WriteFault name) c input output bytes runs told ok calm stands =
-    absurd (calm ((of_either words held limit Risen SinkRisen (fault.WriteFault name) c input output bytes runs told stands).1.2))
-only_memory words held limit Risen SinkRisen fault.OutOfMemory c input output bytes runs told ok calm stands = refl
+only_memory words held limit Risen SinkRisen (fault.Netlist f) c input output bytes runs told ok calm still stands =
+    module_memory c bytes f ok.spelled ((of_either words held limit Risen SinkRisen (fault.Netlist f) c input output bytes runs told stands).1)
+only_memory words held limit Risen SinkRisen (fault.Link f) c input output bytes runs told ok calm still stands =
+    absurd (of_either words held limit Risen SinkRisen (fault.Link f) c input output bytes runs told stands)
+only_memory words held limit Risen SinkRisen (fault.Events f) c input output bytes runs told ok calm still stands =
+    absurd (of_either words held limit Risen SinkRisen (fault.Events f) c input output bytes runs told stands)
+only_memory words held limit Risen SinkRisen (fault.Script f) c input output bytes runs told ok calm still stands =
+    absurd (of_either words held limit Risen SinkRisen (fault.Script f) c input output bytes runs told stands)
+only_memory words held limit Risen SinkRisen (fault.Device f) c input output bytes runs told ok calm still stands =
+    device_memory c bytes f ok.spelled ((of_either words held limit Risen SinkRisen (fault.Device f) c input output bytes runs told stands).1)
+only_memory words held limit Risen SinkRisen (fault.WriteFault name) c input output bytes runs told ok calm still stands =
+    absurd (still ((of_either words held limit Risen SinkRisen (fault.WriteFault name) c input output bytes runs told stands).2))
+only_memory words held limit Risen SinkRisen fault.OutOfMemory c input output bytes runs told ok calm still stands = refl

@@ -1,5 +1,5 @@
 -- A fault that stands where both texts are free of faults and no count rises is want of memory.
-use Rattle.std.proofs.Common.{◌≡◌, ℕ, ◌<◌, ◌⊎◌, List, length, Option, Some, None, inl, inr, sym, subst, ◌∙◌, arith, refl}
+use Rattle.std.proofs.Common.{◌≡◌, ℕ, ◌⊎◌, List, Option, Some, None, inl, inr, sym, subst, ◌∙◌, arith, refl}
 use Rattle.verilog_tree.specs.declared.tree.Module.{Module}
 use Rattle.link_model.specs.declared.fault.LinkFault.{LinkFault}
 use Rattle.link_model.specs.Late.{IsLinkable}
@@ -12,7 +12,7 @@ use Rattle.scan_vectors.specs.Faults.{IsFault, first_fault}
 use Rattle.scan_vectors.specs.Exactly.{SpelledOnce, SpelledIsFaultless}
 use Rattle.event_scripts.specs.declared.fault.ScriptFault.{ScriptFault}
 use Rattle.event_scripts.specs.declared.fault.ScriptFault.TheVariants as script
-use Rattle.event_scripts.specs.Rules.{AreLegal, AreIllegalAt}
+use Rattle.event_scripts.specs.Rules.{AreLegal}
 use Rattle.event_scripts.specs.Laws.{LegalIsNotIllegal}
 use Rattle.command_faults.specs.declared.fault.Fault.{Fault}
 use Rattle.command_faults.specs.declared.fault.Fault.TheVariants as fault
@@ -58,7 +58,7 @@ script_memory laws limit (script.EventIllegal number) net events ok bad =
 script_memory laws limit script.OutOfMemory net events ok bad = refl
 
 -- words that simulate convert nothing, and say both names
-of_both : (words : List (List ℕ)) (held : List ℕ → Option (List ℕ)) (limit : ℕ) (Risen SinkRisen : Type 0) (f : Fault) (netlist events net text : List ℕ) → SimForm words netlist events
+of_both : (words : List (List ℕ)) (held : List ℕ → Option (List ℕ)) (limit : ℕ) (Risen : List ℕ → Type 0) (SinkRisen : Type 0) (f : Fault) (netlist events net text : List ℕ) → SimForm words netlist events
     → held netlist ≡ Some net → held events ≡ Some text
     → OfConvert words (λ d i o. StandsInConvert d i o (held i) limit Risen f) ⊎ OfSim words (λ n e. StandsInSim n e (held n) (held e) limit Risen SinkRisen f)
     → StandsInSim netlist events (Some net) (Some text) limit Risen SinkRisen f
@@ -71,34 +71,34 @@ of_both words held limit Risen SinkRisen f netlist events net text form told tol
     (subst (λ (w : List ℕ). StandsInSim netlist w (held netlist) (held w) limit Risen SinkRisen f) second
     (subst (λ (w : List ℕ). StandsInSim w e (held w) (held e) limit Risen SinkRisen f) first stands)))
 
-pub only_memory_sim : Laws → (words : List (List ℕ)) (held : List ℕ → Option (List ℕ)) (limit : ℕ) (Risen SinkRisen : Type 0) (f : Fault) (netlist events net text : List ℕ)
-    → SimForm words netlist events → held netlist ≡ Some net → held events ≡ Some text → IsSimulable limit net text → (Risen → ⊥) → (SinkRisen → ⊥)
+pub only_memory_sim : Laws → (words : List (List ℕ)) (held : List ℕ → Option (List ℕ)) (limit : ℕ) (Risen : List ℕ → Type 0) (SinkRisen : Type 0) (f : Fault) (netlist events net text : List ℕ)
+    → SimForm words netlist events → held netlist ≡ Some net → held events ≡ Some text → IsSimulable limit net text → (Risen netlist → ⊥) → (Risen events → ⊥) → (SinkRisen → ⊥)
     → Stands words held limit Risen SinkRisen f → status_of f ≡ status.Memory
-only_memory_sim laws words held limit Risen SinkRisen fault.Usage n e net text form told too ok calm still stands = absurd (stands.sim n e form)
-only_memory_sim laws words held limit Risen SinkRisen (fault.SameName name) n e net text form told too ok calm still stands =
+only_memory_sim laws words held limit Risen SinkRisen fault.Usage n e net text form told too ok calm calm_too still stands = absurd (stands.sim n e form)
+only_memory_sim laws words held limit Risen SinkRisen (fault.SameName name) n e net text form told too ok calm calm_too still stands =
     absurd (no_sim words stands.0 name.now name.now n e stands.1 form)
-only_memory_sim laws words held limit Risen SinkRisen (fault.ReadFault name) n e net text form told too ok calm still stands =
-    absurd (calm (rose (of_both words held limit Risen SinkRisen (fault.ReadFault name) n e net text form told too stands)))
+only_memory_sim laws words held limit Risen SinkRisen (fault.ReadFault name) n e net text form told too ok calm calm_too still stands =
+    absurd (rose (of_both words held limit Risen SinkRisen (fault.ReadFault name) n e net text form told too stands))
   where
-    rose : StandsInSim n e (Some net) (Some text) limit Risen SinkRisen (fault.ReadFault name) → Risen
-    rose (inl (same, risen)) = risen
-    rose (inr (same, risen, short)) = risen
-only_memory_sim laws words held limit Risen SinkRisen (fault.TooLong name) n e net text form told too ok calm still stands =
+    rose : StandsInSim n e (Some net) (Some text) limit Risen SinkRisen (fault.ReadFault name) → ⊥
+    rose (inl (same, risen)) = calm risen
+    rose (inr (same, risen, short)) = calm_too risen
+only_memory_sim laws words held limit Risen SinkRisen (fault.TooLong name) n e net text form told too ok calm calm_too still stands =
     absurd (too_long (of_both words held limit Risen SinkRisen (fault.TooLong name) n e net text form told too stands))
   where
     too_long : StandsInSim n e (Some net) (Some text) limit Risen SinkRisen (fault.TooLong name) → ⊥
     too_long (inl (same, long)) = omega (arith, long, ok.short)
     too_long (inr (same, long, short)) = omega (arith, long, ok.short_events)
-only_memory_sim laws words held limit Risen SinkRisen (fault.Netlist f) n e net text form told too ok calm still stands =
+only_memory_sim laws words held limit Risen SinkRisen (fault.Netlist f) n e net text form told too ok calm calm_too still stands =
     module_memory Canon net f (ok.tree, ok.spells) (of_both words held limit Risen SinkRisen (fault.Netlist f) n e net text form told too stands).stands
-only_memory_sim laws words held limit Risen SinkRisen (fault.Link f) n e net text form told too ok calm still stands =
+only_memory_sim laws words held limit Risen SinkRisen (fault.Link f) n e net text form told too ok calm calm_too still stands =
     has_link_memory laws.links limit f net text ok (of_both words held limit Risen SinkRisen (fault.Link f) n e net text form told too stands).stands
-only_memory_sim laws words held limit Risen SinkRisen (fault.Events f) n e net text form told too ok calm still stands =
+only_memory_sim laws words held limit Risen SinkRisen (fault.Events f) n e net text form told too ok calm calm_too still stands =
     event_memory laws.faultless text ok.lines f (laws.faultless text ok.lines ok.spells_lines) (of_both words held limit Risen SinkRisen (fault.Events f) n e net text form told too stands).stands.1
-only_memory_sim laws words held limit Risen SinkRisen (fault.Script f) n e net text form told too ok calm still stands =
+only_memory_sim laws words held limit Risen SinkRisen (fault.Script f) n e net text form told too ok calm calm_too still stands =
     script_memory laws limit f net text ok (of_both words held limit Risen SinkRisen (fault.Script f) n e net text form told too stands).stands
-only_memory_sim laws words held limit Risen SinkRisen (fault.Device f) n e net text form told too ok calm still stands =
+only_memory_sim laws words held limit Risen SinkRisen (fault.Device f) n e net text form told too ok calm calm_too still stands =
     absurd (of_both words held limit Risen SinkRisen (fault.Device f) n e net text form told too stands)
-only_memory_sim laws words held limit Risen SinkRisen (fault.WriteFault name) n e net text form told too ok calm still stands =
+only_memory_sim laws words held limit Risen SinkRisen (fault.WriteFault name) n e net text form told too ok calm calm_too still stands =
     absurd (still ((of_both words held limit Risen SinkRisen (fault.WriteFault name) n e net text form told too stands).stands.1))
-only_memory_sim laws words held limit Risen SinkRisen fault.OutOfMemory n e net text form told too ok calm still stands = refl
+only_memory_sim laws words held limit Risen SinkRisen fault.OutOfMemory n e net text form told too ok calm calm_too still stands = refl

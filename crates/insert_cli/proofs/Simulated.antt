@@ -1,6 +1,6 @@
 -- What is known of `sim` from its parts.
-use Rattle.std.proofs.Common.{◌≡◌, ℕ, Result, Ok, Err, OnOk, OnErr, ◌<◌, ◌≤◌, ◌⊎◌, List, length, take, Option, Some, None, inl, inr, sym, subst}
-use Rattle.edge_io.specs.Shelf.{Rose, WhereTold, appended}
+use Rattle.std.proofs.Common.{◌≡◌, ℕ, Result, Ok, Err, OnOk, OnErr, ◌≤◌, ◌⊎◌, List, length, Option, Some, None, inl, inr, subst}
+use Rattle.edge_io.specs.Shelf.{WhereTold, appended}
 use Rattle.command_faults.specs.declared.fault.Fault.{Fault}
 use Rattle.command_faults.specs.declared.fault.Fault.TheVariants as fault
 use Rattle.command_faults.specs.declared.status.Status.{Status}
@@ -14,7 +14,7 @@ use Rattle.event_scripts.specs.declared.script.ScriptLine.{ScriptLine}
 use Rattle.event_scripts.specs.Scripts.{IsResolved}
 use Rattle.sim_runs.specs.Outputs.{IsOutput}
 use Rattle.insert_cli.specs.Commands.{SimForm}
-use Rattle.insert_cli.specs.Causes.{StandsInReading, Stands, Gave, OfConvert, OfSim}
+use Rattle.insert_cli.specs.Causes.{StandsInReading, Stands, Gave, OfSim}
 use Rattle.insert_cli.specs.Simulations.{IsSimulation, run_status}
 use Rattle.insert_cli.specs.SimFaults.{StandsInTexts, StandsInSim, StandsWithin, WhereBothTold, IsPlayed, IsPlayedInPart, GaveFront, GaveInSim}
 use Rattle.insert_cli.proofs.Told.{IsTold, told_as}
@@ -33,7 +33,7 @@ both_map (Some bytes) (Some more) P Q f holds = f bytes more holds
 
 -- Reading.
 
-pub net_unread : (netlist events : List ℕ) (told events_told : Option (List ℕ)) (limit : ℕ) (Risen SinkRisen : Type 0) (f : Fault) → StandsInReading netlist told limit Risen f
+pub net_unread : (netlist events : List ℕ) (told events_told : Option (List ℕ)) (limit : ℕ) (Risen : List ℕ → Type 0) (SinkRisen : Type 0) (f : Fault) → StandsInReading netlist told limit (Risen netlist) f
     → StandsInSim netlist events told events_told limit Risen SinkRisen f
 net_unread netlist events told events_told limit Risen SinkRisen fault.Usage stands = stands
 net_unread netlist events told events_told limit Risen SinkRisen (fault.SameName name) stands = stands
@@ -47,8 +47,8 @@ net_unread netlist events told events_told limit Risen SinkRisen (fault.Device f
 net_unread netlist events told events_told limit Risen SinkRisen (fault.WriteFault name) stands = absurd stands
 net_unread netlist events told events_told limit Risen SinkRisen fault.OutOfMemory stands = tt
 
-pub events_unread : (netlist events : List ℕ) (told events_told : Option (List ℕ)) (limit : ℕ) (Late Risen SinkRisen : Type 0) (f : Fault) (net : List ℕ) → WhereTold told (IsTold net) → length net ≤ limit
-    → (Late → Risen) → StandsInReading events events_told limit Late f → StandsInSim netlist events told events_told limit Risen SinkRisen f
+pub events_unread : (netlist events : List ℕ) (told events_told : Option (List ℕ)) (limit : ℕ) (Late : Type 0) (Risen : List ℕ → Type 0) (SinkRisen : Type 0) (f : Fault) (net : List ℕ) → WhereTold told (IsTold net) → length net ≤ limit
+    → (Late → Risen events) → StandsInReading events events_told limit Late f → StandsInSim netlist events told events_told limit Risen SinkRisen f
 events_unread netlist events told events_told limit Late Risen SinkRisen fault.Usage net is short later stands = stands
 events_unread netlist events told events_told limit Late Risen SinkRisen (fault.SameName name) net is short later stands = stands
 events_unread netlist events told events_told limit Late Risen SinkRisen (fault.ReadFault name) net is short later stands =
@@ -77,7 +77,7 @@ within : (limit : ℕ) (net_told events_told : Option (List ℕ)) (net events : 
 within limit net_told events_told net events Risen f read stands =
     both_told net_told events_told net events (StandsWithin limit Risen f) read.net_is read.events_are (record { short = read.short; short_events = read.short_events; stands = stands })
 
-pub texts_stand : (netlist events : List ℕ) (net_told events_told : Option (List ℕ)) (limit : ℕ) (Risen SinkRisen : Type 0) (f : Fault) (net text : List ℕ)
+pub texts_stand : (netlist events : List ℕ) (net_told events_told : Option (List ℕ)) (limit : ℕ) (Risen : List ℕ → Type 0) (SinkRisen : Type 0) (f : Fault) (net text : List ℕ)
     → AreRead limit net_told events_told net text → StandsInTexts net text SinkRisen f → StandsInSim netlist events net_told events_told limit Risen SinkRisen f
 texts_stand netlist events net_told events_told limit Risen SinkRisen fault.Usage net text read stands = stands
 texts_stand netlist events net_told events_told limit Risen SinkRisen (fault.SameName name) net text read stands = stands
@@ -106,7 +106,7 @@ texts_gave limit net_told events_told net events f before after read (inr (faile
 
 -- The command.
 
-pub sim_stands : (words : List (List ℕ)) (held : List ℕ → Option (List ℕ)) (limit : ℕ) (Risen SinkRisen : Type 0) (f : Fault) (netlist events : List ℕ) → SimForm words netlist events
+pub sim_stands : (words : List (List ℕ)) (held : List ℕ → Option (List ℕ)) (limit : ℕ) (Risen : List ℕ → Type 0) (SinkRisen : Type 0) (f : Fault) (netlist events : List ℕ) → SimForm words netlist events
     → StandsInSim netlist events (held netlist) (held events) limit Risen SinkRisen f → Stands words held limit Risen SinkRisen f
 sim_stands words held limit Risen SinkRisen fault.Usage netlist events form stands = absurd stands
 sim_stands words held limit Risen SinkRisen (fault.SameName name) netlist events form stands = absurd stands
@@ -146,7 +146,7 @@ both_later net_told events_told limit A B f later stands =
     both_map net_told events_told (StandsWithin limit A f) (StandsWithin limit B f)
     (λ n e s. record { short = s.short; short_events = s.short_events; stands = texts_later n e A B f later s.stands }) stands
 
-sim_later : (netlist events : List ℕ) (net_told events_told : Option (List ℕ)) (limit : ℕ) (Risen A B : Type 0) (f : Fault) → (A → B) → StandsInSim netlist events net_told events_told limit Risen A f
+sim_later : (netlist events : List ℕ) (net_told events_told : Option (List ℕ)) (limit : ℕ) (Risen : List ℕ → Type 0) (A B : Type 0) (f : Fault) → (A → B) → StandsInSim netlist events net_told events_told limit Risen A f
     → StandsInSim netlist events net_told events_told limit Risen B f
 sim_later netlist events net_told events_told limit Risen A B fault.Usage later stands = stands
 sim_later netlist events net_told events_told limit Risen A B (fault.SameName name) later stands = stands
@@ -160,12 +160,12 @@ sim_later netlist events net_told events_told limit Risen A B (fault.Device f) l
 sim_later netlist events net_told events_told limit Risen A B (fault.WriteFault name) later stands = both_later net_told events_told limit A B (fault.WriteFault name) later stands
 sim_later netlist events net_told events_told limit Risen A B fault.OutOfMemory later stands = stands
 
-either_later : (words : List (List ℕ)) (held : List ℕ → Option (List ℕ)) (limit : ℕ) (Risen A B C : Type 0) (f : Fault) → (A → B)
+either_later : (words : List (List ℕ)) (held : List ℕ → Option (List ℕ)) (limit : ℕ) (Risen : List ℕ → Type 0) (A B C : Type 0) (f : Fault) → (A → B)
     → C ⊎ OfSim words (λ n e. StandsInSim n e (held n) (held e) limit Risen A f) → C ⊎ OfSim words (λ n e. StandsInSim n e (held n) (held e) limit Risen B f)
 either_later words held limit Risen A B C f later (inl stands) = inl stands
 either_later words held limit Risen A B C f later (inr (n, (e, (form, stands)))) = inr (n, (e, (form, sim_later n e (held n) (held e) limit Risen A B f later stands)))
 
-pub stands_later : (words : List (List ℕ)) (held : List ℕ → Option (List ℕ)) (limit : ℕ) (Risen A B : Type 0) (f : Fault) → (A → B) → Stands words held limit Risen A f → Stands words held limit Risen B f
+pub stands_later : (words : List (List ℕ)) (held : List ℕ → Option (List ℕ)) (limit : ℕ) (Risen : List ℕ → Type 0) (A B : Type 0) (f : Fault) → (A → B) → Stands words held limit Risen A f → Stands words held limit Risen B f
 stands_later words held limit Risen A B fault.Usage later stands = stands
 stands_later words held limit Risen A B (fault.SameName name) later stands = stands
 stands_later words held limit Risen A B (fault.ReadFault name) later stands = either_later words held limit Risen A B _ (fault.ReadFault name) later stands

@@ -1,5 +1,5 @@
 -- What is told of a text that was read, converted and written.
-use Rattle.std.proofs.Common.{◌≡◌, ℕ, ◌≤◌, ◌+◌, ◌-◌, ◌^◌, min, List, length, take, Option, Some, None, Bool, ◌⊎◌, inl, inr, sym, ap, subst, ◌∙◌, arith}
+use Rattle.std.proofs.Common.{◌≡◌, ℕ, ◌≤◌, List, length, take, Option, Some, None, Bool, ◌⊎◌, inl, inr, ap, subst, ◌∙◌, arith}
 use Rattle.edge_io.specs.Shelf.{Rose, WhereTold, told_if}
 use Rattle.insert_cli.specs.declared.command.Conversion.{Conversion}
 use Rattle.insert_cli.specs.declared.command.Conversion.TheVariants.{Canon, ShowBsdl}

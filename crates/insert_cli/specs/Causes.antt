@@ -37,18 +37,18 @@ abbrev pub IsDeviceFault : Conversion → DeviceTextFault → List ℕ → Type 
 IsDeviceFault Canon f bytes = ⊥
 IsDeviceFault ShowBsdl f bytes = IsDeviceTextFault bytes f
 
--- The fault stands in a conversion, from what is told of the input and whether the shelf's count of faults rose.
-abbrev pub StandsInConvert : Conversion → List ℕ → List ℕ → Option (List ℕ) → ℕ → Type 0 → Fault → Type 0
+-- The fault stands in a conversion, from what is told of the input and whose counts of faults rose.
+abbrev pub StandsInConvert : Conversion → List ℕ → List ℕ → Option (List ℕ) → ℕ → (List ℕ → Type 0) → Fault → Type 0
 StandsInConvert c input output told limit Risen fault.Usage = ⊥
 StandsInConvert c input output told limit Risen (fault.SameName name) = ⊥
-StandsInConvert c input output told limit Risen (fault.ReadFault name) = (name.now ≡ input) × Risen
+StandsInConvert c input output told limit Risen (fault.ReadFault name) = (name.now ≡ input) × Risen input
 StandsInConvert c input output told limit Risen (fault.TooLong name) = (name.now ≡ input) × WhereTold told (λ bytes. limit < length bytes)
 StandsInConvert c input output told limit Risen (fault.Netlist f) = WhereTold told (Within limit (IsModuleFault c f))
 StandsInConvert c input output told limit Risen (fault.Link f) = ⊥
 StandsInConvert c input output told limit Risen (fault.Events f) = ⊥
 StandsInConvert c input output told limit Risen (fault.Script f) = ⊥
 StandsInConvert c input output told limit Risen (fault.Device f) = WhereTold told (Within limit (IsDeviceFault c f))
-StandsInConvert c input output told limit Risen (fault.WriteFault name) = (name.now ≡ output) × WhereTold told (IsAccepted c limit) × Risen
+StandsInConvert c input output told limit Risen (fault.WriteFault name) = (name.now ≡ output) × WhereTold told (IsAccepted c limit) × Risen output
 StandsInConvert c input output told limit Risen fault.OutOfMemory = Unit {0}
 
 -- what a conversion runs on: two different names, and the fact of them
@@ -59,8 +59,8 @@ OfConvert words P = (c : Conversion) × ((input : List ℕ) × ((output : List �
 abbrev pub OfSim : List (List ℕ) → (List ℕ → List ℕ → Type 0) → Type 0
 OfSim words P = (netlist : List ℕ) × ((events : List ℕ) × (SimForm words netlist events × P netlist events))
 
--- The fault stands for these words, from what a shelf holds, and whether the counts of the shelf and of the sink rose.
-abbrev pub Stands : List (List ℕ) → (List ℕ → Option (List ℕ)) → ℕ → Type 0 → Type 0 → Fault → Type 0
+-- The fault stands for these words, from what a shelf holds, under which names its counts rose, and whether the sink's count rose.
+abbrev pub Stands : List (List ℕ) → (List ℕ → Option (List ℕ)) → ℕ → (List ℕ → Type 0) → Type 0 → Fault → Type 0
 Stands words held limit Risen SinkRisen fault.Usage = IsNoCommand words
 Stands words held limit Risen SinkRisen (fault.SameName name) = (c : Conversion) × ConvertForm words c name.now name.now
 Stands words held limit Risen SinkRisen fault =

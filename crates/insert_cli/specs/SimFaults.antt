@@ -63,15 +63,15 @@ pub record StandsWithin (limit : ℕ) (Risen : Type 0) (f : Fault) (net events :
   pub short_events : length events ≤ limit
   pub stands : StandsInTexts net events Risen f
 
--- The fault stands in `sim`, from what is told of both texts and whether the counts of the shelf and of the sink rose. The events
--- are read only after a netlist that isn't too long.
-abbrev pub StandsInSim : List ℕ → List ℕ → Option (List ℕ) → Option (List ℕ) → ℕ → Type 0 → Type 0 → Fault → Type 0
+-- The fault stands in `sim`, from what is told of both texts, under which names the shelf's counts rose, and whether the sink's
+-- count rose. The events are read only after a netlist that isn't too long.
+abbrev pub StandsInSim : List ℕ → List ℕ → Option (List ℕ) → Option (List ℕ) → ℕ → (List ℕ → Type 0) → Type 0 → Fault → Type 0
 StandsInSim netlist events net_told events_told limit Risen SinkRisen fault.Usage = ⊥
 StandsInSim netlist events net_told events_told limit Risen SinkRisen (fault.SameName name) = ⊥
 StandsInSim netlist events net_told events_told limit Risen SinkRisen (fault.Device f) = ⊥
 StandsInSim netlist events net_told events_told limit Risen SinkRisen fault.OutOfMemory = Unit {0}
 StandsInSim netlist events net_told events_told limit Risen SinkRisen (fault.ReadFault name) =
-    ((name.now ≡ netlist) × Risen) ⊎ ((name.now ≡ events) × Risen × WhereTold net_told (λ bytes. length bytes ≤ limit))
+    ((name.now ≡ netlist) × Risen netlist) ⊎ ((name.now ≡ events) × Risen events × WhereTold net_told (λ bytes. length bytes ≤ limit))
 StandsInSim netlist events net_told events_told limit Risen SinkRisen (fault.TooLong name) =
     ((name.now ≡ netlist) × WhereTold net_told (λ bytes. limit < length bytes))
     ⊎ ((name.now ≡ events) × WhereTold events_told (λ bytes. limit < length bytes) × WhereTold net_told (λ bytes. length bytes ≤ limit))

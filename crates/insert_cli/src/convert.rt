@@ -1,5 +1,5 @@
 ghost use Rattle.std.specs.Prelude.{◌≡◌, ◌≢◌, ◌≤◌, ℕ, List, IfErr, IfOk, OnOk};
-ghost use Rattle.edge_io.specs.Shelf.{Rose, SameTold, WhereTold};
+ghost use Rattle.edge_io.specs.Shelf.{NoneFell, RoseAt, SameTold, WhereTold};
 ghost use Rattle.command_faults.specs.Statuses.{status_of};
 ghost use Rattle.command_faults.specs.declared.status.Status.{Status};
 ghost use Rattle.insert_cli.specs.Causes.{StandsInConvert, IsWritten, IsCutShort, IsModuleFault, IsDeviceFault};
@@ -60,7 +60,7 @@ pub fn convert<'a, S: Shelf>(
     output: &'a str,
 ) -> Result<(), Fault<'a>>
     ensures done { OnOk result (WhereTold (S.held shelf.old input.now) (IsWritten conversion text_limit S.tells (S.written shelf.new output.now))) }
-    ensures fault { IfErr result (StandsInConvert conversion input.now output.now (S.held shelf.old input.now) text_limit (Rose (S.faults shelf.old) (S.faults shelf.new))) }
+    ensures fault { IfErr result (StandsInConvert conversion input.now output.now (S.held shelf.old input.now) text_limit (RoseAt (S.faults shelf.old) (S.faults shelf.new))) }
 
     // Only a write that failed leaves anything changed, and only under the output's name.
     ensures unwritten { IfErr result (λ fault. (status_of fault ≢ Status.WriteFault) → SameTold (S.written shelf.old) (S.written shelf.new)) }
@@ -68,7 +68,7 @@ pub fn convert<'a, S: Shelf>(
         → IsCutShort conversion S.tells (S.held shelf.old input.now) (S.written shelf.old output.now) (S.written shelf.new output.now)) }
     ensures others { (name : List ℕ) → name ≢ output.now → S.written shelf.new name ≡ S.written shelf.old name }
     ensures held { SameTold (S.held shelf.old) (S.held shelf.new) }
-    ensures later { S.faults shelf.old ≤ S.faults shelf.new }
+    ensures later { NoneFell (S.faults shelf.old) (S.faults shelf.new) }
 {
     let text = read_text(alloc, shelf, input)?;
     let printed = converted(alloc, conversion, text)?;

@@ -1,5 +1,5 @@
 ghost use Rattle.std.specs.Prelude.{◌≡◌, ◌≤◌, length, IfErr, IfOk};
-ghost use Rattle.edge_io.specs.Shelf.{Rose, SameTold, WhereTold};
+ghost use Rattle.edge_io.specs.Shelf.{NoneFell, RoseAt, SameTold, WhereTold};
 ghost use Rattle.insert_cli.specs.Causes.{StandsInReading};
 ghost use Rattle.insert_cli.specs.Commands.{text_limit};
 
@@ -20,10 +20,10 @@ pub fn read_text<'a, S: Shelf>(
 ) -> Result<Text, Fault<'a>>
     ensures ok { IfOk result (λ text. WhereTold (S.held shelf.old name.now) (λ bytes. text ≡ bytes)) }
     ensures within { IfOk result (λ text. length text ≤ text_limit) }
-    ensures fault { IfErr result (StandsInReading name.now (S.held shelf.old name.now) text_limit (Rose (S.faults shelf.old) (S.faults shelf.new))) }
+    ensures fault { IfErr result (StandsInReading name.now (S.held shelf.old name.now) text_limit (RoseAt (S.faults shelf.old) (S.faults shelf.new) name.now)) }
     ensures held { SameTold (S.held shelf.old) (S.held shelf.new) }
     ensures written { SameTold (S.written shelf.old) (S.written shelf.new) }
-    ensures later { S.faults shelf.old ≤ S.faults shelf.new }
+    ensures later { NoneFell (S.faults shelf.old) (S.faults shelf.new) }
 {
     match read_whole(alloc, shelf, name, LIMIT) {
         Ok(text) => Ok(text),

@@ -1,5 +1,5 @@
 ghost use Rattle.std.specs.Prelude.{◌≡◌, ◌≤◌, ℕ, List, length, IfOk, IfErr};
-ghost use Rattle.edge_io.specs.Shelf.{Rose, SameTold, WhereTold, appended};
+ghost use Rattle.edge_io.specs.Shelf.{NoneFell, Rose, RoseAt, SameTold, WhereTold, appended};
 ghost use Rattle.verilog_tree.specs.declared.tree.Module.{Module};
 ghost use Rattle.verilog_texts.specs.Reading.{IsReadAs};
 ghost use Rattle.netlist_link.specs.Links.{IsLinkOf};
@@ -102,12 +102,12 @@ pub fn simulate<'a, S: Shelf, O: Sink>(
     ensures done { IfOk result (λ status. WhereBothTold (S.held shelf.old netlist.now) (S.held shelf.old events.now)
         (IsPlayed text_limit status (O.given out.old) (O.given out.new))) }
     ensures fault { IfErr result (StandsInSim netlist.now events.now (S.held shelf.old netlist.now) (S.held shelf.old events.now) text_limit
-        (Rose (S.faults shelf.old) (S.faults shelf.new)) (Rose (O.faults out.old) (O.faults out.new))) }
+        (RoseAt (S.faults shelf.old) (S.faults shelf.new)) (Rose (O.faults out.old) (O.faults out.new))) }
     ensures front { IfErr result (λ fault. GaveInSim (S.held shelf.old netlist.now) (S.held shelf.old events.now) fault (O.given out.old) (O.given out.new)) }
     ensures ended { IfOk result IsEnd }
     ensures held { SameTold (S.held shelf.old) (S.held shelf.new) }
     ensures written { SameTold (S.written shelf.old) (S.written shelf.new) }
-    ensures later { S.faults shelf.old ≤ S.faults shelf.new }
+    ensures later { NoneFell (S.faults shelf.old) (S.faults shelf.new) }
     ensures puts_later { O.faults out.old ≤ O.faults out.new }
 {
     let net = match read_text(alloc, shelf, netlist) {

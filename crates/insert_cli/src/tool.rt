@@ -1,5 +1,5 @@
 ghost use Rattle.std.specs.Prelude.{◌≡◌, ◌≢◌, ◌≤◌, ◌⊎◌, ℕ, List, Some, IfErr, IfOk};
-ghost use Rattle.edge_io.specs.Shelf.{Rose, SameTold, WhereTold};
+ghost use Rattle.edge_io.specs.Shelf.{NoneFell, Rose, RoseAt, SameTold, WhereTold};
 ghost use Rattle.command_faults.specs.Statuses.{status_of};
 ghost use Rattle.command_faults.specs.declared.fault.Fault.{Fault};
 ghost use Rattle.command_faults.specs.declared.status.Status.{Status};
@@ -31,7 +31,7 @@ fn run<'a, S: Shelf, O: Sink>(
         ⊎ OfSim words.now (λ netlist events. WhereBothTold (S.held shelf.old netlist) (S.held shelf.old events)
         (IsPlayed text_limit status (O.given out.old) (O.given out.new)))) }
     ensures ended { IfOk result IsEnd }
-    ensures fault { IfErr result (Stands words.now (S.held shelf.old) text_limit (Rose (S.faults shelf.old) (S.faults shelf.new)) (Rose (O.faults out.old) (O.faults out.new))) }
+    ensures fault { IfErr result (Stands words.now (S.held shelf.old) text_limit (RoseAt (S.faults shelf.old) (S.faults shelf.new)) (Rose (O.faults out.old) (O.faults out.new))) }
     ensures gave { IfErr result (λ fault. Gave words.now (S.held shelf.old) fault (O.given out.old) (O.given out.new)) }
     ensures unwritten { IfErr result (λ fault. (status_of fault ≢ Status.WriteFault) → SameTold (S.written shelf.old) (S.written shelf.new)) }
     ensures cut_short { IfErr result (λ fault. (status_of fault ≡ Status.WriteFault)
@@ -39,7 +39,7 @@ fn run<'a, S: Shelf, O: Sink>(
         → IsCutShort c S.tells (S.held shelf.old input) (S.written shelf.old output) (S.written shelf.new output)) }
     ensures others { (name : List ℕ) → (Writes words.now name → ⊥) → S.written shelf.new name ≡ S.written shelf.old name }
     ensures held { SameTold (S.held shelf.old) (S.held shelf.new) }
-    ensures later { S.faults shelf.old ≤ S.faults shelf.new }
+    ensures later { NoneFell (S.faults shelf.old) (S.faults shelf.new) }
     ensures puts_later { O.faults out.old ≤ O.faults out.new }
 {
     let Some(command) = command_of(words) else {
@@ -79,7 +79,7 @@ pub fn run_tool<S: Shelf, O: Sink>(
     // Any other status has a fault that stands, and the sink got its line; before it only a simulation whose giving failed put a
     // front of its text.
     ensures fault { (IsEnd result → ⊥) → (fault : Fault) × (status_of fault ≡ result)
-        × Stands words.now (S.held shelf.old) text_limit (Rose (S.faults shelf.old) (S.faults shelf.new)) (Rose (O.faults out.old) (O.faults out.new)) fault
+        × Stands words.now (S.held shelf.old) text_limit (RoseAt (S.faults shelf.old) (S.faults shelf.new)) (Rose (O.faults out.old) (O.faults out.new)) fault
         × GivesLine words.now (S.held shelf.old) fault (O.given out.old) (O.given out.new) (O.faults out.old) (O.faults out.new) }
 
     // Only a write that failed leaves anything changed, and only under the output's name.
@@ -89,13 +89,16 @@ pub fn run_tool<S: Shelf, O: Sink>(
     ensures others { (name : List ℕ) → (Writes words.now name → ⊥) → S.written shelf.new name ≡ S.written shelf.old name }
     ensures held { SameTold (S.held shelf.old) (S.held shelf.new) }
 
-    // Where no fault stands in the words and the texts, and no count of faults rises, the command comes to its end, or wants memory.
+    // Where no fault stands in the words and the texts, and the counts of faults of the command's own names and of the sink don't
+    // rise, the command comes to its end, or wants memory.
     ensures complete { (c : Conversion) (input output bytes : List ℕ) → RunsConvert words.now c input output → S.held shelf.old input ≡ Some bytes → IsAccepted c text_limit bytes
-        → (Rose (S.faults shelf.old) (S.faults shelf.new) → ⊥) → (result ≡ Status.Done) ⊎ (result ≡ Status.Memory) }
+        → (RoseAt (S.faults shelf.old) (S.faults shelf.new) input → ⊥) → (RoseAt (S.faults shelf.old) (S.faults shelf.new) output → ⊥)
+        → (result ≡ Status.Done) ⊎ (result ≡ Status.Memory) }
     ensures complete_sim { (netlist events net text : List ℕ) → SimForm words.now netlist events → S.held shelf.old netlist ≡ Some net → S.held shelf.old events ≡ Some text
-        → IsSimulable text_limit net text → (Rose (S.faults shelf.old) (S.faults shelf.new) → ⊥) → (Rose (O.faults out.old) (O.faults out.new) → ⊥)
+        → IsSimulable text_limit net text → (RoseAt (S.faults shelf.old) (S.faults shelf.new) netlist → ⊥) → (RoseAt (S.faults shelf.old) (S.faults shelf.new) events → ⊥)
+        → (Rose (O.faults out.old) (O.faults out.new) → ⊥)
         → IsEnd result ⊎ (result ≡ Status.Memory) }
-    ensures later { S.faults shelf.old ≤ S.faults shelf.new }
+    ensures later { NoneFell (S.faults shelf.old) (S.faults shelf.new) }
     ensures puts_later { O.faults out.old ≤ O.faults out.new }
 {
     faults_stand_apart();

@@ -1,8 +1,6 @@
-use Rattle.std.proofs.Common.{◌≡◌, ℕ, List, [], ◌∷◌, ◌++◌, Option, Some, None, position, refl, sym, ◌∙◌, ap, subst}
+use Rattle.std.proofs.Common.{◌≡◌, Some, None, position, refl, sym, ◌∙◌, ap}
 use Rattle.std.specs.Str.{bytes_eq}
 use Rattle.edge_io.specs.Entries.{value_of}
-use Rattle.edge_io.specs.Shelf.{ChangesOne}
-use Rattle.edge_io.specs.declared.entries.Entry.{Entry}
 use Rattle.edge_io.proofs.Named.{value_of-set, value_of-push}
 use Rattle.edge_io.proofs.entries.set_value.Goals as goal
 

@@ -1,7 +1,6 @@
-use Rattle.std.proofs.Common.{◌≡◌, ◌++◌, ℕ, List, Option, Some, None, position, get_or, length, take, refl, sym, ap, ◌∙◌}
+use Rattle.std.proofs.Common.{◌≡◌, ◌++◌, ℕ, List, Option, Some, None, get_or, length, take, refl, sym, ap, ◌∙◌}
 use Rattle.std.specs.Prelude.{option_and_then, IfSome}
 use Rattle.std.specs.Option.{option_map}
-use Rattle.std.specs.Str.{bytes_eq}
 use Rattle.edge_io.specs.declared.outputs.Output.{Output}
 use Rattle.edge_io.specs.declared.entries.Entry.{Entry}
 use Rattle.edge_io.specs.Outputs.{bytes_if_started, written_in}

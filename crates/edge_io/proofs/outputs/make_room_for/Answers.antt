@@ -1,11 +1,9 @@
-use Rattle.std.proofs.Common.{◌≡◌, ◌++◌, ℕ, List, [], Option, Some, None, true, false, Bool, position, max, refl, sym, ap, subst, ◌∙◌}
+use Rattle.std.proofs.Common.{◌≡◌, ℕ, List, Option, Some, position, max, refl, sym, ap, ◌∙◌}
 use Rattle.std.specs.Prelude.{option_and_then, unwrap_or}
 use Rattle.std.specs.Option.{option_map}
 use Rattle.std.specs.Str.{bytes_eq}
 use Rattle.edge_io.specs.declared.outputs.Output.{Output}
 use Rattle.edge_io.specs.Outputs.{bytes_if_started}
-use Rattle.edge_io.specs.Reserved.{RoomedBytes}
-use Rattle.edge_io.specs.Entries.{value_of}
 use Rattle.edge_io.proofs.Named.{value_of-none, value_of-set}
 use Rattle.edge_io.proofs.Views.{ChangesOne-view, SameTold-view}
 use Rattle.edge_io.proofs.outputs.make_room_for.Goals as goal

@@ -1,4 +1,4 @@
-use Rattle.std.proofs.Common.{◌≡◌, ℕ, List, codes, sym, ◌∙◌, arith, subst}
+use Rattle.std.proofs.Common.{ℕ, List, codes, sym, ◌∙◌, arith, subst}
 use Rattle.std.specs.Bool.{IsFalse}
 use Rattle.std.specs.Cmp.Lexicographic.{bytes_decides}
 use Rattle.std.specs.List.{list_any}

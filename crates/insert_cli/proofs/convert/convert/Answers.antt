@@ -8,7 +8,8 @@ pub returns-in_default-clause-fault : goal.returns-in_default-clause-fault
 returns-in_default-clause-fault g c = (
   refl,
   accepted_told c.args.conversion text_limit (g.S.Shelf.held c.args.shelf.now c.args.input.now) c.in_ok-text.text c.in_ok-printed.printed c.in_ok-text.ensures.ok c.in_ok-text.ensures.within c.in_ok-printed.ensures.found,
-  rose_earlier (g.S.Shelf.faults c.args.shelf.now) (g.S.Shelf.faults c.read_text.new.shelf) (g.S.Shelf.faults c.write_whole.new.shelf) c.in_ok-text.ensures.later c.in_default.ensures.cause,
+  rose_earlier (g.S.Shelf.faults c.args.shelf.now c.args.output.now) (g.S.Shelf.faults c.read_text.new.shelf c.args.output.now) (g.S.Shelf.faults c.write_whole.new.shelf c.args.output.now)
+      (c.in_ok-text.ensures.later c.args.output.now) c.in_default.ensures.cause,
 )
 
 pub returns-in_default-clause-cut_short : goal.returns-in_default-clause-cut_short

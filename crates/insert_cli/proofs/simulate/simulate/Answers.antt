@@ -1,6 +1,6 @@
 use Rattle.std.proofs.Common.{List, ℕ, Option, subst}
 use Rattle.std.proofs.lemmas.Result.{IfOk-weaker, IfErr-weaker}
-use Rattle.edge_io.specs.Shelf.{WhereTold}
+use Rattle.edge_io.specs.Shelf.{Rose, RoseAt, WhereTold}
 use Rattle.insert_cli.specs.Commands.{text_limit}
 use Rattle.insert_cli.proofs.Told.{IsTold}
 use Rattle.insert_cli.proofs.Simulated.{AreRead, texts_stand, texts_played, texts_gave}
@@ -25,7 +25,8 @@ returns-clause-fault g c =
       short = c.in-Ok.ensures.within;
       short_events = c.in-Ok-read_text.ensures.within;
     } in
-    IfErr-weaker c.play_texts.result _ _ (λ fault s. texts_stand c.args.netlist.now c.args.events.now (g.S.Shelf.held c.args.shelf.now c.args.netlist.now) (g.S.Shelf.held c.args.shelf.now c.args.events.now) text_limit _ _ fault c.in-Ok.text c.in-Ok-read_text.text read s) c.play_texts.ensures.fault
+    IfErr-weaker c.play_texts.result _ _ (λ fault s. texts_stand c.args.netlist.now c.args.events.now (g.S.Shelf.held c.args.shelf.now c.args.netlist.now) (g.S.Shelf.held c.args.shelf.now c.args.events.now) text_limit
+    (RoseAt (g.S.Shelf.faults c.args.shelf.now) (g.S.Shelf.faults c.read_text-2.new.shelf)) (Rose (g.O.Sink.faults c.args.out.now) (g.O.Sink.faults c.play_texts.new.out)) fault c.in-Ok.text c.in-Ok-read_text.text read s) c.play_texts.ensures.fault
 
 pub returns-clause-front : goal.returns-clause-front
 returns-clause-front g c =
