@@ -5,7 +5,7 @@
 #![tactic(auto)]
 
 ghost use Rattle.std.specs.Prelude.{◌≡◌, length, IsTrue};
-ghost use Rattle.cell_library.specs.Gates.{is_two_state, is_three_state, operand_count_of, Takes, folded, gate_output, bufif_output};
+ghost use Rattle.cell_library.specs.Gates.{is_flop, is_two_state, is_three_state, operand_count_of, Takes, folded, gate_output, bufif_output};
 ghost use Rattle.cell_library.specs.Library.{kind_named, port_named};
 ghost use Rattle.cell_library.specs.Laws.{GatesKeepOrder, ThreeStateGatesKeepOrder, FlopsKeepOrder, KnownOperandsKnownOutput, NamesAreExact};
 ghost use Rattle.signal_values.specs.Values.{sig_and, sig_or, sig_xor};
@@ -166,6 +166,13 @@ pub fn port_of(kind: Kind, name: &[u8]) -> Option<PortPlace>
         },
         _ => None,
     }
+}
+
+/// Whether a cell of this kind keeps a value.
+pub fn is_flop(kind: Kind) -> bool
+    ensures { result ≡ is_flop kind }
+{
+    matches!(kind, Kind::Flop(_))
 }
 
 /// How many operands a cell has. None where 1 to 256 are allowed.

@@ -1,4 +1,4 @@
-ghost use Rattle.std.specs.Prelude.{◌≡◌, ◌<◌, ◌≤◌, ℕ, None, IfSome, false, length};
+ghost use Rattle.std.specs.Prelude.{◌≡◌, ◌<◌, ◌≤◌, ◌+◌, ◌-◌, ◌^◌, ℕ, None, IfSome, false, length, min};
 ghost use Rattle.edge_io.specs.Shelf.{raised};
 
 use crate::calls::one_more;
@@ -50,8 +50,10 @@ impl<R: Files> Drop for FileShelf<'_, R> {
 }
 
 impl<F: Read + Seek> Reading<F> {
+    // The next read goes on where this one ended.
     fn read_at(&mut self, at: u64, into: &mut [u8]) -> Option<usize>
-        ensures { IfSome result (λ n. n ≤ length into.new) }
+        ensures count { IfSome result (λ n. n ≤ length into.new) }
+        ensures place { IfSome result (λ n. self.new.at ≡ min (at + n) (2 ^ 64 - 1)) }
     {
         if self.at != at {
             self.file.seek(SeekFrom::Start(at)).ok()?;

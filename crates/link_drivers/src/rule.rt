@@ -1,12 +1,11 @@
 ghost use Rattle.std.specs.Prelude.{◌≡◌, ℕ, ◌<◌, IfOk, length};
 ghost use Rattle.std.specs.List.{zip};
 ghost use Rattle.link_model.specs.Lists.{first_in};
-ghost use Rattle.link_model.specs.Faults.{is_input as is_input_dir, is_output as is_output_dir, is_inout as is_inout_dir};
 ghost use Rattle.link_drivers.specs.Rules.{rules as driver_rules, wants_driver, is_broken, fault_named, broken};
 
 use crate::uses::NetUses;
 use edge_io::OutOfMemory;
-use link_model::{BitName, LinkFault, NetBit};
+use link_model::{BitName, LinkFault, NetBit, is_inout, is_input, is_output};
 use netlist_model::Dir;
 use std::alloc::Global;
 
@@ -88,24 +87,6 @@ fn needs_driver(dir: Option<Dir>, read: bool) -> bool
         Some(Dir::Input | Dir::Inout) => false,
         None => read,
     }
-}
-
-fn is_input(dir: Option<Dir>) -> bool
-    ensures { result ≡ is_input_dir dir }
-{
-    matches!(dir, Some(Dir::Input))
-}
-
-fn is_output(dir: Option<Dir>) -> bool
-    ensures { result ≡ is_output_dir dir }
-{
-    matches!(dir, Some(Dir::Output))
-}
-
-fn is_inout(dir: Option<Dir>) -> bool
-    ensures { result ≡ is_inout_dir dir }
-{
-    matches!(dir, Some(Dir::Inout))
 }
 
 fn fault_of(rule: Rule, bit: BitName) -> LinkFault

@@ -7,8 +7,9 @@ ghost use Rattle.link_order.specs.Drivers.{AreOrdered};
 ghost use Rattle.link_order.specs.Cones.{ConeOfMarked, drives_marked, flop_net, GateReadsMarked, IsClockNet, IsControlNet};
 ghost use Rattle.link_order.specs.Links.{feed_net};
 
-use crate::drivers::{is_flop, operand_net};
+use crate::drivers::operand_net;
 use crate::order::CellOrder;
+use cell_library::is_flop;
 use edge_io::{OutOfMemory, Row};
 use link_model::{ItemCell, NetBit};
 use net_cones::in_cones_of;

@@ -2,7 +2,7 @@ ghost use Rattle.std.specs.Prelude.{◌≡◌, ◌↔◌, ℕ, ◌<◌, None, So
 ghost use Rattle.net_cones.specs.Cone.{Marked};
 ghost use Rattle.link_model.specs.Fits.{FitCells, FitsCell};
 ghost use Rattle.link_model.specs.Nets.{declared_nets, declared_names, nets_in};
-ghost use Rattle.link_model.specs.Faults.{bit_name, cells_in, is_inout, text_fault};
+ghost use Rattle.link_model.specs.Faults.{bit_name, cells_in, text_fault};
 ghost use Rattle.link_model.specs.Late.{HasNoDerived, IsDerived};
 ghost use Rattle.link_model.specs.Lists.{first_in};
 ghost use Rattle.link_drivers.specs.Drivers.{HasItsDrivers};
@@ -11,13 +11,12 @@ ghost use Rattle.link_order.specs.Cones.{drives_inout, is_state_cell};
 ghost use Rattle.link_order.specs.Faults.{IsDerivedFault};
 ghost use Rattle.link_order.specs.Links.{control_net, found_link, found_net, is_found_net, operand_net};
 
-use crate::drivers::{is_flop, operand_net};
+use crate::drivers::operand_net;
 use crate::order::CellOrder;
-use cell_library::{PortPlace, port_of};
+use cell_library::{PortPlace, is_flop, port_of};
 use edge_io::{OutOfMemory, Row, Text};
-use link_model::{ItemCell, LinkFault, NetBit};
+use link_model::{ItemCell, LinkFault, NetBit, is_inout};
 use net_cones::cones_holding;
-use netlist_model::Dir;
 use std::alloc::Global;
 use verilog_tree::{Item, Link, Module};
 
@@ -116,12 +115,6 @@ fn drives_inout(nets: &[NetBit], cell: &ItemCell) -> bool
         Some(net) => is_inout(nets[net.0 as usize].dir()),
         None => false,
     }
-}
-
-fn is_inout(dir: Option<Dir>) -> bool
-    ensures { result ≡ is_inout dir }
-{
-    matches!(dir, Some(Dir::Inout))
 }
 
 // The net of the first link of the cell's clock, clear or preset whose driver is found.

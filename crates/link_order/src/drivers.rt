@@ -1,24 +1,16 @@
 ghost use Rattle.std.specs.Prelude.{◌≡◌, ◌≤◌, ◌^◌, [], length, map, filter_map, IfOk, OnOk};
-ghost use Rattle.cell_library.specs.Gates.{is_flop};
 ghost use Rattle.netlist_model.specs.Below.{AreFeedsBelow, IsFeedBelow};
 ghost use Rattle.link_model.specs.Fits.{FitCells, FitsCell};
 ghost use Rattle.link_drivers.specs.Drivers.{HasItsDrivers};
 ghost use Rattle.link_order.specs.Drivers.{cell_reads, feed_driver, IsDriverTable};
 ghost use Rattle.link_order.specs.Links.{operand_net};
 
-use cell_library::Kind;
+use cell_library::is_flop;
 use edge_io::{OutOfMemory, Row};
 use gate_order::Graph;
 use link_model::{ItemCell, NetBit};
 use netlist_model::Feed;
 use std::alloc::Global;
-
-/// Whether a cell of this kind keeps a value.
-pub fn is_flop(kind: Kind) -> bool
-    ensures { result ≡ is_flop kind }
-{
-    matches!(kind, Kind::Flop(_))
-}
 
 /// The cell that drives each net, by its number.
 pub fn driver_table(

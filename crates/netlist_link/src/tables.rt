@@ -1,16 +1,14 @@
 ghost use Rattle.std.specs.Prelude.{◌≡◌, ◌<◌, ◌^◌, map, length, count_by, IfOk};
-ghost use Rattle.cell_library.specs.Gates.{is_flop};
-ghost use Rattle.link_model.specs.Faults.{is_input};
 ghost use Rattle.link_model.specs.Fits.{FitCells};
 ghost use Rattle.link_order.specs.Drivers.{AreOrdered};
 ghost use Rattle.link_order.specs.Orders.{IsItemOrder};
 ghost use Rattle.netlist_link.specs.Tables.{AreFlagsOf, AreTablesOf, cell_id, is_named_flop};
 
-use cell_library::Kind;
+use cell_library::is_flop;
 use edge_io::{OutOfMemory, Row};
-use link_model::{ItemCell, NetBit};
+use link_model::{ItemCell, NetBit, is_input};
 use link_order::{CellOrder, control_nets};
-use netlist_model::{CellId, Dir};
+use netlist_model::CellId;
 use std::alloc::Global;
 
 /// What a linked netlist keeps of its module's nets and cells.
@@ -70,18 +68,6 @@ fn count_flops(cells: &[ItemCell]) -> u32
     ensures { result ≡ count_by is_named_flop cells.now }
 {
     cells.iter().filter(|cell| is_flop(cell.kind())).count() as u32
-}
-
-fn is_flop(kind: Kind) -> bool
-    ensures { result ≡ is_flop kind }
-{
-    matches!(kind, Kind::Flop(_))
-}
-
-fn is_input(dir: Option<Dir>) -> bool
-    ensures { result ≡ is_input dir }
-{
-    matches!(dir, Some(Dir::Input))
 }
 
 // Of each net, whether it is a marked input.
