@@ -10,8 +10,6 @@ ghost use Rattle.arena_meaning.specs.Plain.{plain_lists, EndsLive};
 mod cells;
 mod nets;
 mod ports;
-#[cfg(test)]
-mod tests;
 
 use crate::cells::plain_cells;
 use crate::nets::plain_nets;

@@ -16,6 +16,3 @@ mod sections;
 
 pub use fault::{ContentsFault, HeldSection};
 pub use read::read_contents;
-
-#[cfg(test)]
-mod tests;

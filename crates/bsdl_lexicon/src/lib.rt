@@ -16,6 +16,3 @@ pub use reserved::is_reserved;
 pub use symbol::BsdlSymbol;
 pub use token::{BsdlSpanned, BsdlToken};
 pub use words::BsdlWords;
-
-#[cfg(test)]
-mod tests;

@@ -10,5 +10,3 @@ pub mod pin_map;
 pub mod port_table;
 pub mod ports;
 pub mod tap;
-#[cfg(test)]
-mod tests;

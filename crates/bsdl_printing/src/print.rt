@@ -28,6 +28,3 @@ pub fn print_device(alloc: Global, device: &Device) -> Result<Text, OutOfMemory>
     put_device(&mut text, device)?;
     Ok(text)
 }
-
-#[cfg(test)]
-mod tests;

@@ -13,6 +13,3 @@ pub use fault::{DeviceFault, DeviceTextFault};
 pub use laws::spells_one_device;
 pub use parse::parse_device;
 pub use reading::read_device;
-
-#[cfg(test)]
-mod tests;

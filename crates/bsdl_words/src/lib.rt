@@ -14,6 +14,3 @@ pub use bsdl_lexicon::{BsdlReader, BsdlSpanned, BsdlSymbol, BsdlToken, BsdlWords
 pub use cutter::BsdlCutter;
 pub use fault::BsdlWordFault;
 pub use whole::cut;
-
-#[cfg(test)]
-mod tests;

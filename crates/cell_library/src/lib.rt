@@ -207,6 +207,3 @@ pub fn known_operands_give_known_output()
 pub fn library_names_are_exact()
     ensures { NamesAreExact }
 {}
-
-#[cfg(test)]
-mod tests;

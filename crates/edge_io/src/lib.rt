@@ -28,6 +28,3 @@ pub use shelf::{Failed, Shelf};
 pub use sink::Sink;
 pub use text::{OutOfMemory, Text};
 pub use whole::{ReadIssue, WriteFault, put_whole, read_whole, write_whole};
-
-#[cfg(test)]
-mod tests;

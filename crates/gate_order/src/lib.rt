@@ -11,6 +11,3 @@ mod walk;
 pub use fault::OrderFault;
 pub use graph::Graph;
 pub use order::order_of;
-
-#[cfg(test)]
-mod tests;

@@ -13,8 +13,6 @@ ghost use Rattle.gate_parts.specs.Parts.{feed_of, gate_cell, part_cells, is_soun
 ghost use Rattle.gate_parts.specs.Appended.{Appended};
 
 mod laws;
-#[cfg(test)]
-mod tests;
 
 use cell_library::Kind;
 pub use laws::{

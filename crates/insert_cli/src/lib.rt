@@ -13,14 +13,3 @@ mod words;
 pub use command_faults::{Fault, Status};
 pub use tool::run_tool;
 pub use words::WordList;
-
-#[cfg(test)]
-mod counter;
-#[cfg(test)]
-mod link_tests;
-#[cfg(test)]
-mod runs;
-#[cfg(test)]
-mod sim_tests;
-#[cfg(test)]
-mod tests;

@@ -16,8 +16,6 @@ mod names;
 mod nets;
 mod ports;
 mod room;
-#[cfg(test)]
-mod tests;
 
 use crate::cells::add_cells;
 use crate::names::names_of_module;

@@ -9,8 +9,6 @@ ghost use Rattle.link_model.specs.Faults.{driver_fault};
 
 mod laws;
 mod rule;
-#[cfg(test)]
-mod tests;
 mod uses;
 
 use crate::rule::first_broken;

@@ -16,6 +16,3 @@ mod ports;
 mod widths;
 
 pub use outcome::{Resolved, resolve};
-
-#[cfg(test)]
-mod tests;

@@ -7,8 +7,6 @@ ghost use Rattle.std.specs.Prelude.{◌≡◌, ◌↔◌, ◌<◌, [], IsTrue, l
 ghost use Rattle.name_table.specs.Names.{IsOnce, number_of, with_name};
 
 mod key;
-#[cfg(test)]
-mod tests;
 
 use crate::key::Key;
 use edge_io::OutOfMemory;

@@ -8,6 +8,3 @@ pub mod spread;
 
 pub use holding::cones_holding;
 pub use spread::in_cones_of;
-
-#[cfg(test)]
-mod tests;

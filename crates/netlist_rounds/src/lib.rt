@@ -20,6 +20,3 @@ pub use rounds::settle;
 pub fn an_inverter_is_sound()
     ensures { IsSound inverter }
 {}
-
-#[cfg(test)]
-mod tests;

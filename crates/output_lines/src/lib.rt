@@ -8,6 +8,3 @@ mod put;
 
 pub use field::Field;
 pub use put::{put_line, put_numbers, put_pieces};
-
-#[cfg(test)]
-mod tests;

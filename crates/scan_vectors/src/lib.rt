@@ -17,6 +17,3 @@ pub use laws::texts_of_events_are_spelled_or_at_fault;
 pub use lines::{Act, Line, Lines};
 pub use printing::print_events;
 pub use reading::read_events;
-
-#[cfg(test)]
-mod tests;

@@ -186,6 +186,3 @@ pub fn letters_read_back()
     ensures shown { ReadsShown }
     ensures only { ReadsOnlyShown }
 {}
-
-#[cfg(test)]
-mod tests;

@@ -18,6 +18,3 @@ pub use reserved::Reserved;
 pub use symbol::Symbol;
 pub use word::{Spanned, Word};
 pub use words::Words;
-
-#[cfg(test)]
-mod tests;

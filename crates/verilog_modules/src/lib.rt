@@ -14,6 +14,3 @@ mod parts;
 
 pub use fault::SyntaxFault;
 pub use parse::parse_module;
-
-#[cfg(test)]
-mod tests;

@@ -34,6 +34,3 @@ pub fn print_module(alloc: Global, tree: &Module) -> Result<Text, OutOfMemory>
     put_module(&mut text, tree)?;
     Ok(text)
 }
-
-#[cfg(test)]
-mod tests;

@@ -10,6 +10,3 @@ mod reading;
 pub use fault::TextFault;
 pub use laws::bytes_spell_one_tree;
 pub use reading::read_module;
-
-#[cfg(test)]
-mod tests;

@@ -13,6 +13,3 @@ pub use cutter::Cutter;
 pub use fault::WordFault;
 pub use laws::bytes_have_one_list_of_words;
 pub use verilog_lexicon::{Reserved, Spanned, Symbol, Word, WordReader, Words};
-
-#[cfg(test)]
-mod tests;
