@@ -1,6 +1,0 @@
-pub mod Rising
-pub mod Fixed
-pub mod Made
-pub mod Stepped
-pub mod RunSoFar
-pub mod Sound

@@ -1,6 +1,0 @@
-pub mod Values
-pub mod Rounds
-pub mod Next
-pub mod Moments
-pub mod Start
-pub mod Inverter
