@@ -1,4 +1,4 @@
-use Rattle.std.specs.Prelude.{◌≡◌, ℕ, ◌+◌, ◌-◌, ◌≤◌, ◌^◌, max, min, List, ◌++◌, take, drop, length, Option, Some, None, Bool, if◌then◌else◌}
+use Rattle.std.specs.Prelude.{◌≡◌, ℕ, ◌+◌, ◌-◌, ◌≤◌, ◌^◌, max, min, List, ◌++◌, take, drop, length, Option, Some, None, Bool, IsTrue, IsSome, if◌then◌else◌}
 use Rattle.std.specs.Option.{option_map}
 
 -- own: the count rose, or stands at its last value, that of a u64
@@ -43,3 +43,7 @@ appended piece told = option_map (λ bytes. bytes ++ piece) told
 -- own: told, by a shelf that tells
 abbrev pub told_if : Bool → List ℕ → Option (List ℕ)
 told_if tells bytes = if tells then Some bytes else None
+
+-- own: the name was started, where the shelf tells what was written
+abbrev pub StartedIfTold : Bool → Option (List ℕ) → Type 0
+StartedIfTold tells told = IsTrue tells → IsSome told

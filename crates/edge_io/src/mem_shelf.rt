@@ -2,7 +2,7 @@ ghost use Rattle.std.specs.Prelude.{◌≡◌, ◌↔◌, ◌+◌, ◌-◌, ◌<
 ghost use Rattle.std.specs.Option.{option_copied};
 ghost use Rattle.edge_io.specs.Calls.{call_made};
 ghost use Rattle.edge_io.specs.MemShelf.{FailsToAppend, FailsToRead, FailsToStart, ShelfState, placed_bytes, room_of, spare_room, written_bytes};
-ghost use Rattle.edge_io.specs.Shelf.{ChangesOne, NoneFell, Reads, RoseAt, SameTold, WhereTold, appended, told_if};
+ghost use Rattle.edge_io.specs.Shelf.{ChangesOne, NoneFell, Reads, RoseAt, SameTold, StartedIfTold, WhereTold, appended, told_if};
 
 use crate::calls::Calls;
 use crate::entries::{Entry, set_value, value_in};
@@ -167,6 +167,7 @@ impl Shelf for MemShelf {
     fn append(&mut self, name: &str, piece: &[u8]) -> Result<usize, Failed>
         ensures count { IfOk result (λ n. n ≤ length piece.now) }
         ensures some { IfOk result (λ n. 0 < length piece.now → 0 < n) }
+        ensures started { OnOk result (StartedIfTold true (written_bytes self.old name.now)) }
         ensures added { IfOk result (λ n. ChangesOne (written_bytes self.old) (written_bytes self.new) name.now
             (λ before after. after ≡ appended (take n piece.now) before)) }
         ensures failed { OnErr result (SameTold (written_bytes self.old) (written_bytes self.new)) }

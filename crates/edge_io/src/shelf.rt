@@ -1,5 +1,5 @@
 ghost use Rattle.std.specs.Prelude.{◌≡◌, ℕ, Bool, ◌≤◌, ◌<◌, List, [], take, length, Option, IfOk, OnOk, OnErr};
-ghost use Rattle.edge_io.specs.Shelf.{NoneFell, RoseAt, SameTold, WhereTold, Reads, ChangesOne, appended, told_if};
+ghost use Rattle.edge_io.specs.Shelf.{NoneFell, RoseAt, SameTold, WhereTold, Reads, ChangesOne, StartedIfTold, appended, told_if};
 
 use thiserror::Error;
 
@@ -9,7 +9,7 @@ use thiserror::Error;
 pub struct Failed;
 
 /// Texts under names, as the files of a machine. A name that isn't there, and an append to a name that
-/// wasn't started, are faults.
+/// wasn't started, are faults, except in [`NeverFails`](crate::NeverFails), which tells nothing written.
 ///
 /// A shelf never stops telling: `held` is the same before and after each call, and `written` is either
 /// told by the constant `tells` or goes on from what was told before.
@@ -47,10 +47,11 @@ pub trait Shelf {
         ensures cause { OnErr result (RoseAt (faults self.old) (faults self.new) name.now) };
 
     /// Adds to what was written under the name. `Ok(n)` took the first `n` bytes of the piece, at least
-    /// one of a piece that has any.
+    /// one of a piece that has any. Where the shelf tells what was written, the name was started.
     fn append(&mut self, name: &str, piece: &[u8]) -> Result<usize, Failed>
         ensures count { IfOk result (λ n. n ≤ length piece.now) }
         ensures some { IfOk result (λ n. 0 < length piece.now → 0 < n) }
+        ensures started { OnOk result (StartedIfTold tells (written self.old name.now)) }
         ensures added { IfOk result (λ n. ChangesOne (written self.old) (written self.new) name.now
             (λ before after. after ≡ appended (take n piece.now) before)) }
         ensures failed { OnErr result (SameTold (written self.old) (written self.new)) }
