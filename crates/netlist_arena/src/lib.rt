@@ -13,8 +13,6 @@ mod nets;
 mod ports;
 mod readers;
 mod room;
-#[cfg(test)]
-mod tests;
 
 use cell_library::Kind;
 use netlist_model::{Dir, Feed, Name, NetId, Range};
