@@ -12,7 +12,8 @@ use Rattle.netlist_model.specs.declared.Name.TheVariants.{Added}
 use Rattle.netlist_model.specs.declared.Feed.{Feed}
 use Rattle.netlist_model.specs.Lists.{NetView, CellView, NetlistView, cell_at, cell_count, direction, IsUndriven}
 use Rattle.netlist_model.specs.Contained.{IsDense}
-use Rattle.netlist_arena.specs.Arena.{ArenaView, SpareView, IsFeedBelow, AreFeedsBelow}
+use Rattle.netlist_model.specs.Below.{IsFeedBelow, AreFeedsBelow}
+use Rattle.netlist_arena.specs.Arena.{ArenaView, SpareView}
 use Rattle.netlist_arena.specs.Adds.{with_net, IsFree, AddsCell}
 use Rattle.netlist_arena.proofs.Walking.{slice_get-append_left, slice_get-append_right}
 use Rattle.netlist_arena.proofs.Puts.{dense_past}

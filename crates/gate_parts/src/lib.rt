@@ -7,7 +7,7 @@ ghost use Rattle.std.specs.Prelude.{◌≡◌, ◌≢◌, ℕ, ◌+◌, ◌<◌,
 ghost use Rattle.cell_library.specs.Gates.{Takes};
 ghost use Rattle.netlist_model.specs.Lists.{cell_count};
 ghost use Rattle.netlist_model.specs.Contained.{IsDense};
-ghost use Rattle.netlist_arena.specs.Arena.{IsFeedBelow, AreFeedsBelow};
+ghost use Rattle.netlist_model.specs.Below.{IsFeedBelow, AreFeedsBelow};
 ghost use Rattle.netlist_arena.specs.Adds.{IsFree};
 ghost use Rattle.gate_parts.specs.Parts.{feed_of, gate_cell, part_cells, is_sound_pin, is_sound_gate, is_sound};
 ghost use Rattle.gate_parts.specs.Appended.{Appended};

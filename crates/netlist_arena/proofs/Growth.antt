@@ -10,7 +10,8 @@ use Rattle.cell_library.specs.declared.ResetTo.TheVariants.{Nothing, Zero as ToZ
 use Rattle.cell_library.specs.Gates.{Takes, flop_operand_count}
 use Rattle.netlist_model.specs.declared.NetId.{NetId}
 use Rattle.netlist_model.specs.Lists.{PortView, CellView, NetlistView, live_cell, is_among, direction, IsUndriven}
-use Rattle.netlist_arena.specs.Arena.{IsNetBelow, IsPlaceBelow, IsPortBelow}
+use Rattle.netlist_model.specs.Below.{IsNetBelow}
+use Rattle.netlist_arena.specs.Arena.{IsPlaceBelow, IsPortBelow}
 
 -- a live cell names nets that are there
 pub place_at : (n : ℕ) (cells : List (Option CellView)) (i : ℕ) (cell : CellView) → All (IsPlaceBelow n) cells → live_cell (slice_get cells i) ≡ Some cell → IsPlaceBelow n (Some cell)

@@ -11,7 +11,8 @@ use Rattle.netlist_model.specs.declared.Reader.{Reader}
 use Rattle.netlist_model.specs.declared.Feed.{Feed}
 use Rattle.netlist_model.specs.declared.Feed.TheVariants.{Net, Const}
 use Rattle.netlist_model.specs.Lists.{CellView, NetlistView, live_cell, cell_at}
-use Rattle.netlist_arena.specs.Arena.{ArenaView, IsFeedBelow, IsPlaceBelow}
+use Rattle.netlist_model.specs.Below.{IsFeedBelow}
+use Rattle.netlist_arena.specs.Arena.{ArenaView, IsPlaceBelow}
 use Rattle.netlist_arena.specs.Looks.{feed_at}
 use Rattle.netlist_arena.proofs.Growth.{place_at}
 use Rattle.netlist_arena.specs.Walks.{walk_of, IsReader, IsWalk, is_on, feed_readers, place_readers, cell_readers, walks_from}

@@ -1,7 +1,8 @@
-ghost use Rattle.std.specs.Prelude.{◌≡◌, ◌+◌, ◌-◌, ◌^◌, ◌<◌, ◌≤◌, ◌↔◌, None, slice_get, vec_len, vec_capacity, length, option_map, Some, IfOk, IfSome, OnErr, IsSome, IsTrue, MatchOption, ⊤, is_ok, if◌then◌else◌};
+ghost use Rattle.std.specs.Prelude.{◌≡◌, ℕ, ◌+◌, ◌-◌, ◌^◌, ◌<◌, ◌≤◌, ◌↔◌, None, slice_get, vec_len, vec_capacity, length, option_map, Some, IfOk, IfSome, OnErr, IsSome, IsTrue, MatchOption, ⊤, is_ok, if◌then◌else◌};
 ghost use Rattle.cell_library.specs.Gates.{Takes};
 ghost use Rattle.netlist_model.specs.Lists.{CellView, cell_at, cell_count};
-ghost use Rattle.netlist_arena.specs.Arena.{AreFeedsBelow, IsFeedBelow, IsNetBelow, IsPlaceBelow};
+ghost use Rattle.netlist_model.specs.Below.{AreFeedsBelow, IsFeedBelow, IsNetBelow};
+ghost use Rattle.netlist_arena.specs.Arena.{IsPlaceBelow};
 ghost use Rattle.netlist_arena.specs.Adds.{CanDrive, AddsCell, PutsCell};
 ghost use Rattle.netlist_arena.specs.Looks.{IsLive, feed_at};
 
@@ -57,6 +58,7 @@ impl Netlist {
         ensures added { IfOk result (λ id. AddsCell self.old.lists self.new.lists id.0
             (record { kind = kind; name = name; feeds = feeds.now; output = output })) }
         ensures err { OnErr result (self.new.lists ≡ self.old.lists) }
+        ensures walks { OnErr result (self.new.walks ≡ self.old.walks) }
         ensures spare { self.new.spare ≡ (if is_ok result then record self.old.spare { cells = self.old.spare.cells - 1 }
             else self.old.spare) }
     {
@@ -101,6 +103,14 @@ impl Netlist {
         ensures { result ≡ cell_count self.now.lists }
     {
         self.live
+    }
+
+    /// A number that is greater than that of each cell. It grows only where a cell is added.
+    #[tactic(auto, using(crate::proofs::Single::live_below))]
+    pub fn cell_bound(&self) -> u32
+        ensures { (number : ℕ) → IsLive self.now.lists number → number < result }
+    {
+        self.cells.len() as u32
     }
 
     /// Whether a cell has this number.

@@ -2,7 +2,7 @@ ghost use Rattle.std.specs.Prelude.{◌≡◌, ◌<◌, length, map, option_map,
 ghost use Rattle.netlist_model.specs.declared.NetId.{NetId as NetNumber};
 ghost use Rattle.netlist_model.specs.Lists.{CellView, cell_at, IsUndriven};
 ghost use Rattle.netlist_model.specs.Formed.{IsDriven};
-ghost use Rattle.netlist_arena.specs.Arena.{IsFeedBelow};
+ghost use Rattle.netlist_model.specs.Below.{IsFeedBelow};
 ghost use Rattle.netlist_arena.specs.Adds.{IsFree};
 ghost use Rattle.netlist_arena.specs.Looks.{IsLive, feed_at};
 ghost use Rattle.netlist_arena.specs.Moves.{with_feed, connected, moved_feed, with_moved_feeds, moved_readers, moved_output, with_moved_output, moved_driver, RemovesCell};

@@ -50,6 +50,7 @@ impl Netlist {
         ensures spare { self.new.spare ≡ (if is_ok result
             then record self.old.spare { port_bits = self.old.spare.port_bits - length nets.now }
             else self.old.spare) }
+        ensures walks { OnErr result (self.new.walks ≡ self.old.walks) }
     {
         let rest = Vec::from_slice(self.alloc, &nets[1..])?;
         Ok(self.push_port(Port {

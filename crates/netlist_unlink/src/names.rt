@@ -1,6 +1,6 @@
 // Names, bits and operands.
 ghost use Rattle.std.specs.Prelude.{◌≡◌, ◌<◌, length, IfOk};
-ghost use Rattle.netlist_arena.specs.Arena.{IsFeedBelow};
+ghost use Rattle.netlist_model.specs.Below.{IsFeedBelow};
 ghost use Rattle.netlist_link.specs.WellNamed.{IsKnown};
 ghost use Rattle.netlist_unlink.specs.Trees.{added, bit_of, naming_of, operand_of, spelled};
 
