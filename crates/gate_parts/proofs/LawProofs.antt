@@ -1,5 +1,5 @@
 -- What was added stays, and what a flip-flop does.
-use Rattle.std.proofs.Common.{◌≡◌, ℕ, zero, suc, ◌+◌, ◌-◌, ◌<◌, ◌≤◌, List, [], ◌∷◌, length, All, refl, ◌∙◌, arith, ap, None, Some, inl, inr}
+use Rattle.std.proofs.Common.{◌≡◌, ◌≢◌, ℕ, zero, suc, ◌+◌, ◌-◌, ◌<◌, ◌≤◌, List, [], ◌∷◌, length, All, refl, sym, ◌∙◌, arith, ap, Option, None, Some, inl, inr}
 use Rattle.std.proofs.lemmas.Bool.{cases_lt}
 use Rattle.std.specs.List.{slice_get, range_with_len}
 use Rattle.std.proofs.lemmas.List.FromFn.{length-range_with_len, get_or-range_with_len}
@@ -9,14 +9,17 @@ use Rattle.cell_library.specs.declared.Kind.TheVariants.{Flop}
 use Rattle.cell_library.specs.declared.FlopKind.{FlopKind}
 use Rattle.cell_library.specs.Flops.{flop_next, flop_start}
 use Rattle.netlist_model.specs.declared.Feed.{Feed}
+use Rattle.netlist_model.specs.declared.NetId.{NetId}
 use Rattle.netlist_model.specs.Lists.{CellView, NetlistView, cell_at, cell_count}
 use Rattle.netlist_model.specs.Settled.{feed_values, cell_value, Meets}
 use Rattle.netlist_model.specs.Contained.{Contains, HasCells}
 use Rattle.netlist_arena.specs.Arena.{ArenaView}
 use Rattle.netlist_arena.proofs.Puts.{dense_past}
 use Rattle.gate_parts.specs.Appended.{Appended, Grows}
-use Rattle.gate_parts.specs.Laws.{AppendedIsThere, AppendedGrows, GrowthKeeps, FlopOn, FlopStarts, FlopSteps}
-use Rattle.gate_parts.proofs.Steps.{appended_count}
+use Rattle.gate_parts.specs.declared.Gate.{Gate}
+use Rattle.gate_parts.specs.Parts.{gate_cell, cells_from, part_cells}
+use Rattle.gate_parts.specs.Laws.{AppendedIsThere, AppendedMore, FreeStays, PartLeavesFree, AppendedGrows, GrowthJoins, GrowthKeeps, FlopOn, FlopStarts, FlopSteps}
+use Rattle.gate_parts.proofs.Steps.{appended_count, appended_more}
 
 has_from : (N : NetlistView) (first : ℕ) (part : List CellView) → ((k : ℕ) → cell_at N (first + k) ≡ slice_get part k) → HasCells N part
 has_from N first [] at = tt
@@ -37,6 +40,42 @@ appended_there = λ old new count part added. record {
   cells = has_from new.lists (cell_count old.lists) part added.added;
 }
 
+pub more_appended : AppendedMore
+more_appended = λ old middle new count more part rest first then. appended_more old middle new count more part rest first then
+
+pub free_stays : FreeStays
+free_stays = λ old new count part added net free off. record {
+  undriven = λ i cell here drives.
+      elim (cases_lt i (cell_count old.lists)) [
+        | inl low ↦ free.undriven i cell (sym (added.kept i low) ∙ here) drives
+        | inr past ↦ (let k : ℕ = i - cell_count old.lists in
+            let e : cell_count old.lists + k ≡ i = omega arith in
+            let at : cell_at new.lists i ≡ slice_get part k = rw e at (added.added k) in absurd (off k cell (sym at ∙ here) drives))
+      ];
+  outside = rw added.ports free.outside;
+}
+
+-- each cell of a part drives the net of its own place
+output_at : (first : ℕ) (given : List Feed) (number net : ℕ) (gates : List Gate) (k : ℕ) (cell : CellView) → slice_get (cells_from first given number net gates) k ≡ Some cell
+    → cell.output ≡ Some (record { 0 = net + k })
+output_at first given number net [] k cell at = absurd (cc)
+output_at first given number net (gate ∷ gates) zero cell at =
+    let a : net + 0 ≡ net = omega arith in
+    let same : gate_cell first given number net gate ≡ cell = cc in
+    rw a (sym (ap (λ (c : CellView). c.output) same))
+output_at first given number net (gate ∷ gates) (suc k) cell at =
+    let b : net + suc k ≡ suc net + k = omega arith in rw b (output_at first given (suc number) (suc net) gates k cell at)
+
+other_net : (out net : ℕ) → net < out → (output : Option NetId) → output ≡ Some (record { 0 = out }) → output ≢ Some (record { 0 = net })
+other_net out net less output is e =
+    let number : Option NetId → ℕ = λ o. elim o [ None ↦ 0 | Some n ↦ n.0 ] in
+    let same : out ≡ net = ap number (sym is ∙ e) in omega arith
+
+pub part_leaves_free : PartLeavesFree
+part_leaves_free = λ old new count gates given first number added net less free.
+    free_stays old new count (part_cells gates given first number) added net free
+    (λ k cell at. other_net (first + k) net (omega arith) cell.output (output_at first given number first gates k cell at))
+
 -- a cell of a dense netlist has a number below the count
 kept_at : (old new : ArenaView) (count : ℕ) (part : List CellView) → Appended old new count part → (number : ℕ) (cell : CellView) → cell_at old.lists number ≡ Some cell
     → cell_at new.lists number ≡ Some cell
@@ -52,6 +91,12 @@ pub grows_appended : AppendedGrows
 grows_appended = λ old new count part added. record {
   nets = let e = appended_count old new count part added in omega arith;
   cells = kept_at old new count part added;
+}
+
+pub growth_joins_on : GrowthJoins
+growth_joins_on = λ old middle new first then. record {
+  nets = let a = first.nets in let b = then.nets in omega arith;
+  cells = λ number cell at. then.cells number cell (first.cells number cell at);
 }
 
 kept : (old new : NetlistView) (part : List CellView) → Grows old new → HasCells old part → HasCells new part

@@ -1,3 +1,4 @@
 pub mod Steps
 pub mod LawProofs
 pub mod LevelProofs
+pub mod PartProofs

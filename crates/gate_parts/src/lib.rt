@@ -16,7 +16,9 @@ mod laws;
 
 use cell_library::Kind;
 pub use laws::{
-    appended_grows, appended_is_there, flop_starts, flop_steps, growth_keeps, levels_number,
+    appended_grows, appended_is_there, appended_more, contained_part_has_flops,
+    contained_part_meets, flop_starts, flop_steps, free_net_stays, growth_joins, growth_keeps,
+    levels_number, part_at, part_leaves_free_nets,
 };
 use netlist_arena::Netlist;
 use netlist_model::{Feed, Name, NetId};
@@ -45,7 +47,7 @@ pub struct Gate {
 }
 
 /// Adds the gates of a table to a dense netlist, each with the net that it drives, and answers the first of these nets. The new nets
-/// and cells follow those that are there, in the order of the gates, under their numbers as names.
+/// and cells follow those that are there, in the order of the gates, under their numbers as names. Nets that were free stay so.
 pub fn add_part(netlist: &mut Netlist, gates: &[Gate], given: &[Feed]) -> NetId
     requires dense { IsDense netlist.old.lists }
     requires nets { length gates.now ≤ netlist.old.spare.nets }
@@ -54,6 +56,7 @@ pub fn add_part(netlist: &mut Netlist, gates: &[Gate], given: &[Feed]) -> NetId
     requires sound { IsTrue (is_sound gates.now (length given.now)) }
     requires given { AreFeedsBelow (length netlist.old.lists.nets) given.now }
     ensures first { result.0 ≡ length netlist.old.lists.nets }
+    ensures fits { result.0 + length gates.now < 2 ^ 32 }
     ensures added { Appended netlist.old netlist.new (length gates.now)
         (part_cells gates.now given.now (length netlist.old.lists.nets) (cell_count netlist.old.lists)) }
     ensures dense { IsDense netlist.new.lists }
@@ -65,6 +68,29 @@ pub fn add_part(netlist: &mut Netlist, gates: &[Gate], given: &[Feed]) -> NetId
         add_gate(netlist, first, count, given, gate, NetId(first + k as u32));
     }
     NetId(first)
+}
+
+/// Adds one cell to a dense netlist, on a net that is there and that nothing drives, as an output's. The cell has its number as
+/// name. Other nets that were free stay so.
+pub fn add_driver(netlist: &mut Netlist, kind: Kind, feeds: &[Feed], output: NetId)
+    requires dense { IsDense netlist.old.lists }
+    requires cells { 0 < netlist.old.spare.cells }
+    requires few { length feeds.now ≤ 4 }
+    requires takes { Takes kind (length feeds.now) }
+    requires feeds { AreFeedsBelow (length netlist.old.lists.nets) feeds.now }
+    requires there { output.0 < length netlist.old.lists.nets }
+    requires free { IsFree netlist.old.lists output.0 }
+    ensures added { Appended netlist.old netlist.new 0 (record {
+      kind = kind;
+      name = Some (Name.Added (cell_count netlist.old.lists));
+      feeds = feeds.now;
+      output = Some output;
+    } ∷ []) }
+    ensures dense { IsDense netlist.new.lists }
+    ensures free { (net : ℕ) → net ≢ output.0 → IsFree netlist.old.lists net → IsFree netlist.new.lists net }
+{
+    let name = next_cell_name(netlist);
+    let _cell = netlist.add_cell(kind, Some(name), feeds, Some(output));
 }
 
 // Adds nets that no cell drives.
@@ -107,11 +133,11 @@ fn add_gate(
     match gate.pins {
         Pins::One(a) => {
             let feeds = [feed(first, count, given, a)];
-            add_feeds(netlist, gate.kind, &feeds, output);
+            add_driver(netlist, gate.kind, &feeds, output);
         }
         Pins::Two(a, b) => {
             let feeds = [feed(first, count, given, a), feed(first, count, given, b)];
-            add_feeds(netlist, gate.kind, &feeds, output);
+            add_driver(netlist, gate.kind, &feeds, output);
         }
         Pins::Three(a, b, c) => {
             let feeds = [
@@ -119,7 +145,7 @@ fn add_gate(
                 feed(first, count, given, b),
                 feed(first, count, given, c),
             ];
-            add_feeds(netlist, gate.kind, &feeds, output);
+            add_driver(netlist, gate.kind, &feeds, output);
         }
         Pins::Four(a, b, c, d) => {
             let feeds = [
@@ -128,7 +154,7 @@ fn add_gate(
                 feed(first, count, given, c),
                 feed(first, count, given, d),
             ];
-            add_feeds(netlist, gate.kind, &feeds, output);
+            add_driver(netlist, gate.kind, &feeds, output);
         }
     }
 }
@@ -144,28 +170,6 @@ fn feed(first: u32, count: u32, given: &[Feed], pin: Pin) -> Feed
         Pin::Own(k) => Feed::Net(NetId(first + u32::from(k))),
         Pin::Given(k) => given[k as usize],
     }
-}
-
-// Adds a cell under its number as name.
-fn add_feeds(netlist: &mut Netlist, kind: Kind, feeds: &[Feed], output: NetId)
-    requires dense { IsDense netlist.old.lists }
-    requires cells { 0 < netlist.old.spare.cells }
-    requires few { length feeds.now ≤ 4 }
-    requires takes { Takes kind (length feeds.now) }
-    requires feeds { AreFeedsBelow (length netlist.old.lists.nets) feeds.now }
-    requires there { output.0 < length netlist.old.lists.nets }
-    requires free { IsFree netlist.old.lists output.0 }
-    ensures added { Appended netlist.old netlist.new 0 (record {
-      kind = kind;
-      name = Some (Name.Added (cell_count netlist.old.lists));
-      feeds = feeds.now;
-      output = Some output;
-    } ∷ []) }
-    ensures dense { IsDense netlist.new.lists }
-    ensures free { (net : ℕ) → net ≢ output.0 → IsFree netlist.old.lists net → IsFree netlist.new.lists net }
-{
-    let name = next_cell_name(netlist);
-    let _cell = netlist.add_cell(kind, Some(name), feeds, Some(output));
 }
 
 // The name of the cell that is added next.

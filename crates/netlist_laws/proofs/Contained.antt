@@ -4,23 +4,24 @@ use Rattle.std.specs.Prelude.{Some, None, slice_get, count_by, is_some, IsSome}
 use Rattle.std.proofs.lemmas.Bool.Decides.{leb_tells}
 use Rattle.std.proofs.lemmas.List.Sums.{sum_by-cons}
 use Rattle.netlist_model.specs.Lists.{CellView, NetlistView, live_cell, cell_count}
-use Rattle.netlist_model.specs.Contained.{Has, HasCells}
-use Rattle.netlist_laws.specs.Contained.{ContainedCellHolds, ContainedFlopsStep, DenseNumbers}
+use Rattle.netlist_model.specs.Contained.{HasCells}
+use Rattle.netlist_laws.specs.Contained.{ContainedByPlace, ContainedParts, ContainedCellHolds, ContainedFlopsStep, DenseNumbers}
 
--- a cell by its place in the list that is contained
-pub has_at : (N : NetlistView) (cells : List CellView) → HasCells N cells → (k : ℕ) (cell : CellView) → slice_get cells k ≡ Some cell → Has N cell
-has_at N [] h k cell e = absurd (cc)
-has_at N (c ∷ cells) h zero cell e = let same : c ≡ cell = cc in rw same at h.0
-has_at N (c ∷ cells) h (suc k) cell e = has_at N cells h.1 k cell e
+pub contained_by_place : ContainedByPlace
+contained_by_place N [] h k cell e = absurd (cc)
+contained_by_place N (c ∷ cells) h zero cell e = let same : c ≡ cell = cc in rw same at h.0
+contained_by_place N (c ∷ cells) h (suc k) cell e = contained_by_place N cells h.1 k cell e
 
--- the front and the back of a list that is contained are contained
-pub has_cells-front : (N : NetlistView) (xs ys : List CellView) → HasCells N (xs ++ ys) → HasCells N xs
-has_cells-front N [] ys h = tt
-has_cells-front N (x ∷ xs) ys h = (h.0, has_cells-front N xs ys h.1)
+parts_of : (N : NetlistView) (xs ys : List CellView) → HasCells N (xs ++ ys) → HasCells N xs × HasCells N ys
+parts_of N [] ys h = (tt, h)
+parts_of N (x ∷ xs) ys h = let rest = parts_of N xs ys h.1 in ((h.0, rest.0), rest.1)
 
-pub has_cells-back : (N : NetlistView) (xs ys : List CellView) → HasCells N (xs ++ ys) → HasCells N ys
-has_cells-back N [] ys h = h
-has_cells-back N (x ∷ xs) ys h = has_cells-back N xs ys h.1
+whole_of : (N : NetlistView) (xs ys : List CellView) → HasCells N xs → HasCells N ys → HasCells N (xs ++ ys)
+whole_of N [] ys h g = g
+whole_of N (x ∷ xs) ys h g = (h.0, whole_of N xs ys h.1 g)
+
+pub contained_parts : ContainedParts
+contained_parts N xs ys = record { parts = parts_of N xs ys; whole = whole_of N xs ys }
 
 pub contained_cell_holds : ContainedCellHolds
 contained_cell_holds N given state value cell net meets has output inside =

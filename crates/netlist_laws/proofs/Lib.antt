@@ -13,3 +13,4 @@ pub mod Contained
 pub mod Example
 pub mod Ports
 pub mod Ordered
+pub mod Inside

@@ -1,5 +1,5 @@
 -- A contained cell means in a netlist what it means by itself.
-use Rattle.std.specs.Prelude.{◌≡◌, ℕ, ◌<◌, false, Some, IsSome}
+use Rattle.std.specs.Prelude.{◌≡◌, ℕ, ◌<◌, false, List, ◌++◌, slice_get, Some, IsSome}
 use Rattle.signal_values.specs.declared.Sig.{Sig}
 use Rattle.cell_library.specs.declared.Kind.TheVariants.{Flop}
 use Rattle.cell_library.specs.declared.FlopKind.{FlopKind}
@@ -7,7 +7,19 @@ use Rattle.cell_library.specs.Flops.{flop_next, flop_start}
 use Rattle.netlist_model.specs.Lists.{CellView, NetlistView, cell_at, cell_count, direction}
 use Rattle.netlist_model.specs.Settled.{feed_values, cell_value, follows_pin, Meets}
 use Rattle.netlist_model.specs.Runs.{FlopsStart, FlopsStep}
-use Rattle.netlist_model.specs.Contained.{Has, IsDense}
+use Rattle.netlist_model.specs.Contained.{Has, HasCells, IsDense}
+
+-- own: each cell of a list that is contained is contained, by its place
+abbrev pub ContainedByPlace : Type 0
+ContainedByPlace = (N : NetlistView) (cells : List CellView) → HasCells N cells → (k : ℕ) (cell : CellView) → slice_get cells k ≡ Some cell → Has N cell
+
+-- own: what is contained one after the other is contained, and the other way round
+pub record HasBoth (N : NetlistView) (front back : List CellView) : Type 0 where
+  pub parts : HasCells N (front ++ back) → HasCells N front × HasCells N back
+  pub whole : HasCells N front → HasCells N back → HasCells N (front ++ back)
+
+abbrev pub ContainedParts : Type 0
+ContainedParts = (N : NetlistView) (front back : List CellView) → HasBoth N front back
 
 -- own: the net of a contained cell's output has the value that the cell gives it, unless it follows a pin
 abbrev pub ContainedCellHolds : Type 0

@@ -5,12 +5,13 @@
 
 ghost use Rattle.netlist_laws.specs.Ports.{BitHasDirection, DirectionHasBit};
 ghost use Rattle.netlist_laws.specs.Settle.{MeetsOnce, MeetsExists, MeetsOnceInside, SettledOnce, SettledExists};
+ghost use Rattle.netlist_laws.specs.Drivers.{DriverIsFound, DrivenIsInside};
 ghost use Rattle.netlist_laws.specs.Controls.{ControlsOnce, ControlsKnownUnder, ControlsKnown};
 ghost use Rattle.netlist_laws.specs.Runs.{FlopsStartOnce, FlopsStepOnce, RunExists, RunOnce, RepeatsChangeNothing};
 ghost use Rattle.netlist_laws.specs.Knowledge.{SettledKeepsOrder, ReadingsKeepOrder};
 ghost use Rattle.netlist_laws.specs.Ordered.{OrderedIsNumbered, NumberedIsOrdered};
 ghost use Rattle.netlist_laws.specs.Example.{ExampleIsFormed};
-ghost use Rattle.netlist_laws.specs.Contained.{ContainedCellHolds, ContainedFlopsStep, DenseNumbers};
+ghost use Rattle.netlist_laws.specs.Contained.{ContainedByPlace, ContainedParts, ContainedCellHolds, ContainedFlopsStep, DenseNumbers};
 
 /// The net of a port bit has that port's direction.
 pub fn direction_of_a_bit()
@@ -105,6 +106,26 @@ pub fn settling_keeps_order()
 /// They give better known readings.
 pub fn reading_keeps_order()
     ensures { ReadingsKeepOrder }
+{}
+
+/// The driver of a net is the one that is found.
+pub fn driver_is_found()
+    ensures { DriverIsFound }
+{}
+
+/// What a gate or a flip-flop drives follows no pin.
+pub fn driven_net_follows_no_pin()
+    ensures { DrivenIsInside }
+{}
+
+/// A cell of a list that a netlist contains is contained, by its place.
+pub fn contained_cell_by_place()
+    ensures { ContainedByPlace }
+{}
+
+/// Two lists are contained exactly where the one after the other is.
+pub fn contained_parts()
+    ensures { ContainedParts }
 {}
 
 /// A cell that a netlist contains gives its net what it would give it anywhere.

@@ -1,0 +1,38 @@
+-- What the gates of any table do, by their places, in a well-formed netlist that contains the cells of the table.
+use Rattle.std.specs.Prelude.{◌≡◌, ℕ, ◌+◌, false, List, map, slice_get, Some}
+use Rattle.signal_values.specs.declared.Sig.{Sig}
+use Rattle.cell_library.specs.declared.FlopKind.{FlopKind}
+use Rattle.cell_library.specs.declared.Kind.TheVariants.{Flop}
+use Rattle.cell_library.specs.Gates.{is_three_state}
+use Rattle.netlist_model.specs.declared.Feed.{Feed}
+use Rattle.netlist_model.specs.Lists.{NetlistView}
+use Rattle.netlist_model.specs.Settled.{feed_values, cell_value, Meets}
+use Rattle.netlist_model.specs.Formed.{IsWellFormed}
+use Rattle.netlist_model.specs.Contained.{HasCells}
+use Rattle.gate_parts.specs.declared.Gate.{Gate}
+use Rattle.gate_parts.specs.Parts.{feed_of, pins_of, gate_cell, cells_from, part_cells}
+use Rattle.gate_parts.specs.Laws.{FlopOn}
+
+-- own: the cell of the gate at a place, by its number and its net
+abbrev pub PartAt : Type 0
+PartAt = (first : ℕ) (given : List Feed) (number net : ℕ) (gates : List Gate) (k : ℕ) (gate : Gate) → slice_get gates k ≡ Some gate
+    → slice_get (cells_from first given number net gates) k ≡ Some (gate_cell first given (number + k) (net + k) gate)
+
+-- own: the operands of a gate, where the part's own nets begin at `first`
+abbrev pub gate_feeds : ℕ → List Feed → Gate → List Feed
+gate_feeds first given gate = map (feed_of first given) (pins_of gate.pins)
+
+-- own: each net of the part has what its gate gives it; a flip-flop gives what it keeps
+abbrev pub PartMeets : List Gate → List Feed → ℕ → (ℕ → Sig) → Type 0
+PartMeets gates given first value = (k : ℕ) (gate : Gate) → slice_get gates k ≡ Some gate → is_three_state gate.kind ≡ false
+    → (kept : Sig) × (value (first + k) ≡ cell_value gate.kind (feed_values value (gate_feeds first given gate)) kept)
+
+-- own: so it is wherever the part is contained, under any rule for the nets of pins
+abbrev pub ContainedPartMeets : Type 0
+ContainedPartMeets = (N : NetlistView) (gates : List Gate) (given : List Feed) (first number : ℕ) → IsWellFormed N → HasCells N (part_cells gates given first number)
+    → (rule : (ℕ → Sig) → ℕ → Sig) (state value : ℕ → Sig) → Meets N rule state value → PartMeets gates given first value
+
+-- own: and each flip-flop of the table is one on its net
+abbrev pub ContainedPartHasFlops : Type 0
+ContainedPartHasFlops = (N : NetlistView) (gates : List Gate) (given : List Feed) (first number : ℕ) → IsWellFormed N → HasCells N (part_cells gates given first number)
+    → (k : ℕ) (gate : Gate) (kind : FlopKind) → slice_get gates k ≡ Some gate → gate.kind ≡ Flop kind → FlopOn N kind (gate_feeds first given gate) (first + k)
