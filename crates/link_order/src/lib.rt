@@ -11,5 +11,5 @@ mod order;
 
 pub use control::{ControlNets, control_nets};
 pub use derived::find_derived;
-pub use laws::controls_are_links;
+pub use laws::{controls_are_links, some_cell_order};
 pub use order::{CellOrder, order_cells};

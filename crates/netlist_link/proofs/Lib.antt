@@ -16,3 +16,6 @@ pub mod Drivers
 pub mod Loops
 pub mod Converse
 pub mod Spelled
+pub mod NamesOnce
+pub mod ViewsAgree
+pub mod ViewExists

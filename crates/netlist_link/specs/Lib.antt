@@ -7,3 +7,4 @@ pub mod Linked
 pub mod Links
 pub mod Steps
 pub mod Laws
+pub mod ViewLaws

@@ -10,8 +10,10 @@ mod linking;
 mod pins;
 mod port_names;
 mod tables;
+mod view_laws;
 mod words;
 
 pub use laws::{faults_forbid_links, one_fault_is_first, well_formed_can_be_linked};
 pub use linked::Linked;
 pub use linking::link;
+pub use view_laws::{link_view_is_formed, link_view_is_named, link_views_agree, some_link_view};
