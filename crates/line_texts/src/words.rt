@@ -1,8 +1,8 @@
 // Lines of a text and words of a line, from the front.
 ghost use Rattle.std.specs.Prelude.{◌≡◌, ◌<◌, ◌≤◌, ◌∷◌, [], length, false};
 ghost use Rattle.std.specs.List.{prefix_len, position_or_len};
-ghost use Rattle.scan_vectors.specs.Words.{is_line_end, is_blank_byte, lines_of, words_of};
-ghost use Rattle.scan_vectors.specs.Forms.{after_word, begins_blank};
+ghost use Rattle.line_texts.specs.Words.{is_line_end, is_blank_byte, is_remark, lines_of, words_of};
+ghost use Rattle.line_texts.specs.Cut.{after_word, begins_blank};
 
 fn is_blank(b: u8) -> bool
     ensures { result ≡ is_blank_byte b }
@@ -63,4 +63,14 @@ pub fn next_word(line: &[u8]) -> (&[u8], &[u8])
     let line = without_blanks(line);
     let end = word_len(line);
     (&line[..end], &line[end..])
+}
+
+/// Whether a line with this first word is a remark.
+pub fn is_remark(word: &[u8]) -> bool
+    ensures { result ≡ is_remark word.now }
+{
+    match word {
+        [first, ..] => *first == b'#',
+        [] => false,
+    }
 }

@@ -1,6 +1,6 @@
 use Rattle.std.proofs.Common.{◌+◌, length}
-use Rattle.scan_vectors.proofs.Cut.{rest_is, line_within, line_to_end}
-use Rattle.scan_vectors.proofs.words.split_line.Goals as goal
+use Rattle.line_texts.proofs.Cut.{rest_is, line_within, line_to_end}
+use Rattle.line_texts.proofs.words.split_line.Goals as goal
 
 pub returns-then-end-text-clause-lines : goal.returns-then-end-text-clause-lines
 returns-then-end-text-clause-lines c = rw (rest_is (c.line_len-end.result + 1) c.args.text.now, c.line_len-end.ensures.count)

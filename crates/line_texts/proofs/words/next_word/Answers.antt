@@ -1,6 +1,6 @@
 use Rattle.std.proofs.Common.{sym, ◌∙◌}
-use Rattle.scan_vectors.proofs.Cut.{rest_is, words_from_first, no_words}
-use Rattle.scan_vectors.proofs.words.next_word.Goals as goal
+use Rattle.line_texts.proofs.Cut.{rest_is, words_from_first, no_words}
+use Rattle.line_texts.proofs.words.next_word.Goals as goal
 
 pub returns-clause-words : goal.returns-clause-words
 returns-clause-words c = rw (rest_is c.word_len-end.result c.without_blanks-line.result.now, c.word_len-end.ensures.count)

@@ -1,5 +1,5 @@
-use Rattle.scan_vectors.proofs.Cut.{rest_is, words_behind_blanks, begins_behind_blanks}
-use Rattle.scan_vectors.proofs.words.without_blanks.Goals as goal
+use Rattle.line_texts.proofs.Cut.{rest_is, words_behind_blanks, begins_behind_blanks}
+use Rattle.line_texts.proofs.words.without_blanks.Goals as goal
 
 pub returns-clause-words : goal.returns-clause-words
 returns-clause-words c = rw (rest_is c.blanks_len.result c.args.line.now, c.blanks_len.ensures.count) (words_behind_blanks c.args.line.now)

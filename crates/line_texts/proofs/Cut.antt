@@ -6,8 +6,8 @@ use Rattle.std.proofs.Math.Seq.{drop-length}
 use Rattle.std.proofs.lemmas.List.Splits.{slice_split-cons_yes, length-slice_split}
 use Rattle.std.proofs.lemmas.List.Folds.{length-prefix_len}
 use Rattle.std.proofs.lemmas.List.Sums.{prefix_len-le-length}
-use Rattle.scan_vectors.specs.Words.{is_line_end, is_blank_byte, is_empty, without_empty_last, lines_of, words_of}
-use Rattle.scan_vectors.specs.Forms.{after_word, begins_blank}
+use Rattle.line_texts.specs.Words.{is_line_end, is_blank_byte, is_empty, without_empty_last, lines_of, words_of}
+use Rattle.line_texts.specs.Cut.{after_word, begins_blank}
 
 pub passed_len : (p : ℕ → Bool) (xs : List ℕ) → length (take (prefix_len p xs) xs) ≡ prefix_len p xs
 passed_len p xs = length-prefix_len p xs
