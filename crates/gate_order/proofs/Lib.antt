@@ -2,3 +2,4 @@ pub mod WalkSteps
 pub mod WalkRecords
 pub mod Rows
 pub mod Acyclic
+pub mod Orders

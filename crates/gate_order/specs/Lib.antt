@@ -3,3 +3,4 @@ pub mod Rows
 pub mod State
 pub mod Walk
 pub mod Fault
+pub mod Laws

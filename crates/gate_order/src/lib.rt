@@ -5,9 +5,11 @@
 
 pub mod fault;
 pub mod graph;
+mod laws;
 pub mod order;
 mod walk;
 
 pub use fault::OrderFault;
 pub use graph::Graph;
+pub use laws::some_order;
 pub use order::order_of;

@@ -14,7 +14,7 @@ use Rattle.netlist_model.specs.Runs.{Moment, PinEvent, IsKnownPin, IsStep, IsRun
 use Rattle.netlist_laws.specs.Controls.{ControlsKnown}
 use Rattle.netlist_laws.proofs.Pins.{pin_rule-input}
 use Rattle.netlist_laws.specs.Settle.{SamePins}
-use Rattle.netlist_laws.specs.Runs.{SameControlNets}
+use Rattle.netlist_laws.specs.Runs.{SameControlNets, RunHasMoments}
 use Rattle.netlist_laws.proofs.Controls.{controls_known_under, controls_once}
 
 see_known : (p : PinSig) → IsKnownPin p → IsKnown (see p)
@@ -73,3 +73,9 @@ controls_same N pins pins' state state' v v' formed same a b =
     controls_once N (pin_rule N pins) (pin_rule N pins') state state' v v' formed a b
     (λ net port. let g : follows_pin (direction N.ports net) ≡ true = ap follows_pin port.0 in
     pin_rule-input N pins v net port.0 ∙ ap see (same net g) ∙ sym (pin_rule-input N pins' v' net port.0))
+
+pub run_has_moments : RunHasMoments
+run_has_moments N given events moment run t below = record {
+  settled = run_settled N given events moment run t below;
+  step = λ h. let e = event_at events t h in (e.0, e.1, run.steps t e.0 e.1);
+}

@@ -3,9 +3,10 @@ use Rattle.std.specs.Prelude.{◌≡◌, ℕ, suc, ◌≤◌, List, length, slic
 use Rattle.signal_values.specs.declared.Sig.{Sig}
 use Rattle.signal_values.specs.declared.PinSig.{PinSig}
 use Rattle.netlist_model.specs.Lists.{NetlistView}
+use Rattle.netlist_model.specs.Settled.{IsSettled}
 use Rattle.netlist_model.specs.Cones.{IsControlNet, IsControlPort}
 use Rattle.netlist_model.specs.Formed.{IsWellFormed}
-use Rattle.netlist_model.specs.Runs.{Moment, PinEvent, IsKnownPin, FlopsStart, FlopsStep, IsLegal, IsRun}
+use Rattle.netlist_model.specs.Runs.{Moment, PinEvent, IsKnownPin, FlopsStart, FlopsStep, IsLegal, IsStep, IsRun}
 use Rattle.netlist_laws.specs.Settle.{SamePins, SameFlops}
 
 -- own: what clocks, clears or presets flip-flops is the same
@@ -27,6 +28,15 @@ pub record SameMoment (N : NetlistView) (m m' : Moment) : Type 0 where
   pub pins : SamePins N m.pins m'.pins
   pub flops : SameFlops N m.state m'.state
   pub value : (net : ℕ) → m.value net ≡ m'.value net
+
+-- own: what is so at each moment of a run: the netlist is settled, and an event leads to the next moment
+pub record IsMoment (N : NetlistView) (events : List PinEvent) (moment : ℕ → Moment) (t : ℕ) : Type 0 where
+  pub settled : IsSettled N (moment t).pins (moment t).state (moment t).value
+  pub step : suc t ≤ length events → (event : PinEvent) × (slice_get events t ≡ Some event) × IsStep N event (moment t) (moment (suc t))
+
+abbrev pub RunHasMoments : Type 0
+RunHasMoments = (N : NetlistView) (given : ℕ → Sig) (events : List PinEvent) (moment : ℕ → Moment) → IsRun N given events moment
+    → (t : ℕ) → t ≤ length events → IsMoment N events moment t
 
 -- own: from any pins that give control ports 0 or 1, any values of the flip-flops and any legal events there is a run
 abbrev pub RunExists : Type 0

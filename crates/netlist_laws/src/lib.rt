@@ -5,9 +5,9 @@
 
 ghost use Rattle.netlist_laws.specs.Ports.{BitHasDirection, DirectionHasBit};
 ghost use Rattle.netlist_laws.specs.Settle.{MeetsOnce, MeetsExists, MeetsOnceInside, SettledOnce, SettledExists};
-ghost use Rattle.netlist_laws.specs.Drivers.{DriverIsFound, DrivenIsInside};
+ghost use Rattle.netlist_laws.specs.Drivers.{DriverIsFound, DriverDrives, DrivenIsInside};
 ghost use Rattle.netlist_laws.specs.Controls.{ControlsOnce, ControlsKnownUnder, ControlsKnown};
-ghost use Rattle.netlist_laws.specs.Runs.{FlopsStartOnce, FlopsStepOnce, RunExists, RunOnce, RepeatsChangeNothing};
+ghost use Rattle.netlist_laws.specs.Runs.{FlopsStartOnce, FlopsStepOnce, RunHasMoments, RunExists, RunOnce, RepeatsChangeNothing};
 ghost use Rattle.netlist_laws.specs.Knowledge.{SettledKeepsOrder, ReadingsKeepOrder};
 ghost use Rattle.netlist_laws.specs.Ordered.{OrderedIsNumbered, NumberedIsOrdered};
 ghost use Rattle.netlist_laws.specs.Example.{ExampleIsFormed};
@@ -83,6 +83,11 @@ pub fn one_step_of_flops()
     ensures { FlopsStepOnce }
 {}
 
+/// At each moment of a run the netlist is settled, and an event leads to the next moment.
+pub fn moments_of_a_run()
+    ensures { RunHasMoments }
+{}
+
 /// A start and legal events have a run.
 pub fn some_run()
     ensures { RunExists }
@@ -111,6 +116,11 @@ pub fn reading_keeps_order()
 /// The driver of a net is the one that is found.
 pub fn driver_is_found()
     ensures { DriverIsFound }
+{}
+
+/// What is found drives the net, and where nothing is found none does.
+pub fn found_driver_drives()
+    ensures { DriverDrives }
 {}
 
 /// What a gate or a flip-flop drives follows no pin.

@@ -1,0 +1,46 @@
+-- A netlist inside another.
+use Rattle.std.proofs.Common.{◌≡◌, ℕ, List, [], ◌∷◌, map, refl, ap, ◌∙◌, Option, Some}
+use Rattle.std.specs.Option.{option_map}
+use Rattle.signal_values.specs.declared.Sig.{Sig}
+use Rattle.cell_library.specs.Flops.{flop_next, flop_start}
+use Rattle.netlist_model.specs.declared.Feed.{Feed}
+use Rattle.netlist_model.specs.declared.Feed.TheVariants.{Net, Const}
+use Rattle.netlist_model.specs.declared.NetId.{NetId}
+use Rattle.netlist_model.specs.Settled.{feed_values, cell_value}
+use Rattle.netlist_images.specs.Nested.{renamed_feed, renamed_net, renamed_cell}
+use Rattle.netlist_images.specs.NestedLaws.{NestedMeets, NestedStarts, NestedSteps}
+
+pub feeds_renamed : (to : ℕ → ℕ) (v : ℕ → Sig) (feeds : List Feed) → feed_values v (map (renamed_feed to) feeds) ≡ feed_values (λ n. v (to n)) feeds
+feeds_renamed to v [] = refl
+feeds_renamed to v (Net net ∷ feeds) = let e = feeds_renamed to v feeds in cc
+feeds_renamed to v (Const b ∷ feeds) = let e = feeds_renamed to v feeds in cc
+
+pub output_renamed : (to : ℕ → ℕ) (output : Option NetId) (net : ℕ) → output ≡ Some (record { 0 = net }) → option_map (renamed_net to) output ≡ Some (record { 0 = to net })
+output_renamed to output net e = rw e refl
+
+pub nested_meets : NestedMeets
+nested_meets N M to at given state value nested meets = record {
+  pins = λ net g. refl;
+  cells = λ i cell net drives g.
+      let there = nested.cells i cell drives.live in
+      meets.cells (at i) (renamed_cell to there.name cell) (to net) (record { live = there.live; output = output_renamed to cell.output net drives.output }) (nested.inside net g)
+      ∙ ap (λ xs. cell_value cell.kind xs (state (at i))) (feeds_renamed to value cell.feeds);
+  undriven = λ net g none. meets.undriven (to net) (nested.inside net g) (nested.undriven net g none);
+}
+
+pub nested_steps : NestedSteps
+nested_steps N M to at before after state next nested step = record {
+  each = λ i cell kind live is.
+      let there = nested.cells i cell live in
+      step.each (at i) (renamed_cell to there.name cell) kind there.live is
+      ∙ ap (λ xs. flop_next kind xs (feed_values after (map (renamed_feed to) cell.feeds)) (state (at i))) (feeds_renamed to before cell.feeds)
+      ∙ ap (λ xs. flop_next kind (feed_values (λ n. before (to n)) cell.feeds) xs (state (at i))) (feeds_renamed to after cell.feeds);
+}
+
+pub nested_starts : NestedStarts
+nested_starts N M to at given value state nested start = record {
+  each = λ i cell kind live is.
+      let there = nested.cells i cell live in
+      start.each (at i) (renamed_cell to there.name cell) kind there.live is
+      ∙ ap (λ xs. flop_start kind xs (given (at i))) (feeds_renamed to value cell.feeds);
+}
