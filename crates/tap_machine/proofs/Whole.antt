@@ -8,11 +8,9 @@ use Rattle.cell_library.specs.declared.codes.Bits.{Bits}
 use Rattle.cell_library.specs.declared.codes.Opcode.{Opcode}
 use Rattle.cell_library.specs.declared.codes.Instr.{Instr}
 use Rattle.cell_library.specs.declared.codes.Instr.TheVariants.{Idcode, Bypass}
-use Rattle.bsdl_device.specs.declared.values.Device.{Device}
 use Rattle.bsdl_device.specs.Instructions.{is_instruction}
 use Rattle.bsdl_device.specs.Checks.{has_other_length}
-use Rattle.test_logic.specs.Instructions.{bits_of, pattern, opcode_of, reset_opcode}
-use Rattle.tap_machine.specs.Views.{LatchesWhole}
+use Rattle.test_logic.specs.Instructions.{bits_of, pattern, opcode_of}
 use Rattle.tap_machine.specs.Laws.{OpcodesAreWhole}
 
 length_bits_of : (count value : ℕ) → length (bits_of count value) ≡ count

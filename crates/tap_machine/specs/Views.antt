@@ -1,5 +1,5 @@
 -- What a machine's fields stand for: the test logic of a device, and what it holds.
-use Rattle.std.specs.Prelude.{◌≡◌, List, length}
+use Rattle.std.specs.Prelude.{◌≡◌, length}
 use Rattle.signal_values.specs.declared.Sig.{Sig}
 use Rattle.bsdl_device.specs.Instructions.{is_register}
 use Rattle.bsdl_device.specs.declared.entries.Register.{Register}
