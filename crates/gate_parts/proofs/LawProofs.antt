@@ -12,7 +12,7 @@ use Rattle.netlist_model.specs.declared.Feed.{Feed}
 use Rattle.netlist_model.specs.declared.NetId.{NetId}
 use Rattle.netlist_model.specs.Lists.{CellView, NetlistView, cell_at, cell_count}
 use Rattle.netlist_model.specs.Settled.{feed_values, cell_value, Meets}
-use Rattle.netlist_model.specs.Contained.{Contains, HasCells}
+use Rattle.netlist_model.specs.Contained.{HasCells}
 use Rattle.netlist_arena.specs.Arena.{ArenaView}
 use Rattle.netlist_arena.proofs.Puts.{dense_past}
 use Rattle.gate_parts.specs.Appended.{Appended, Grows}
