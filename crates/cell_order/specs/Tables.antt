@@ -1,5 +1,5 @@
 -- What a work area holds after it was filled.
-use Rattle.std.specs.Prelude.{◌≡◌, ℕ, ◌↔◌, ◌≤◌, ◌<◌, Bool, true, false, List, length, slice_get, slice_set, slice_index_or, Option, Some, None, count_by}
+use Rattle.std.specs.Prelude.{◌≡◌, ℕ, ◌↔◌, ◌≤◌, ◌<◌, Bool, true, false, max, List, [], length, slice_get, slice_set, slice_index_or, Option, Some, None, count_by}
 use Rattle.cell_library.specs.Gates.{is_flop}
 use Rattle.netlist_model.specs.declared.NetId.{NetId}
 use Rattle.netlist_model.specs.declared.CellId.{CellId}
@@ -10,13 +10,21 @@ pub record RoomView : Type 0 where
   pub cells : ℕ
   pub nets : ℕ
 
--- own: an order of cells, of each net whether it is a control port and whether it is a clock port, how many flip-flops there are, and the room
+-- own: an order of cells; of each net, whether it is a control port and whether it is a clock port; how many flip-flops there are
 pub record AreaView : Type 0 where
   pub order : List CellId
   pub control : List Bool
   pub clock : List Bool
   pub flops : ℕ
   pub room : RoomView
+
+-- own: an area where nothing was filled in, without room
+abbrev pub empty_area : AreaView
+empty_area = record { order = []; control = []; clock = []; flops = 0; room = record { cells = 0; nets = 0 } }
+
+-- own: the area with room for so many cells and nets at least
+abbrev pub with_room : ℕ → ℕ → AreaView → AreaView
+with_room cells nets area = record area { room = record { cells = max area.room.cells cells; nets = max area.room.nets nets } }
 
 -- own: the netlist fits the room
 pub record FitsRoom (N : NetlistView) (room : RoomView) : Type 0 where
@@ -31,7 +39,7 @@ AreFlags IsSo flags = (net : ℕ) → (slice_get flags net ≡ Some true) ↔ Is
 abbrev pub driver_at : List (Option CellId) → ℕ → Option CellId
 driver_at drivers net = slice_index_or drivers net None
 
--- own: the table has the cell that drives each net, of the cells with a number below this one
+-- own: the table has the driver of each net, of the cells with a number below this one
 pub record AreDriversBelow (N : NetlistView) (bound : ℕ) (drivers : List (Option CellId)) : Type 0 where
   pub long : length drivers ≡ length N.nets
   pub some : (net : ℕ) (id : CellId) → driver_at drivers net ≡ Some id → (cell : CellView) × Drives N id.0 cell net

@@ -3,11 +3,11 @@
 // IEEE 1364: gate level modelling; orders, cones and the room are own.
 #![tactic(auto)]
 
-ghost use Rattle.std.specs.Prelude.{◌≡◌, ◌≤◌, OnErr, OnOk, max, []};
+ghost use Rattle.std.specs.Prelude.{◌≡◌, ◌≤◌, OnErr, OnOk};
 ghost use Rattle.netlist_model.specs.Cones.{IsClockPort, IsControlPort};
 ghost use Rattle.netlist_model.specs.Formed.{IsWellFormed};
 ghost use Rattle.netlist_model.specs.Orders.{IsCellOrder};
-ghost use Rattle.cell_order.specs.Tables.{AreFlags, FitsRoom, flop_count};
+ghost use Rattle.cell_order.specs.Tables.{AreFlags, FitsRoom, empty_area, flop_count, with_room};
 
 mod cones;
 mod drivers;
@@ -70,7 +70,7 @@ impl Model for WorkArea {
 impl WorkArea {
     /// An empty area, which takes no memory and has no room.
     pub fn new(alloc: Global) -> WorkArea
-        ensures { result ≡ record { order = []; control = []; clock = []; flops = 0; room = record { cells = 0; nets = 0 } } }
+        ensures { result ≡ empty_area }
     {
         WorkArea {
             live: Vec::new(alloc),
@@ -85,9 +85,9 @@ impl WorkArea {
         }
     }
 
-    /// Takes memory for so many cells and nets at least. Without memory the area stays as it was, also what was filled in.
+    /// Takes memory for so many cells and nets in all. Without memory the area stays as it was, also what was filled in.
     pub fn reserve(&mut self, cells: u32, nets: u32) -> Result<(), OutOfMemory>
-        ensures ok { OnOk result (self.new ≡ record self.old { room = record { cells = max self.old.room.cells cells; nets = max self.old.room.nets nets } }) }
+        ensures ok { OnOk result (self.new ≡ with_room cells nets self.old) }
         ensures err { OnErr result (self.new ≡ self.old) }
     {
         let cells = self.cells.max(cells);

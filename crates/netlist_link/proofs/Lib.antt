@@ -16,3 +16,4 @@ pub mod Drivers
 pub mod Loops
 pub mod Converse
 pub mod Spelled
+pub mod Rewriting

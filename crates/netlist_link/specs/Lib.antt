@@ -4,6 +4,8 @@ pub mod Brackets
 pub mod PortNames
 pub mod Tables
 pub mod Linked
+pub mod Drafts
+pub mod Lending
 pub mod Links
 pub mod Steps
 pub mod Laws

@@ -4,14 +4,15 @@
 #![tactic(auto)]
 
 mod assemble;
+mod drafts;
 mod laws;
 mod linked;
 mod linking;
 mod pins;
 mod port_names;
-mod tables;
 mod words;
 
+pub use drafts::Draft;
 pub use laws::{faults_forbid_links, one_fault_is_first, well_formed_can_be_linked};
 pub use linked::Linked;
 pub use linking::link;
