@@ -1,0 +1,2 @@
+pub mod ShiftBit
+pub mod HeldBit
