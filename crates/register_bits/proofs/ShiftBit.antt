@@ -17,7 +17,9 @@ use Rattle.netlist_model.specs.Runs.{Moment, PinEvent, IsStart, IsStep}
 use Rattle.gate_parts.specs.Laws.{FlopStarts, FlopSteps}
 use Rattle.gate_parts.specs.PartLaws.{ContainedPartMeets, ContainedPartHasFlops}
 use Rattle.test_logic.specs.declared.Levels.{Levels}
-use Rattle.test_logic.specs.Controller.{Action, captures, shifts, keeps, act}
+use Rattle.test_logic.specs.declared.Action.{Action}
+use Rattle.test_logic.specs.declared.Action.TheVariants.{Captures, Shifts, Keeps}
+use Rattle.test_logic.specs.Controller.{act}
 use Rattle.test_logic.specs.Machine.{edge_of}
 use Rattle.register_bits.specs.declared.Steering.{Steering}
 use Rattle.register_bits.specs.declared.TheConstants.{SHIFT_BIT}
@@ -34,9 +36,9 @@ mux_one a b = grind arith
 -- the two multiplexers before the bit
 acted : (action : Action) (captured next kept : Sig)
     → sig_mux (bit (is_capture action)) (sig_mux (bit (is_shift action)) kept next) captured ≡ act action captured next kept
-acted captures captured next kept = mux_one (sig_mux Zero kept next) captured
-acted shifts captured next kept = rw (mux_zero (sig_mux One kept next) captured) (mux_one kept next)
-acted keeps captured next kept = rw (mux_zero (sig_mux Zero kept next) captured) (mux_zero kept next)
+acted Captures captured next kept = mux_one (sig_mux Zero kept next) captured
+acted Shifts captured next kept = rw (mux_zero (sig_mux One kept next) captured) (mux_one kept next)
+acted Keeps captured next kept = rw (mux_zero (sig_mux Zero kept next) captured) (mux_zero kept next)
 
 -- the flip-flop, by the levels
 risen : (clock clock' reset' : Bool) (next kept : Sig)

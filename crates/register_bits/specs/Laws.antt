@@ -14,7 +14,9 @@ use Rattle.netlist_model.specs.Formed.{IsWellFormed}
 use Rattle.netlist_model.specs.Contained.{HasCells}
 use Rattle.netlist_model.specs.Runs.{Moment, PinEvent, IsStart, IsStep}
 use Rattle.test_logic.specs.declared.Levels.{Levels}
-use Rattle.test_logic.specs.Controller.{Action, captures, shifts, keeps, act}
+use Rattle.test_logic.specs.declared.Action.{Action}
+use Rattle.test_logic.specs.declared.Action.TheVariants.{Captures, Shifts, Keeps}
+use Rattle.test_logic.specs.Controller.{act}
 use Rattle.test_logic.specs.Machine.{edge_of}
 use Rattle.register_bits.specs.declared.Steering.{Steering}
 use Rattle.register_bits.specs.declared.Holding.{Holding}
@@ -26,11 +28,11 @@ pub record Carries (tck trst : NetId) (levels : Levels) (m : Moment) : Type 0 wh
   pub reset : m.value trst.0 ≡ bit levels.trst
 
 abbrev pub is_capture : Action → Bool
-is_capture captures = true
+is_capture Captures = true
 is_capture _ = false
 
 abbrev pub is_shift : Action → Bool
-is_shift shifts = true
+is_shift Shifts = true
 is_shift _ = false
 
 -- own: the nets of capture and shift say what the stage does on the next rising edge

@@ -1,4 +1,5 @@
 ghost use Rattle.register_bits.specs.Laws.{ShiftBitsFollow, HeldBitsFollow};
+ghost use Rattle.register_bits.specs.Chains.{ChainsFollow};
 
 use gate_parts::{contained_part_has_flops, contained_part_meets, flop_starts, flop_steps};
 
@@ -20,4 +21,11 @@ pub fn held_bits_follow()
     contained_part_has_flops();
     flop_starts();
     flop_steps();
+}
+
+/// A shift stage of any length captures, shifts and keeps as its list does.
+pub fn chains_follow()
+    ensures { ChainsFollow }
+{
+    shift_bits_follow();
 }

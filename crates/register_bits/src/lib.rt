@@ -10,11 +10,13 @@ ghost use Rattle.netlist_model.specs.Below.{IsFeedBelow};
 ghost use Rattle.gate_parts.specs.Appended.{Appended};
 ghost use Rattle.register_bits.specs.Bits.{shift_bit_cells, held_bit_cells, AreNetsBelow};
 
+mod chain;
 mod laws;
 
 use cell_library::{Edge, FlopKind, Kind, ResetTo};
+pub use chain::add_shift_chain;
 use gate_parts::{Gate, Pin, Pins, add_part};
-pub use laws::{held_bits_follow, shift_bits_follow};
+pub use laws::{chains_follow, held_bits_follow, shift_bits_follow};
 use netlist_arena::Netlist;
 use netlist_model::{Feed, NetId};
 
