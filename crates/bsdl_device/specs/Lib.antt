@@ -4,6 +4,7 @@ pub mod Denoted
 pub mod Faults
 pub mod Grammar
 pub mod Instructions
+pub mod IsDevice
 pub mod Matching
 pub mod Meanings
 pub mod Ports

@@ -106,21 +106,24 @@ parts f c k =
 
 -- The rules.
 
+-- the entities that the canonical file names are the device's
+pub entity_named : (entity : List ℕ) (code : Option ℕ) → list_any (λ name. not (is_same_name name entity)) (entity ∷ entity ∷ entity ∷ entity ∷ entity ∷ entity ∷ entity ∷ entity ∷ entity ∷ option_map_or (λ (a : StringAttribute). a.entity ∷ []) (option_map (λ code2. let a : StringAttribute = record { entity = entity; strings = code_strings code2 } in a) code) []) ≡ false
+entity_named entity code = by code (ap not (same_self entity))
+  where
+    by : (o : Option ℕ) → not (is_same_name entity entity) ≡ false
+        → list_any (λ name. not (is_same_name name entity)) (entity ∷ entity ∷ entity ∷ entity ∷ entity ∷ entity ∷ entity ∷ entity ∷ entity ∷ option_map_or (λ (a : StringAttribute). a.entity ∷ []) (option_map (λ code2. let a : StringAttribute = record { entity = entity; strings = code_strings code2 } in a) o) []) ≡ false
+    by None h = rw h refl
+    by (Some n) h = rw h refl
+
 name_again : (f : File) (c : Contents) → Keeps f c → Parts f c → name_fails (rebuilt_file (device_of f c)) ≡ false
 name_again f c k p =
     let e4 = or_first (port_named_twice f || port_named_as_unit f || has_too_many_bits f || names_other_entity f) (names_other_package f) k.name in
     let e3 = or_first (port_named_twice f || port_named_as_unit f || has_too_many_bits f) (names_other_entity f) e4 in
-    let own : not (is_same_name f.entity f.entity) ≡ false = ap not (same_self f.entity) in
     neither (port_named_twice (rebuilt_file (device_of f c)) || port_named_as_unit (rebuilt_file (device_of f c)) || has_too_many_bits (rebuilt_file (device_of f c)) || names_other_entity (rebuilt_file (device_of f c))) (names_other_package (rebuilt_file (device_of f c)))
     (neither (port_named_twice (rebuilt_file (device_of f c)) || port_named_as_unit (rebuilt_file (device_of f c)) || has_too_many_bits (rebuilt_file (device_of f c))) (names_other_entity (rebuilt_file (device_of f c)))
     (ap (λ (ports : List DeclaredPort). is_repeated (port_names ports) || list_any (λ name. is_same_name name f.entity || is_same_name name f.«package») (port_names ports) || nat_lt 4096 (port_bits ports)) p.ports ∙ e3)
-    (entities c.idcode own))
+    (entity_named f.entity c.idcode))
     (ap not (same_self f.«package»))
-  where
-    entities : (code : Option ℕ) → not (is_same_name f.entity f.entity) ≡ false
-        → list_any (λ name. not (is_same_name name f.entity)) (f.entity ∷ f.entity ∷ f.entity ∷ f.entity ∷ f.entity ∷ f.entity ∷ f.entity ∷ f.entity ∷ f.entity ∷ option_map_or (λ (a : StringAttribute). a.entity ∷ []) (option_map (λ code2. let a : StringAttribute = record { entity = f.entity; strings = code_strings code2 } in a) code) []) ≡ false
-    entities None h = rw h refl
-    entities (Some n) h = rw h refl
 
 pin_map_again : (f : File) (c : Contents) → Parts f c → pin_map_fails (rebuilt_file (device_of f c)) (rebuilt_contents (device_of f c)) ≡ false
 pin_map_again f c p =
@@ -231,7 +234,7 @@ cells_same f c p =
     ∙ ap (map (cell_of (declared_ports f))) (ordered_again count rows order)
     ∙ cells_respelled (declared_ports f) ordered
 
-abbrev with_parts : File → Contents → List DevPort → ℕ → ℕ → ℕ → ℕ → ℕ → List Opcode → List CellRow → Device
+abbrev pub with_parts : File → Contents → List DevPort → ℕ → ℕ → ℕ → ℕ → ℕ → List Opcode → List CellRow → Device
 with_parts g b ports tck tms tdi tdo trst codes cells = record {
   entity = g.entity;
   «package» = g.«package»;
@@ -250,7 +253,7 @@ with_parts g b ports tck tms tdi tdo trst codes cells = record {
   cells = cells;
 }
 
-same_parts : (g : File) (b : Contents) (ports : List DevPort) (tck tms tdi tdo trst tck2 tms2 tdi2 tdo2 trst2 : ℕ) (codes codes2 : List Opcode) (cells cells2 : List CellRow) → tck ≡ tck2 → tms ≡ tms2 → tdi ≡ tdi2 → tdo ≡ tdo2 → trst ≡ trst2 → codes ≡ codes2 → cells ≡ cells2
+pub same_parts : (g : File) (b : Contents) (ports : List DevPort) (tck tms tdi tdo trst tck2 tms2 tdi2 tdo2 trst2 : ℕ) (codes codes2 : List Opcode) (cells cells2 : List CellRow) → tck ≡ tck2 → tms ≡ tms2 → tdi ≡ tdi2 → tdo ≡ tdo2 → trst ≡ trst2 → codes ≡ codes2 → cells ≡ cells2
     → with_parts g b ports tck tms tdi tdo trst codes cells ≡ with_parts g b ports tck2 tms2 tdi2 tdo2 trst2 codes2 cells2
 same_parts g b ports tck tms tdi tdo trst tck2 tms2 tdi2 tdo2 trst2 codes codes2 cells cells2 h1 h2 h3 h4 h5 h6 h7 =
     ap (λ x. with_parts g b ports x tms tdi tdo trst codes cells) h1

@@ -205,7 +205,7 @@ bits_digits (suc len) value low =
       value = push_value 2 0 (bits_text len (value / 2)) (48 + value % 2) ∙ (let e : value_after 2 0 (bits_text len (value / 2)) ≡ value / 2 = before.value in omega arith);
     }
 
-good_below : (bits : Bits) → GoodBits bits → bits.value < 2 ^ bits.len
+pub good_below : (bits : Bits) → GoodBits bits → bits.value < 2 ^ bits.len
 good_below bits g =
     let digits = and_right (nat_le 1 (length g.run) && nat_le (length g.run) 32) (list_all (λ b. b == 48 || b == 49) g.run) g.is in
     let below : value_after 2 0 g.run + 1 ≤ (0 + 1) * 2 ^ length g.run = value_below 0 g.run digits in

@@ -8,7 +8,6 @@ use Rattle.cell_library.specs.declared.codes.Instr.{Instr}
 use Rattle.cell_library.specs.declared.codes.Instr.TheVariants as instr
 use Rattle.cell_library.specs.declared.codes.Opcode.{Opcode}
 use Rattle.bsdl_lexicon.specs.Names.{same_name, is_same_name}
-use Rattle.bsdl_lexicon.proofs.SameNames.{same_name-true}
 use Rattle.bsdl_device.specs.declared.entries.OpcodeEntry.{OpcodeEntry}
 use Rattle.bsdl_device.specs.declared.entries.AccessEntry.{AccessEntry}
 use Rattle.bsdl_device.specs.Instructions.{instruction_word, instruction_named, names_instruction, all_instructions, same_bits, is_instruction}
@@ -16,7 +15,7 @@ use Rattle.bsdl_device.specs.Checks.{any_pair, is_repeated, has_instruction, opc
 use Rattle.bsdl_device.specs.Denoted.{opcode_of}
 use Rattle.bsdl_device.specs.Canonical.{has_opcode}
 use Rattle.bsdl_round_trip.proofs.Pairs.{or_first, or_second, neither, any_same, any-map, pair-map, pair_same}
-use Rattle.bsdl_round_trip.proofs.Names.{same_left, same_right, same_turned, find_same, found_passes}
+use Rattle.bsdl_round_trip.proofs.Names.{same_name-true, same_left, same_right, same_turned, find_same, found_passes}
 use Rattle.bsdl_round_trip.proofs.Rebuilt.{opcode_entry}
 
 -- One opcode.

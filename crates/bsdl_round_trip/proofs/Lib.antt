@@ -25,3 +25,8 @@ pub mod FileWords
 pub mod CanonicalText
 pub mod Facts
 pub mod ReadBack
+pub mod Places
+pub mod DeviceRows
+pub mod DevicePorts
+pub mod DeviceKept
+pub mod DeviceIs

@@ -7,14 +7,13 @@ use Rattle.std.proofs.lemmas.List.Folds.{find_at}
 use Rattle.std.proofs.lemmas.Option.{slice_get-map, slice_get_within}
 use Rattle.std.proofs.lemmas.Bool.{lt-ltb}
 use Rattle.bsdl_lexicon.specs.Names.{same_name, is_same_name}
-use Rattle.bsdl_lexicon.proofs.SameNames.{same_name-true}
 use Rattle.bsdl_device.specs.declared.values.DevPort.{DevPort}
 use Rattle.bsdl_device.specs.declared.written.DeclaredPort.{DeclaredPort}
 use Rattle.bsdl_device.specs.declared.entries.PinEntry.{PinEntry}
 use Rattle.bsdl_device.specs.Ports.{port_named, place_named}
 use Rattle.bsdl_device.specs.Denoted.{place_of, port_of}
 use Rattle.bsdl_device.specs.Canonical.{port_name}
-use Rattle.bsdl_round_trip.proofs.Names.{same_right, same_left, find_same, found_passes}
+use Rattle.bsdl_round_trip.proofs.Names.{same_name-true, same_right, same_left, find_same, found_passes}
 use Rattle.bsdl_round_trip.proofs.Rebuilt.{as_declared}
 
 -- One name for another.

@@ -3,11 +3,21 @@ use Rattle.std.proofs.Common.{◌≡◌, ℕ, zero, suc, ◌+◌, ◌<◌, ◌�
 use Rattle.std.specs.Prelude.{◌||◌, not, count_by}
 use Rattle.std.specs.List.{list_any, AllByRecursion}
 use Rattle.std.specs.Str.{bytes_eq}
+use Rattle.std.proofs.lemmas.Slice.Eq.{bytes_eq-Decides}
 use Rattle.bsdl_lexicon.specs.Names.{lower, same_name, is_same_name}
-use Rattle.bsdl_lexicon.proofs.SameNames.{is_same_name-true, same_name-true}
 use Rattle.bsdl_device.specs.Checks.{any_pair, is_repeated}
 use Rattle.bsdl_round_trip.proofs.Totals.{total, weigh, tally, none_any, any_none, Shuffled, count_by-tally}
 use Rattle.bsdl_round_trip.proofs.Pairs.{or_first, or_second, neither}
+
+-- what the test says
+
+pub is_same_name-true : (a b : List ℕ) → same_name a b → is_same_name a b ≡ true
+is_same_name-true a b same = (bytes_eq-Decides (map lower a) (map lower b)).1 same
+
+pub same_name-true : (a b : List ℕ) → is_same_name a b ≡ true → same_name a b
+same_name-true a b test = (bytes_eq-Decides (map lower a) (map lower b)).0 test
+
+-- One name for another.
 
 pub same_left : (a b c : List ℕ) → same_name a b → is_same_name a c ≡ is_same_name b c
 same_left a b c same = ap (λ (l : List ℕ). bytes_eq l (map lower c)) same

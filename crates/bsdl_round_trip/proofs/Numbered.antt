@@ -23,7 +23,7 @@ eq_turned a b = by (a == b) refl (b == a) refl
     by true h false k = let back : (b == a) ≡ true = eq-eqb b a (sym (eqb-true a b h)) in absurd (cc)
     by false h true k = let back : (a == b) ≡ true = eq-eqb a b (sym (eqb-true b a k)) in absurd (cc)
 
-differ_by_order : (a b : ℕ) → a < b → (a == b) ≡ false
+pub differ_by_order : (a b : ℕ) → a < b → (a == b) ≡ false
 differ_by_order a b h = by (a == b) refl
   where
     by : (x : Bool) → (a == b) ≡ x → (a == b) ≡ false

@@ -4,7 +4,6 @@ use Rattle.std.specs.Prelude.{◌==◌, ◌||◌, not, count_by, IsTrue}
 use Rattle.std.specs.List.{list_any, list_all, flat_map, filter_map, cons_option, AllByRecursion}
 use Rattle.std.specs.Option.{option_map, option_map_or}
 use Rattle.bsdl_lexicon.specs.Names.{same_name, is_same_name}
-use Rattle.bsdl_lexicon.proofs.SameNames.{same_name-true}
 use Rattle.bsdl_device.specs.declared.values.PortRange.{PortRange}
 use Rattle.bsdl_device.specs.declared.values.DevPort.{DevPort}
 use Rattle.bsdl_device.specs.declared.written.DeclaredPort.{DeclaredPort}
@@ -18,7 +17,7 @@ use Rattle.bsdl_device.specs.Checks.{is_repeated, entry_pins, has_pins_for, port
 use Rattle.bsdl_device.specs.Denoted.{pins_of, port_of}
 use Rattle.bsdl_round_trip.proofs.Totals.{total, weigh, tally, total-flat_map, count_by-tally, Shuffled}
 use Rattle.bsdl_round_trip.proofs.Chosen.{chosen_shuffled}
-use Rattle.bsdl_round_trip.proofs.Names.{same_left, same_turned, find_same, at_most_one, repeats_shuffled, found_each, found_passes, found_is_none_of, some_found, found_some, all_to, all_none, none_all, all_both}
+use Rattle.bsdl_round_trip.proofs.Names.{same_name-true, same_left, same_turned, find_same, at_most_one, repeats_shuffled, found_each, found_passes, found_is_none_of, some_found, found_some, all_to, all_none, none_all, all_both}
 use Rattle.bsdl_round_trip.proofs.Rebuilt.{mapped, entry_of}
 
 -- Pins of one port.
@@ -30,7 +29,7 @@ mapped_again None (pins.Several list) h = absurd (cc)
 mapped_again (Some r) (pins.One pin) h = absurd (cc)
 mapped_again (Some r) (pins.Several list) h = refl
 
-pins_are_there : (range : Option PortRange) (m : MappedPins) → has_pins_for range m ≡ true → has_pins m ≡ true
+pub pins_are_there : (range : Option PortRange) (m : MappedPins) → has_pins_for range m ≡ true → has_pins m ≡ true
 pins_are_there None (pins.One pin) h = refl
 pins_are_there None (pins.Several list) h = absurd (cc)
 pins_are_there (Some r) (pins.One pin) h = absurd (cc)
@@ -165,7 +164,7 @@ pins_filled ports entries m = over ports (ports_mapped ports entries m)
 
 -- The ports again.
 
-find-map : {A B : Type 0} (test : B → Bool) (g : A → B) (xs : List A) → find test (map g xs) ≡ option_map g (find (λ x. test (g x)) xs)
+pub find-map : {A B : Type 0} (test : B → Bool) (g : A → B) (xs : List A) → find test (map g xs) ≡ option_map g (find (λ x. test (g x)) xs)
 find-map test g [] = refl
 find-map {A} {B} test g (x ∷ xs) = ap (λ (o : Option B). cond (test (g x)) (Some (g x)) o) (find-map test g xs) ∙ by (test (g x))
   where

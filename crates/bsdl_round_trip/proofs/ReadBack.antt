@@ -146,33 +146,43 @@ good f c gf gc some k p =
       some_row = ap is_filled p.rows ∙ rows_filled ports count (ordered_rows count c.rows) many some_rows;
     }
 
--- the canonical text of a good device whose file breaks no rule
-spells : (d : Device) → GoodDevice d → Keeps (rebuilt_file d) (rebuilt_contents d) → device_of (rebuilt_file d) (rebuilt_contents d) ≡ d → SpellsText (canonical_device d) d
-spells d g k again =
-    let whole = all_joined (section_atoms d) (sections_are d g) in record {
+-- a device whose canonical file can be written, breaks no rule and describes it
+pub record Stands (d : Device) : Type 0 where
+  pub good : GoodDevice d
+  pub keeps : Keeps (rebuilt_file d) (rebuilt_contents d)
+  pub again : device_of (rebuilt_file d) (rebuilt_contents d) ≡ d
+
+-- its canonical text spells it
+pub spells : (d : Device) → Stands d → SpellsText (canonical_device d) d
+spells d s =
+    let whole = all_joined (section_atoms d) (sections_are d s.good) in record {
       words = words_from 0 (pieces_of (joined (section_atoms d)));
       cut = record {
         pieces = pieces_of (joined (section_atoms d));
         are = are_pieces Free (joined (section_atoms d)) whole.all whole.fits;
-        text = canonical_text d g ∙ sym (chain_joined (section_atoms d)) ∙ sym (text_of-atoms (joined (section_atoms d)));
+        text = canonical_text d s.good ∙ sym (chain_joined (section_atoms d)) ∙ sym (text_of-atoms (joined (section_atoms d)));
         words_are = refl;
       };
       spells = record {
         file = rebuilt_file d;
-        spells = spells_file d g;
+        spells = spells_file d s.good;
         contents = rebuilt_contents d;
-        holds = holds_again d g;
-        means = none_broken (rebuilt_file d) (rebuilt_contents d) k;
-        device_is = sym again;
+        holds = holds_again d s.good;
+        means = none_broken (rebuilt_file d) (rebuilt_contents d) s.keeps;
+        device_is = sym s.again;
       };
     }
 
-pub canonical_reads_back : CanonicalReadsBack
-canonical_reads_back bytes d s =
+-- a device that a text spells is one
+pub stands : (bytes : List ℕ) (d : Device) → SpellsText bytes d → Stands d
+stands bytes d s =
     let f = s.spells.file in
     let c = s.spells.contents in
     let k : Keeps f c = keeps f c s.spells.means in
     let p : Parts f c = parts f c k in
     let gf : GoodFile f = file_good f (all_patterns (file_words f) (plain s.words) s.spells.spells.matches (tokens_good bytes s.words s.cut)) in
     let g : GoodDevice (device_of f c) = good f c gf (contents_good f c s.spells.holds) (some_port f s.spells.spells.is) k p in
-    subst (λ (e : Device). SpellsText (canonical_device e) e) (sym s.spells.device_is) (spells (device_of f c) g (keeps_again f c k p) (device_again f c p))
+    subst (λ (e : Device). Stands e) (sym s.spells.device_is) (record { good = g; keeps = keeps_again f c k p; again = device_again f c p })
+
+pub canonical_reads_back : CanonicalReadsBack
+canonical_reads_back bytes d s = spells d (stands bytes d s)

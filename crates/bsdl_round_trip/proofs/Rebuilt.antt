@@ -31,6 +31,7 @@ use Rattle.bsdl_device.specs.declared.entries.RowEntry.{RowEntry}
 use Rattle.bsdl_device.specs.declared.entries.Contents.{Contents}
 use Rattle.bsdl_device.specs.Ports.{declared_ports, range_of, port_declared}
 use Rattle.bsdl_device.specs.Instructions.{instruction_word}
+pub use Rattle.bsdl_device.specs.IsDevice.{opcode_entry}
 use Rattle.bsdl_device.specs.Canonical.{port_name, pattern_text, bits_text, has_opcode}
 use Rattle.bsdl_round_trip.proofs.EntryAtoms.{pin_entry_bytes, opcode_bytes, access_bytes, row_bytes, comma_strings}
 
@@ -44,9 +45,6 @@ mapped (Some r) list = pins.Several list
 
 abbrev pub entry_of : DevPort → PinEntry
 entry_of p = record { port = p.name; pins = mapped p.range p.pins }
-
-abbrev pub opcode_entry : Opcode → OpcodeEntry
-opcode_entry o = record { name = instruction_word o.instr; bits = o.bits }
 
 -- the instructions of the list that the device has
 abbrev pub present : List Opcode → List Instr → List (List ℕ)

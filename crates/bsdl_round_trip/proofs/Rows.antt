@@ -8,7 +8,6 @@ use Rattle.cell_library.specs.declared.codes.Function.{Function}
 use Rattle.cell_library.specs.declared.codes.Function.TheVariants as function
 use Rattle.cell_library.specs.declared.codes.BoundaryKind.TheVariants as cell
 use Rattle.bsdl_lexicon.specs.Names.{same_name, is_same_name}
-use Rattle.bsdl_lexicon.proofs.SameNames.{same_name-true}
 use Rattle.bsdl_device.specs.declared.values.PortMode.{PortMode}
 use Rattle.bsdl_device.specs.declared.values.PortMode.TheVariants as mode
 use Rattle.bsdl_device.specs.declared.values.DevPort.{DevPort}
@@ -27,7 +26,7 @@ use Rattle.bsdl_device.specs.Denoted.{place_of, port_of, bit_of, cell_of}
 use Rattle.bsdl_device.specs.Canonical.{port_name}
 use Rattle.bsdl_round_trip.proofs.Totals.{total, weigh, tally, total_same, total-map, count_by-tally, any_shuffled, count_shuffled, Shuffled}
 use Rattle.bsdl_round_trip.proofs.Pairs.{or_first, or_second, neither, any_same, any-map, pair-map, pairs_shuffled}
-use Rattle.bsdl_round_trip.proofs.Names.{same_right, found_passes}
+use Rattle.bsdl_round_trip.proofs.Names.{same_name-true, same_right, found_passes}
 use Rattle.bsdl_round_trip.proofs.Lookups.{port_named_same, place_of_same, name_at_place}
 use Rattle.bsdl_round_trip.proofs.Taps.{SameTap, system_port_same}
 use Rattle.bsdl_round_trip.proofs.Numbered.{eq_turned, NumberedFrom}

@@ -1,5 +1,4 @@
-ghost use Rattle.std.specs.Prelude.{◌≡◌, ℕ, ◌≤◌, take, OnErr, OnOk};
-ghost use Rattle.edge_io.specs.Shelf.{Rose, appended};
+ghost use Rattle.output_lines.specs.Puts.{Puts};
 ghost use Rattle.command_faults.specs.Lines.{line_of};
 
 use crate::fault::Fault;
@@ -14,10 +13,7 @@ use output_lines::{Field, put_line};
 /// Puts the line of a fault on the sink: the fault's name and its fields, with one blank between them, and LF. It
 /// takes no memory.
 pub fn put_fault<O: Sink>(out: &mut O, fault: &Fault) -> Result<(), WriteFault>
-    ensures ok { OnOk result (O.given out.new ≡ appended (line_of fault.now) (O.given out.old)) }
-    ensures fault { OnErr result ((k : ℕ) × (O.given out.new ≡ appended (take k (line_of fault.now)) (O.given out.old))) }
-    ensures cause { OnErr result (Rose (O.faults out.old) (O.faults out.new)) }
-    ensures later { O.faults out.old ≤ O.faults out.new }
+    ensures { Puts O.given O.faults out.old out.new (line_of fault.now) result }
 {
     match fault {
         Fault::Usage => put_line(out, &Field::Word(b"Usage"), &[]),

@@ -1,5 +1,5 @@
-ghost use Rattle.std.specs.Prelude.{◌≡◌, ℕ, ◌≤◌, [], ◌∷◌, codes, take, OnErr, OnOk};
-ghost use Rattle.edge_io.specs.Shelf.{Rose, appended};
+ghost use Rattle.std.specs.Prelude.{[], ◌∷◌, codes};
+ghost use Rattle.output_lines.specs.Puts.{Puts};
 ghost use Rattle.std.specs.Fmt.{decimal};
 ghost use Rattle.output_lines.specs.Lines.{bit_text, words_line};
 ghost use Rattle.command_faults.specs.Lines as lines;
@@ -14,20 +14,14 @@ use output_lines::{Field, put_line, put_numbers};
 
 /// Puts the line of a fault with one name.
 pub fn put_named<O: Sink>(out: &mut O, fault: &[u8], name: &[u8]) -> Result<(), WriteFault>
-    ensures ok { OnOk result (O.given out.new ≡ appended (lines.named_line fault.now name.now) (O.given out.old)) }
-    ensures fault { OnErr result ((k : ℕ) × (O.given out.new ≡ appended (take k (lines.named_line fault.now name.now)) (O.given out.old))) }
-    ensures cause { OnErr result (Rose (O.faults out.old) (O.faults out.new)) }
-    ensures later { O.faults out.old ≤ O.faults out.new }
+    ensures { Puts O.given O.faults out.old out.new (lines.named_line fault.now name.now) result }
 {
     put_line(out, &Field::Word(fault), &[Field::Word(name)])
 }
 
 // The line of a fault at a bit.
 fn put_bit<O: Sink>(out: &mut O, fault: &[u8], bit: &BitName) -> Result<(), WriteFault>
-    ensures ok { OnOk result (O.given out.new ≡ appended (lines.bit_line fault.now bit.now) (O.given out.old)) }
-    ensures fault { OnErr result ((k : ℕ) × (O.given out.new ≡ appended (take k (lines.bit_line fault.now bit.now)) (O.given out.old))) }
-    ensures cause { OnErr result (Rose (O.faults out.old) (O.faults out.new)) }
-    ensures later { O.faults out.old ≤ O.faults out.new }
+    ensures { Puts O.given O.faults out.old out.new (lines.bit_line fault.now bit.now) result }
 {
     let field = Field::of_bit(bit.name.as_bytes(), bit.index);
     put_line(out, &Field::Word(fault), &[field])
@@ -40,10 +34,8 @@ fn put_port<O: Sink>(
     instance: &[u8],
     port: &[u8],
 ) -> Result<(), WriteFault>
-    ensures ok { OnOk result (O.given out.new ≡ appended (lines.port_line fault.now instance.now port.now) (O.given out.old)) }
-    ensures fault { OnErr result ((k : ℕ) × (O.given out.new ≡ appended (take k (lines.port_line fault.now instance.now port.now)) (O.given out.old))) }
-    ensures cause { OnErr result (Rose (O.faults out.old) (O.faults out.new)) }
-    ensures later { O.faults out.old ≤ O.faults out.new }
+    ensures { Puts O.given O.faults out.old out.new
+        (lines.port_line fault.now instance.now port.now) result }
 {
     put_line(
         out,
@@ -54,10 +46,8 @@ fn put_port<O: Sink>(
 
 // The line of an index outside a net's range.
 fn put_outside<O: Sink>(out: &mut O, name: &[u8], index: u32) -> Result<(), WriteFault>
-    ensures ok { OnOk result (O.given out.new ≡ appended (words_line (codes "BitOutside") (name.now ∷ decimal index ∷ [])) (O.given out.old)) }
-    ensures fault { OnErr result ((k : ℕ) × (O.given out.new ≡ appended (take k (words_line (codes "BitOutside") (name.now ∷ decimal index ∷ []))) (O.given out.old))) }
-    ensures cause { OnErr result (Rose (O.faults out.old) (O.faults out.new)) }
-    ensures later { O.faults out.old ≤ O.faults out.new }
+    ensures { Puts O.given O.faults out.old out.new
+        (words_line (codes "BitOutside") (name.now ∷ decimal index ∷ [])) result }
 {
     let fields = [Field::Word(name), Field::Number(u64::from(index))];
     put_line(out, &Field::Word(b"BitOutside"), &fields)
@@ -65,10 +55,8 @@ fn put_outside<O: Sink>(out: &mut O, name: &[u8], index: u32) -> Result<(), Writ
 
 // The line of a clock, clear or preset that isn't combinational.
 fn put_derived<O: Sink>(out: &mut O, flop: &[u8], net: &BitName) -> Result<(), WriteFault>
-    ensures ok { OnOk result (O.given out.new ≡ appended (words_line (codes "DerivedClock") (flop.now ∷ bit_text net.now.name net.now.index ∷ [])) (O.given out.old)) }
-    ensures fault { OnErr result ((k : ℕ) × (O.given out.new ≡ appended (take k (words_line (codes "DerivedClock") (flop.now ∷ bit_text net.now.name net.now.index ∷ []))) (O.given out.old))) }
-    ensures cause { OnErr result (Rose (O.faults out.old) (O.faults out.new)) }
-    ensures later { O.faults out.old ≤ O.faults out.new }
+    ensures { Puts O.given O.faults out.old out.new
+        (words_line (codes "DerivedClock") (flop.now ∷ bit_text net.now.name net.now.index ∷ [])) result }
 {
     let fields = [
         Field::Word(flop),
@@ -79,10 +67,7 @@ fn put_derived<O: Sink>(out: &mut O, flop: &[u8], net: &BitName) -> Result<(), W
 
 /// Puts the line of a module that is no netlist.
 pub fn put_link_fault<O: Sink>(out: &mut O, fault: &LinkFault) -> Result<(), WriteFault>
-    ensures ok { OnOk result (O.given out.new ≡ appended (lines.link_line fault.now) (O.given out.old)) }
-    ensures fault { OnErr result ((k : ℕ) × (O.given out.new ≡ appended (take k (lines.link_line fault.now)) (O.given out.old))) }
-    ensures cause { OnErr result (Rose (O.faults out.old) (O.faults out.new)) }
-    ensures later { O.faults out.old ≤ O.faults out.new }
+    ensures { Puts O.given O.faults out.old out.new (lines.link_line fault.now) result }
 {
     match fault {
         LinkFault::NameTwice { name } => put_named(out, b"NameTwice", name.as_bytes()),

@@ -1,5 +1,5 @@
-ghost use Rattle.std.specs.Prelude.{◌≡◌, ℕ, ◌≤◌, take, OnErr, OnOk};
-ghost use Rattle.edge_io.specs.Shelf.{Rose, appended};
+ghost use Rattle.std.specs.Prelude.{◌≡◌};
+ghost use Rattle.output_lines.specs.Puts.{Puts};
 ghost use Rattle.bsdl_values.specs.declared.fault.DeviceTextFault.TheVariants as fault;
 ghost use Rattle.command_faults.specs.Lines as lines;
 ghost use Rattle.command_faults.specs.Words as words;
@@ -18,30 +18,21 @@ use verilog_texts::TextFault;
 
 /// Puts the line that tells that memory was refused.
 pub fn put_memory<O: Sink>(out: &mut O) -> Result<(), WriteFault>
-    ensures ok { OnOk result (O.given out.new ≡ appended (lines.memory_line) (O.given out.old)) }
-    ensures fault { OnErr result ((k : ℕ) × (O.given out.new ≡ appended (take k (lines.memory_line)) (O.given out.old))) }
-    ensures cause { OnErr result (Rose (O.faults out.old) (O.faults out.new)) }
-    ensures later { O.faults out.old ≤ O.faults out.new }
+    ensures { Puts O.given O.faults out.old out.new lines.memory_line result }
 {
     put_line(out, &Field::Word(b"OutOfMemory"), &[])
 }
 
 /// Puts the line of a place that can't stand, by its offset or the number of its line.
 pub fn put_place<O: Sink>(out: &mut O, fault: &[u8], place: u64) -> Result<(), WriteFault>
-    ensures ok { OnOk result (O.given out.new ≡ appended (lines.place_line fault.now place) (O.given out.old)) }
-    ensures fault { OnErr result ((k : ℕ) × (O.given out.new ≡ appended (take k (lines.place_line fault.now place)) (O.given out.old))) }
-    ensures cause { OnErr result (Rose (O.faults out.old) (O.faults out.new)) }
-    ensures later { O.faults out.old ≤ O.faults out.new }
+    ensures { Puts O.given O.faults out.old out.new (lines.place_line fault.now place) result }
 {
     put_line(out, &Field::Word(fault), &[Field::Number(place)])
 }
 
 // The line of a word that can't stand, by its offset and its number.
 fn put_word<O: Sink>(out: &mut O, fault: &[u8], place: u64, word: u64) -> Result<(), WriteFault>
-    ensures ok { OnOk result (O.given out.new ≡ appended (lines.word_line fault.now place word) (O.given out.old)) }
-    ensures fault { OnErr result ((k : ℕ) × (O.given out.new ≡ appended (take k (lines.word_line fault.now place word)) (O.given out.old))) }
-    ensures cause { OnErr result (Rose (O.faults out.old) (O.faults out.new)) }
-    ensures later { O.faults out.old ≤ O.faults out.new }
+    ensures { Puts O.given O.faults out.old out.new (lines.word_line fault.now place word) result }
 {
     put_line(
         out,
@@ -52,10 +43,8 @@ fn put_word<O: Sink>(out: &mut O, fault: &[u8], place: u64, word: u64) -> Result
 
 /// Puts what there is too many of, how many there are, and how many there may be.
 pub fn put_many<O: Sink>(out: &mut O, what: What, count: u64, limit: u64) -> Result<(), WriteFault>
-    ensures ok { OnOk result (O.given out.new ≡ appended (lines.many_line (words.what_word what) count limit) (O.given out.old)) }
-    ensures fault { OnErr result ((k : ℕ) × (O.given out.new ≡ appended (take k (lines.many_line (words.what_word what) count limit)) (O.given out.old))) }
-    ensures cause { OnErr result (Rose (O.faults out.old) (O.faults out.new)) }
-    ensures later { O.faults out.old ≤ O.faults out.new }
+    ensures { Puts O.given O.faults out.old out.new
+        (lines.many_line (words.what_word what) count limit) result }
 {
     let fields = [
         Field::Word(what_word(what)),
@@ -97,10 +86,7 @@ fn kind_word(kind: MeaningKind) -> &'static [u8]
 
 /// Puts the line of a text that is no module.
 pub fn put_text_fault<O: Sink>(out: &mut O, fault: &TextFault) -> Result<(), WriteFault>
-    ensures ok { OnOk result (O.given out.new ≡ appended (lines.text_line fault.now) (O.given out.old)) }
-    ensures fault { OnErr result ((k : ℕ) × (O.given out.new ≡ appended (take k (lines.text_line fault.now)) (O.given out.old))) }
-    ensures cause { OnErr result (Rose (O.faults out.old) (O.faults out.new)) }
-    ensures later { O.faults out.old ≤ O.faults out.new }
+    ensures { Puts O.given O.faults out.old out.new (lines.text_line fault.now) result }
 {
     match fault {
         TextFault::BadWord { place } => put_place(out, b"BadWord", *place),
@@ -111,10 +97,7 @@ pub fn put_text_fault<O: Sink>(out: &mut O, fault: &TextFault) -> Result<(), Wri
 
 /// Puts the line of a text that is none of events.
 pub fn put_event_fault<O: Sink>(out: &mut O, fault: &EventFault) -> Result<(), WriteFault>
-    ensures ok { OnOk result (O.given out.new ≡ appended (lines.event_line fault.now) (O.given out.old)) }
-    ensures fault { OnErr result ((k : ℕ) × (O.given out.new ≡ appended (take k (lines.event_line fault.now)) (O.given out.old))) }
-    ensures cause { OnErr result (Rose (O.faults out.old) (O.faults out.new)) }
-    ensures later { O.faults out.old ≤ O.faults out.new }
+    ensures { Puts O.given O.faults out.old out.new (lines.event_line fault.now) result }
 {
     match fault {
         EventFault::EventLine { line } => put_place(out, b"EventLine", *line),
@@ -125,10 +108,7 @@ pub fn put_event_fault<O: Sink>(out: &mut O, fault: &EventFault) -> Result<(), W
 
 /// Puts the line of event lines that aren't legal for a netlist.
 pub fn put_script_fault<O: Sink>(out: &mut O, fault: &ScriptFault) -> Result<(), WriteFault>
-    ensures ok { OnOk result (O.given out.new ≡ appended (lines.script_line fault.now) (O.given out.old)) }
-    ensures fault { OnErr result ((k : ℕ) × (O.given out.new ≡ appended (take k (lines.script_line fault.now)) (O.given out.old))) }
-    ensures cause { OnErr result (Rose (O.faults out.old) (O.faults out.new)) }
-    ensures later { O.faults out.old ≤ O.faults out.new }
+    ensures { Puts O.given O.faults out.old out.new (lines.script_line fault.now) result }
 {
     match fault {
         ScriptFault::EventIllegal { line } => put_place(out, b"EventIllegal", *line),
@@ -138,10 +118,8 @@ pub fn put_script_fault<O: Sink>(out: &mut O, fault: &ScriptFault) -> Result<(),
 
 // The line of a rule that is broken, with the place of its section.
 fn put_meaning<O: Sink>(out: &mut O, kind: MeaningKind, place: u64) -> Result<(), WriteFault>
-    ensures ok { OnOk result (O.given out.new ≡ appended (lines.device_line (fault.BsdlMeaning kind place)) (O.given out.old)) }
-    ensures fault { OnErr result ((k : ℕ) × (O.given out.new ≡ appended (take k (lines.device_line (fault.BsdlMeaning kind place))) (O.given out.old))) }
-    ensures cause { OnErr result (Rose (O.faults out.old) (O.faults out.new)) }
-    ensures later { O.faults out.old ≤ O.faults out.new }
+    ensures { Puts O.given O.faults out.old out.new
+        (lines.device_line (fault.BsdlMeaning kind place)) result }
 {
     let fields = [Field::Word(kind_word(kind)), Field::Number(place)];
     put_line(out, &Field::Word(b"BsdlMeaning"), &fields)
@@ -149,10 +127,7 @@ fn put_meaning<O: Sink>(out: &mut O, kind: MeaningKind, place: u64) -> Result<()
 
 /// Puts the line of a text that is no device.
 pub fn put_device_fault<O: Sink>(out: &mut O, fault: &DeviceTextFault) -> Result<(), WriteFault>
-    ensures ok { OnOk result (O.given out.new ≡ appended (lines.device_line fault.now) (O.given out.old)) }
-    ensures fault { OnErr result ((k : ℕ) × (O.given out.new ≡ appended (take k (lines.device_line fault.now)) (O.given out.old))) }
-    ensures cause { OnErr result (Rose (O.faults out.old) (O.faults out.new)) }
-    ensures later { O.faults out.old ≤ O.faults out.new }
+    ensures { Puts O.given O.faults out.old out.new (lines.device_line fault.now) result }
 {
     match fault {
         DeviceTextFault::BsdlWord { place } => put_place(out, b"BsdlWord", *place),

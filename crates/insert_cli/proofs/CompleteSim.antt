@@ -20,12 +20,14 @@ use Rattle.command_faults.specs.declared.status.Status.TheVariants as status
 use Rattle.command_faults.specs.Statuses.{status_of, link_status, event_status, script_status}
 use Rattle.insert_cli.specs.declared.command.Conversion.TheVariants.{Canon}
 use Rattle.insert_cli.specs.Commands.{SimForm}
-use Rattle.insert_cli.specs.Causes.{Stands, OfConvert, OfSim, StandsInConvert}
-use Rattle.insert_cli.specs.SimFaults.{StandsInSim}
+use Rattle.insert_cli.specs.Seen.{ShelfSeen, SinkSeen, NameRose, SinkRose, WhereBothTold}
+use Rattle.insert_cli.specs.EdgeFaults.{StandsInReadingTwo}
+use Rattle.insert_cli.specs.Causes.{Stands, StandsInWords}
+use Rattle.insert_cli.specs.SimFaults.{StandsInPlay, StandsInSim}
 use Rattle.insert_cli.specs.Simulations.{IsSimulable, HasLinkFault, HasScriptFault}
 use Rattle.insert_cli.proofs.FormLaws.{no_sim, netlist_once, events_once}
 use Rattle.insert_cli.proofs.Forms.{no_some}
-use Rattle.insert_cli.proofs.Complete.{module_memory}
+use Rattle.insert_cli.proofs.Complete.{module_memory, reading_memory}
 
 -- the laws that keep faults apart from what is free of them
 pub record Laws : Type 0 where
@@ -39,8 +41,8 @@ link_memory law m f ok (IsLinkFault.stands s) = absurd (law m f s ok)
 link_memory law m f ok IsLinkFault.memory = refl
 
 -- a netlist that can be linked has no fault of linking
-has_link_memory : FaultsForbidLinks → (limit : ℕ) (f : LinkFault) (net events : List ℕ) → IsSimulable limit net events → HasLinkFault f net → link_status f ≡ status.Memory
-has_link_memory law limit f net events ok bad =
+has_link_memory : FaultsForbidLinks → (f : LinkFault) (net events : List ℕ) → IsSimulable net events → HasLinkFault f net → link_status f ≡ status.Memory
+has_link_memory law f net events ok bad =
     link_memory law bad.tree f (subst IsLinkable (bad.only ok.tree ok.spells) ok.linkable) bad.fault
 
 event_memory : SpelledIsFaultless → (bytes : List ℕ) (lines : Lines) (f : EventFault) → first_fault bytes ≡ None → IsFault bytes f → event_status f ≡ status.Memory
@@ -49,56 +51,46 @@ event_memory law bytes lines (event.TooMany what count limit) none bad = absurd 
 event_memory law bytes lines event.OutOfMemory none bad = refl
 
 -- legal lines have no fault for the netlist
-script_memory : Laws → (limit : ℕ) (f : ScriptFault) (net events : List ℕ) → IsSimulable limit net events → HasScriptFault f net events → script_status f ≡ status.Memory
-script_memory laws limit (script.EventIllegal number) net events ok bad =
+script_memory : Laws → (f : ScriptFault) (net events : List ℕ) → IsSimulable net events → HasScriptFault f net events → script_status f ≡ status.Memory
+script_memory laws (script.EventIllegal number) net events ok bad =
     let same : ok.tree ≡ bad.tree = bad.only ok.tree ok.spells in
     let lines : ok.lines ≡ bad.lines = laws.once events ok.lines bad.lines ok.spells_lines bad.spells_lines in
     let legal : AreLegal bad.linked ok.lines = ok.legal bad.linked (subst (λ (m : Module). IsLinkOf m bad.linked) (sym same) bad.links) in
     absurd (laws.legal bad.linked bad.lines number (subst (λ (l : Lines). AreLegal bad.linked l) lines legal) bad.fault)
-script_memory laws limit script.OutOfMemory net events ok bad = refl
+script_memory laws script.OutOfMemory net events ok bad = refl
 
--- words that simulate convert nothing, and say both names
-of_both : (words : List (List ℕ)) (held : List ℕ → Option (List ℕ)) (limit : ℕ) (Risen : List ℕ → Type 0) (SinkRisen : Type 0) (f : Fault) (netlist events net text : List ℕ) → SimForm words netlist events
-    → held netlist ≡ Some net → held events ≡ Some text
-    → OfConvert words (λ d i o. StandsInConvert d i o (held i) limit Risen f) ⊎ OfSim words (λ n e. StandsInSim n e (held n) (held e) limit Risen SinkRisen f)
-    → StandsInSim netlist events (Some net) (Some text) limit Risen SinkRisen f
-of_both words held limit Risen SinkRisen f netlist events net text form told told_too (inl (d, (i, (o, (other, stands))))) = absurd (no_sim words d i o netlist events other.form form)
-of_both words held limit Risen SinkRisen f netlist events net text form told told_too (inr (n, (e, (other, stands)))) =
+-- faults of both texts
+play_memory : Laws → (f : Fault) (net text : List ℕ) (sink : SinkSeen) → IsSimulable net text → (SinkRose sink → ⊥) → StandsInPlay (Some net) (Some text) sink f → status_of f ≡ status.Memory
+play_memory laws (fault.Netlist f) net text sink ok still stands = module_memory Canon net f (ok.tree, ok.spells) stands
+play_memory laws (fault.Link f) net text sink ok still stands = has_link_memory laws.links f net text ok stands
+play_memory laws (fault.Events f) net text sink ok still stands = event_memory laws.faultless text ok.lines f (laws.faultless text ok.lines ok.spells_lines) stands.1
+play_memory laws (fault.Script f) net text sink ok still stands = script_memory laws f net text ok stands.2
+play_memory laws (fault.WriteFault name) net text sink ok still stands = absurd (still stands.0.1)
+play_memory laws fault.OutOfMemory net text sink ok still stands = refl
+play_memory laws f net text sink ok still stands = absurd stands
+
+sim_memory : Laws → (shelf : ShelfSeen) (sink : SinkSeen) (f : Fault) (netlist events net text : List ℕ) → shelf.held netlist ≡ Some net → shelf.held events ≡ Some text → IsSimulable net text
+    → (NameRose shelf netlist → ⊥) → (NameRose shelf events → ⊥) → (SinkRose sink → ⊥) → StandsInSim netlist events shelf sink f → status_of f ≡ status.Memory
+sim_memory laws shelf sink f netlist events net text told too ok calm calm_too still (inl (inl stands)) = reading_memory netlist net shelf f told ok.short calm stands
+sim_memory laws shelf sink f netlist events net text told too ok calm calm_too still (inl (inr (short, stands))) = reading_memory events text shelf f too ok.short_events calm_too stands
+sim_memory laws shelf sink f netlist events net text told too ok calm calm_too still (inr (short, stands)) =
+    play_memory laws f net text sink ok still
+    (subst (λ (t : Option (List ℕ)). StandsInPlay (Some net) t sink f) too (subst (λ (t : Option (List ℕ)). StandsInPlay t (shelf.held events) sink f) told stands))
+
+-- a simulation's words have no fault
+words_free : (words : List (List ℕ)) (f : Fault) (netlist events : List ℕ) → SimForm words netlist events → StandsInWords words f → ⊥
+words_free words fault.Usage netlist events form stands = stands.sim netlist events form
+words_free words (fault.SameName name) netlist events form stands = no_sim words stands.0 name.now name.now netlist events stands.1 form
+words_free words f netlist events form stands = stands
+
+pub only_memory_sim : Laws → (words : List (List ℕ)) (shelf : ShelfSeen) (sink : SinkSeen) (f : Fault) (netlist events net text : List ℕ) → SimForm words netlist events
+    → shelf.held netlist ≡ Some net → shelf.held events ≡ Some text → IsSimulable net text → (NameRose shelf netlist → ⊥) → (NameRose shelf events → ⊥) → (SinkRose sink → ⊥)
+    → Stands words shelf sink f → status_of f ≡ status.Memory
+only_memory_sim laws words shelf sink f netlist events net text form told too ok calm calm_too still (inl stands) = absurd (words_free words f netlist events form stands)
+only_memory_sim laws words shelf sink f netlist events net text form told too ok calm calm_too still (inr (inl (d, (i, (o, (other, stands)))))) =
+    absurd (no_sim words d i o netlist events other.form form)
+only_memory_sim laws words shelf sink f netlist events net text form told too ok calm calm_too still (inr (inr (n, (e, (other, stands))))) =
     let first : n ≡ netlist = netlist_once words netlist events n e form other in
     let second : e ≡ events = events_once words netlist events n e form other in
-    subst (λ (t : Option (List ℕ)). StandsInSim netlist events (Some net) t limit Risen SinkRisen f) told_too
-    (subst (λ (t : Option (List ℕ)). StandsInSim netlist events t (held events) limit Risen SinkRisen f) told
-    (subst (λ (w : List ℕ). StandsInSim netlist w (held netlist) (held w) limit Risen SinkRisen f) second
-    (subst (λ (w : List ℕ). StandsInSim w e (held w) (held e) limit Risen SinkRisen f) first stands)))
-
-pub only_memory_sim : Laws → (words : List (List ℕ)) (held : List ℕ → Option (List ℕ)) (limit : ℕ) (Risen : List ℕ → Type 0) (SinkRisen : Type 0) (f : Fault) (netlist events net text : List ℕ)
-    → SimForm words netlist events → held netlist ≡ Some net → held events ≡ Some text → IsSimulable limit net text → (Risen netlist → ⊥) → (Risen events → ⊥) → (SinkRisen → ⊥)
-    → Stands words held limit Risen SinkRisen f → status_of f ≡ status.Memory
-only_memory_sim laws words held limit Risen SinkRisen fault.Usage n e net text form told too ok calm calm_too still stands = absurd (stands.sim n e form)
-only_memory_sim laws words held limit Risen SinkRisen (fault.SameName name) n e net text form told too ok calm calm_too still stands =
-    absurd (no_sim words stands.0 name.now name.now n e stands.1 form)
-only_memory_sim laws words held limit Risen SinkRisen (fault.ReadFault name) n e net text form told too ok calm calm_too still stands =
-    absurd (rose (of_both words held limit Risen SinkRisen (fault.ReadFault name) n e net text form told too stands))
-  where
-    rose : StandsInSim n e (Some net) (Some text) limit Risen SinkRisen (fault.ReadFault name) → ⊥
-    rose (inl (same, risen)) = calm risen
-    rose (inr (same, risen, short)) = calm_too risen
-only_memory_sim laws words held limit Risen SinkRisen (fault.TooLong name) n e net text form told too ok calm calm_too still stands =
-    absurd (too_long (of_both words held limit Risen SinkRisen (fault.TooLong name) n e net text form told too stands))
-  where
-    too_long : StandsInSim n e (Some net) (Some text) limit Risen SinkRisen (fault.TooLong name) → ⊥
-    too_long (inl (same, long)) = omega (arith, long, ok.short)
-    too_long (inr (same, long, short)) = omega (arith, long, ok.short_events)
-only_memory_sim laws words held limit Risen SinkRisen (fault.Netlist f) n e net text form told too ok calm calm_too still stands =
-    module_memory Canon net f (ok.tree, ok.spells) (of_both words held limit Risen SinkRisen (fault.Netlist f) n e net text form told too stands).stands
-only_memory_sim laws words held limit Risen SinkRisen (fault.Link f) n e net text form told too ok calm calm_too still stands =
-    has_link_memory laws.links limit f net text ok (of_both words held limit Risen SinkRisen (fault.Link f) n e net text form told too stands).stands
-only_memory_sim laws words held limit Risen SinkRisen (fault.Events f) n e net text form told too ok calm calm_too still stands =
-    event_memory laws.faultless text ok.lines f (laws.faultless text ok.lines ok.spells_lines) (of_both words held limit Risen SinkRisen (fault.Events f) n e net text form told too stands).stands.1
-only_memory_sim laws words held limit Risen SinkRisen (fault.Script f) n e net text form told too ok calm calm_too still stands =
-    script_memory laws limit f net text ok (of_both words held limit Risen SinkRisen (fault.Script f) n e net text form told too stands).stands
-only_memory_sim laws words held limit Risen SinkRisen (fault.Device f) n e net text form told too ok calm calm_too still stands =
-    absurd (of_both words held limit Risen SinkRisen (fault.Device f) n e net text form told too stands)
-only_memory_sim laws words held limit Risen SinkRisen (fault.WriteFault name) n e net text form told too ok calm calm_too still stands =
-    absurd (still ((of_both words held limit Risen SinkRisen (fault.WriteFault name) n e net text form told too stands).stands.1))
-only_memory_sim laws words held limit Risen SinkRisen fault.OutOfMemory n e net text form told too ok calm calm_too still stands = refl
+    sim_memory laws shelf sink f netlist events net text told too ok calm calm_too still
+    (subst (λ (w : List ℕ). StandsInSim netlist w shelf sink f) second (subst (λ (w : List ℕ). StandsInSim w e shelf sink f) first stands))

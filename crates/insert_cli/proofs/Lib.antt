@@ -5,3 +5,4 @@ pub mod Told
 pub mod Simulated
 pub mod Complete
 pub mod CompleteSim
+pub mod Ends

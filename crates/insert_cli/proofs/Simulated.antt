@@ -1,22 +1,26 @@
 -- What is known of `sim` from its parts.
-use Rattle.std.proofs.Common.{◌≡◌, ℕ, Result, Ok, Err, OnOk, OnErr, ◌≤◌, ◌⊎◌, List, length, Option, Some, None, inl, inr, subst}
+use Rattle.std.proofs.Common.{◌≡◌, ℕ, Result, Ok, Err, OnOk, OnErr, IfOk, IfErr, ◌⊎◌, List, take, Option, Some, None, inl, inr, refl, subst}
 use Rattle.edge_io.specs.Shelf.{WhereTold, appended}
 use Rattle.command_faults.specs.declared.fault.Fault.{Fault}
 use Rattle.command_faults.specs.declared.fault.Fault.TheVariants as fault
 use Rattle.command_faults.specs.declared.status.Status.{Status}
 use Rattle.verilog_tree.specs.declared.tree.Module.{Module}
+use Rattle.verilog_texts.specs.TextFaults.{IsTextFault}
 use Rattle.verilog_texts.specs.Reading.{IsReadAs}
 use Rattle.netlist_link.specs.Linked.{LinkedView}
 use Rattle.netlist_link.specs.Links.{IsLinkOf}
 use Rattle.scan_vectors.specs.declared.lines.Lines.{Lines}
+use Rattle.scan_vectors.specs.Faults.{IsFault}
 use Rattle.scan_vectors.specs.Grammar.{SpellsLines}
 use Rattle.event_scripts.specs.declared.script.ScriptLine.{ScriptLine}
 use Rattle.event_scripts.specs.Scripts.{IsResolved}
 use Rattle.sim_runs.specs.Outputs.{IsOutput}
-use Rattle.insert_cli.specs.Commands.{SimForm}
-use Rattle.insert_cli.specs.Causes.{StandsInReading, Stands, Gave, OfSim}
-use Rattle.insert_cli.specs.Simulations.{IsSimulation, run_status}
-use Rattle.insert_cli.specs.SimFaults.{StandsInTexts, StandsInSim, StandsWithin, WhereBothTold, IsPlayed, IsPlayedInPart, GaveFront, GaveInSim}
+use Rattle.insert_cli.specs.Commands.{IsShort, SimForm}
+use Rattle.insert_cli.specs.Seen.{ShelfSeen, SinkSeen, SinkRose, WhereBothTold}
+use Rattle.insert_cli.specs.EdgeFaults.{AreShort}
+use Rattle.insert_cli.specs.Causes.{Finishes, Stands, Gave}
+use Rattle.insert_cli.specs.Simulations.{IsSimulation, HasLinkFault, SpellsLinkable, SpellsEvents, HasScriptFault, run_status}
+use Rattle.insert_cli.specs.SimFaults.{HasRun, StandsInNetlist, StandsInPlay, StandsInSim, IsPlayed, IsFrontOfRun, GaveFront, GaveInPlay}
 use Rattle.insert_cli.proofs.Told.{IsTold, told_as}
 
 -- what holds of two texts holds of what is told of them
@@ -26,157 +30,78 @@ both_told None events_told net events Q is is_too holds = tt
 both_told (Some bytes) None net events Q is is_too holds = tt
 both_told (Some bytes) (Some more) net events Q is is_too holds = subst (λ (b : List ℕ). Q b more) is (subst (Q net) is_too holds)
 
-both_map : (net_told events_told : Option (List ℕ)) (P Q : List ℕ → List ℕ → Type 0) → ((n e : List ℕ) → P n e → Q n e) → WhereBothTold net_told events_told P → WhereBothTold net_told events_told Q
-both_map None events_told P Q f holds = tt
-both_map (Some bytes) None P Q f holds = tt
-both_map (Some bytes) (Some more) P Q f holds = f bytes more holds
+-- the netlist's fault is one of both texts
+pub netlist_plays : (net : List ℕ) (events : Option (List ℕ)) (sink : SinkSeen) (f : Fault) → StandsInNetlist net f → StandsInPlay (Some net) events sink f
+netlist_plays net events sink (fault.Netlist f) stands = stands
+netlist_plays net events sink (fault.Link f) stands = stands
+netlist_plays net events sink f stands = absurd stands
 
--- Reading.
+-- a fault of two texts that were read stands where they are told
+pub play_told : (net_told events_told : Option (List ℕ)) (net events : List ℕ) (sink : SinkSeen) (f : Fault) → WhereTold net_told (IsTold net) → WhereTold events_told (IsTold events)
+    → StandsInPlay (Some net) (Some events) sink f → StandsInPlay net_told events_told sink f
+play_told net_told events_told net events sink (fault.Netlist f) is too stands = told_as net_told net (λ b. IsTextFault b f) is stands
+play_told net_told events_told net events sink (fault.Link f) is too stands = told_as net_told net (HasLinkFault f) is stands
+play_told net_told events_told net events sink (fault.Events f) is too stands =
+    (told_as net_told net SpellsLinkable is stands.0, told_as events_told events (λ b. IsFault b f) too stands.1)
+play_told net_told events_told net events sink (fault.Script f) is too stands = (
+  told_as net_told net SpellsLinkable is stands.0,
+  told_as events_told events SpellsEvents too stands.1,
+  both_told net_told events_told net events (HasScriptFault f) is too stands.2,
+)
+play_told net_told events_told net events sink (fault.WriteFault name) is too stands = (
+  stands.0,
+  told_as net_told net SpellsLinkable is stands.1,
+  told_as events_told events SpellsEvents too stands.2,
+  both_told net_told events_told net events HasRun is too stands.3,
+)
+play_told net_told events_told net events sink f is too stands = stands
 
-pub net_unread : (netlist events : List ℕ) (told events_told : Option (List ℕ)) (limit : ℕ) (Risen : List ℕ → Type 0) (SinkRisen : Type 0) (f : Fault) → StandsInReading netlist told limit (Risen netlist) f
-    → StandsInSim netlist events told events_told limit Risen SinkRisen f
-net_unread netlist events told events_told limit Risen SinkRisen fault.Usage stands = stands
-net_unread netlist events told events_told limit Risen SinkRisen (fault.SameName name) stands = stands
-net_unread netlist events told events_told limit Risen SinkRisen (fault.ReadFault name) stands = inl stands
-net_unread netlist events told events_told limit Risen SinkRisen (fault.TooLong name) stands = inl stands
-net_unread netlist events told events_told limit Risen SinkRisen (fault.Netlist f) stands = absurd stands
-net_unread netlist events told events_told limit Risen SinkRisen (fault.Link f) stands = absurd stands
-net_unread netlist events told events_told limit Risen SinkRisen (fault.Events f) stands = absurd stands
-net_unread netlist events told events_told limit Risen SinkRisen (fault.Script f) stands = absurd stands
-net_unread netlist events told events_told limit Risen SinkRisen (fault.Device f) stands = stands
-net_unread netlist events told events_told limit Risen SinkRisen (fault.WriteFault name) stands = absurd stands
-net_unread netlist events told events_told limit Risen SinkRisen fault.OutOfMemory stands = tt
+pub played_told : (net_told events_told : Option (List ℕ)) (net events : List ℕ) (sink : SinkSeen) (end : Status) → WhereTold net_told (IsTold net) → WhereTold events_told (IsTold events)
+    → IsPlayed (Some net) (Some events) sink end → IsPlayed net_told events_told sink end
+played_told net_told events_told net events sink end is too p = record {
+  linkable = told_as net_told net SpellsLinkable is p.linkable;
+  lines = told_as events_told events SpellsEvents too p.lines;
+  text = p.text;
+  missed = p.missed;
+  simulation = both_told net_told events_told net events (λ n e. IsSimulation n e p.text p.missed) is too p.simulation;
+  gives = p.gives;
+  status_is = p.status_is;
+}
 
-pub events_unread : (netlist events : List ℕ) (told events_told : Option (List ℕ)) (limit : ℕ) (Late : Type 0) (Risen : List ℕ → Type 0) (SinkRisen : Type 0) (f : Fault) (net : List ℕ) → WhereTold told (IsTold net) → length net ≤ limit
-    → (Late → Risen events) → StandsInReading events events_told limit Late f → StandsInSim netlist events told events_told limit Risen SinkRisen f
-events_unread netlist events told events_told limit Late Risen SinkRisen fault.Usage net is short later stands = stands
-events_unread netlist events told events_told limit Late Risen SinkRisen (fault.SameName name) net is short later stands = stands
-events_unread netlist events told events_told limit Late Risen SinkRisen (fault.ReadFault name) net is short later stands =
-    inr (stands.0, later stands.1, told_as told net (λ bytes. length bytes ≤ limit) is short)
-events_unread netlist events told events_told limit Late Risen SinkRisen (fault.TooLong name) net is short later stands =
-    inr (stands.0, stands.1, told_as told net (λ bytes. length bytes ≤ limit) is short)
-events_unread netlist events told events_told limit Late Risen SinkRisen (fault.Netlist f) net is short later stands = absurd stands
-events_unread netlist events told events_told limit Late Risen SinkRisen (fault.Link f) net is short later stands = absurd stands
-events_unread netlist events told events_told limit Late Risen SinkRisen (fault.Events f) net is short later stands = absurd stands
-events_unread netlist events told events_told limit Late Risen SinkRisen (fault.Script f) net is short later stands = absurd stands
-events_unread netlist events told events_told limit Late Risen SinkRisen (fault.Device f) net is short later stands = stands
-events_unread netlist events told events_told limit Late Risen SinkRisen (fault.WriteFault name) net is short later stands = absurd stands
-events_unread netlist events told events_told limit Late Risen SinkRisen fault.OutOfMemory net is short later stands = tt
-
--- Both texts.
+pub gave_told : (net_told events_told : Option (List ℕ)) (net events : List ℕ) (f : Fault) (before after : Option (List ℕ)) → WhereTold net_told (IsTold net) → WhereTold events_told (IsTold events)
+    → GaveInPlay (Some net) (Some events) f before after → GaveInPlay net_told events_told f before after
+gave_told net_told events_told net events f before after is too (inl same) = inl same
+gave_told net_told events_told net events f before after is too (inr (failed, part)) =
+    inr (failed, record { front = part.front; gives = part.gives; of_run = both_told net_told events_told net events (IsFrontOfRun part.front) is too part.of_run })
 
 -- two texts that were read
-pub record AreRead (limit : ℕ) (net_told events_told : Option (List ℕ)) (net events : List ℕ) : Type 0 where
-  pub net_is : WhereTold net_told (IsTold net)
-  pub events_are : WhereTold events_told (IsTold events)
-  pub short : length net ≤ limit
-  pub short_events : length events ≤ limit
+pub record AreRead (netlist events : List ℕ) (shelf : ShelfSeen) (net text : List ℕ) : Type 0 where
+  pub net_is : WhereTold (shelf.held netlist) (IsTold net)
+  pub text_is : WhereTold (shelf.held events) (IsTold text)
+  pub short : IsShort net
+  pub short_text : IsShort text
 
-within : (limit : ℕ) (net_told events_told : Option (List ℕ)) (net events : List ℕ) (Risen : Type 0) (f : Fault) → AreRead limit net_told events_told net events → StandsInTexts net events Risen f
-    → WhereBothTold net_told events_told (StandsWithin limit Risen f)
-within limit net_told events_told net events Risen f read stands =
-    both_told net_told events_told net events (StandsWithin limit Risen f) read.net_is read.events_are (record { short = read.short; short_events = read.short_events; stands = stands })
+are_short : (netlist events : List ℕ) (shelf : ShelfSeen) (net text : List ℕ) → AreRead netlist events shelf net text → AreShort netlist events shelf
+are_short netlist events shelf net text read =
+    (told_as (shelf.held netlist) net IsShort read.net_is read.short, told_as (shelf.held events) text IsShort read.text_is read.short_text)
 
-pub texts_stand : (netlist events : List ℕ) (net_told events_told : Option (List ℕ)) (limit : ℕ) (Risen : List ℕ → Type 0) (SinkRisen : Type 0) (f : Fault) (net text : List ℕ)
-    → AreRead limit net_told events_told net text → StandsInTexts net text SinkRisen f → StandsInSim netlist events net_told events_told limit Risen SinkRisen f
-texts_stand netlist events net_told events_told limit Risen SinkRisen fault.Usage net text read stands = stands
-texts_stand netlist events net_told events_told limit Risen SinkRisen (fault.SameName name) net text read stands = stands
-texts_stand netlist events net_told events_told limit Risen SinkRisen (fault.ReadFault name) net text read stands = absurd stands
-texts_stand netlist events net_told events_told limit Risen SinkRisen (fault.TooLong name) net text read stands = absurd stands
-texts_stand netlist events net_told events_told limit Risen SinkRisen (fault.Netlist f) net text read stands = within limit net_told events_told net text SinkRisen (fault.Netlist f) read stands
-texts_stand netlist events net_told events_told limit Risen SinkRisen (fault.Link f) net text read stands = within limit net_told events_told net text SinkRisen (fault.Link f) read stands
-texts_stand netlist events net_told events_told limit Risen SinkRisen (fault.Events f) net text read stands = within limit net_told events_told net text SinkRisen (fault.Events f) read stands
-texts_stand netlist events net_told events_told limit Risen SinkRisen (fault.Script f) net text read stands = within limit net_told events_told net text SinkRisen (fault.Script f) read stands
-texts_stand netlist events net_told events_told limit Risen SinkRisen (fault.Device f) net text read stands = stands
-texts_stand netlist events net_told events_told limit Risen SinkRisen (fault.WriteFault name) net text read stands = within limit net_told events_told net text SinkRisen (fault.WriteFault name) read stands
-texts_stand netlist events net_told events_told limit Risen SinkRisen fault.OutOfMemory net text read stands = tt
+pub sim_done : (r : Result Status Fault) (netlist events : List ℕ) (shelf : ShelfSeen) (sink : SinkSeen) (net text : List ℕ) → AreRead netlist events shelf net text
+    → IfOk r (IsPlayed (Some net) (Some text) sink) → IfOk r (λ status. AreShort netlist events shelf × IsPlayed (shelf.held netlist) (shelf.held events) sink status)
+sim_done (Ok status) netlist events shelf sink net text read played =
+    (are_short netlist events shelf net text read, played_told (shelf.held netlist) (shelf.held events) net text sink status read.net_is read.text_is played)
+sim_done (Err f) netlist events shelf sink net text read played = tt
 
-pub texts_played : (limit : ℕ) (net_told events_told : Option (List ℕ)) (net events : List ℕ) (end : Status) (before after : Option (List ℕ)) → AreRead limit net_told events_told net events
-    → (text : List ℕ) (missed : ℕ) → IsSimulation net events text missed → after ≡ appended text before → end ≡ run_status missed
-    → WhereBothTold net_told events_told (IsPlayed limit end before after)
-texts_played limit net_told events_told net events end before after read text missed simulation gives is =
-    both_told net_told events_told net events (IsPlayed limit end before after) read.net_is read.events_are
-    (record { short = read.short; short_events = read.short_events; text = text; missed = missed; simulation = simulation; gives = gives; status_is = is })
+pub sim_fault : (r : Result Status Fault) (netlist events : List ℕ) (shelf : ShelfSeen) (sink : SinkSeen) (net text : List ℕ) → AreRead netlist events shelf net text
+    → IfErr r (StandsInPlay (Some net) (Some text) sink) → IfErr r (StandsInSim netlist events shelf sink)
+sim_fault (Ok status) netlist events shelf sink net text read stands = tt
+sim_fault (Err f) netlist events shelf sink net text read stands =
+    inr (are_short netlist events shelf net text read, play_told (shelf.held netlist) (shelf.held events) net text sink f read.net_is read.text_is stands)
 
-pub texts_gave : (limit : ℕ) (net_told events_told : Option (List ℕ)) (net events : List ℕ) (f : Fault) (before after : Option (List ℕ)) → AreRead limit net_told events_told net events
-    → GaveFront f before after net events → GaveInSim net_told events_told f before after
-texts_gave limit net_told events_told net events f before after read (inl same) = inl same
-texts_gave limit net_told events_told net events f before after read (inr (failed, part)) =
-    inr (failed, both_told net_told events_told net events (IsPlayedInPart before after) read.net_is read.events_are part)
-
--- The command.
-
-pub sim_stands : (words : List (List ℕ)) (held : List ℕ → Option (List ℕ)) (limit : ℕ) (Risen : List ℕ → Type 0) (SinkRisen : Type 0) (f : Fault) (netlist events : List ℕ) → SimForm words netlist events
-    → StandsInSim netlist events (held netlist) (held events) limit Risen SinkRisen f → Stands words held limit Risen SinkRisen f
-sim_stands words held limit Risen SinkRisen fault.Usage netlist events form stands = absurd stands
-sim_stands words held limit Risen SinkRisen (fault.SameName name) netlist events form stands = absurd stands
-sim_stands words held limit Risen SinkRisen (fault.ReadFault name) netlist events form stands = inr (netlist, (events, (form, stands)))
-sim_stands words held limit Risen SinkRisen (fault.TooLong name) netlist events form stands = inr (netlist, (events, (form, stands)))
-sim_stands words held limit Risen SinkRisen (fault.Netlist f) netlist events form stands = inr (netlist, (events, (form, stands)))
-sim_stands words held limit Risen SinkRisen (fault.Link f) netlist events form stands = inr (netlist, (events, (form, stands)))
-sim_stands words held limit Risen SinkRisen (fault.Events f) netlist events form stands = inr (netlist, (events, (form, stands)))
-sim_stands words held limit Risen SinkRisen (fault.Script f) netlist events form stands = inr (netlist, (events, (form, stands)))
-sim_stands words held limit Risen SinkRisen (fault.Device f) netlist events form stands = absurd stands
-sim_stands words held limit Risen SinkRisen (fault.WriteFault name) netlist events form stands = inr (netlist, (events, (form, stands)))
-sim_stands words held limit Risen SinkRisen fault.OutOfMemory netlist events form stands = inr (netlist, (events, (form, stands)))
-
-pub sim_gave : (words : List (List ℕ)) (held : List ℕ → Option (List ℕ)) (f : Fault) (netlist events : List ℕ) (before after : Option (List ℕ)) → SimForm words netlist events
-    → GaveInSim (held netlist) (held events) f before after → Gave words held f before after
-sim_gave words held f netlist events before after form (inl same) = inl same
-sim_gave words held f netlist events before after form (inr (failed, part)) = inr (failed, (netlist, (events, (form, part))))
-
--- A sink's count that rose goes on as risen.
-
-texts_later : (net events : List ℕ) (A B : Type 0) (f : Fault) → (A → B) → StandsInTexts net events A f → StandsInTexts net events B f
-texts_later net events A B fault.Usage later stands = stands
-texts_later net events A B (fault.SameName name) later stands = stands
-texts_later net events A B (fault.ReadFault name) later stands = stands
-texts_later net events A B (fault.TooLong name) later stands = stands
-texts_later net events A B (fault.Netlist f) later stands = stands
-texts_later net events A B (fault.Link f) later stands = stands
-texts_later net events A B (fault.Events f) later stands = stands
-texts_later net events A B (fault.Script f) later stands = stands
-texts_later net events A B (fault.Device f) later stands = stands
-texts_later net events A B (fault.WriteFault name) later stands = (stands.0, later stands.1, stands.2)
-texts_later net events A B fault.OutOfMemory later stands = stands
-
-both_later : (net_told events_told : Option (List ℕ)) (limit : ℕ) (A B : Type 0) (f : Fault) → (A → B) → WhereBothTold net_told events_told (StandsWithin limit A f)
-    → WhereBothTold net_told events_told (StandsWithin limit B f)
-both_later net_told events_told limit A B f later stands =
-    both_map net_told events_told (StandsWithin limit A f) (StandsWithin limit B f)
-    (λ n e s. record { short = s.short; short_events = s.short_events; stands = texts_later n e A B f later s.stands }) stands
-
-sim_later : (netlist events : List ℕ) (net_told events_told : Option (List ℕ)) (limit : ℕ) (Risen : List ℕ → Type 0) (A B : Type 0) (f : Fault) → (A → B) → StandsInSim netlist events net_told events_told limit Risen A f
-    → StandsInSim netlist events net_told events_told limit Risen B f
-sim_later netlist events net_told events_told limit Risen A B fault.Usage later stands = stands
-sim_later netlist events net_told events_told limit Risen A B (fault.SameName name) later stands = stands
-sim_later netlist events net_told events_told limit Risen A B (fault.ReadFault name) later stands = stands
-sim_later netlist events net_told events_told limit Risen A B (fault.TooLong name) later stands = stands
-sim_later netlist events net_told events_told limit Risen A B (fault.Netlist f) later stands = both_later net_told events_told limit A B (fault.Netlist f) later stands
-sim_later netlist events net_told events_told limit Risen A B (fault.Link f) later stands = both_later net_told events_told limit A B (fault.Link f) later stands
-sim_later netlist events net_told events_told limit Risen A B (fault.Events f) later stands = both_later net_told events_told limit A B (fault.Events f) later stands
-sim_later netlist events net_told events_told limit Risen A B (fault.Script f) later stands = both_later net_told events_told limit A B (fault.Script f) later stands
-sim_later netlist events net_told events_told limit Risen A B (fault.Device f) later stands = stands
-sim_later netlist events net_told events_told limit Risen A B (fault.WriteFault name) later stands = both_later net_told events_told limit A B (fault.WriteFault name) later stands
-sim_later netlist events net_told events_told limit Risen A B fault.OutOfMemory later stands = stands
-
-either_later : (words : List (List ℕ)) (held : List ℕ → Option (List ℕ)) (limit : ℕ) (Risen : List ℕ → Type 0) (A B C : Type 0) (f : Fault) → (A → B)
-    → C ⊎ OfSim words (λ n e. StandsInSim n e (held n) (held e) limit Risen A f) → C ⊎ OfSim words (λ n e. StandsInSim n e (held n) (held e) limit Risen B f)
-either_later words held limit Risen A B C f later (inl stands) = inl stands
-either_later words held limit Risen A B C f later (inr (n, (e, (form, stands)))) = inr (n, (e, (form, sim_later n e (held n) (held e) limit Risen A B f later stands)))
-
-pub stands_later : (words : List (List ℕ)) (held : List ℕ → Option (List ℕ)) (limit : ℕ) (Risen : List ℕ → Type 0) (A B : Type 0) (f : Fault) → (A → B) → Stands words held limit Risen A f → Stands words held limit Risen B f
-stands_later words held limit Risen A B fault.Usage later stands = stands
-stands_later words held limit Risen A B (fault.SameName name) later stands = stands
-stands_later words held limit Risen A B (fault.ReadFault name) later stands = either_later words held limit Risen A B _ (fault.ReadFault name) later stands
-stands_later words held limit Risen A B (fault.TooLong name) later stands = either_later words held limit Risen A B _ (fault.TooLong name) later stands
-stands_later words held limit Risen A B (fault.Netlist f) later stands = either_later words held limit Risen A B _ (fault.Netlist f) later stands
-stands_later words held limit Risen A B (fault.Link f) later stands = either_later words held limit Risen A B _ (fault.Link f) later stands
-stands_later words held limit Risen A B (fault.Events f) later stands = either_later words held limit Risen A B _ (fault.Events f) later stands
-stands_later words held limit Risen A B (fault.Script f) later stands = either_later words held limit Risen A B _ (fault.Script f) later stands
-stands_later words held limit Risen A B (fault.Device f) later stands = either_later words held limit Risen A B _ (fault.Device f) later stands
-stands_later words held limit Risen A B (fault.WriteFault name) later stands = either_later words held limit Risen A B _ (fault.WriteFault name) later stands
-stands_later words held limit Risen A B fault.OutOfMemory later stands = either_later words held limit Risen A B _ fault.OutOfMemory later stands
+pub sim_gives : (r : Result Status Fault) (netlist events : List ℕ) (shelf : ShelfSeen) (before after : Option (List ℕ)) (net text : List ℕ) → AreRead netlist events shelf net text
+    → IfErr r (λ f. GaveInPlay (Some net) (Some text) f before after) → IfErr r (λ f. GaveInPlay (shelf.held netlist) (shelf.held events) f before after)
+sim_gives (Ok status) netlist events shelf before after net text read gave = tt
+sim_gives (Err f) netlist events shelf before after net text read gave =
+    gave_told (shelf.held netlist) (shelf.held events) net text f before after read.net_is read.text_is gave
 
 pub simulation_made : (net events bytes text : List ℕ) (missed : ℕ) (tree : Module) (linked : LinkedView) (lines : Lines) (script : List ScriptLine) → IsReadAs net tree → IsLinkOf tree linked
     → bytes ≡ events → SpellsLines bytes lines → IsResolved linked lines script → IsOutput linked lines.list script text missed → IsSimulation net events text missed
@@ -192,6 +117,69 @@ simulation_made net events bytes text missed tree linked lines script read links
   resolved = resolved;
   output = output;
 }
+
+-- a simulation's netlist can be linked, and its events are lines
+pub linkable_of : (net events text : List ℕ) (missed : ℕ) → IsSimulation net events text missed → SpellsLinkable net
+linkable_of net events text missed s = record { tree = s.tree; spells = s.spells; linkable = s.links.linkable }
+
+pub events_of : (net events text : List ℕ) (missed : ℕ) → IsSimulation net events text missed → SpellsEvents events
+events_of net events text missed s = (s.lines, s.spells_lines)
+
+-- the whole text of a run was given
+pub played_made : (net events text : List ℕ) (missed : ℕ) (sink : SinkSeen) (end : Status) → IsSimulation net events text missed → sink.given_after ≡ appended text sink.given
+    → end ≡ run_status missed → IsPlayed (Some net) (Some events) sink end
+played_made net events text missed sink end s gives is = record {
+  linkable = linkable_of net events text missed s;
+  lines = events_of net events text missed s;
+  text = text;
+  missed = missed;
+  simulation = s;
+  gives = gives;
+  status_is = is;
+}
+
+-- a front of the text of a run was given
+pub front_made : (net events text : List ℕ) (missed count : ℕ) (before after : Option (List ℕ)) → IsSimulation net events text missed → after ≡ appended (take count text) before
+    → GaveFront (Some net) (Some events) before after
+front_made net events text missed count before after s gives = record {
+  front = take count text;
+  gives = gives;
+  of_run = record { run = record { text = text; missed = missed; simulation = s }; count = count; front_is = refl };
+}
+
+-- A sink's count that rose goes on as risen.
+pub play_later : (net events : Option (List ℕ)) (a b : SinkSeen) (f : Fault) → (SinkRose a → SinkRose b) → StandsInPlay net events a f → StandsInPlay net events b f
+play_later net events a b (fault.WriteFault name) later stands = ((stands.0.0, later stands.0.1), stands.1, stands.2, stands.3)
+play_later net events a b f later stands = stands
+
+pub stands_later : (words : List (List ℕ)) (shelf : ShelfSeen) (a b : SinkSeen) (f : Fault) → (SinkRose a → SinkRose b) → Stands words shelf a f → Stands words shelf b f
+stands_later words shelf a b f later (inl stands) = inl stands
+stands_later words shelf a b f later (inr (inl stands)) = inr (inl stands)
+stands_later words shelf a b f later (inr (inr (n, (e, (form, inl unread))))) = inr (inr (n, (e, (form, inl unread))))
+stands_later words shelf a b f later (inr (inr (n, (e, (form, inr (short, stands)))))) =
+    inr (inr (n, (e, (form, inr (short, play_later (shelf.held n) (shelf.held e) a b f later stands)))))
+
+-- what `sim` gave is what the command gave
+sim_gave : (words : List (List ℕ)) (shelf : ShelfSeen) (f : Fault) (netlist events : List ℕ) (before after : Option (List ℕ)) → SimForm words netlist events
+    → GaveInPlay (shelf.held netlist) (shelf.held events) f before after → Gave words shelf f before after
+sim_gave words shelf f netlist events before after form (inl same) = inl same
+sim_gave words shelf f netlist events before after form (inr (failed, part)) = inr (failed, (netlist, (events, (form, part))))
+
+-- a simulation's end, its fault and what it gave are the command's
+pub run_done : (r : Result Status Fault) (words : List (List ℕ)) (shelf : ShelfSeen) (sink : SinkSeen) (netlist events : List ℕ) → SimForm words netlist events
+    → IfOk r (λ status. AreShort netlist events shelf × IsPlayed (shelf.held netlist) (shelf.held events) sink status) → IfOk r (Finishes words shelf sink)
+run_done (Ok status) words shelf sink netlist events form played = inr (netlist, (events, (form, played)))
+run_done (Err f) words shelf sink netlist events form played = tt
+
+pub run_fault : (r : Result Status Fault) (words : List (List ℕ)) (shelf : ShelfSeen) (sink : SinkSeen) (netlist events : List ℕ) → SimForm words netlist events
+    → IfErr r (StandsInSim netlist events shelf sink) → IfErr r (Stands words shelf sink)
+run_fault (Ok status) words shelf sink netlist events form stands = tt
+run_fault (Err f) words shelf sink netlist events form stands = inr (inr (netlist, (events, (form, stands))))
+
+pub run_gives : (r : Result Status Fault) (words : List (List ℕ)) (shelf : ShelfSeen) (before after : Option (List ℕ)) (netlist events : List ℕ) → SimForm words netlist events
+    → IfErr r (λ f. GaveInPlay (shelf.held netlist) (shelf.held events) f before after) → IfErr r (λ f. Gave words shelf f before after)
+run_gives (Ok status) words shelf before after netlist events form gave = tt
+run_gives (Err f) words shelf before after netlist events form gave = sim_gave words shelf f netlist events before after form gave
 
 -- a line was put, or a front of it where the sink's count rose
 pub line_put : {T E : Type 0} {A B C D : Type 0} (r : Result T E) → (C → D) → OnOk r A → OnErr r B → OnErr r C → A ⊎ (D × B)

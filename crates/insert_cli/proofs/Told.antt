@@ -1,10 +1,15 @@
 -- What is told of a text that was read, converted and written.
-use Rattle.std.proofs.Common.{◌≡◌, ℕ, ◌≤◌, List, length, take, Option, Some, None, Bool, ◌⊎◌, inl, inr, ap, subst, ◌∙◌, arith}
+use Rattle.std.proofs.Common.{◌≡◌, ℕ, ◌≤◌, List, take, Option, Some, None, ◌⊎◌, inl, inr, ap, subst, ◌∙◌, arith}
 use Rattle.edge_io.specs.Shelf.{Rose, WhereTold, told_if}
+use Rattle.command_faults.specs.declared.fault.Fault.{Fault}
+use Rattle.command_faults.specs.declared.fault.Fault.TheVariants as fault
 use Rattle.insert_cli.specs.declared.command.Conversion.{Conversion}
 use Rattle.insert_cli.specs.declared.command.Conversion.TheVariants.{Canon, ShowBsdl}
+use Rattle.insert_cli.specs.Commands.{IsShort, IsLong}
 use Rattle.insert_cli.specs.Conversions.{IsConverted, IsAccepted, IsSpelled}
-use Rattle.insert_cli.specs.Causes.{IsWritten, IsWrittenInPart, IsCutShort}
+use Rattle.insert_cli.specs.Seen.{ShelfSeen, NameRose}
+use Rattle.insert_cli.specs.EdgeFaults.{StandsInReading}
+use Rattle.insert_cli.specs.ConvertFaults.{StandsInText, IsWritten, IsWrittenInPart, IsCutShort}
 
 -- the text is the bytes that are told
 abbrev pub IsTold : List ℕ → List ℕ → Type 0
@@ -21,21 +26,36 @@ rose_earlier a b c h k = grind arith
 pub rose_on : (a b c : ℕ) → Rose a b → b ≤ c → Rose a c
 rose_on a b c h k = grind arith
 
+-- a fault in reading stands as well over a longer time
+pub reading_longer : (name : List ℕ) (short long : ShelfSeen) (f : Fault) → short.held name ≡ long.held name → (NameRose short name → NameRose long name)
+    → StandsInReading name short f → StandsInReading name long f
+reading_longer name short long (fault.ReadFault n) same longer stands = (stands.0, longer stands.1)
+reading_longer name short long (fault.TooLong n) same longer stands = (stands.0, subst (λ (t : Option (List ℕ)). WhereTold t IsLong) same stands.1)
+reading_longer name short long f same longer stands = stands
+
+-- a fault of the text that was read stands where the text is told
+pub text_told : (c : Conversion) (told : Option (List ℕ)) (text : List ℕ) (f : Fault) → WhereTold told (IsTold text) → StandsInText c (Some text) f → StandsInText c told f
+text_told Canon None text (fault.Netlist f) is stands = tt
+text_told Canon (Some bytes) text (fault.Netlist f) is stands = subst (λ (b : List ℕ). StandsInText Canon (Some b) (fault.Netlist f)) is stands
+text_told ShowBsdl None text (fault.Device f) is stands = tt
+text_told ShowBsdl (Some bytes) text (fault.Device f) is stands = subst (λ (b : List ℕ). StandsInText ShowBsdl (Some b) (fault.Device f)) is stands
+text_told c told text f is stands = stands
+
 spelled_of : (c : Conversion) (text printed : List ℕ) → IsConverted c text printed → IsSpelled c text
 spelled_of Canon text printed r = (r.tree, r.spells)
 spelled_of ShowBsdl text printed r = (r.device, r.spells)
 
-pub accepted_told : (c : Conversion) (limit : ℕ) (told : Option (List ℕ)) (text printed : List ℕ) → WhereTold told (IsTold text) → length text ≤ limit → IsConverted c text printed
-    → WhereTold told (IsAccepted c limit)
-accepted_told c limit told text printed is short made = told_as told text (IsAccepted c limit) is (record { short = short; spelled = spelled_of c text printed made })
+pub accepted_told : (c : Conversion) (told : Option (List ℕ)) (text printed : List ℕ) → WhereTold told (IsTold text) → IsShort text → IsConverted c text printed
+    → WhereTold told (IsAccepted c)
+accepted_told c told text printed is short made = told_as told text (IsAccepted c) is (record { short = short; spelled = spelled_of c text printed made })
 
-pub written_told : (c : Conversion) (limit : ℕ) (tells : Bool) (told written : Option (List ℕ)) (text printed : List ℕ) → WhereTold told (IsTold text) → length text ≤ limit
-    → IsConverted c text printed → written ≡ told_if tells printed → WhereTold told (IsWritten c limit tells written)
-written_told c limit tells told written text printed is short made there =
-    told_as told text (IsWritten c limit tells written) is (short, (printed, (made, there)))
+pub written_told : (c : Conversion) (output : List ℕ) (shelf : ShelfSeen) (told : Option (List ℕ)) (text printed : List ℕ) → WhereTold told (IsTold text) → IsShort text
+    → IsConverted c text printed → shelf.written_after output ≡ told_if shelf.tells printed → WhereTold told (IsWritten c output shelf)
+written_told c output shelf told text printed is short made there =
+    told_as told text (IsWritten c output shelf) is (short, (printed, (made, there)))
 
-pub cut_told : (c : Conversion) (tells : Bool) (told before mid after : Option (List ℕ)) (text printed put : List ℕ) → WhereTold told (IsTold text) → IsConverted c text printed
-    → put ≡ printed → mid ≡ before → (after ≡ mid) ⊎ ((k : ℕ) × (after ≡ told_if tells (take k put))) → IsCutShort c tells told before after
-cut_told c tells told before mid after text printed put is made same kept (inl as_before) = inl (as_before ∙ kept)
-cut_told c tells told before mid after text printed put is made same kept (inr (k, front)) =
-    inr (told_as told text (IsWrittenInPart c tells after) is (printed, (k, (made, front ∙ ap (λ (l : List ℕ). told_if tells (take k l)) same))))
+pub cut_told : (c : Conversion) (input output : List ℕ) (shelf : ShelfSeen) (mid : Option (List ℕ)) (text printed put : List ℕ) → WhereTold (shelf.held input) (IsTold text) → IsConverted c text printed
+    → put ≡ printed → mid ≡ shelf.written output → (shelf.written_after output ≡ mid) ⊎ ((k : ℕ) × (shelf.written_after output ≡ told_if shelf.tells (take k put))) → IsCutShort c input output shelf
+cut_told c input output shelf mid text printed put is made same kept (inl as_before) = inl (as_before ∙ kept)
+cut_told c input output shelf mid text printed put is made same kept (inr (k, front)) =
+    inr (told_as (shelf.held input) text (IsWrittenInPart c output shelf) is (printed, (k, (made, front ∙ ap (λ (l : List ℕ). told_if shelf.tells (take k l)) same))))

@@ -1,96 +1,72 @@
--- When each fault stands, and what is written. Own.
-use Rattle.std.specs.Prelude.{◌≡◌, ℕ, ◌<◌, ◌≤◌, ◌⊎◌, List, take, length, Option, Bool}
-use Rattle.edge_io.specs.Shelf.{Rose, WhereTold, appended, told_if}
+-- What a command comes to: its end, or the fault that stands, its line and what it leaves. Own.
+use Rattle.std.specs.Prelude.{◌≡◌, ℕ, ◌⊎◌, List, take, Option, Some}
+use Rattle.edge_io.specs.Shelf.{WhereTold, appended}
 use Rattle.command_faults.specs.declared.fault.Fault.{Fault}
 use Rattle.command_faults.specs.declared.fault.Fault.TheVariants as fault
-use Rattle.verilog_texts.specs.declared.fault.TextFault.{TextFault}
-use Rattle.verilog_texts.specs.TextFaults.{IsTextFault}
-use Rattle.bsdl_values.specs.declared.fault.DeviceTextFault.{DeviceTextFault}
-use Rattle.bsdl_values.specs.TextFaults.{IsDeviceTextFault}
-use Rattle.insert_cli.specs.declared.command.Conversion.{Conversion}
-use Rattle.insert_cli.specs.declared.command.Conversion.TheVariants.{Canon, ShowBsdl}
+use Rattle.command_faults.specs.declared.status.Status.{Status}
+use Rattle.command_faults.specs.declared.status.Status.TheVariants as status
 use Rattle.command_faults.specs.Lines.{line_of}
 use Rattle.command_faults.specs.Statuses.{status_of}
-use Rattle.command_faults.specs.declared.status.Status.TheVariants as status
-use Rattle.insert_cli.specs.Commands.{ConvertForm, SimForm, IsNoCommand, RunsConvert}
-use Rattle.insert_cli.specs.SimFaults.{StandsInSim, WhereBothTold, IsPlayedInPart}
-use Rattle.insert_cli.specs.Conversions.{IsConverted, IsAccepted}
+use Rattle.insert_cli.specs.declared.command.Conversion.{Conversion}
+use Rattle.insert_cli.specs.Commands.{ConvertForm, SimForm, IsNoCommand, RunsConvert, OfConvert, OfSim}
+use Rattle.insert_cli.specs.Seen.{ShelfSeen, SinkSeen, NameRose, SinkRose}
+use Rattle.insert_cli.specs.EdgeFaults.{AreShort}
+use Rattle.insert_cli.specs.Conversions.{IsAccepted}
+use Rattle.insert_cli.specs.ConvertFaults.{StandsInConvert, IsWritten, IsCutShort}
+use Rattle.insert_cli.specs.Simulations.{IsSimulable, IsEnd}
+use Rattle.insert_cli.specs.SimFaults.{StandsInSim, IsPlayed, GaveFront}
 
--- a fact of a text that isn't too long
-abbrev pub Within : ℕ → (List ℕ → Type 0) → List ℕ → Type 0
-Within limit P bytes = (length bytes ≤ limit) × P bytes
+-- The command came to its end: a conversion's output is written and nothing is put, or the text of a run is put.
+abbrev pub Finishes : List (List ℕ) → ShelfSeen → SinkSeen → Status → Type 0
+Finishes words shelf sink end = OfConvert words (λ c input output. (end ≡ status.Done) × (sink.given_after ≡ sink.given)
+    × WhereTold (shelf.held input) (IsWritten c output shelf))
+    ⊎ OfSim words (λ netlist events. AreShort netlist events shelf × IsPlayed (shelf.held netlist) (shelf.held events) sink end)
 
--- the fault stands in reading what lies under a name
-abbrev pub StandsInReading : List ℕ → Option (List ℕ) → ℕ → Type 0 → Fault → Type 0
-StandsInReading name told limit Risen (fault.ReadFault n) = (n.now ≡ name) × Risen
-StandsInReading name told limit Risen (fault.TooLong n) = (n.now ≡ name) × WhereTold told (λ bytes. limit < length bytes)
-StandsInReading name told limit Risen fault.OutOfMemory = Unit {0}
-StandsInReading name told limit Risen f = ⊥
+-- the fault stands in the words
+abbrev pub StandsInWords : List (List ℕ) → Fault → Type 0
+StandsInWords words fault.Usage = IsNoCommand words
+StandsInWords words (fault.SameName name) = (c : Conversion) × ConvertForm words c name.now name.now
+StandsInWords words f = ⊥
 
--- the fault of a netlist's text, where the conversion reads one
-abbrev pub IsModuleFault : Conversion → TextFault → List ℕ → Type 0
-IsModuleFault Canon f bytes = IsTextFault bytes f
-IsModuleFault ShowBsdl f bytes = ⊥
-
--- the fault of a BSDL text, where the conversion reads one
-abbrev pub IsDeviceFault : Conversion → DeviceTextFault → List ℕ → Type 0
-IsDeviceFault Canon f bytes = ⊥
-IsDeviceFault ShowBsdl f bytes = IsDeviceTextFault bytes f
-
--- The fault stands in a conversion, from what is told of the input and whose counts of faults rose.
-abbrev pub StandsInConvert : Conversion → List ℕ → List ℕ → Option (List ℕ) → ℕ → (List ℕ → Type 0) → Fault → Type 0
-StandsInConvert c input output told limit Risen fault.Usage = ⊥
-StandsInConvert c input output told limit Risen (fault.SameName name) = ⊥
-StandsInConvert c input output told limit Risen (fault.ReadFault name) = (name.now ≡ input) × Risen input
-StandsInConvert c input output told limit Risen (fault.TooLong name) = (name.now ≡ input) × WhereTold told (λ bytes. limit < length bytes)
-StandsInConvert c input output told limit Risen (fault.Netlist f) = WhereTold told (Within limit (IsModuleFault c f))
-StandsInConvert c input output told limit Risen (fault.Link f) = ⊥
-StandsInConvert c input output told limit Risen (fault.Events f) = ⊥
-StandsInConvert c input output told limit Risen (fault.Script f) = ⊥
-StandsInConvert c input output told limit Risen (fault.Device f) = WhereTold told (Within limit (IsDeviceFault c f))
-StandsInConvert c input output told limit Risen (fault.WriteFault name) = (name.now ≡ output) × WhereTold told (IsAccepted c limit) × Risen output
-StandsInConvert c input output told limit Risen fault.OutOfMemory = Unit {0}
-
--- what a conversion runs on: two different names, and the fact of them
-abbrev pub OfConvert : List (List ℕ) → (Conversion → List ℕ → List ℕ → Type 0) → Type 0
-OfConvert words P = (c : Conversion) × ((input : List ℕ) × ((output : List ℕ) × (RunsConvert words c input output × P c input output)))
-
--- what `sim` runs on, and the fact of them
-abbrev pub OfSim : List (List ℕ) → (List ℕ → List ℕ → Type 0) → Type 0
-OfSim words P = (netlist : List ℕ) × ((events : List ℕ) × (SimForm words netlist events × P netlist events))
-
--- The fault stands for these words, from what a shelf holds, under which names its counts rose, and whether the sink's count rose.
-abbrev pub Stands : List (List ℕ) → (List ℕ → Option (List ℕ)) → ℕ → (List ℕ → Type 0) → Type 0 → Fault → Type 0
-Stands words held limit Risen SinkRisen fault.Usage = IsNoCommand words
-Stands words held limit Risen SinkRisen (fault.SameName name) = (c : Conversion) × ConvertForm words c name.now name.now
-Stands words held limit Risen SinkRisen fault =
-    OfConvert words (λ c input output. StandsInConvert c input output (held input) limit Risen fault)
-    ⊎ OfSim words (λ netlist events. StandsInSim netlist events (held netlist) (held events) limit Risen SinkRisen fault)
-
--- The bytes are accepted, and what is written is what the conversion makes of them.
-abbrev pub IsWritten : Conversion → ℕ → Bool → Option (List ℕ) → List ℕ → Type 0
-IsWritten c limit tells written bytes = (length bytes ≤ limit) × ((text : List ℕ) × (IsConverted c bytes text × (written ≡ told_if tells text)))
-
--- What is written is a front of that text.
-abbrev pub IsWrittenInPart : Conversion → Bool → Option (List ℕ) → List ℕ → Type 0
-IsWrittenInPart c tells written bytes = (text : List ℕ) × ((k : ℕ) × (IsConverted c bytes text × (written ≡ told_if tells (take k text))))
-
--- A write failed: what is written is as before, or a front of the converted text.
-abbrev pub IsCutShort : Conversion → Bool → Option (List ℕ) → Option (List ℕ) → Option (List ℕ) → Type 0
-IsCutShort c tells told before after = (after ≡ before) ⊎ WhereTold told (IsWrittenInPart c tells after)
-
--- What was given goes on with the line; or with its front, where the sink's count rose or stands at its last value.
-abbrev pub PutsLine : List ℕ → Option (List ℕ) → Option (List ℕ) → ℕ → ℕ → Type 0
-PutsLine line before after faults faults_now =
-    (after ≡ appended line before) ⊎ (Rose faults faults_now × ((k : ℕ) × (after ≡ appended (take k line) before)))
+-- The fault stands in the words, or in the command that they are.
+abbrev pub Stands : List (List ℕ) → ShelfSeen → SinkSeen → Fault → Type 0
+Stands words shelf sink f = StandsInWords words f
+    ⊎ (OfConvert words (λ c input output. StandsInConvert c input output shelf f)
+    ⊎ OfSim words (λ netlist events. StandsInSim netlist events shelf sink f))
 
 -- What was given before the fault's line: nothing, or a front of the text of a run whose giving failed.
-abbrev pub Gave : List (List ℕ) → (List ℕ → Option (List ℕ)) → Fault → Option (List ℕ) → Option (List ℕ) → Type 0
-Gave words held f before after = (after ≡ before)
-    ⊎ ((status_of f ≡ status.WriteFault) × OfSim words (λ netlist events. WhereBothTold (held netlist) (held events) (IsPlayedInPart before after)))
+abbrev pub Gave : List (List ℕ) → ShelfSeen → Fault → Option (List ℕ) → Option (List ℕ) → Type 0
+Gave words shelf f before after = (after ≡ before) ⊎ ((status_of f ≡ status.WriteFault)
+    × OfSim words (λ netlist events. GaveFront (shelf.held netlist) (shelf.held events) before after))
 
--- The fault's line is given, behind what was given before it.
-pub record GivesLine (words : List (List ℕ)) (held : List ℕ → Option (List ℕ)) (f : Fault) (before after : Option (List ℕ)) (faults faults_now : ℕ) : Type 0 where
-  pub middle : Option (List ℕ)
-  pub gave : Gave words held f before middle
-  pub line : PutsLine (line_of f) middle after faults faults_now
+-- What was given goes on with the line; or with its front, where the sink's count rose.
+abbrev pub PutsLine : List ℕ → Option (List ℕ) → SinkSeen → Type 0
+PutsLine line before sink = (sink.given_after ≡ appended line before)
+    ⊎ (SinkRose sink × ((k : ℕ) × (sink.given_after ≡ appended (take k line) before)))
+
+-- A fault with this status stands, and its line is given behind what was given before it.
+pub record Fails (words : List (List ℕ)) (shelf : ShelfSeen) (sink : SinkSeen) (end : Status) : Type 0 where
+  pub fault : Fault
+  pub status_is : status_of fault ≡ end
+  pub stands : Stands words shelf sink fault
+  pub before : Option (List ℕ)
+  pub gave : Gave words shelf fault sink.given before
+  pub line : PutsLine (line_of fault) before sink
+
+-- what a conversion whose write failed leaves under the output's name
+abbrev pub CutsShort : List (List ℕ) → ShelfSeen → Type 0
+CutsShort words shelf = (c : Conversion) (input output : List ℕ) → RunsConvert words c input output
+    → IsCutShort c input output shelf
+
+-- A conversion of an accepted text, where no count of its names rises, is done or wants memory.
+abbrev pub CompletesConvert : List (List ℕ) → ShelfSeen → Status → Type 0
+CompletesConvert words shelf end = (c : Conversion) (input output bytes : List ℕ) → RunsConvert words c input output
+    → shelf.held input ≡ Some bytes → IsAccepted c bytes → (NameRose shelf input → ⊥) → (NameRose shelf output → ⊥)
+    → (end ≡ status.Done) ⊎ (end ≡ status.Memory)
+
+-- A simulation of texts in which no fault stands, where no count of its names or of the sink rises, comes to
+-- its end or wants memory.
+abbrev pub CompletesSim : List (List ℕ) → ShelfSeen → SinkSeen → Status → Type 0
+CompletesSim words shelf sink end = (netlist events net text : List ℕ) → SimForm words netlist events
+    → shelf.held netlist ≡ Some net → shelf.held events ≡ Some text → IsSimulable net text
+    → (NameRose shelf netlist → ⊥) → (NameRose shelf events → ⊥) → (SinkRose sink → ⊥) → IsEnd end ⊎ (end ≡ status.Memory)

@@ -1,5 +1,5 @@
 -- The forms of the commands, over their words without the program's own name. Own.
-use Rattle.std.specs.Prelude.{◌≡◌, ◌≢◌, ℕ, ◌==◌, List, [], ◌∷◌, Bool, false, Option, Some, None, codes}
+use Rattle.std.specs.Prelude.{◌≡◌, ◌≢◌, ℕ, ◌<◌, ◌≤◌, ◌==◌, List, [], ◌∷◌, length, Bool, false, Option, Some, None, codes}
 use Rattle.std.specs.Bool.{IsFalse}
 use Rattle.std.specs.List.{list_any}
 use Rattle.insert_cli.specs.declared.command.Conversion.{Conversion}
@@ -10,6 +10,14 @@ use Rattle.insert_cli.specs.declared.command.Command.TheVariants.{Convert, Sim}
 -- the longest text that is read, in bytes
 abbrev pub text_limit : ℕ
 text_limit = 16777216
+
+-- a text that isn't longer
+abbrev pub IsShort : List ℕ → Type 0
+IsShort bytes = length bytes ≤ text_limit
+
+-- a text that is longer
+abbrev pub IsLong : List ℕ → Type 0
+IsLong bytes = text_limit < length bytes
 
 -- a word that begins with `-`
 abbrev pub begins_with_dash : List ℕ → Bool
@@ -50,3 +58,11 @@ pub record RunsConvert (words : List (List ℕ)) (c : Conversion) (input output 
 -- the name is that of a file that the command writes
 abbrev pub Writes : List (List ℕ) → List ℕ → Type 0
 Writes words name = (c : Conversion) × ((input : List ℕ) × RunsConvert words c input name)
+
+-- a conversion runs on a command's names, of which this holds
+abbrev pub OfConvert : List (List ℕ) → (Conversion → List ℕ → List ℕ → Type 0) → Type 0
+OfConvert words P = (c : Conversion) × ((input : List ℕ) × ((output : List ℕ) × (RunsConvert words c input output × P c input output)))
+
+-- `sim` runs on a command's names, of which this holds
+abbrev pub OfSim : List (List ℕ) → (List ℕ → List ℕ → Type 0) → Type 0
+OfSim words P = (netlist : List ℕ) × ((events : List ℕ) × (SimForm words netlist events × P netlist events))

@@ -1,5 +1,5 @@
 -- What `canon` and `showbsdl` make of the bytes that they read.
-use Rattle.std.specs.Prelude.{◌≡◌, ℕ, ◌≤◌, List, length}
+use Rattle.std.specs.Prelude.{◌≡◌, ℕ, List}
 use Rattle.verilog_tree.specs.declared.tree.Module.{Module}
 use Rattle.verilog_tree.specs.Texts.{SpellsText as SpellsModuleText}
 use Rattle.verilog_tree.specs.Canonical.{canonical}
@@ -8,6 +8,7 @@ use Rattle.bsdl_device.specs.Spelled.{SpellsText as SpellsDeviceText}
 use Rattle.bsdl_device.specs.Canonical.{canonical_device}
 use Rattle.insert_cli.specs.declared.command.Conversion.{Conversion}
 use Rattle.insert_cli.specs.declared.command.Conversion.TheVariants.{Canon, ShowBsdl}
+use Rattle.insert_cli.specs.Commands.{IsShort}
 
 -- The bytes spell one tree; the text is its canonical text, which spells that tree and no other.
 pub record IsCanonicalModule (bytes text : List ℕ) : Type 0 where
@@ -38,6 +39,6 @@ IsSpelled Canon bytes = (tree : Module) × SpellsModuleText bytes tree
 IsSpelled ShowBsdl bytes = (device : Device) × SpellsDeviceText bytes device
 
 -- own: bytes that are not too many, and spell what the conversion reads
-pub record IsAccepted (c : Conversion) (limit : ℕ) (bytes : List ℕ) : Type 0 where
-  pub short : length bytes ≤ limit
+pub record IsAccepted (c : Conversion) (bytes : List ℕ) : Type 0 where
+  pub short : IsShort bytes
   pub spelled : IsSpelled c bytes

@@ -1,12 +1,41 @@
--- The faults of the text that a conversion reads. Own.
-use Rattle.std.specs.Prelude.{ℕ, List}
+-- When each fault stands in `canon` and `showbsdl`, and what they write. Own.
+use Rattle.std.specs.Prelude.{◌≡◌, ℕ, ◌⊎◌, List, take, Option}
+use Rattle.edge_io.specs.Shelf.{WhereTold, told_if}
 use Rattle.command_faults.specs.declared.fault.Fault.{Fault}
 use Rattle.command_faults.specs.declared.fault.Fault.TheVariants as fault
+use Rattle.verilog_texts.specs.TextFaults.{IsTextFault}
+use Rattle.bsdl_values.specs.TextFaults.{IsDeviceTextFault}
 use Rattle.insert_cli.specs.declared.command.Conversion.{Conversion}
-use Rattle.insert_cli.specs.Causes.{IsModuleFault, IsDeviceFault}
+use Rattle.insert_cli.specs.declared.command.Conversion.TheVariants.{Canon, ShowBsdl}
+use Rattle.insert_cli.specs.Commands.{IsShort}
+use Rattle.insert_cli.specs.Seen.{ShelfSeen}
+use Rattle.insert_cli.specs.EdgeFaults.{StandsInReading, StandsInWriting}
+use Rattle.insert_cli.specs.Conversions.{IsConverted, IsAccepted}
 
--- the fault stands in a text that is converted
-abbrev pub StandsInText : Conversion → List ℕ → Fault → Type 0
-StandsInText c bytes (fault.Netlist f) = IsModuleFault c f bytes
-StandsInText c bytes (fault.Device f) = IsDeviceFault c f bytes
-StandsInText c bytes fault = ⊥
+-- the fault stands in a text that is converted, where the text is told
+abbrev pub StandsInText : Conversion → Option (List ℕ) → Fault → Type 0
+StandsInText Canon told (fault.Netlist f) = WhereTold told (λ bytes. IsTextFault bytes f)
+StandsInText ShowBsdl told (fault.Device f) = WhereTold told (λ bytes. IsDeviceTextFault bytes f)
+StandsInText c told f = ⊥
+
+-- The fault stands in a conversion: in reading, in the text that was read, or in writing what comes of an
+-- accepted text.
+abbrev pub StandsInConvert : Conversion → List ℕ → List ℕ → ShelfSeen → Fault → Type 0
+StandsInConvert c input output shelf f = StandsInReading input shelf f
+    ⊎ ((WhereTold (shelf.held input) IsShort × StandsInText c (shelf.held input) f)
+    ⊎ (WhereTold (shelf.held input) (IsAccepted c) × StandsInWriting output shelf f))
+
+-- The bytes are accepted, and what is written is what the conversion makes of them.
+abbrev pub IsWritten : Conversion → List ℕ → ShelfSeen → List ℕ → Type 0
+IsWritten c output shelf bytes =
+    IsShort bytes × ((text : List ℕ) × (IsConverted c bytes text × (shelf.written_after output ≡ told_if shelf.tells text)))
+
+-- What is written is a front of that text.
+abbrev pub IsWrittenInPart : Conversion → List ℕ → ShelfSeen → List ℕ → Type 0
+IsWrittenInPart c output shelf bytes =
+    (text : List ℕ) × ((k : ℕ) × (IsConverted c bytes text × (shelf.written_after output ≡ told_if shelf.tells (take k text))))
+
+-- A write failed: what is written is as before, or a front of the converted text.
+abbrev pub IsCutShort : Conversion → List ℕ → List ℕ → ShelfSeen → Type 0
+IsCutShort c input output shelf =
+    (shelf.written_after output ≡ shelf.written output) ⊎ WhereTold (shelf.held input) (IsWrittenInPart c output shelf)

@@ -1,6 +1,6 @@
 -- What `sim` makes of the bytes of a netlist and of events.
 -- IEEE Std 1364-2001 for the netlist; the texts of events and what a run puts are own.
-use Rattle.std.specs.Prelude.{◌≡◌, ℕ, ◌≤◌, ◌==◌, ◌⊎◌, List, length, if◌then◌else◌}
+use Rattle.std.specs.Prelude.{◌≡◌, ℕ, ◌==◌, ◌⊎◌, List, if◌then◌else◌}
 use Rattle.verilog_tree.specs.declared.tree.Module.{Module}
 use Rattle.verilog_tree.specs.Texts.{SpellsText}
 use Rattle.link_model.specs.Late.{IsLinkable}
@@ -16,6 +16,7 @@ use Rattle.event_scripts.specs.Scripts.{IsResolved, IsScriptFault}
 use Rattle.sim_runs.specs.Outputs.{IsOutput}
 use Rattle.command_faults.specs.declared.status.Status.{Status}
 use Rattle.command_faults.specs.declared.status.Status.TheVariants as status
+use Rattle.insert_cli.specs.Commands.{IsShort}
 
 -- The netlist's bytes spell one tree, which is linked to this netlist; the events' bytes spell lines that are legal for it; and
 -- the text is that of their run, in which so many expectations aren't met.
@@ -44,6 +45,10 @@ pub record SpellsLinkable (net : List ℕ) : Type 0 where
   pub spells : SpellsText net tree
   pub linkable : IsLinkable tree
 
+-- own: the bytes spell lines of events
+abbrev pub SpellsEvents : List ℕ → Type 0
+SpellsEvents events = (lines : Lines) × SpellsLines events lines
+
 -- own: the lines of the events have this fault for the netlist
 pub record HasScriptFault (f : ScriptFault) (net events : List ℕ) : Type 0 where
   pub tree : Module
@@ -56,9 +61,9 @@ pub record HasScriptFault (f : ScriptFault) (net events : List ℕ) : Type 0 whe
   pub fault : IsScriptFault linked lines f
 
 -- own: no fault stands in the bytes of the netlist and of the events
-pub record IsSimulable (limit : ℕ) (net events : List ℕ) : Type 0 where
-  pub short : length net ≤ limit
-  pub short_events : length events ≤ limit
+pub record IsSimulable (net events : List ℕ) : Type 0 where
+  pub short : IsShort net
+  pub short_events : IsShort events
   pub tree : Module
   pub spells : SpellsText net tree
   pub linkable : IsLinkable tree

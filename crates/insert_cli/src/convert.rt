@@ -1,13 +1,12 @@
-ghost use Rattle.std.specs.Prelude.{◌≡◌, ◌≢◌, ◌≤◌, ℕ, List, IfErr, IfOk, OnOk};
-ghost use Rattle.edge_io.specs.Shelf.{NoneFell, RoseAt, SameTold, WhereTold};
+ghost use Rattle.std.specs.Prelude.{◌≡◌, ◌≢◌, ℕ, List, Some, IfErr, IfOk, OnOk};
+ghost use Rattle.edge_io.specs.Shelf.{NoneFell, SameTold, WhereTold};
 ghost use Rattle.command_faults.specs.Statuses.{status_of};
 ghost use Rattle.command_faults.specs.declared.status.Status.{Status};
-ghost use Rattle.insert_cli.specs.Causes.{StandsInConvert, IsWritten, IsCutShort, IsModuleFault, IsDeviceFault};
-ghost use Rattle.insert_cli.specs.Commands.{text_limit};
-ghost use Rattle.insert_cli.specs.Conversions.{IsCanonicalDevice, IsCanonicalModule, IsConverted};
 ghost use Rattle.verilog_texts.specs.TextFaults.{IsTextFault};
 ghost use Rattle.bsdl_values.specs.TextFaults.{IsDeviceTextFault};
-ghost use Rattle.insert_cli.specs.ConvertFaults.{StandsInText};
+ghost use Rattle.insert_cli.specs.Conversions.{IsCanonicalDevice, IsCanonicalModule, IsConverted};
+ghost use Rattle.insert_cli.specs.ConvertFaults.{StandsInConvert, StandsInText, IsCutShort, IsWritten};
+ghost use Rattle.insert_cli.specs.Seen.{shelf_seen};
 
 use crate::command::Conversion;
 use crate::reading::read_text;
@@ -42,7 +41,7 @@ fn canonical_device(alloc: Global, text: Text) -> Result<Text, DeviceTextFault>
 // What the conversion makes of a text.
 fn converted<'a>(alloc: Global, conversion: Conversion, text: Text) -> Result<Text, Fault<'a>>
     ensures found { IfOk result (IsConverted conversion text) }
-    ensures fault { IfErr result (StandsInText conversion text) }
+    ensures fault { IfErr result (StandsInText conversion (Some text)) }
 {
     match conversion {
         Conversion::Canon => Ok(canonical_module(alloc, text)?),
@@ -59,13 +58,17 @@ pub fn convert<'a, S: Shelf>(
     input: &'a str,
     output: &'a str,
 ) -> Result<(), Fault<'a>>
-    ensures done { OnOk result (WhereTold (S.held shelf.old input.now) (IsWritten conversion text_limit S.tells (S.written shelf.new output.now))) }
-    ensures fault { IfErr result (StandsInConvert conversion input.now output.now (S.held shelf.old input.now) text_limit (RoseAt (S.faults shelf.old) (S.faults shelf.new))) }
+    ensures done { OnOk result (WhereTold (S.held shelf.old input.now) (IsWritten conversion output.now
+        (shelf_seen S.tells S.held S.written S.faults shelf.old shelf.new))) }
+    ensures fault { IfErr result (StandsInConvert conversion input.now output.now
+        (shelf_seen S.tells S.held S.written S.faults shelf.old shelf.new)) }
 
     // Only a write that failed leaves anything changed, and only under the output's name.
-    ensures unwritten { IfErr result (λ fault. (status_of fault ≢ Status.WriteFault) → SameTold (S.written shelf.old) (S.written shelf.new)) }
+    ensures unwritten { IfErr result (λ fault. (status_of fault ≢ Status.WriteFault)
+        → SameTold (S.written shelf.old) (S.written shelf.new)) }
     ensures cut_short { IfErr result (λ fault. (status_of fault ≡ Status.WriteFault)
-        → IsCutShort conversion S.tells (S.held shelf.old input.now) (S.written shelf.old output.now) (S.written shelf.new output.now)) }
+        → IsCutShort conversion input.now output.now
+        (shelf_seen S.tells S.held S.written S.faults shelf.old shelf.new)) }
     ensures others { (name : List ℕ) → name ≢ output.now → S.written shelf.new name ≡ S.written shelf.old name }
     ensures held { SameTold (S.held shelf.old) (S.held shelf.new) }
     ensures later { NoneFell (S.faults shelf.old) (S.faults shelf.new) }

@@ -1,5 +1,5 @@
 // The tool's top call: the words of a command, run over any shelf of texts and any sink.
-// The contract of `run_tool` cites specs/Commands.antt, specs/Conversions.antt and specs/Causes.antt.
+// The contract of `run_tool` cites specs/Causes.antt, which stands on the other files of specs/, and specs/Seen.antt.
 // IEEE Std 1364-2001 and IEEE Std 1149.1-2001 for the texts that are read and written; commands, faults and statuses are own.
 #![tactic(auto)]
 

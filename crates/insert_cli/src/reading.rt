@@ -1,7 +1,8 @@
-ghost use Rattle.std.specs.Prelude.{◌≡◌, ◌≤◌, length, IfErr, IfOk};
-ghost use Rattle.edge_io.specs.Shelf.{NoneFell, RoseAt, SameTold, WhereTold};
-ghost use Rattle.insert_cli.specs.Causes.{StandsInReading};
-ghost use Rattle.insert_cli.specs.Commands.{text_limit};
+ghost use Rattle.std.specs.Prelude.{◌≡◌, IfErr, IfOk};
+ghost use Rattle.edge_io.specs.Shelf.{NoneFell, SameTold, WhereTold};
+ghost use Rattle.insert_cli.specs.Commands.{IsShort};
+ghost use Rattle.insert_cli.specs.EdgeFaults.{StandsInReading};
+ghost use Rattle.insert_cli.specs.Seen.{shelf_seen};
 
 use command_faults::Fault;
 use edge_io::shelf::Shelf;
@@ -19,8 +20,9 @@ pub fn read_text<'a, S: Shelf>(
     name: &'a str,
 ) -> Result<Text, Fault<'a>>
     ensures ok { IfOk result (λ text. WhereTold (S.held shelf.old name.now) (λ bytes. text ≡ bytes)) }
-    ensures within { IfOk result (λ text. length text ≤ text_limit) }
-    ensures fault { IfErr result (StandsInReading name.now (S.held shelf.old name.now) text_limit (RoseAt (S.faults shelf.old) (S.faults shelf.new) name.now)) }
+    ensures within { IfOk result IsShort }
+    ensures fault { IfErr result (StandsInReading name.now
+        (shelf_seen S.tells S.held S.written S.faults shelf.old shelf.new)) }
     ensures held { SameTold (S.held shelf.old) (S.held shelf.new) }
     ensures written { SameTold (S.written shelf.old) (S.written shelf.new) }
     ensures later { NoneFell (S.faults shelf.old) (S.faults shelf.new) }

@@ -1,14 +1,15 @@
-ghost use Rattle.std.specs.Prelude.{◌≡◌, ◌≤◌, ℕ, List, length, IfOk, IfErr};
-ghost use Rattle.edge_io.specs.Shelf.{NoneFell, Rose, RoseAt, SameTold, WhereTold, appended};
+ghost use Rattle.std.specs.Prelude.{◌≡◌, ◌≤◌, ℕ, List, Some, IfOk, IfErr};
+ghost use Rattle.edge_io.specs.Shelf.{NoneFell, SameTold, WhereTold};
 ghost use Rattle.verilog_tree.specs.declared.tree.Module.{Module};
 ghost use Rattle.verilog_texts.specs.Reading.{IsReadAs};
 ghost use Rattle.netlist_link.specs.Links.{IsLinkOf};
 ghost use Rattle.netlist_link.specs.Laws.{FaultsForbidLinks};
 ghost use Rattle.scan_vectors.specs.Exactly.{SpelledOnce, SpelledIsFaultless};
 ghost use Rattle.event_scripts.specs.Laws.{LegalIsNotIllegal};
-ghost use Rattle.insert_cli.specs.Commands.{text_limit};
-ghost use Rattle.insert_cli.specs.Simulations.{IsEnd, IsSimulation, run_status};
-ghost use Rattle.insert_cli.specs.SimFaults.{StandsInNetlist, StandsInTexts, StandsInSim, GaveFront, GaveInSim, IsPlayed, WhereBothTold};
+ghost use Rattle.insert_cli.specs.EdgeFaults.{AreShort};
+ghost use Rattle.insert_cli.specs.Seen.{shelf_seen, sink_seen};
+ghost use Rattle.insert_cli.specs.Simulations.{IsEnd, run_status};
+ghost use Rattle.insert_cli.specs.SimFaults.{StandsInNetlist, StandsInPlay, StandsInSim, GaveInPlay, IsPlayed};
 
 use crate::reading::read_text;
 use command_faults::{Fault, Status};
@@ -62,25 +63,18 @@ fn play_texts<'a, O: Sink>(
     events: Text,
     out: &mut O,
 ) -> Result<Status, Fault<'a>>
-    ensures done { IfOk result (λ status. (text : List ℕ) × (missed : ℕ) × IsSimulation net events text missed
-        × (O.given out.new ≡ appended text (O.given out.old)) × (status ≡ run_status missed)) }
-    ensures fault { IfErr result (StandsInTexts net events (Rose (O.faults out.old) (O.faults out.new))) }
-    ensures front { IfErr result (λ fault. GaveFront fault (O.given out.old) (O.given out.new) net events) }
+    ensures done { IfOk result (IsPlayed (Some net) (Some events)
+        (sink_seen O.given O.faults out.old out.new)) }
+    ensures fault { IfErr result (StandsInPlay (Some net) (Some events)
+        (sink_seen O.given O.faults out.old out.new)) }
+    ensures gave { IfErr result (λ fault. GaveInPlay (Some net) (Some events) fault
+        (O.given out.old) (O.given out.new)) }
     ensures ended { IfOk result IsEnd }
     ensures later { O.faults out.old ≤ O.faults out.new }
 {
-    let linked = match linked_of(alloc, net) {
-        Ok(linked) => linked,
-        Err(fault) => return Err(fault),
-    };
-    let lines = match read_events(alloc, events.as_bytes()) {
-        Ok(lines) => lines,
-        Err(fault) => return Err(Fault::Events(fault)),
-    };
-    let script = match resolve(alloc, &lines, &linked) {
-        Ok(script) => script,
-        Err(fault) => return Err(Fault::Script(fault)),
-    };
+    let linked = linked_of(alloc, net)?;
+    let lines = read_events(alloc, events.as_bytes())?;
+    let script = resolve(alloc, &lines, &linked)?;
     match play(alloc, &linked, &lines, &script, out) {
         Ok(missed) => Ok(status_after(missed)),
         Err(PlayFault::OutOfMemory) => Err(Fault::OutOfMemory),
@@ -99,24 +93,22 @@ pub fn simulate<'a, S: Shelf, O: Sink>(
     netlist: &'a str,
     events: &'a str,
 ) -> Result<Status, Fault<'a>>
-    ensures done { IfOk result (λ status. WhereBothTold (S.held shelf.old netlist.now) (S.held shelf.old events.now)
-        (IsPlayed text_limit status (O.given out.old) (O.given out.new))) }
-    ensures fault { IfErr result (StandsInSim netlist.now events.now (S.held shelf.old netlist.now) (S.held shelf.old events.now) text_limit
-        (RoseAt (S.faults shelf.old) (S.faults shelf.new)) (Rose (O.faults out.old) (O.faults out.new))) }
-    ensures front { IfErr result (λ fault. GaveInSim (S.held shelf.old netlist.now) (S.held shelf.old events.now) fault (O.given out.old) (O.given out.new)) }
+    ensures done { IfOk result (λ status.
+        AreShort netlist.now events.now (shelf_seen S.tells S.held S.written S.faults shelf.old shelf.new)
+        × IsPlayed (S.held shelf.old netlist.now) (S.held shelf.old events.now)
+        (sink_seen O.given O.faults out.old out.new) status) }
+    ensures fault { IfErr result (StandsInSim netlist.now events.now
+        (shelf_seen S.tells S.held S.written S.faults shelf.old shelf.new)
+        (sink_seen O.given O.faults out.old out.new)) }
+    ensures gave { IfErr result (λ fault. GaveInPlay (S.held shelf.old netlist.now)
+        (S.held shelf.old events.now) fault (O.given out.old) (O.given out.new)) }
     ensures ended { IfOk result IsEnd }
     ensures held { SameTold (S.held shelf.old) (S.held shelf.new) }
     ensures written { SameTold (S.written shelf.old) (S.written shelf.new) }
     ensures later { NoneFell (S.faults shelf.old) (S.faults shelf.new) }
     ensures puts_later { O.faults out.old ≤ O.faults out.new }
 {
-    let net = match read_text(alloc, shelf, netlist) {
-        Ok(text) => text,
-        Err(fault) => return Err(fault),
-    };
-    let lines = match read_text(alloc, shelf, events) {
-        Ok(text) => text,
-        Err(fault) => return Err(fault),
-    };
+    let net = read_text(alloc, shelf, netlist)?;
+    let lines = read_text(alloc, shelf, events)?;
     play_texts(alloc, net, lines, out)
 }

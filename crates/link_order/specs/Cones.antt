@@ -1,16 +1,14 @@
 -- The nets in the cones of clocks, clears and presets.
-use Rattle.std.specs.Prelude.{◌≡◌, ℕ, ◌<◌, ◌⊎◌, ◌||◌, Bool, true, false, List, slice_get, slice_index_or, Option, Some, None, if◌then◌else◌}
+use Rattle.std.specs.Prelude.{◌≡◌, ℕ, ◌⊎◌, ◌||◌, Bool, true, false, List, slice_get, Some}
 use Rattle.std.specs.Option.{option_map_or}
 use Rattle.cell_library.specs.Gates.{is_flop}
 use Rattle.netlist_model.specs.declared.Feed.TheVariants.{Net}
 use Rattle.netlist_model.specs.declared.NetId.{NetId}
-use Rattle.net_cones.specs.Cone.{Marked}
 use Rattle.verilog_tree.specs.declared.tree.Module.{Module}
 use Rattle.link_model.specs.Nets.{NamedNet, declared_nets, nets_in}
 use Rattle.link_model.specs.Cells.{NamedCell}
 use Rattle.link_model.specs.Faults.{is_inout, cells_in}
-use Rattle.link_model.specs.Late.{InCone, IsGate, HasOperand, IsDerived, HasNoDerived}
-use Rattle.link_order.specs.Links.{operand_net}
+use Rattle.link_model.specs.Late.{InCone, IsDerived, HasNoDerived}
 
 -- own: a flip-flop reads the net at this place: D is 0, CK is 1, RN or SN is 2
 pub record FlopReads (cells : List NamedCell) (place net : ℕ) : Type 0 where
@@ -20,40 +18,11 @@ pub record FlopReads (cells : List NamedCell) (place net : ℕ) : Type 0 where
   pub flop : is_flop cell.kind ≡ true
   pub operand : slice_get cell.feeds place ≡ Some (Net (record { 0 = net }))
 
--- own: the net stands in the cone of a clock operand
-pub record IsClockNet (cells : List NamedCell) (net : ℕ) : Type 0 where
-  pub root : ℕ
-  pub operand : FlopReads cells 1 root
-  pub cone : InCone cells root net
-
 -- own: the net stands in the cone of a clock, clear or preset operand
 pub record IsControlNet (cells : List NamedCell) (net : ℕ) : Type 0 where
   pub root : ℕ
   pub operand : FlopReads cells 1 root ⊎ FlopReads cells 2 root
   pub cone : InCone cells root net
-
--- own: the net stands in the cone of a marked net
-pub record ConeOfMarked (cells : List NamedCell) (roots : List Bool) (net : ℕ) : Type 0 where
-  pub root : ℕ
-  pub marked : Marked roots root
-  pub cone : InCone cells root net
-
--- own: the net that a flip-flop reads at a place
-abbrev pub flop_net : ℕ → NamedCell → Option ℕ
-flop_net place cell = if is_flop cell.kind then operand_net cell.feeds place else None
-
--- own: the cell drives a marked net
-abbrev pub drives_marked : List Bool → NamedCell → Bool
-drives_marked marks cell = option_map_or (λ (n : NetId). slice_index_or marks n.0 false) cell.output false
-
--- own: one of the first so many cells is a gate, is marked, and reads the net
-pub record GateReadsMarked (cells : List NamedCell) (inside : List Bool) (done net : ℕ) : Type 0 where
-  pub number : ℕ
-  pub cell : NamedCell
-  pub low : number < done
-  pub gate : IsGate cells number cell
-  pub marked : Marked inside number
-  pub reads : HasOperand cell net
 
 -- own: the cell drives an inout net
 abbrev pub drives_inout : List NamedNet → NamedCell → Bool

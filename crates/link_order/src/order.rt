@@ -38,13 +38,6 @@ impl CellOrder {
         self.order.as_slice()
     }
 
-    /// The numbers alone, where the rest is needed no more.
-    pub fn into_numbers(self) -> Row<u32>
-        ensures { result ≡ self.order }
-    {
-        self.order
-    }
-
     /// What each cell reads.
     pub fn graph(&self) -> &Graph
         ensures { result.now ≡ self.now.reads }

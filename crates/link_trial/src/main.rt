@@ -7,8 +7,6 @@
 
 ghost use Rattle.verilog_tree.specs.IsTree.{IsTree};
 
-#[cfg(test)]
-mod tests;
 mod trial;
 
 use crate::trial::{Trial, module_of_file, rewritten};

@@ -63,8 +63,8 @@ impl Netlist {
         Ok(())
     }
 
-    // The first limit that would be passed.
-    fn refusal(&self, cells: u32, nets: u32, ports: u32) -> Option<ReserveFault>
+    /// The first limit that so many more cells, nets and port bits would pass.
+    pub fn refusal(&self, cells: u32, nets: u32, ports: u32) -> Option<ReserveFault>
         ensures { result ≡ too_many self.now.lists cells nets ports }
     {
         excess(What::Cells, self.live, cells, CELL_LIMIT)

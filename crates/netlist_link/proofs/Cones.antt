@@ -87,13 +87,6 @@ flop_reads-live table N cells place net all f =
       reads = record { live = l.live; operand = ap (λ feeds. slice_get feeds place) l.is.feeds ∙ f.operand };
     }
 
--- the nets in the cones of clocks, and of clocks, clears and presets, are the same
-pub clock_nets : (table : List (List ℕ)) (N : NetlistView) (cells : List NamedCell) (net : ℕ) → AreCells table N cells → named.IsClockNet cells net ↔ model.IsClockNet N net
-clock_nets table N cells net all = (
-  λ c. record { root = c.root; operand = flop_reads-live table N cells 1 c.root all c.operand; cone = cone-live table N cells c.root net all c.cone },
-  λ c. record { root = c.root; operand = flop_reads-named table N cells 1 c.root all c.operand; cone = cone-named table N cells c.root net all c.cone },
-)
-
 operand-live : (table : List (List ℕ)) (N : NetlistView) (cells : List NamedCell) (net : ℕ) → AreCells table N cells → named.FlopReads cells 1 net ⊎ named.FlopReads cells 2 net
     → model.FlopReads N 1 net ⊎ model.FlopReads N 2 net
 operand-live table N cells net all (inl f) = inl (flop_reads-live table N cells 1 net all f)
@@ -104,6 +97,7 @@ pub operand-named : (table : List (List ℕ)) (N : NetlistView) (cells : List Na
 operand-named table N cells net all (inl f) = inl (flop_reads-named table N cells 1 net all f)
 operand-named table N cells net all (inr f) = inr (flop_reads-named table N cells 2 net all f)
 
+-- the nets in the cones of clocks, clears and presets are the same
 pub control_nets : (table : List (List ℕ)) (N : NetlistView) (cells : List NamedCell) (net : ℕ) → AreCells table N cells → named.IsControlNet cells net ↔ model.IsControlNet N net
 control_nets table N cells net all = (
   λ c. record { root = c.root; operand = operand-live table N cells c.root all c.operand; cone = cone-live table N cells c.root net all c.cone },

@@ -28,7 +28,6 @@ use Rattle.link_drivers.specs.Drivers.{dir_at, HasItsDrivers, HasDriver}
 use Rattle.link_order.specs.Orders as named
 use Rattle.link_order.specs.Cones as cones
 use Rattle.link_model.specs.Denoted.{AreCells}
-use Rattle.netlist_link.specs.Tables.{cell_id}
 use Rattle.netlist_link.proofs.Cells.{named_at, live_at, drives_named, reads_named, drives_live}
 use Rattle.netlist_link.proofs.Cones.{cone-named, operand-named}
 use Rattle.netlist_link.proofs.Ports.{direction_at, dir_at-declared, same_bit}
@@ -36,6 +35,9 @@ use Rattle.netlist_link.proofs.Ports.{direction_at, dir_at-declared, same_bit}
 -- the direction of a net is that of its declaration
 pub direction_is : (table : List (List ℕ)) (N : NetlistView) (m : Module) (net : ℕ) → IsNamed table N (denoted m) → direction N.ports net ≡ dir_at (nets_in (declared_nets m)) net
 direction_is table N m net is = direction_at table 0 N.ports m.ports net net is.ports (omega arith) ∙ dir_at-declared m.ports m.wires net
+
+abbrev cell_id : ℕ → CellId
+cell_id number = record { 0 = number }
 
 -- an order of the named cells, as an order of the netlist's cells
 stands : (order : List ℕ) (place number : ℕ) → named.StandsAt order place number → StandsAt (map cell_id order) place number

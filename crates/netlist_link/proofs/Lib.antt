@@ -16,6 +16,7 @@ pub mod Drivers
 pub mod Loops
 pub mod Converse
 pub mod Spelled
+pub mod Rewriting
 pub mod NamesOnce
 pub mod ViewsAgree
 pub mod ViewExists

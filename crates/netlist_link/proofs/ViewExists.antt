@@ -165,6 +165,7 @@ link_view_exists m linkable = (
     names = names_of m;
     module_name = m.name;
     order = [];
+    room = record { cells = 0; nets = 0 };
   },
   record {
     linkable = linkable;

@@ -33,6 +33,8 @@ pub record IsSound (m : Module) : Type 0 where
   pub drivers : driver_fault (nets_in (declared_nets m)) (cells_in m) ≡ None
   pub no_loop : (numbers : List ℕ) → IsLoop (cells_in m) numbers → ⊥
   pub derived : HasNoDerived m
+  pub numbers : List ℕ
+  pub ordered : IsItemOrder (cells_in m) numbers
 
 -- own: the module's netlist with its names
 pub record IsBuilt (m : Module) (N : NetlistView) (names : List (List ℕ)) : Type 0 where

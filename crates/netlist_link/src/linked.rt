@@ -3,15 +3,18 @@ ghost use Rattle.verilog_tree.specs.IsTree.{IsTreeName};
 ghost use Rattle.netlist_model.specs.declared.PinBit.{PinBit};
 ghost use Rattle.link_model.specs.Denoted.{name_bytes};
 ghost use Rattle.netlist_model.specs.Cones.{IsClockPort, IsControlPort};
-ghost use Rattle.netlist_link.specs.Linked.{IsLinked, flop_count};
+ghost use Rattle.cell_order.specs.Tables.{flop_count};
+ghost use Rattle.netlist_link.specs.Linked.{IsLinked};
 ghost use Rattle.netlist_link.specs.PinWords.{IsPinWord};
 ghost use Rattle.netlist_link.specs.WellNamed.{IsNameOf};
 
 use crate::pins::find_pin;
-use edge_io::{Row, Text};
+use cell_order::WorkArea;
+use edge_io::Text;
 use name_table::NameTable;
 use netlist_arena::Netlist;
 use netlist_model::{CellId, Name, NetId, PinBit, PortId};
+use std::alloc::Global;
 use std::marker::Model;
 
 /// A netlist that a module denotes, with its names, an order of its cells, and its control and clock ports.
@@ -20,33 +23,39 @@ pub struct Linked {
     pub(crate) netlist: Netlist,
     pub(crate) names: NameTable,
     pub(crate) title: Text,
-    pub(crate) order: Row<CellId>,
-    // The port under each number of a name, up to the last that a port has.
-    pub(crate) ports: Row<Option<PortId>>,
-    // Of each net, whether it is a control port, and whether it is a clock port.
-    pub(crate) control: Row<bool>,
-    pub(crate) clock: Row<bool>,
-    pub(crate) flops: u32,
+    // The order of the cells, the control and clock ports, and the count of flip-flops.
+    pub(crate) area: WorkArea,
+    // The port under each number of a name, with room for all names.
+    pub(crate) ports: Vec<Option<PortId>>,
+    pub(crate) alloc: Global,
 }
 
 impl Model for Linked {
-    ghost use Rattle.std.specs.Prelude.{◌≡◌};
+    ghost use Rattle.std.specs.Prelude.{◌≡◌, ◌≤◌, length, vec_capacity};
     ghost use Rattle.verilog_tree.specs.IsTree.{IsTreeName};
     ghost use Rattle.netlist_model.specs.Cones.{IsClockPort, IsControlPort};
-    ghost use Rattle.netlist_link.specs.Linked.{LinkedView, IsLinked, AreFlags, flop_count};
+    ghost use Rattle.cell_order.specs.Tables.{AreFlags, flop_count};
+    ghost use Rattle.netlist_link.specs.Linked.{LinkedView, IsLinked};
     ghost use Rattle.netlist_link.specs.PortNames.{ArePortNames};
 
     ghost Value = { LinkedView };
 
-    ghost view = { λ l. record { arena = l.netlist; names = l.names; module_name = l.title; order = l.order } };
+    ghost view = { λ l. record {
+      arena = l.netlist;
+      names = l.names;
+      module_name = l.title;
+      order = l.area.order;
+      room = l.area.room;
+    } };
 
     ghost invariant = { λ l. record {
-      linked : IsLinked l.netlist.lists l.names l.order;
+      linked : IsLinked l.netlist.lists l.names l.area.order;
       title : IsTreeName l.title;
-      ports : ArePortNames l.netlist.lists l.ports;
-      control : AreFlags (IsControlPort l.netlist.lists) l.control;
-      clock : AreFlags (IsClockPort l.netlist.lists) l.clock;
-      flops : l.flops ≡ flop_count l.netlist.lists;
+      ports : ArePortNames l.netlist.lists l.ports.items;
+      port_room : length l.names ≤ vec_capacity l.ports;
+      control : AreFlags (IsControlPort l.netlist.lists) l.area.control;
+      clock : AreFlags (IsClockPort l.netlist.lists) l.area.clock;
+      flops : l.area.flops ≡ flop_count l.netlist.lists;
     } };
 }
 
@@ -63,21 +72,21 @@ impl Linked {
     pub fn order(&self) -> &[CellId]
         ensures { result.now ≡ self.now.order }
     {
-        self.order.as_slice()
+        self.area.order()
     }
 
     /// Whether the net is that of an input bit in the cone of a clock, clear or preset.
     pub fn is_control(&self, net: NetId) -> bool
         ensures { IsTrue result ↔ IsControlPort self.now.arena.lists net.0 }
     {
-        is_flagged(self.control.as_slice(), net)
+        is_flagged(self.area.control(), net)
     }
 
     /// Whether the net is that of an input bit in the cone of a clock.
     pub fn is_clock(&self, net: NetId) -> bool
         ensures { IsTrue result ↔ IsClockPort self.now.arena.lists net.0 }
     {
-        is_flagged(self.clock.as_slice(), net)
+        is_flagged(self.area.clock(), net)
     }
 
     /// The bit of a port that a word names.
@@ -91,7 +100,7 @@ impl Linked {
     pub fn flop_count(&self) -> u32
         ensures { result ≡ flop_count self.now.arena.lists }
     {
-        self.flops
+        self.area.flop_count()
     }
 
     /// The name of the module, in bytes.

@@ -8,7 +8,6 @@ ghost use Rattle.netlist_link.specs.Steps.{AreInOrder, AreNetsAndCells};
 
 use crate::assemble::assemble;
 use crate::linked::Linked;
-use crate::tables::tables_of;
 use edge_io::OutOfMemory;
 use link_arena::build;
 use link_drivers::{find_driver_fault, nets_have_their_drivers};
@@ -83,8 +82,8 @@ fn link_ordered(
     }
 }
 
-// Builds the netlist where no fault stands. What cells read is given back before that, and the nets on the way, since each
-// is large.
+// Builds the netlist where no fault stands. The order is given back before that, the nets on the way and the cells before
+// their tables are made, since each is large.
 fn link_sound(
     alloc: Global,
     tree: &Module,
@@ -98,8 +97,9 @@ fn link_sound(
     requires derived { HasNoDerived tree.now }
     ensures { IfOk result (IsLinkOf tree.now) }
 {
-    let tables = tables_of(alloc, &resolved.nets, &resolved.cells, order)?;
     let Resolved { nets, cells } = resolved;
+    drop(order);
     let built = build(alloc, tree, nets, &cells)?;
-    assemble(alloc, tree, tables, built)
+    drop(cells);
+    assemble(alloc, tree, built)
 }

@@ -11,7 +11,8 @@ use Rattle.netlist_model.specs.declared.CellId.{CellId}
 use Rattle.netlist_model.specs.Lists.{CellView, NetlistView, live_cell, cell_at}
 use Rattle.netlist_model.specs.Orders.{StandsAt, IsCellOrder}
 use Rattle.netlist_settling.specs.Values.{value_at}
-use Rattle.netlist_link.specs.Linked.{LinkedView, is_live_flop, flop_count}
+use Rattle.cell_order.specs.Tables.{is_live_flop, flop_count}
+use Rattle.netlist_link.specs.Linked.{LinkedView}
 use Rattle.netlist_meaning.specs.States.{flops_from, flops_of, cell_bound, IsStateOf, SetsFlop}
 use Rattle.netlist_meaning.specs.Tables.{AreCellsBelow}
 

@@ -4,7 +4,8 @@ use Rattle.signal_values.specs.declared.Sig.{Sig}
 use Rattle.netlist_model.specs.declared.CellId.{CellId}
 use Rattle.netlist_model.specs.Lists.{CellView, NetlistView}
 use Rattle.netlist_settling.specs.Values.{value_at}
-use Rattle.netlist_link.specs.Linked.{LinkedView, is_live_flop, flop_count}
+use Rattle.cell_order.specs.Tables.{is_live_flop, flop_count}
+use Rattle.netlist_link.specs.Linked.{LinkedView}
 
 -- own: the flip-flops by rising number of these places, the first of which has this number
 abbrev pub flops_from : ℕ → List (Option CellView) → List CellId

@@ -3,7 +3,7 @@
 ghost use Rattle.std.specs.Prelude.{◌≡◌, ◌+◌, ◌<◌, ◌≤◌, ◌^◌, ℕ, length, option_map, Some, IfOk, IsTrue};
 ghost use Rattle.signal_values.specs.declared.Sig.TheVariants.{Unknown};
 ghost use Rattle.netlist_model.specs.Lists.{cell_at};
-ghost use Rattle.netlist_link.specs.Linked.{is_live_flop};
+ghost use Rattle.cell_order.specs.Tables.{is_live_flop};
 ghost use Rattle.netlist_meaning.specs.States.{IsStateOf, SetsFlop, cell_bound, flops_of, held};
 
 use cell_library::Kind;

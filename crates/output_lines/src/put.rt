@@ -1,7 +1,7 @@
-ghost use Rattle.std.specs.Prelude.{◌≡◌, ℕ, ◌≤◌, ◌++◌, map, take, Some, OnErr, OnOk};
+ghost use Rattle.std.specs.Prelude.{◌++◌, map, Some};
 ghost use Rattle.std.specs.Fmt.{decimal};
 ghost use Rattle.std.specs.List.{flat_map};
-ghost use Rattle.edge_io.specs.Shelf.{Rose, appended};
+ghost use Rattle.output_lines.specs.Puts.{Puts};
 ghost use Rattle.output_lines.specs.Lines.{bit_text, field_text, blank_field, blank_word, line_text, words_line};
 
 use crate::field::Field;
@@ -11,10 +11,7 @@ use itoa::Buffer;
 
 /// Gives the pieces in order, up to the first that the sink refuses.
 pub fn put_pieces<O: Sink>(out: &mut O, pieces: &[&[u8]]) -> Result<(), WriteFault>
-    ensures ok { OnOk result (O.given out.new ≡ appended (flat_map (λ p. p.now) pieces.now) (O.given out.old)) }
-    ensures fault { OnErr result ((k : ℕ) × (O.given out.new ≡ appended (take k (flat_map (λ p. p.now) pieces.now)) (O.given out.old))) }
-    ensures cause { OnErr result (Rose (O.faults out.old) (O.faults out.new)) }
-    ensures later { O.faults out.old ≤ O.faults out.new }
+    ensures { Puts O.given O.faults out.old out.new (flat_map (λ p. p.now) pieces.now) result }
 {
     for piece in pieces {
         let Ok(()) = put_whole(out, piece) else {
@@ -26,10 +23,7 @@ pub fn put_pieces<O: Sink>(out: &mut O, pieces: &[&[u8]]) -> Result<(), WriteFau
 
 // A number in decimal digits, behind these bytes.
 fn put_number<O: Sink>(out: &mut O, before: &[u8], number: u64) -> Result<(), WriteFault>
-    ensures ok { OnOk result (O.given out.new ≡ appended (before.now ++ decimal number) (O.given out.old)) }
-    ensures fault { OnErr result ((k : ℕ) × (O.given out.new ≡ appended (take k (before.now ++ decimal number)) (O.given out.old))) }
-    ensures cause { OnErr result (Rose (O.faults out.old) (O.faults out.new)) }
-    ensures later { O.faults out.old ≤ O.faults out.new }
+    ensures { Puts O.given O.faults out.old out.new (before.now ++ decimal number) result }
 {
     let mut digits = Buffer::new();
     put_pieces(out, &[before, digits.format(number).as_bytes()])
@@ -37,10 +31,8 @@ fn put_number<O: Sink>(out: &mut O, before: &[u8], number: u64) -> Result<(), Wr
 
 // A bit of a vector, behind these bytes.
 fn put_bit<O: Sink>(out: &mut O, before: &[u8], name: &[u8], index: u32) -> Result<(), WriteFault>
-    ensures ok { OnOk result (O.given out.new ≡ appended (before.now ++ bit_text name.now (Some index)) (O.given out.old)) }
-    ensures fault { OnErr result ((k : ℕ) × (O.given out.new ≡ appended (take k (before.now ++ bit_text name.now (Some index))) (O.given out.old))) }
-    ensures cause { OnErr result (Rose (O.faults out.old) (O.faults out.new)) }
-    ensures later { O.faults out.old ≤ O.faults out.new }
+    ensures { Puts O.given O.faults out.old out.new
+        (before.now ++ bit_text name.now (Some index)) result }
 {
     let mut digits = Buffer::new();
     put_pieces(
@@ -51,10 +43,7 @@ fn put_bit<O: Sink>(out: &mut O, before: &[u8], name: &[u8], index: u32) -> Resu
 
 // A word, behind these bytes.
 fn put_field<O: Sink>(out: &mut O, before: &[u8], field: &Field) -> Result<(), WriteFault>
-    ensures ok { OnOk result (O.given out.new ≡ appended (before.now ++ field_text field.now) (O.given out.old)) }
-    ensures fault { OnErr result ((k : ℕ) × (O.given out.new ≡ appended (take k (before.now ++ field_text field.now)) (O.given out.old))) }
-    ensures cause { OnErr result (Rose (O.faults out.old) (O.faults out.new)) }
-    ensures later { O.faults out.old ≤ O.faults out.new }
+    ensures { Puts O.given O.faults out.old out.new (before.now ++ field_text field.now) result }
 {
     match field {
         Field::Word(bytes) => put_pieces(out, &[before, bytes]),
@@ -65,10 +54,7 @@ fn put_field<O: Sink>(out: &mut O, before: &[u8], field: &Field) -> Result<(), W
 
 // Words, each behind a blank.
 fn put_fields<O: Sink>(out: &mut O, fields: &[Field]) -> Result<(), WriteFault>
-    ensures ok { OnOk result (O.given out.new ≡ appended (flat_map blank_field fields.now) (O.given out.old)) }
-    ensures fault { OnErr result ((k : ℕ) × (O.given out.new ≡ appended (take k (flat_map blank_field fields.now)) (O.given out.old))) }
-    ensures cause { OnErr result (Rose (O.faults out.old) (O.faults out.new)) }
-    ensures later { O.faults out.old ≤ O.faults out.new }
+    ensures { Puts O.given O.faults out.old out.new (flat_map blank_field fields.now) result }
 {
     for field in fields {
         let Ok(()) = put_field(out, b" ", field) else {
@@ -80,20 +66,15 @@ fn put_fields<O: Sink>(out: &mut O, fields: &[Field]) -> Result<(), WriteFault>
 
 // A number behind a blank.
 fn put_blank_number<O: Sink>(out: &mut O, number: &u32) -> Result<(), WriteFault>
-    ensures ok { OnOk result (O.given out.new ≡ appended (blank_word (decimal number.now)) (O.given out.old)) }
-    ensures fault { OnErr result ((k : ℕ) × (O.given out.new ≡ appended (take k (blank_word (decimal number.now))) (O.given out.old))) }
-    ensures cause { OnErr result (Rose (O.faults out.old) (O.faults out.new)) }
-    ensures later { O.faults out.old ≤ O.faults out.new }
+    ensures { Puts O.given O.faults out.old out.new (blank_word (decimal number.now)) result }
 {
     put_number(out, b" ", u64::from(*number))
 }
 
 // Numbers, each behind a blank.
 fn put_each<O: Sink>(out: &mut O, numbers: &[u32]) -> Result<(), WriteFault>
-    ensures ok { OnOk result (O.given out.new ≡ appended (flat_map blank_word (map decimal numbers.now)) (O.given out.old)) }
-    ensures fault { OnErr result ((k : ℕ) × (O.given out.new ≡ appended (take k (flat_map blank_word (map decimal numbers.now))) (O.given out.old))) }
-    ensures cause { OnErr result (Rose (O.faults out.old) (O.faults out.new)) }
-    ensures later { O.faults out.old ≤ O.faults out.new }
+    ensures { Puts O.given O.faults out.old out.new
+        (flat_map blank_word (map decimal numbers.now)) result }
 {
     for number in numbers {
         let Ok(()) = put_blank_number(out, number) else {
@@ -105,10 +86,8 @@ fn put_each<O: Sink>(out: &mut O, numbers: &[u32]) -> Result<(), WriteFault>
 
 /// Gives a line of a word and numbers. It takes no memory.
 pub fn put_numbers<O: Sink>(out: &mut O, first: &[u8], numbers: &[u32]) -> Result<(), WriteFault>
-    ensures ok { OnOk result (O.given out.new ≡ appended (words_line first.now (map decimal numbers.now)) (O.given out.old)) }
-    ensures fault { OnErr result ((k : ℕ) × (O.given out.new ≡ appended (take k (words_line first.now (map decimal numbers.now))) (O.given out.old))) }
-    ensures cause { OnErr result (Rose (O.faults out.old) (O.faults out.new)) }
-    ensures later { O.faults out.old ≤ O.faults out.new }
+    ensures { Puts O.given O.faults out.old out.new
+        (words_line first.now (map decimal numbers.now)) result }
 {
     let Ok(()) = put_whole(out, first) else {
         return Err(WriteFault);
@@ -124,10 +103,7 @@ pub fn put_numbers<O: Sink>(out: &mut O, first: &[u8], numbers: &[u32]) -> Resul
 
 /// Gives a line: the words with one blank between them, and LF. It takes no memory.
 pub fn put_line<O: Sink>(out: &mut O, first: &Field, others: &[Field]) -> Result<(), WriteFault>
-    ensures ok { OnOk result (O.given out.new ≡ appended (line_text first.now others.now) (O.given out.old)) }
-    ensures fault { OnErr result ((k : ℕ) × (O.given out.new ≡ appended (take k (line_text first.now others.now)) (O.given out.old))) }
-    ensures cause { OnErr result (Rose (O.faults out.old) (O.faults out.new)) }
-    ensures later { O.faults out.old ≤ O.faults out.new }
+    ensures { Puts O.given O.faults out.old out.new (line_text first.now others.now) result }
 {
     let Ok(()) = put_field(out, b"", first) else {
         return Err(WriteFault);

@@ -1,4 +1,3 @@
-pub mod Cut
 pub mod Events
 pub mod Steps
 pub mod Spelled

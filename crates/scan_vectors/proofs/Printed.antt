@@ -1,62 +1,21 @@
 -- The canonical text spells its event lines.
-use Rattle.std.proofs.Common.{◌≡◌, ◌≢◌, ◌↔◌, ℕ, suc, ◌+◌, ◌≤◌, Bool, true, false, cond, not, codes, List, [], ◌∷◌, ◌++◌, map, filter, length, Some, refl, ap, ◌∙◌, subst, arith, append_assoc}
+use Rattle.std.proofs.Common.{codes, ◌≡◌, ◌↔◌, ℕ, suc, ◌+◌, ◌≤◌, Bool, true, false, cond, List, [], ◌∷◌, map, length, Some, refl, ap, ◌∙◌, subst, arith}
 use Rattle.std.specs.Prelude.{All}
-use Rattle.std.specs.List.{slice_split, enumerate_from, flat_map}
-use Rattle.std.proofs.lemmas.List.Splits.{slice_split_at, slice_split_none}
-use Rattle.std.proofs.lemmas.List.Elements.{All-nil, All-cons, All-head, All-tail, All-append}
+use Rattle.std.specs.List.{enumerate_from}
+use Rattle.std.proofs.lemmas.List.Elements.{All-nil, All-cons, All-head, All-tail}
 use Rattle.signal_values.specs.declared.PinSig.{PinSig}
 use Rattle.signal_values.specs.declared.PinSig.TheVariants as pin_sig
 use Rattle.signal_values.specs.Values.{pin_sig_of, show_byte}
+use Rattle.line_texts.specs.Words.{is_line_end, is_blank_byte, is_kept, lines_of, kept_lines}
+use Rattle.line_texts.specs.Rows.{IsWordByte, IsWord, IsRow}
+use Rattle.line_texts.specs.Laws.{KeptAreRows, ReadsBack, RowsReadBack}
 use Rattle.scan_vectors.specs.declared.lines.Act.{Act}
 use Rattle.scan_vectors.specs.declared.lines.Act.TheVariants as act
 use Rattle.scan_vectors.specs.declared.lines.Line.{Line}
 use Rattle.scan_vectors.specs.declared.lines.Lines.{Lines}
-use Rattle.scan_vectors.specs.Words.{is_line_end, is_blank_byte, is_empty, without_empty_last, lines_of, words_of, is_kept, kept_from}
-use Rattle.scan_vectors.specs.Grammar.{Written, written_words, HasLetter, header_words, event_words, act_word, act_of, pin_of, value_of, SpellsLines}
-use Rattle.scan_vectors.specs.Canonical.{line_text, canonical_text, canonical_lines, IsWordByte, IsWord, IsLines}
-use Rattle.scan_vectors.proofs.Steps.{kept_from-kept}
+use Rattle.scan_vectors.specs.Grammar.{Written, written_words, HasLetter, header_words, act_word, act_of, pin_of, value_of, SpellsLines}
+use Rattle.scan_vectors.specs.Canonical.{canonical_words, canonical_text, canonical_lines, IsLines}
 use Rattle.scan_vectors.proofs.Pins.{spelled_is_printable}
-
--- the line without its LF, grouped from the right
-body : List ℕ → List ℕ → ℕ → List ℕ
-body a pin letter = a ++ (32 ∷ (pin ++ (32 ∷ letter ∷ [])))
-
-text_is : (a pin : List ℕ) (letter : ℕ) (more : List ℕ) → (a ++ codes " " ++ pin ++ codes " " ++ (letter ∷ []) ++ codes "\n") ++ more ≡ body a pin letter ++ 10 ∷ more
-unfolding body
-text_is a pin letter more = simp append_assoc
-
-no_end_in : (bytes : List ℕ) → All IsWordByte bytes → All (λ b. is_line_end b ≡ false) bytes
-no_end_in bytes each = λ k d h. (each k d h).no_end
-
-no_blank_in : (bytes : List ℕ) → All IsWordByte bytes → All (λ b. is_blank_byte b ≡ false) bytes
-no_blank_in bytes each = λ k d h. (each k d h).no_blank
-
-body_has_no_end : (a pin : List ℕ) (letter : ℕ) → All IsWordByte a → All IsWordByte pin → IsWordByte letter → All (λ b. is_line_end b ≡ false) (body a pin letter)
-unfolding body
-body_has_no_end a pin letter first second third =
-    All-append (λ b. is_line_end b ≡ false) a (32 ∷ (pin ++ (32 ∷ letter ∷ []))) (no_end_in a first)
-    (All-cons (λ b. is_line_end b ≡ false) 32 (pin ++ (32 ∷ letter ∷ [])) refl
-    (All-append (λ b. is_line_end b ≡ false) pin (32 ∷ letter ∷ []) (no_end_in pin second)
-    (All-cons (λ b. is_line_end b ≡ false) 32 (letter ∷ []) refl
-    (All-cons (λ b. is_line_end b ≡ false) letter [] third.no_end (All-nil (λ b. is_line_end b ≡ false))))))
-
-some_word : (word : List ℕ) (more : List (List ℕ)) → word ≢ [] → filter (λ part. not (is_empty part)) (word ∷ more) ≡ word ∷ filter (λ part. not (is_empty part)) more
-some_word [] more h = absurd (h refl)
-some_word (b ∷ bytes) more h = refl
-
-body_words : (a pin : List ℕ) (letter : ℕ) → IsWord a → IsWord pin → IsWordByte letter → words_of (body a pin letter) ≡ a ∷ pin ∷ (letter ∷ []) ∷ []
-unfolding body
-body_words a pin letter first second third =
-    let third_part : slice_split is_blank_byte (letter ∷ []) ≡ (letter ∷ []) ∷ []
-    = slice_split_none is_blank_byte (letter ∷ []) (All-cons (λ b. is_blank_byte b ≡ false) letter [] third.no_blank (All-nil (λ b. is_blank_byte b ≡ false))) in
-    let second_part : slice_split is_blank_byte (pin ++ (32 ∷ letter ∷ [])) ≡ pin ∷ slice_split is_blank_byte (letter ∷ [])
-    = slice_split_at is_blank_byte pin 32 (letter ∷ []) (no_blank_in pin second.each) refl in
-    let first_part : slice_split is_blank_byte (a ++ (32 ∷ (pin ++ (32 ∷ letter ∷ [])))) ≡ a ∷ slice_split is_blank_byte (pin ++ (32 ∷ letter ∷ []))
-    = slice_split_at is_blank_byte a 32 (pin ++ (32 ∷ letter ∷ [])) (no_blank_in a first.each) refl in
-    ap (λ (l : List (List ℕ)). filter (λ part. not (is_empty part)) l)
-    (first_part ∙ ap (λ (l : List (List ℕ)). a ∷ l) (second_part ∙ ap (λ (l : List (List ℕ)). pin ∷ l) third_part))
-    ∙ some_word a (pin ∷ (letter ∷ []) ∷ []) first.some
-    ∙ ap (λ (l : List (List ℕ)). a ∷ l) (some_word pin ((letter ∷ []) ∷ []) second.some)
 
 word_bytes : (bytes : List ℕ) → Bool
 word_bytes [] = true
@@ -92,52 +51,47 @@ letter_reads pin_sig.One = refl
 letter_reads pin_sig.Unknown = refl
 letter_reads pin_sig.HighZ = refl
 
-line_body : Line → List ℕ
-line_body l = body (act_word (act_of l)) (pin_of l) (show_byte (value_of l))
-
-parts_of_text : (list : List Line) → All (λ (l : Line). IsWord (pin_of l)) list → slice_split is_line_end (flat_map line_text list) ≡ map line_body list ++ [] ∷ []
-unfolding line_body
-parts_of_text [] pins = refl
-parts_of_text (l ∷ list) pins =
-    ap (λ (bytes : List ℕ). slice_split is_line_end bytes) (text_is (act_word (act_of l)) (pin_of l) (show_byte (value_of l)) (flat_map line_text list))
-    ∙ slice_split_at is_line_end (body (act_word (act_of l)) (pin_of l) (show_byte (value_of l))) 10 (flat_map line_text list)
-    (body_has_no_end (act_word (act_of l)) (pin_of l) (show_byte (value_of l)) (act_is_word (act_of l)).each
-    (All-head (λ (l : Line). IsWord (pin_of l)) l list pins).each (letter_is_byte (value_of l))) refl
-    ∙ ap (λ (parts : List (List ℕ)). line_body l ∷ parts) (parts_of_text list (All-tail (λ (l : Line). IsWord (pin_of l)) l list pins))
-
-no_last : (parts : List (List ℕ)) → without_empty_last (parts ++ [] ∷ []) ≡ parts
-no_last [] = refl
-no_last (part ∷ []) = refl
-no_last (part ∷ next ∷ parts) = ap (λ (l : List (List ℕ)). part ∷ l) (no_last (next ∷ parts))
-
-header_line : List ℕ
-header_line = codes "events 1"
-
-lines_of_text : (list : List Line) → All (λ (l : Line). IsWord (pin_of l)) list → lines_of (canonical_text list) ≡ header_line ∷ map line_body list
-unfolding header_line
-lines_of_text list pins =
-    let split : slice_split is_line_end (codes "events 1\n" ++ flat_map line_text list) ≡ header_line ∷ slice_split is_line_end (flat_map line_text list) = refl in
-    ap without_empty_last (split ∙ ap (λ (l : List (List ℕ)). header_line ∷ l) (parts_of_text list pins)) ∙ no_last (header_line ∷ map line_body list)
-
-written_from : ℕ → List Line → List Written
-written_from n [] = []
-written_from n (l ∷ list) = record { number = n; line = l; letter = show_byte (value_of l) } ∷ written_from (n + 1) list
+letter_is_word : (value : PinSig) → IsWord (show_byte value ∷ [])
+letter_is_word value = record { some = λ e. cc; each = All-cons IsWordByte (show_byte value) [] (letter_is_byte value) (All-nil IsWordByte) }
 
 kept_act : (a : Act) (more : List (List ℕ)) → is_kept (act_word a ∷ more) ≡ true
 kept_act act.Start more = refl
 kept_act act.Set more = refl
 kept_act act.Expect more = refl
 
-kept_of_text : (n : ℕ) (list : List Line) → All (λ (l : Line). IsWord (pin_of l)) list → kept_from n (map line_body list) ≡ map written_words (written_from n list)
-unfolding written_from line_body
-kept_of_text n [] pins = refl
-kept_of_text n (l ∷ list) pins =
-    let words : words_of (line_body l) ≡ event_words l (show_byte (value_of l))
-    = body_words (act_word (act_of l)) (pin_of l) (show_byte (value_of l)) (act_is_word (act_of l))
-    (All-head (λ (l : Line). IsWord (pin_of l)) l list pins) (letter_is_byte (value_of l)) in
-    kept_from-kept n (line_body l) (map line_body list) (ap is_kept words ∙ kept_act (act_of l) (pin_of l ∷ (show_byte (value_of l) ∷ []) ∷ []))
-    ∙ ap (λ (ws : List (List ℕ)). (n, ws) ∷ kept_from (n + 1) (map line_body list)) words
-    ∙ ap (λ (rows : List (ℕ × List (List ℕ))). (n, event_words l (show_byte (value_of l))) ∷ rows) (kept_of_text (n + 1) list (All-tail (λ (l : Line). IsWord (pin_of l)) l list pins))
+line_is_row : (l : Line) → IsWord (pin_of l) → IsRow (canonical_words l)
+line_is_row l pin = record {
+  kept = kept_act (act_of l) (pin_of l ∷ (show_byte (value_of l) ∷ []) ∷ []);
+  each = All-cons IsWord (act_word (act_of l)) (pin_of l ∷ (show_byte (value_of l) ∷ []) ∷ []) (act_is_word (act_of l))
+      (All-cons IsWord (pin_of l) ((show_byte (value_of l) ∷ []) ∷ []) pin
+      (All-cons IsWord (show_byte (value_of l) ∷ []) [] (letter_is_word (value_of l)) (All-nil IsWord)));
+}
+
+lines_are_rows : (list : List Line) → All (λ (l : Line). IsWord (pin_of l)) list → All IsRow (map canonical_words list)
+lines_are_rows [] pins = All-nil IsRow
+lines_are_rows (l ∷ list) pins =
+    All-cons IsRow (canonical_words l) (map canonical_words list) (line_is_row l (All-head (λ (l : Line). IsWord (pin_of l)) l list pins))
+    (lines_are_rows list (All-tail (λ (l : Line). IsWord (pin_of l)) l list pins))
+
+header_is_row : IsRow header_words
+unfolding word_bytes
+header_is_row = record {
+  kept = refl;
+  each = All-cons IsWord (codes "events") (codes "1" ∷ []) (record { some = λ e. cc; each = each_word_byte (codes "events") refl })
+      (All-cons IsWord (codes "1") [] (record { some = λ e. cc; each = each_word_byte (codes "1") refl }) (All-nil IsWord));
+}
+
+all_rows : (list : List Line) → All (λ (l : Line). IsWord (pin_of l)) list → All IsRow (header_words ∷ map canonical_words list)
+all_rows list pins = All-cons IsRow header_words (map canonical_words list) header_is_row (lines_are_rows list pins)
+
+written_from : ℕ → List Line → List Written
+written_from n [] = []
+written_from n (l ∷ list) = record { number = n; line = l; letter = show_byte (value_of l) } ∷ written_from (n + 1) list
+
+written_rows : (n : ℕ) (list : List Line) → enumerate_from n (map canonical_words list) ≡ map written_words (written_from n list)
+unfolding written_from
+written_rows n [] = refl
+written_rows n (l ∷ list) = ap (λ (rows : List (ℕ × List (List ℕ))). (n, canonical_words l) ∷ rows) (written_rows (n + 1) list)
 
 letters_of : (n : ℕ) (list : List Line) → All HasLetter (written_from n list)
 unfolding written_from
@@ -159,32 +113,28 @@ unfolding written_from
 numbers_of n [] = refl
 numbers_of n (l ∷ list) = ap (λ (k : List ℕ). n ∷ k) (numbers_of (n + 1) list)
 
-bodies_count : (list : List Line) → length (map line_body list) ≡ length list
-bodies_count [] = refl
-bodies_count (l ∷ list) = ap (λ (k : ℕ). suc k) (bodies_count list)
+words_count : (list : List Line) → length (map canonical_words list) ≡ length list
+words_count [] = refl
+words_count (l ∷ list) = ap (λ (k : ℕ). suc k) (words_count list)
 
-header_kept : (rest : List (List ℕ)) → kept_from 1 (header_line ∷ rest) ≡ (1, header_words) ∷ kept_from 2 rest
-unfolding header_line
-header_kept rest = refl
-
-pub canonical_spells : (list : List Line) → IsLines list → SpellsLines (canonical_text list) (canonical_lines list)
-canonical_spells list is =
-    let lines : lines_of (canonical_text list) ≡ header_line ∷ map line_body list = lines_of_text list is.pins in
+pub canonical_spells : RowsReadBack → (list : List Line) → IsLines list → SpellsLines (canonical_text list) (canonical_lines list)
+canonical_spells law list is =
+    let back : ReadsBack (header_words ∷ map canonical_words list) = law (header_words ∷ map canonical_words list) (all_rows list is.pins) in
+    let kept : kept_lines (canonical_text list) ≡ (1, header_words) ∷ enumerate_from 2 (map canonical_words list) = back.kept in
     record {
       header = 1;
       written = written_from 2 list;
-      kept_are = ap (λ (l : List (List ℕ)). kept_from 1 l) lines ∙ header_kept (map line_body list)
-          ∙ ap (λ (rows : List (ℕ × List (List ℕ))). (1, header_words) ∷ rows) (kept_of_text 2 list is.pins);
+      kept_are = kept ∙ ap (λ (rows : List (ℕ × List (List ℕ))). (1, header_words) ∷ rows) (written_rows 2 list);
       letters = letters_of 2 list;
       few = (let few : length list ≤ 1000000 = is.few in let e = count_of 2 list in omega arith);
       list_is = list_of 2 list;
       numbers_are = numbers_of 2 list;
-      end_is = (let e : length (lines_of (canonical_text list)) ≡ suc (length (map line_body list)) = ap length lines in
-          let k = bodies_count list in omega arith);
+      end_is = (let e : length (lines_of (canonical_text list)) ≡ suc (length (map canonical_words list)) = back.count in
+          let k = words_count list in omega arith);
     }
 
-pub printable_iff : (list : List Line) → IsLines list ↔ ((bytes : List ℕ) × ((lines : Lines) × (SpellsLines bytes lines × (lines.list ≡ list))))
-printable_iff list = (
-  λ is. (canonical_text list, (canonical_lines list, (canonical_spells list is, refl))),
-  λ (bytes, (lines, (spells, e))). subst (λ (l : List Line). IsLines l) e (spelled_is_printable bytes lines spells),
+pub printable_iff : KeptAreRows → RowsReadBack → (list : List Line) → IsLines list ↔ ((bytes : List ℕ) × ((lines : Lines) × (SpellsLines bytes lines × (lines.list ≡ list))))
+printable_iff kept_law law list = (
+  λ is. (canonical_text list, (canonical_lines list, (canonical_spells law list is, refl))),
+  λ (bytes, (lines, (spells, e))). subst (λ (l : List Line). IsLines l) e (spelled_is_printable kept_law bytes lines spells),
 )

@@ -2,6 +2,7 @@
 use Rattle.std.specs.Prelude.{◌≡◌, ℕ, ◌+◌, Bool, false, ◌&&◌, nat_lt, is_some, List, [], ◌∷◌, length, Option, Some, None, codes, if◌then◌else◌}
 use Rattle.std.specs.List.{enumerate_from}
 use Rattle.std.specs.Str.{bytes_eq}
+use Rattle.first_faults.specs.First.{first_in}
 use Rattle.signal_values.specs.declared.PinSig.{PinSig}
 use Rattle.signal_values.specs.Values.{pin_sig_of}
 use Rattle.netlist_model.specs.declared.What.TheVariants as what
@@ -11,17 +12,7 @@ use Rattle.scan_vectors.specs.declared.lines.Act.{Act}
 use Rattle.scan_vectors.specs.declared.lines.Act.TheVariants as act
 use Rattle.scan_vectors.specs.declared.lines.Line.{Line}
 use Rattle.scan_vectors.specs.declared.lines.Line.TheVariants as line
-use Rattle.scan_vectors.specs.Words.{lines_of, kept_lines}
-
--- one, or else the other
-abbrev pub or_else : {X : Type 0} → Option X → Option X → Option X
-or_else None other = other
-or_else (Some x) other = Some x
-
--- the first that a test gives along the list
-abbrev pub first_in : {X Y : Type 0} → (X → Option Y) → List X → Option Y
-first_in test [] = None
-first_in test (x ∷ xs) = or_else (test x) (first_in test xs)
+use Rattle.line_texts.specs.Words.{lines_of, kept_lines}
 
 abbrev pub act_named : List ℕ → Option Act
 act_named word =

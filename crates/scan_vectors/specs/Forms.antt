@@ -1,19 +1,9 @@
 -- own: what a reader sees of a line.
-use Rattle.std.specs.Prelude.{◌≡◌, ℕ, Bool, true, false, List, [], ◌∷◌, Some, None}
+use Rattle.std.specs.Prelude.{◌≡◌, ℕ, true, false, List, Some, None}
 use Rattle.scan_vectors.specs.declared.form.Form.{Form}
 use Rattle.scan_vectors.specs.declared.form.Form.TheVariants as form
-use Rattle.scan_vectors.specs.Words.{is_blank_byte, is_kept}
+use Rattle.line_texts.specs.Words.{is_kept}
 use Rattle.scan_vectors.specs.Faults.{event_of, is_header, line_of}
-
--- the words from a first one on; no bytes are no word
-abbrev pub after_word : List ℕ → List (List ℕ) → List (List ℕ)
-after_word [] words = words
-after_word (b ∷ bytes) words = (b ∷ bytes) ∷ words
-
--- the line begins with a blank
-abbrev pub begins_blank : List ℕ → Bool
-begins_blank [] = false
-begins_blank (b ∷ bytes) = is_blank_byte b
 
 -- what these words are of, where they aren't skipped
 abbrev pub HasShape : List (List ℕ) → Form → Type 0

@@ -1,4 +1,3 @@
-pub mod Words
 pub mod Grammar
 pub mod Faults
 pub mod Forms

@@ -1,11 +1,11 @@
 // What a line is of, by its words.
 ghost use Rattle.std.specs.Prelude.{◌≡◌, ◌∷◌, []};
-ghost use Rattle.scan_vectors.specs.Words.{is_remark, words_of};
+ghost use Rattle.line_texts.specs.Words.{words_of};
 ghost use Rattle.scan_vectors.specs.Faults.{act_named, value_named, is_header};
 ghost use Rattle.scan_vectors.specs.Forms.{HasShape, HasForm};
 
 use crate::lines::Act;
-use crate::words::next_word;
+use line_texts::{is_remark, next_word};
 use signal_values::{PinSig, read_sig};
 
 /// What a line is of: skipped, the header, an event, or none of these forms.
@@ -19,15 +19,6 @@ pub enum Form<'a> {
         value: PinSig,
     },
     Other,
-}
-
-fn is_remark(word: &[u8]) -> bool
-    ensures { result ≡ is_remark word.now }
-{
-    match word {
-        [first, ..] => *first == b'#',
-        [] => false,
-    }
 }
 
 fn act_named(word: &[u8]) -> Option<Act>

@@ -10,7 +10,6 @@ mod lines;
 mod printing;
 mod reader;
 mod reading;
-mod words;
 
 pub use fault::EventFault;
 pub use laws::texts_of_events_are_spelled_or_at_fault;

@@ -1,10 +1,12 @@
-ghost use Rattle.std.specs.Prelude.{◌≡◌, ◌++◌, IfOk, OnOk};
-ghost use Rattle.std.specs.List.{flat_map};
+ghost use Rattle.std.specs.Prelude.{◌≡◌, ◌++◌, ◌∷◌, [], map, IfOk, OnOk};
+ghost use Rattle.signal_values.specs.Values.{show_byte};
 ghost use Rattle.scan_vectors.specs.Grammar as grammar;
-ghost use Rattle.scan_vectors.specs.Canonical.{words_text, line_text, canonical_text, canonical_lines, IsLines};
+ghost use Rattle.scan_vectors.specs.Canonical.{canonical_words, canonical_text, canonical_lines, IsLines};
+ghost use Rattle.line_texts.specs.Rows.{row_text, rows_text};
 
 use crate::lines::{Act, Line, Lines};
 use edge_io::{OutOfMemory, Text};
+use line_texts::{put_three, texts_of_rows_read_back};
 use signal_values::{PinSig, show};
 use std::alloc::Global;
 
@@ -19,18 +21,14 @@ fn act_word(act: Act) -> &'static [u8]
 }
 
 fn put_words(text: &mut Text, act: Act, pin: &Text, value: PinSig) -> Result<(), OutOfMemory>
-    ensures { OnOk result (text.new ≡ text.old ++ words_text act pin.now value) }
+    ensures { OnOk result (text.new ≡ text.old ++ row_text (grammar.act_word act ∷ pin.now ∷ (show_byte value ∷ []) ∷ [])) }
 {
-    text.append(act_word(act))?;
-    text.append(b" ")?;
-    text.append(pin.as_bytes())?;
-    text.append(b" ")?;
-    text.push(show(value))?;
-    text.append(b"\n")
+    let letter = [show(value)];
+    put_three(text, act_word(act), pin.as_bytes(), &letter)
 }
 
 fn put_line(text: &mut Text, line: &Line) -> Result<(), OutOfMemory>
-    ensures { OnOk result (text.new ≡ text.old ++ line_text line.now) }
+    ensures { OnOk result (text.new ≡ text.old ++ row_text (canonical_words line.now)) }
 {
     match line {
         Line::Start { pin, value } => put_words(text, Act::Start, pin, *value),
@@ -40,7 +38,7 @@ fn put_line(text: &mut Text, line: &Line) -> Result<(), OutOfMemory>
 }
 
 fn put_lines(text: &mut Text, list: &[Line]) -> Result<(), OutOfMemory>
-    ensures { OnOk result (text.new ≡ text.old ++ flat_map line_text list.now) }
+    ensures { OnOk result (text.new ≡ text.old ++ rows_text (map canonical_words list.now)) }
 {
     for line in list {
         put_line(text, line)?;
@@ -63,5 +61,6 @@ pub fn print_events(alloc: Global, lines: &Lines) -> Result<Text, OutOfMemory>
     ensures canonical { IfOk result (λ text. text ≡ canonical_text lines.now.list) }
     ensures reads_back { IfOk result (λ text. grammar.SpellsLines text (canonical_lines lines.now.list)) }
 {
+    texts_of_rows_read_back();
     canonical(alloc, lines.list.as_slice())
 }

@@ -6,7 +6,7 @@ ghost use Rattle.scan_vectors.specs.Canonical.{IsLines};
 use crate::fault::EventFault;
 use crate::lines::Lines;
 use crate::reader::Reader;
-use crate::words::split_line;
+use line_texts::{rows_of_texts_are_rows, split_line};
 use std::alloc::Global;
 
 /// The event lines that the bytes spell, or the first fault.
@@ -16,6 +16,7 @@ pub fn read_events(alloc: Global, bytes: &[u8]) -> Result<Lines, EventFault>
     ensures printable { IfOk result (λ lines. IsLines lines.list) }
     ensures fault { IfErr result (IsFault bytes.now) }
 {
+    rows_of_texts_are_rows();
     let mut reader = Reader::new(alloc);
     let mut rest = bytes;
     while !rest.is_empty() {

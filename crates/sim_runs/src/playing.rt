@@ -2,6 +2,7 @@
 
 ghost use Rattle.std.specs.Prelude.{◌≡◌, ◌≤◌, ◌+◌, ◌<◌, ◌^◌, ℕ, List, true, length, take, IfOk, IsErrOf, IsSome, OnErr, OnOk};
 ghost use Rattle.edge_io.specs.Shelf.{Rose, appended};
+ghost use Rattle.output_lines.specs.Puts.{Puts};
 ghost use Rattle.netlist_model.specs.Formed.{IsWellFormed};
 ghost use Rattle.netlist_model.specs.Runs.{Moment, reading_at};
 ghost use Rattle.netlist_laws.specs.Runs.{SameMoment};
@@ -203,10 +204,7 @@ fn play_set<O: Sink>(
 
 // Puts the number of a set's line.
 fn put_mark<O: Sink>(out: &mut O, number: u64) -> Result<(), WriteFault>
-    ensures ok { OnOk result (O.given out.new ≡ appended (mark_text number) (O.given out.old)) }
-    ensures fault { OnErr result ((k : ℕ) × (O.given out.new ≡ appended (take k (mark_text number)) (O.given out.old))) }
-    ensures cause { OnErr result (Rose (O.faults out.old) (O.faults out.new)) }
-    ensures later { O.faults out.old ≤ O.faults out.new }
+    ensures { Puts O.given O.faults out.old out.new (mark_text number) result }
 {
     let mut digits = Buffer::new();
     put_pieces(out, &[b"@", digits.format(number).as_bytes(), b"\n"])

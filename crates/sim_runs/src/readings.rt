@@ -2,6 +2,7 @@
 
 ghost use Rattle.std.specs.Prelude.{◌≡◌, ◌<◌, ◌≤◌, ℕ, true, take, length, Option, OnErr, OnOk};
 ghost use Rattle.edge_io.specs.Shelf.{Rose, appended};
+ghost use Rattle.output_lines.specs.Puts.{Puts};
 ghost use Rattle.signal_values.specs.declared.PinSig.{PinSig};
 ghost use Rattle.netlist_meaning.specs.Sims.{moment_of};
 ghost use Rattle.sim_runs.specs.Bits.{HavePins, bits_text, told_at, told_line, told_of};
@@ -58,10 +59,7 @@ fn put_told<O: Sink>(
     reading: PinSig,
 ) -> Result<(), WriteFault>
     requires { net.0 < length linked.now.arena.lists.nets }
-    ensures ok { OnOk result (O.given out.new ≡ appended (told_line linked.now net last reading) (O.given out.old)) }
-    ensures fault { OnErr result ((k : ℕ) × (O.given out.new ≡ appended (take k (told_line linked.now net last reading)) (O.given out.old))) }
-    ensures cause { OnErr result (Rose (O.faults out.old) (O.faults out.new)) }
-    ensures later { O.faults out.old ≤ O.faults out.new }
+    ensures { Puts O.given O.faults out.old out.new (told_line linked.now net last reading) result }
 {
     match last {
         None => put_reading(out, linked, net, reading),
@@ -78,10 +76,7 @@ fn put_changed<O: Sink>(
     reading: PinSig,
 ) -> Result<(), WriteFault>
     requires { net.0 < length linked.now.arena.lists.nets }
-    ensures ok { OnOk result (O.given out.new ≡ appended (changed_line linked.now net last reading) (O.given out.old)) }
-    ensures fault { OnErr result ((k : ℕ) × (O.given out.new ≡ appended (take k (changed_line linked.now net last reading)) (O.given out.old))) }
-    ensures cause { OnErr result (Rose (O.faults out.old) (O.faults out.new)) }
-    ensures later { O.faults out.old ≤ O.faults out.new }
+    ensures { Puts O.given O.faults out.old out.new (changed_line linked.now net last reading) result }
 {
     if show(last) == show(reading) {
         return Ok(());
@@ -97,10 +92,7 @@ fn put_reading<O: Sink>(
     reading: PinSig,
 ) -> Result<(), WriteFault>
     requires { net.0 < length linked.now.arena.lists.nets }
-    ensures ok { OnOk result (O.given out.new ≡ appended (reading_line linked.now net reading) (O.given out.old)) }
-    ensures fault { OnErr result ((k : ℕ) × (O.given out.new ≡ appended (take k (reading_line linked.now net reading)) (O.given out.old))) }
-    ensures cause { OnErr result (Rose (O.faults out.old) (O.faults out.new)) }
-    ensures later { O.faults out.old ≤ O.faults out.new }
+    ensures { Puts O.given O.faults out.old out.new (reading_line linked.now net reading) result }
 {
     let value = [show(reading)];
     put_line(out, &label(linked, net), &[Field::Word(&value)])

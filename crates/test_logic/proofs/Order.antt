@@ -3,9 +3,8 @@ use Rattle.std.proofs.Common.{◌≡◌, Bool, true, false, List, [], ◌∷◌,
 use Rattle.signal_values.specs.declared.Sig.{Sig}
 use Rattle.signal_values.specs.declared.Sig.TheVariants.{Zero}
 use Rattle.signal_values.specs.declared.PinSig.{PinSig}
-use Rattle.signal_values.specs.Values.{bit, pin_of}
-use Rattle.signal_values.specs.Knowledge.{IsBelow, IsPinBelow}
-use Rattle.signal_values.proofs.Laws.{below_refl, pin_below_refl, below-not, below-mux, below-see, below-pin_of, below-join, below-drive}
+use Rattle.signal_values.specs.Values.{bit, sig_not, sig_mux, see, pin_of, join, drive}
+use Rattle.signal_values.specs.Knowledge.{IsBelow, IsPinBelow, KeepsOrder, KeepsOrderOfTwo, KeepsOrderOfThree}
 use Rattle.cell_library.specs.declared.Edge.{Edge}
 use Rattle.cell_library.specs.declared.Edge.TheVariants.{Rise, Fall}
 use Rattle.cell_library.specs.declared.codes.BoundaryKind.{BoundaryKind}
@@ -14,12 +13,14 @@ use Rattle.cell_library.specs.declared.codes.Function.{Function}
 use Rattle.cell_library.specs.declared.codes.Function.TheVariants.{Input, Clock, Bidir}
 use Rattle.cell_library.specs.declared.codes.Instr.{Instr}
 use Rattle.test_logic.specs.declared.Mode.{Mode}
+use Rattle.test_logic.specs.declared.Action.{Action}
+use Rattle.test_logic.specs.declared.Action.TheVariants.{Captures, Shifts, Keeps}
 use Rattle.test_logic.specs.declared.Levels.{Levels}
 use Rattle.bsdl_device.specs.declared.entries.Register.{Register}
 use Rattle.bsdl_device.specs.declared.entries.Register.TheVariants as register
 use Rattle.test_logic.specs.declared.TapState.{TapState}
 use Rattle.test_logic.specs.declared.TapState.TheVariants.{ShiftDr, ShiftIr, UpdateDr}
-use Rattle.test_logic.specs.Controller.{Action, captures, shifts, keeps, dr_action, act}
+use Rattle.test_logic.specs.Controller.{dr_action, act}
 use Rattle.test_logic.specs.Instructions.{mode_of, is_extest}
 use Rattle.bsdl_device.specs.Instructions.{selected_register, is_register}
 use Rattle.test_logic.specs.Registers.{shifted, first_bit, boundary_after, update_bit, updated, updated_after, tdo_after}
@@ -27,61 +28,76 @@ use Rattle.test_logic.specs.Machine.{TestLogic, Machine, reset, bit_of, in_effec
 use Rattle.test_logic.specs.Rows.{ControlAt, CellAt, level, enable_of, driven, own, row_reading, input_into, into_core, output_captured, bidir_sampled, row_captured}
 use Rattle.test_logic.specs.Order.{IsControlBelow, AreControlsBelow, IsCellBelow, CellsKeepOrder, AreBelow, IsMachineBelow, StepsKeepOrder}
 
+-- what the operations on values do to the order
+pub record OperationsKeepOrder : Type 0 where
+  pub of_not : KeepsOrder IsBelow IsBelow sig_not
+  pub of_mux : KeepsOrderOfThree IsBelow IsBelow sig_mux
+  pub of_see : KeepsOrder IsPinBelow IsBelow see
+  pub of_pin_of : KeepsOrder IsBelow IsPinBelow pin_of
+  pub of_join : KeepsOrderOfTwo IsPinBelow IsPinBelow IsPinBelow join
+  pub of_drive : KeepsOrderOfTwo IsBelow IsBelow IsPinBelow drive
+
+below_refl : (a : Sig) → IsBelow a a
+below_refl a = inr refl
+
+pin_below_refl : (a : PinSig) → IsPinBelow a a
+pin_below_refl a = inr refl
+
 chosen : (b : Bool) (x x' y y' : Sig) → IsBelow x x' → IsBelow y y' → IsBelow (if b then x else y) (if b then x' else y')
 chosen true x x' y y' h k = h
 chosen false x x' y y' h k = k
 
-enabled : (disable : Bool) (x x' : Sig) → IsBelow x x' → IsBelow (enable_of disable x) (enable_of disable x')
-enabled true x x' h = below-not x x' h
-enabled false x x' h = h
+enabled : (ops : OperationsKeepOrder) (disable : Bool) (x x' : Sig) → IsBelow x x' → IsBelow (enable_of disable x) (enable_of disable x')
+enabled ops true x x' h = ops.of_not x x' h
+enabled ops false x x' h = h
 
-levels : (mode : Mode) (j j' : ControlAt) → IsControlBelow j j' → IsBelow (enable_of j.disable (level mode j)) (enable_of j'.disable (level mode j'))
-levels mode j j' h =
-    rw (h.disable) (enabled j'.disable _ _ (chosen mode.hiz (bit j'.disable) (bit j'.disable) _ _ (below_refl (bit j'.disable)) (chosen mode.m_out _ _ _ _ h.upd h.core)))
+levels : (ops : OperationsKeepOrder) (mode : Mode) (j j' : ControlAt) → IsControlBelow j j' → IsBelow (enable_of j.disable (level mode j)) (enable_of j'.disable (level mode j'))
+levels ops mode j j' h =
+    rw (h.disable) (enabled ops j'.disable _ _ (chosen mode.hiz (bit j'.disable) (bit j'.disable) _ _ (below_refl (bit j'.disable)) (chosen mode.m_out _ _ _ _ h.upd h.core)))
 
-drives : (mode : Mode) (o o' : Option ControlAt) (x x' : Sig) → AreControlsBelow o o' → IsBelow x x' → IsPinBelow (driven mode o x) (driven mode o' x')
-drives mode None None x x' h k = below-pin_of x x' k
-drives mode (Some j) (Some j') x x' h k = below-drive x x' _ _ k (levels mode j j' h)
-drives mode None (Some j) x x' h k = absurd h
-drives mode (Some j) None x x' h k = absurd h
+drives : (ops : OperationsKeepOrder) (mode : Mode) (o o' : Option ControlAt) (x x' : Sig) → AreControlsBelow o o' → IsBelow x x' → IsPinBelow (driven mode o x) (driven mode o' x')
+drives ops mode None None x x' h k = ops.of_pin_of x x' k
+drives ops mode (Some j) (Some j') x x' h k = ops.of_drive x x' _ _ k (levels ops mode j j' h)
+drives ops mode None (Some j) x x' h k = absurd h
+drives ops mode (Some j) None x x' h k = absurd h
 
-owns : (mode : Mode) (c c' : CellAt) → IsCellBelow c c' → IsPinBelow (own mode c) (own mode c')
-owns mode c c' h = drives mode c.control c'.control _ _ h.control (chosen mode.m_out _ _ _ _ h.upd h.core)
+owns : (ops : OperationsKeepOrder) (mode : Mode) (c c' : CellAt) → IsCellBelow c c' → IsPinBelow (own mode c) (own mode c')
+owns ops mode c c' h = drives ops mode c.control c'.control _ _ h.control (chosen mode.m_out _ _ _ _ h.upd h.core)
 
-reads : (f : Function) (mode : Mode) (c c' : CellAt) → IsCellBelow c c' → IsPinBelow (row_reading f mode c) (row_reading f mode c')
-reads Bidir mode c c' h = below-join _ _ _ _ (owns mode c c' h) h.outside
-reads Input mode c c' h = h.outside
-reads Clock mode c c' h = h.outside
-reads f mode c c' h = owns mode c c' h
+reads : (ops : OperationsKeepOrder) (f : Function) (mode : Mode) (c c' : CellAt) → IsCellBelow c c' → IsPinBelow (row_reading f mode c) (row_reading f mode c')
+reads ops Bidir mode c c' h = ops.of_join _ _ _ _ (owns ops mode c c' h) h.outside
+reads ops Input mode c c' h = h.outside
+reads ops Clock mode c c' h = h.outside
+reads ops f mode c c' h = owns ops mode c c' h
 
-inputs : (cell : BoundaryKind) (mode : Mode) (c c' : CellAt) → IsCellBelow c c' → IsBelow (input_into cell mode c) (input_into cell mode c')
-inputs Bc1 mode c c' h = chosen mode.m_in _ _ _ _ h.upd (below-see _ _ h.outside)
-inputs cell mode c c' h = below-see _ _ h.outside
+inputs : (ops : OperationsKeepOrder) (cell : BoundaryKind) (mode : Mode) (c c' : CellAt) → IsCellBelow c c' → IsBelow (input_into cell mode c) (input_into cell mode c')
+inputs ops Bc1 mode c c' h = chosen mode.m_in _ _ _ _ h.upd (ops.of_see _ _ h.outside)
+inputs ops cell mode c c' h = ops.of_see _ _ h.outside
 
-goes_into : (cell : BoundaryKind) (f : Function) (mode : Mode) (c c' : CellAt) → IsCellBelow c c' → IsBelow (into_core cell f mode c) (into_core cell f mode c')
-goes_into cell Bidir mode c c' h = below-see _ _ (reads Bidir mode c c' h)
-goes_into cell f mode c c' h = inputs cell mode c c' h
+goes_into : (ops : OperationsKeepOrder) (cell : BoundaryKind) (f : Function) (mode : Mode) (c c' : CellAt) → IsCellBelow c c' → IsBelow (into_core cell f mode c) (into_core cell f mode c')
+goes_into ops cell Bidir mode c c' h = ops.of_see _ _ (reads ops Bidir mode c c' h)
+goes_into ops cell f mode c c' h = inputs ops cell mode c c' h
 
 outputs : (cell : BoundaryKind) (extest : Bool) (c c' : CellAt) → IsCellBelow c c' → IsBelow (output_captured cell extest c) (output_captured cell extest c')
 outputs Bc2 extest c c' h = chosen extest _ _ _ _ h.upd h.core
 outputs cell extest c c' h = h.core
 
-samples : (o o' : Option ControlAt) (x x' y y' : Sig) → AreControlsBelow o o' → IsBelow x x' → IsBelow y y' → IsBelow (bidir_sampled o x y) (bidir_sampled o' x' y')
-samples None None x x' y y' h k l = l
-samples (Some j) (Some j') x x' y y' h k l = rw (h.disable) (below-mux _ _ x x' y y' (enabled j'.disable _ _ h.core) k l)
-samples None (Some j) x x' y y' h k l = absurd h
-samples (Some j) None x x' y y' h k l = absurd h
+samples : (ops : OperationsKeepOrder) (o o' : Option ControlAt) (x x' y y' : Sig) → AreControlsBelow o o' → IsBelow x x' → IsBelow y y' → IsBelow (bidir_sampled o x y) (bidir_sampled o' x' y')
+samples ops None None x x' y y' h k l = l
+samples ops (Some j) (Some j') x x' y y' h k l = rw (h.disable) (ops.of_mux _ _ x x' y y' (enabled ops j'.disable _ _ h.core) k l)
+samples ops None (Some j) x x' y y' h k l = absurd h
+samples ops (Some j) None x x' y y' h k l = absurd h
 
-captured_below : (cell : BoundaryKind) (f : Function) (i : Instr) (c c' : CellAt) → IsCellBelow c c' → IsBelow (row_captured cell f i c) (row_captured cell f i c')
-captured_below cell Input i c c' h = below-see _ _ h.outside
-captured_below cell Clock i c c' h = below-see _ _ h.outside
-captured_below cell Bidir i c c' h =
-    let seen = below-see _ _ (reads Bidir (mode_of i) c c' h) in
-    chosen (is_extest i) _ _ _ _ seen (samples c.control c'.control _ _ _ _ h.control seen h.core)
-captured_below cell f i c c' h = outputs cell (is_extest i) c c' h
+captured_below : (ops : OperationsKeepOrder) (cell : BoundaryKind) (f : Function) (i : Instr) (c c' : CellAt) → IsCellBelow c c' → IsBelow (row_captured cell f i c) (row_captured cell f i c')
+captured_below ops cell Input i c c' h = ops.of_see _ _ h.outside
+captured_below ops cell Clock i c c' h = ops.of_see _ _ h.outside
+captured_below ops cell Bidir i c c' h =
+    let seen = ops.of_see _ _ (reads ops Bidir (mode_of i) c c' h) in
+    chosen (is_extest i) _ _ _ _ seen (samples ops c.control c'.control _ _ _ _ h.control seen h.core)
+captured_below ops cell f i c c' h = outputs cell (is_extest i) c c' h
 
-pub cells_keep_order : CellsKeepOrder
-cells_keep_order cell f i c c' h = record { reads = reads f (mode_of i) c c' h; into = goes_into cell f (mode_of i) c c' h; captured = captured_below cell f i c c' h }
+pub cells_keep_order : OperationsKeepOrder → CellsKeepOrder
+cells_keep_order ops cell f i c c' h = record { reads = reads ops f (mode_of i) c c' h; into = goes_into ops cell f (mode_of i) c c' h; captured = captured_below ops cell f i c c' h }
 
 all_below : (xs : List Sig) → AreBelow xs xs
 all_below [] = tt
@@ -94,15 +110,15 @@ one_more [] (y ∷ ys) b h = absurd h
 one_more (x ∷ xs) [] b h = absurd h
 
 shifts_below : (tdi : Sig) (xs ys : List Sig) → AreBelow xs ys → AreBelow (shifted tdi xs) (shifted tdi ys)
-shifts_below tdi [] [] h = one_more [] [] tdi tt
+shifts_below tdi [] [] h = tt
 shifts_below tdi (x ∷ xs) (y ∷ ys) h = one_more xs ys tdi h.1
 shifts_below tdi [] (y ∷ ys) h = absurd h
 shifts_below tdi (x ∷ xs) [] h = absurd h
 
 acts_below : (a : Action) (c c' s s' k k' : List Sig) → AreBelow c c' → AreBelow s s' → AreBelow k k' → AreBelow (act a c s k) (act a c' s' k')
-acts_below captures c c' s s' k k' x y z = x
-acts_below shifts c c' s s' k k' x y z = y
-acts_below keeps c c' s s' k k' x y z = z
+acts_below Captures c c' s s' k k' x y z = x
+acts_below Shifts c c' s s' k k' x y z = y
+acts_below Keeps c c' s s' k k' x y z = z
 
 boundary_below : (on : Bool) (s : TapState) (tdi : Sig) (c c' k k' : List Sig) → AreBelow c c' → AreBelow k k' → AreBelow (boundary_after on c s tdi k) (boundary_after on c' s tdi k')
 boundary_below true s tdi c c' k k' x y = acts_below (dr_action s) c c' (shifted tdi k) (shifted tdi k') k k' x (shifts_below tdi k k' y) y
@@ -132,10 +148,10 @@ first_below (x ∷ xs) (y ∷ ys) h = h.0
 first_below [] (y ∷ ys) h = absurd h
 first_below (x ∷ xs) [] h = absurd h
 
-tdo_below : (s : TapState) (x y b : Sig) → IsBelow x y → IsPinBelow (tdo_after s x b) (tdo_after s y b)
-tdo_below ShiftDr x y b h = below-pin_of x y h
-tdo_below ShiftIr x y b h = pin_below_refl (pin_of b)
-tdo_below s x y b h = inr refl
+tdo_below : (ops : OperationsKeepOrder) (s : TapState) (x y b : Sig) → IsBelow x y → IsPinBelow (tdo_after s x b) (tdo_after s y b)
+tdo_below ops ShiftDr x y b h = ops.of_pin_of x y h
+tdo_below ops ShiftIr x y b h = pin_below_refl (pin_of b)
+tdo_below ops s x y b h = inr refl
 
 -- two machines with the same known parts, whose other parts are below
 bits_below : (r : Register) (m : Machine) (boundary update : List Sig) (tdo : PinSig) → AreBelow m.boundary boundary
@@ -159,10 +175,10 @@ machine_refl m = record {
   tdo = pin_below_refl m.tdo;
 }
 
-clocked_below : (L : TestLogic) (edge : Option Edge) (tms : Bool) (tdi : Sig) (c c' : List Sig) (m : Machine) (boundary update : List Sig) (tdo : PinSig) → AreBelow c c'
+clocked_below : (ops : OperationsKeepOrder) (L : TestLogic) (edge : Option Edge) (tms : Bool) (tdi : Sig) (c c' : List Sig) (m : Machine) (boundary update : List Sig) (tdo : PinSig) → AreBelow c c'
     → AreBelow m.boundary boundary → AreBelow m.update update → IsPinBelow m.tdo tdo
     → IsMachineBelow (clocked L edge tms tdi c m) (clocked L edge tms tdi c' (other m boundary update tdo))
-clocked_below L (Some Rise) tms tdi c c' m boundary update tdo x b u t = record {
+clocked_below ops L (Some Rise) tms tdi c c' m boundary update tdo x b u t = record {
   state = refl;
   shift = refl;
   latched = refl;
@@ -172,7 +188,7 @@ clocked_below L (Some Rise) tms tdi c c' m boundary update tdo x b u t = record 
   update = u;
   tdo = t;
 }
-clocked_below L (Some Fall) tms tdi c c' m boundary update tdo x b u t = record {
+clocked_below ops L (Some Fall) tms tdi c c' m boundary update tdo x b u t = record {
   state = refl;
   shift = refl;
   latched = refl;
@@ -180,9 +196,9 @@ clocked_below L (Some Fall) tms tdi c c' m boundary update tdo x b u t = record 
   ident = refl;
   boundary = b;
   update = update_below (is_register register.Boundary (selected_register (in_effect L m))) L.kinds m.state m.boundary boundary m.update update b u;
-  tdo = tdo_below m.state _ _ (first_bit m.shift) (bits_below (selected_register (in_effect L m)) m boundary update tdo b);
+  tdo = tdo_below ops m.state _ _ (first_bit m.shift) (bits_below (selected_register (in_effect L m)) m boundary update tdo b);
 }
-clocked_below L None tms tdi c c' m boundary update tdo x b u t = record {
+clocked_below ops L None tms tdi c c' m boundary update tdo x b u t = record {
   state = refl;
   shift = refl;
   latched = refl;
@@ -193,11 +209,11 @@ clocked_below L None tms tdi c c' m boundary update tdo x b u t = record {
   tdo = t;
 }
 
-steps_below : (high : Bool) (L : TestLogic) (before after : Levels) (c c' : List Sig) (m : Machine) (boundary update : List Sig) (tdo : PinSig) → AreBelow c c'
+steps_below : (ops : OperationsKeepOrder) (high : Bool) (L : TestLogic) (before after : Levels) (c c' : List Sig) (m : Machine) (boundary update : List Sig) (tdo : PinSig) → AreBelow c c'
     → AreBelow m.boundary boundary → AreBelow m.update update → IsPinBelow m.tdo tdo
     → IsMachineBelow (step_under high L before after c m) (step_under high L before after c' (other m boundary update tdo))
-steps_below false L before after c c' m boundary update tdo x b u t = machine_refl (reset L)
-steps_below true L before after c c' m boundary update tdo x b u t = clocked_below L (edge_of before.tck after.tck) before.tms (bit before.tdi) c c' m boundary update tdo x b u t
+steps_below ops false L before after c c' m boundary update tdo x b u t = machine_refl (reset L)
+steps_below ops true L before after c c' m boundary update tdo x b u t = clocked_below ops L (edge_of before.tck after.tck) before.tms (bit before.tdi) c c' m boundary update tdo x b u t
 
 same_known : (m m' : Machine) → IsMachineBelow m m' → other m m'.boundary m'.update m'.tdo ≡ m'
 same_known m m' h =
@@ -207,7 +223,7 @@ same_known m m' h =
     ∙ ap (λ l. at m'.state m'.shift l m.bypass m.ident) h.latched ∙ ap (λ b. at m'.state m'.shift m'.latched b m.ident) h.bypass
     ∙ ap (λ d. at m'.state m'.shift m'.latched m'.bypass d) h.ident
 
-pub steps_keep_order : StepsKeepOrder
-steps_keep_order L before after c c' m m' x h =
+pub steps_keep_order : OperationsKeepOrder → StepsKeepOrder
+steps_keep_order ops L before after c c' m m' x h =
     let P : Machine → Type 0 = λ n. IsMachineBelow (machine_step L before after c m) (machine_step L before after c' n) in
-    subst P (same_known m m' h) (steps_below after.trst L before after c c' m m'.boundary m'.update m'.tdo x h.boundary h.update h.tdo)
+    subst P (same_known m m' h) (steps_below ops after.trst L before after c c' m m'.boundary m'.update m'.tdo x h.boundary h.update h.tdo)

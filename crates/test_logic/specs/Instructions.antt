@@ -1,6 +1,7 @@
 -- The instructions: what each makes of the boundary cells, and which one an opcode names.
 -- IEEE Std 1149.1-2001: instructions, instruction register. The register that each selects is `selected_register`.
 use Rattle.std.specs.Prelude.{ℕ, zero, suc, ◌/◌, ◌%◌, ◌==◌, ◌&&◌, Bool, true, false, List, [], ◌∷◌, find, Option, Some, None, option_map, unwrap_or}
+use Rattle.std.specs.Option.{option_map_or}
 use Rattle.signal_values.specs.declared.Sig.{Sig}
 use Rattle.signal_values.specs.declared.Sig.TheVariants.{Zero, One}
 use Rattle.signal_values.specs.Values.{bit}
@@ -49,12 +50,12 @@ is_pattern (x ∷ xs) (y ∷ ys) = is_same_bit x y && is_pattern xs ys
 is_pattern _ _ = false
 
 -- the opcode of an instruction, where it has one
-abbrev pub opcode_of : List Opcode → Instr → Option (List Sig)
-opcode_of opcodes instruction = option_map (λ o. pattern o.bits) (find (λ o. is_instruction instruction o.instr) opcodes)
+abbrev pub opcode_of : List Opcode → Instr → Option Bits
+opcode_of opcodes instruction = option_map (λ o. o.bits) (find (λ o. is_instruction instruction o.instr) opcodes)
 
-abbrev pub is_opcode : List Sig → Option (List Sig) → Bool
+abbrev pub is_opcode : List Sig → Option Bits → Bool
 is_opcode latched None = false
-is_opcode latched (Some opcode) = is_pattern latched opcode
+is_opcode latched (Some opcode) = is_pattern latched (pattern opcode)
 
 -- the instruction in effect while this opcode is latched: the first that has it, so SAMPLE where PRELOAD shares it, and BYPASS where none has
 unfoldable pub instruction_of : List Opcode → List Sig → Instr
@@ -62,4 +63,4 @@ instruction_of opcodes latched = unwrap_or (find (λ i. is_opcode latched (opcod
 
 -- the opcode that reset latches: that of IDCODE, else that of BYPASS
 abbrev pub reset_opcode : List Opcode → List Sig
-reset_opcode opcodes = unwrap_or (opcode_of opcodes Idcode) (unwrap_or (opcode_of opcodes Bypass) [])
+reset_opcode opcodes = option_map_or pattern (opcode_of opcodes Idcode) (option_map_or pattern (opcode_of opcodes Bypass) [])

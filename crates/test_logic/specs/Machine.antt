@@ -15,6 +15,7 @@ use Rattle.test_logic.specs.declared.TapState.{TapState}
 use Rattle.test_logic.specs.declared.TapState.TheVariants.{TestLogicReset}
 use Rattle.bsdl_device.specs.declared.entries.Register.{Register}
 use Rattle.bsdl_device.specs.declared.entries.Register.TheVariants as register
+use Rattle.test_logic.specs.declared.Codes.{Codes}
 use Rattle.test_logic.specs.declared.Levels.{Levels}
 use Rattle.test_logic.specs.Controller.{state_after}
 use Rattle.bsdl_device.specs.Instructions.{selected_register, is_register}
@@ -37,6 +38,12 @@ code_bits (Some code) = bits_of 32 code
 
 abbrev pub test_logic_of : Device → TestLogic
 test_logic_of B = record { opcodes = B.opcodes; capture = pattern B.capture; code = code_bits B.idcode; kinds = map (λ row. row.cell) B.cells }
+
+-- these are its instruction register's patterns
+pub record AreCodes (codes : Codes) (L : TestLogic) : Type 0 where
+  pub opcodes : L.opcodes ≡ codes.opcodes
+  pub capture : L.capture ≡ pattern codes.capture
+  pub reset : reset_opcode L.opcodes ≡ pattern codes.reset
 
 -- what the test logic holds
 pub record Machine : Type 0 where

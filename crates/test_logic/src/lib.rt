@@ -9,6 +9,7 @@ ghost use Rattle.test_logic.specs.Order.{CellsKeepOrder, StepsKeepOrder};
 use cell_library::{Bits, Opcode};
 use edge_io::Row;
 use netlist_model::NetId;
+use signal_values::operations_keep_order;
 
 /// A state of the TAP controller.
 #[derive(Clone, Copy)]
@@ -29,6 +30,14 @@ pub enum TapState {
     PauseIr,
     Exit2Ir,
     UpdateIr,
+}
+
+/// What a register does on a rising edge of TCK.
+#[derive(Clone, Copy)]
+pub enum Action {
+    Captures,
+    Shifts,
+    Keeps,
 }
 
 /// What an instruction makes of the boundary cells: whether outputs take their update bits, whether BC_1 inputs give the core
@@ -124,9 +133,13 @@ pub fn five_ones_reset()
 /// Where cores and pins are better known, no known value of a boundary cell changes.
 pub fn cells_keep_order()
     ensures { CellsKeepOrder }
-{}
+{
+    operations_keep_order();
+}
 
 /// Nor does a known bit of the test logic.
 pub fn steps_keep_order()
     ensures { StepsKeepOrder }
-{}
+{
+    operations_keep_order();
+}

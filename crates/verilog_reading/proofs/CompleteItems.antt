@@ -2,6 +2,8 @@
 use Rattle.std.proofs.Common.{◌≡◌, ℕ, suc, zero, ◌<◌, Bool, true, false, ◌&&◌, ◌||◌, not, IsTrue, cond, List, [], ◌∷◌, ◌++◌, length, map, Option, Some, None, refl, sym, ap, ◌∙◌, arith, append_assoc, length-append}
 use Rattle.std.specs.List.{list_all, list_any, flat_map}
 use Rattle.std.specs.Str.{bytes_eq}
+use Rattle.list_laws.proofs.Options.{none_some}
+use Rattle.list_laws.proofs.Tests.{and_left, and_right}
 use Rattle.verilog_lexicon.specs.declared.word.Word.{Word}
 use Rattle.verilog_lexicon.specs.declared.word.Word.TheVariants as word
 use Rattle.verilog_lexicon.specs.declared.reserved.Reserved.TheVariants as key
@@ -19,10 +21,9 @@ use Rattle.verilog_tree.specs.Trees.{port_of, has_name, declared_by, declares_fr
 use Rattle.verilog_reading.specs.declared.heads.ItemHead.TheVariants as head
 use Rattle.verilog_reading.specs.Reading.{Read, done, close, close_all, is_none_left, declared_at, directions_at, wires_at, range_at, assign_at, assigns_at, gate_at, gates_at, instance_at, instances_at, item_head_in, item_behind, item_at, left_after, is_end, items_from, items_at, source_at}
 use Rattle.verilog_reading.specs.Laws.{ReadsEachSource, SpellsOneSource, FaultsSpellNothing}
-use Rattle.verilog_reading.proofs.Readers.{got, none_some}
+use Rattle.verilog_reading.proofs.Readers.{got}
 use Rattle.verilog_reading.proofs.Lists.{and_true}
 use Rattle.verilog_reading.proofs.Parts.{free, gate_fits}
-use Rattle.verilog_reading.proofs.Declared.{and_left, and_right}
 use Rattle.verilog_reading.proofs.Items.{item_takes}
 use Rattle.verilog_reading.proofs.Complete.{Any, No, optional_again, some_again, all_free, each_long, names_again, range_again, head_again, header_again, assign_again, gate_again, instance_again}
 

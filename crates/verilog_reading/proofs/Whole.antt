@@ -4,6 +4,7 @@ use Rattle.std.specs.List.{flat_map}
 use Rattle.std.specs.Option.{option_and_then}
 use Rattle.std.proofs.lemmas.List.{append_cancel_right}
 use Rattle.std.proofs.Math.Seq.{take-append_seam, take-append-add}
+use Rattle.list_laws.proofs.Options.{none_some}
 use Rattle.verilog_lexicon.specs.declared.word.Word.{Word}
 use Rattle.verilog_lexicon.specs.declared.word.Word.TheVariants as word
 use Rattle.verilog_lexicon.specs.declared.reserved.Reserved.{Reserved}
@@ -16,7 +17,7 @@ use Rattle.verilog_tree.specs.Trees.{header_names, IsSource}
 use Rattle.verilog_reading.specs.Heads.{is_module}
 use Rattle.verilog_reading.specs.Reading.{Read, done, after, take_at, name_at, symbol_at, header_at, items_at, end_at, source_at}
 use Rattle.verilog_reading.specs.Laws.{Begun, IsFaultWord, ReadsEachSource, ReadsOnlySources, FaultsAtFaultWord}
-use Rattle.verilog_reading.proofs.Readers.{Law, Seen, Then, Behind, got, stays, reading, none_some, law_weaker, law_done, law_after, law_word}
+use Rattle.verilog_reading.proofs.Readers.{Law, Seen, Then, Behind, got, stays, reading, law_weaker, law_done, law_after, law_word}
 use Rattle.verilog_reading.proofs.Lists.{name_seen, symbol_seen}
 use Rattle.verilog_reading.proofs.Parts.{some_name, header_law}
 use Rattle.verilog_reading.proofs.Items.{Items, items_law}

@@ -165,7 +165,7 @@ chip_run_exists B N formed levels pins given events low known legal = (
   λ net. refl,
 )
 
-event_at : (events : List ChipEvent) (t : ℕ) → t < length events → (event : ChipEvent) × (slice_get events t ≡ Some event)
+pub event_at : (events : List ChipEvent) (t : ℕ) → t < length events → (event : ChipEvent) × (slice_get events t ≡ Some event)
 event_at [] t h = absurd (omega arith)
 event_at (e ∷ es) zero h = (e, refl)
 event_at (e ∷ es) (suc t) h = event_at es t (omega arith)
@@ -188,7 +188,7 @@ captured_same B N m m' pins pins' v v' e p q =
     ap (λ n. captured B N n pins v) e ∙ ap (λ (f : ℕ → PinSig). captured B N m' f v) (fun_ext p) ∙ ap (λ (f : ℕ → Sig). captured B N m' pins' f) (fun_ext q)
 
 -- two moments with the same levels, machine and pins, where what clocks and holds the flip-flops fits
-moment_same : (B : Device) (N : NetlistView) (w w' : ChipMoment) → IsWellFormed N → w.levels ≡ w'.levels → w.machine ≡ w'.machine → ((net : ℕ) → w.pins net ≡ w'.pins net)
+pub moment_same : (B : Device) (N : NetlistView) (w w' : ChipMoment) → IsWellFormed N → w.levels ≡ w'.levels → w.machine ≡ w'.machine → ((net : ℕ) → w.pins net ≡ w'.pins net)
     → (SameControlNets N w.value w'.value → SameFlops N w.state w'.state) → IsChipSettled B N w → IsChipSettled B N w' → SameChipMoment N w w'
 moment_same B N w w' formed levels machine pins hold a b =
     let b' : Meets N (chip_rule B N w.machine w'.pins) w'.state w'.value = of_machine B N w.machine w'.machine w'.pins w'.state w'.value machine b in

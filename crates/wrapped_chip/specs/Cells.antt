@@ -1,4 +1,5 @@
 -- The boundary cells of a device around a netlist: the bit of each, the core's values before them, and what goes into the core.
+-- IEEE Std 1149.1-2001: boundary-scan register; the annex on BSDL (port bits of boundary cells). What the core is, is own.
 use Rattle.std.specs.Prelude.{ℕ, suc, ◌+◌, ◌-◌, ◌==◌, Bool, false, List, [], ◌∷◌, slice_get, slice_index_or, find, Option, Some, None, option_map, option_and_then, if◌then◌else◌}
 use Rattle.signal_values.specs.declared.Sig.{Sig}
 use Rattle.signal_values.specs.declared.Sig.TheVariants.{One, Unknown}

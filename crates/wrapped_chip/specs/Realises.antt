@@ -1,5 +1,6 @@
 -- A netlist keeps another's ports and cells, and behaves as it does in a device's test logic, or alone.
-use Rattle.std.specs.Prelude.{◌≡◌, ◌≤◌, ℕ, ◌+◌, true, Bool, List, [], ◌∷◌, ◌++◌, map, length, slice_get, slice_range, filter_map, Option, Some, None, option_map}
+-- Own. For IEEE Std 1149.1-2001 (normal operation of the system logic under BYPASS, IDCODE, SAMPLE and PRELOAD) see `Alone`.
+use Rattle.std.specs.Prelude.{◌≡◌, ◌≤◌, ℕ, ◌+◌, true, List, [], ◌∷◌, ◌++◌, map, length, slice_get, slice_range, filter_map, Option, Some, None, option_map}
 use Rattle.signal_values.specs.declared.Sig.{Sig}
 use Rattle.signal_values.specs.declared.PinSig.{PinSig}
 use Rattle.signal_values.specs.Values.{bit, pin_of}
@@ -14,13 +15,13 @@ use Rattle.netlist_model.specs.Runs.{Moment, PinEvent, IsRun, reading_at}
 use Rattle.netlist_laws.specs.Settle.{SameFlops}
 use Rattle.test_logic.specs.declared.TapInput.{TapInput}
 use Rattle.test_logic.specs.declared.TapInput.TheVariants.{Tck, Tms, Tdi, Trst}
-use Rattle.test_logic.specs.declared.Levels.{Levels}
 use Rattle.test_logic.specs.Instructions.{is_transparent}
 use Rattle.test_logic.specs.Machine.{in_effect, test_logic_of}
+use Rattle.bsdl_device.specs.declared.written.TapNames.{TapNames}
 use Rattle.bsdl_device.specs.declared.values.Device.{Device}
 use Rattle.wrapped_chip.specs.Cells.{chip_reading}
 use Rattle.wrapped_chip.specs.Suits.{IsRead}
-use Rattle.wrapped_chip.specs.ChipRuns.{ChipMoment, ChipEvent, at_pin, at_tap, core_event, IsChipRun}
+use Rattle.wrapped_chip.specs.ChipRuns.{ChipMoment, ChipEvent, at_pin, at_tap, core_event, level_of, IsChipRun}
 
 -- a port as a text tells it, by its name's bytes
 pub record PortText : Type 0 where
@@ -31,14 +32,7 @@ pub record PortText : Type 0 where
 abbrev pub port_text : (Name → List ℕ) → PortView → PortText
 port_text spelt port = record { name = spelt port.name; dir = port.dir; range = port.range }
 
--- the names of the test access port's pins
-pub record TapNames : Type 0 where
-  pub tck : List ℕ
-  pub tms : List ℕ
-  pub tdi : List ℕ
-  pub tdo : List ℕ
-  pub trst : List ℕ
-
+-- the ports of a test access port, by their names
 abbrev pub tap_ports : TapNames → List PortText
 tap_ports tap = record { name = tap.tck; dir = Input; range = None } ∷ record { name = tap.tms; dir = Input; range = None }
     ∷ record { name = tap.tdi; dir = Input; range = None } ∷ record { name = tap.tdo; dir = Output; range = None }
@@ -70,18 +64,12 @@ tap_place Tms = 1
 tap_place Tdi = 2
 tap_place Trst = 4
 
-abbrev pub level_of : Levels → TapInput → Bool
-level_of levels Tck = levels.tck
-level_of levels Tms = levels.tms
-level_of levels Tdi = levels.tdi
-level_of levels Trst = levels.trst
-
 -- the net in M of a port of the test access port
 abbrev pub IsTapNet : NetlistView → NetlistView → ℕ → ℕ → Type 0
 IsTapNet M N place net = bit_net M (length N.ports + place) 0 ≡ Some (record { 0 = net })
 
 -- each pin of M has what is outside the chip's
-pub record SamePins (M N : NetlistView) (w : ChipMoment) (pins : ℕ → PinSig) : Type 0 where
+pub record SameOutside (M N : NetlistView) (w : ChipMoment) (pins : ℕ → PinSig) : Type 0 where
   pub bits : (net net' : ℕ) → SameBit M N net net' → follows_pin (direction N.ports net) ≡ true → pins net' ≡ w.pins net
   pub tap : (input : TapInput) (net : ℕ) → IsTapNet M N (tap_place input) net → pins net ≡ pin_of (bit (level_of w.levels input))
 
@@ -115,7 +103,7 @@ pub record ReadsAsChip (M : NetlistView) (B : Device) (N : NetlistView) (m : Mom
 pub record IsRunBeside (M : NetlistView) (B : Device) (N : NetlistView) (given : ℕ → Sig) (events : List ChipEvent) (chip : ℕ → ChipMoment) (moment : ℕ → Moment) : Type 0 where
   pub start : ℕ → Sig
   pub same_flops : SameFlops N start given
-  pub same_pins : SamePins M N (chip 0) (moment 0).pins
+  pub same_pins : SameOutside M N (chip 0) (moment 0).pins
   pub there : List PinEvent
   pub same_events : SameEvents M N events there
   pub run : IsRun M start there moment

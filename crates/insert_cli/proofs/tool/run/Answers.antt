@@ -1,13 +1,26 @@
 use Rattle.std.proofs.Common.{Some, subst}
-use Rattle.std.proofs.lemmas.Result.{IfErr-weaker}
-use Rattle.edge_io.specs.Shelf.{Rose, RoseAt}
 use Rattle.insert_cli.specs.declared.command.Command.{Command}
-use Rattle.insert_cli.specs.Commands.{IsCommandOf, text_limit}
-use Rattle.insert_cli.proofs.Simulated.{sim_stands}
+use Rattle.insert_cli.specs.Commands.{IsCommandOf}
+use Rattle.insert_cli.specs.Seen.{ShelfSeen, SinkSeen, shelf_seen, sink_seen}
+use Rattle.insert_cli.proofs.Simulated.{run_done, run_fault, run_gives}
 use Rattle.insert_cli.proofs.tool.run.Goals as goal
+
+pub returns-in-Sim-clause-done : goal.returns-in-Sim-clause-done
+returns-in-Sim-clause-done g c =
+    let form = subst (λ (k : Command). IsCommandOf c.args.words.now (Some k)) c.in-Sim.is c.in-Some.ensures in
+    let shelf : ShelfSeen = shelf_seen g.S.Shelf.tells g.S.Shelf.held g.S.Shelf.written g.S.Shelf.faults c.args.shelf.now c.simulate.new.shelf in
+    let sink : SinkSeen = sink_seen g.O.Sink.given g.O.Sink.faults c.args.out.now c.simulate.new.out in
+    run_done c.simulate.result c.args.words.now shelf sink c.in-Sim.netlist.now c.in-Sim.events.now form c.simulate.ensures.done
 
 pub returns-in-Sim-clause-fault : goal.returns-in-Sim-clause-fault
 returns-in-Sim-clause-fault g c =
     let form = subst (λ (k : Command). IsCommandOf c.args.words.now (Some k)) c.in-Sim.is c.in-Some.ensures in
-    IfErr-weaker c.simulate.result _ _ (λ fault s. sim_stands c.args.words.now (g.S.Shelf.held c.args.shelf.now) text_limit (RoseAt (g.S.Shelf.faults c.args.shelf.now) (g.S.Shelf.faults c.simulate.new.shelf))
-    (Rose (g.O.Sink.faults c.args.out.now) (g.O.Sink.faults c.simulate.new.out)) fault c.in-Sim.netlist.now c.in-Sim.events.now form s) c.simulate.ensures.fault
+    let shelf : ShelfSeen = shelf_seen g.S.Shelf.tells g.S.Shelf.held g.S.Shelf.written g.S.Shelf.faults c.args.shelf.now c.simulate.new.shelf in
+    let sink : SinkSeen = sink_seen g.O.Sink.given g.O.Sink.faults c.args.out.now c.simulate.new.out in
+    run_fault c.simulate.result c.args.words.now shelf sink c.in-Sim.netlist.now c.in-Sim.events.now form c.simulate.ensures.fault
+
+pub returns-in-Sim-clause-gave : goal.returns-in-Sim-clause-gave
+returns-in-Sim-clause-gave g c =
+    let form = subst (λ (k : Command). IsCommandOf c.args.words.now (Some k)) c.in-Sim.is c.in-Some.ensures in
+    let shelf : ShelfSeen = shelf_seen g.S.Shelf.tells g.S.Shelf.held g.S.Shelf.written g.S.Shelf.faults c.args.shelf.now c.simulate.new.shelf in
+    run_gives c.simulate.result c.args.words.now shelf (g.O.Sink.given c.args.out.now) (g.O.Sink.given c.simulate.new.out) c.in-Sim.netlist.now c.in-Sim.events.now form c.simulate.ensures.gave

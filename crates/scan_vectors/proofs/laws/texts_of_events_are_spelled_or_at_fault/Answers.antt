@@ -7,5 +7,5 @@ returns c = record {
   once = spelled_once;
   faultless = spelled_is_faultless;
   spelled = faultless_is_spelled;
-  printable = printable_iff;
+  printable = printable_iff c.rows_of_texts_are_rows.ensures c.texts_of_rows_read_back.ensures;
 }

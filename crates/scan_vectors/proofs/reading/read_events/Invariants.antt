@@ -1,5 +1,5 @@
 use Rattle.std.proofs.Common.{◌≤◌, ◌+◌, length}
-use Rattle.scan_vectors.specs.Words.{lines_of}
+use Rattle.line_texts.specs.Words.{lines_of}
 use Rattle.scan_vectors.specs.Reading.{IsReading}
 use Rattle.scan_vectors.proofs.reading.read_events.Given as goal
 

@@ -1,0 +1,37 @@
+// The first fault along a list, and the first name that came before.
+// Contracts cite specs/First.antt and specs/Repeated.antt.
+// Own: no chapter of a standard speaks of it.
+#![tactic(auto)]
+
+ghost use Rattle.std.specs.Prelude.{◌≡◌, ◌++◌, ◌∷◌, [], IfOk, not, if◌then◌else◌};
+ghost use Rattle.first_faults.specs.Repeated.{has_name, repeated, bytes_of, seen, texts};
+
+use edge_io::OutOfMemory;
+use indexmap::IndexSet;
+use std::alloc::Global;
+
+// Notes a name, and says whether it is new.
+fn note<'a>(table: &mut IndexSet<&'a [u8]>, name: &'a [u8]) -> Result<bool, OutOfMemory>
+    ensures { IfOk result (λ fresh. (fresh ≡ not (has_name (seen table.old) name.now))
+        × (seen table.new ≡ (if fresh then seen table.old ++ name.now ∷ [] else seen table.old))) }
+{
+    Ok(table.insert(name)?)
+}
+
+/// The first name that came before in the list; it looks once at each.
+pub fn first_repeated<'a>(
+    alloc: Global,
+    names: &[&'a [u8]],
+) -> Result<Option<&'a [u8]>, OutOfMemory>
+    ensures { IfOk result (λ found. bytes_of found ≡ repeated (texts names.now)) }
+{
+    let mut table = IndexSet::new(alloc);
+    table.reserve(names.len())?;
+    for name in names {
+        let name = *name;
+        if !note(&mut table, name)? {
+            return Ok(Some(name));
+        }
+    }
+    Ok(None)
+}

@@ -1,0 +1,52 @@
+-- What a command saw of its shelf and its sink, before and after. Own.
+use Rattle.std.specs.Prelude.{ℕ, List, Bool, Option}
+use Rattle.edge_io.specs.Shelf.{Rose, RoseAt, WhereTold}
+
+-- What is held under each name; what was written there, where the shelf tells it; and the counts of faults.
+pub record ShelfSeen : Type 0 where
+  pub tells : Bool
+  pub held : List ℕ → Option (List ℕ)
+  pub written : List ℕ → Option (List ℕ)
+  pub written_after : List ℕ → Option (List ℕ)
+  pub faults : List ℕ → ℕ
+  pub faults_after : List ℕ → ℕ
+
+-- What was given, and the count of faults.
+pub record SinkSeen : Type 0 where
+  pub given : Option (List ℕ)
+  pub given_after : Option (List ℕ)
+  pub faults : ℕ
+  pub faults_after : ℕ
+
+-- what is seen of a shelf, by its meanings
+abbrev pub shelf_seen : {S : Type 0} → Bool → (S → List ℕ → Option (List ℕ)) → (S → List ℕ → Option (List ℕ))
+    → (S → List ℕ → ℕ) → S → S → ShelfSeen
+shelf_seen tells held written faults old new = record {
+  tells = tells;
+  held = held old;
+  written = written old;
+  written_after = written new;
+  faults = faults old;
+  faults_after = faults new;
+}
+
+-- what is seen of a sink, by its meanings
+abbrev pub sink_seen : {O : Type 0} → (O → Option (List ℕ)) → (O → ℕ) → O → O → SinkSeen
+sink_seen given faults old new = record {
+  given = given old;
+  given_after = given new;
+  faults = faults old;
+  faults_after = faults new;
+}
+
+-- the count of faults under a name rose, or stands at its last value
+abbrev pub NameRose : ShelfSeen → List ℕ → Type 0
+NameRose shelf name = RoseAt shelf.faults shelf.faults_after name
+
+-- the sink's count of faults rose, or stands at its last value
+abbrev pub SinkRose : SinkSeen → Type 0
+SinkRose sink = Rose sink.faults sink.faults_after
+
+-- a fact of both texts, where both are told
+abbrev pub WhereBothTold : Option (List ℕ) → Option (List ℕ) → (List ℕ → List ℕ → Type 0) → Type 0
+WhereBothTold first second P = WhereTold first (λ one. WhereTold second (P one))

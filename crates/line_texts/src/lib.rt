@@ -1,0 +1,16 @@
+// Texts of lines: the lines of a text, the words of a line, and the lines that are skipped, read from the front and written.
+// Contracts cite specs/Words.antt (lines, words, kept lines), specs/Forms.antt (lines by their words) and specs/Rows.antt.
+// Own: no chapter of a standard speaks of it.
+#![tactic(auto)]
+
+mod forms;
+mod laws;
+mod printing;
+mod reader;
+mod words;
+
+pub use forms::{after_key, four_words, one_word, three_words, two_words};
+pub use laws::{rows_of_texts_are_rows, texts_of_rows_read_back};
+pub use printing::{put_five, put_four, put_three, put_two};
+pub use reader::LineReader;
+pub use words::{is_remark, next_word, split_line};

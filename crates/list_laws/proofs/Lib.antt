@@ -1,0 +1,6 @@
+pub mod Tests
+pub mod Options
+pub mod Lists
+pub mod Bytes
+pub mod Numbers
+pub mod Marks

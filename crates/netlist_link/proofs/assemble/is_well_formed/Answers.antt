@@ -1,0 +1,11 @@
+use Rattle.link_model.specs.Faults.{cells_in}
+use Rattle.link_model.specs.Nets.{declared_nets, nets_in}
+use Rattle.netlist_link.proofs.Assembled.{is_formed}
+use Rattle.netlist_link.proofs.assemble.is_well_formed.Goals as goal
+
+pub returns : goal.returns
+returns c =
+    let m = c.args.tree.now in
+    let sound = c.requires.sound in
+    is_formed c.args.names.now c.args.netlist.now.lists m sound c.requires.built.named
+    (c.nets_have_their_drivers.ensures (nets_in (declared_nets m)) (cells_in m) sound.fits sound.drivers) (c.controls_are_links.ensures m sound.derived)

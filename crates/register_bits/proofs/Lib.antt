@@ -1,0 +1,4 @@
+pub mod ShiftBit
+pub mod HeldBit
+pub mod ChainBits
+pub mod ChainSteps

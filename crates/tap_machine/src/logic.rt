@@ -1,0 +1,57 @@
+// What a device fixes of its test logic.
+
+ghost use Rattle.std.specs.Prelude.{◌≡◌, map, IfOk};
+ghost use Rattle.test_logic.specs.Machine.{code_bits, test_logic_of};
+ghost use Rattle.tap_machine.specs.Views.{LatchesWhole, IsLogic, logic_of};
+
+use crate::opcodes::reset_opcode;
+use crate::patterns::{bits_of, pattern};
+use bsdl_device::{CellRow, Device};
+use cell_library::{BoundaryKind, Opcode};
+use edge_io::OutOfMemory;
+use signal_values::Sig;
+use std::alloc::Global;
+
+#[derive(Drop)]
+pub struct Logic {
+    pub opcodes: Vec<Opcode>,
+    // The pattern that the instruction register captures, and the opcode that reset latches.
+    pub capture: Vec<Sig>,
+    pub reset_opcode: Vec<Sig>,
+    // The code of the identification register, if there is one.
+    pub code: Vec<Sig>,
+    pub kinds: Vec<BoundaryKind>,
+}
+
+fn code_of(alloc: Global, idcode: Option<u32>) -> Result<Vec<Sig>, OutOfMemory>
+    ensures { IfOk result (λ bits. bits.items ≡ code_bits idcode) }
+{
+    match idcode {
+        Some(code) => bits_of(alloc, 32, code),
+        None => Ok(Vec::new(alloc)),
+    }
+}
+
+fn kinds_of(alloc: Global, cells: &[CellRow]) -> Result<Vec<BoundaryKind>, OutOfMemory>
+    ensures { IfOk result (λ kinds. kinds.items ≡ map (λ row. row.cell) cells.now) }
+{
+    let kinds = cells.iter().map(|row| row.cell).collect(alloc)?;
+    Ok(kinds)
+}
+
+impl Logic {
+    pub fn new(alloc: Global, device: &Device) -> Result<Logic, OutOfMemory>
+        requires { LatchesWhole device.now }
+        ensures logic { IfOk result (λ l. logic_of l ≡ test_logic_of device.now) }
+        ensures sound { IfOk result (λ l. IsLogic l) }
+    {
+        let opcodes = device.opcodes.as_slice();
+        Ok(Logic {
+            opcodes: Vec::from_slice(alloc, opcodes)?,
+            capture: pattern(alloc, device.capture)?,
+            reset_opcode: reset_opcode(alloc, opcodes)?,
+            code: code_of(alloc, device.idcode)?,
+            kinds: kinds_of(alloc, device.cells.as_slice())?,
+        })
+    }
+}

@@ -1,0 +1,113 @@
+// The opcodes of a device, and the instruction that each names.
+
+ghost use Rattle.std.specs.Prelude.{◌≡◌, IfOk};
+ghost use Rattle.bsdl_device.specs.Instructions as profile;
+ghost use Rattle.test_logic.specs.Instructions as definition;
+
+use crate::patterns::{are_bits, pattern};
+use bsdl_device::Register;
+use cell_library::{Bits, Instr, Opcode};
+use edge_io::OutOfMemory;
+use signal_values::Sig;
+use std::alloc::Global;
+use test_logic::Mode;
+
+fn is_instruction(a: Instr, b: Instr) -> bool
+    ensures { result ≡ profile.is_instruction a b }
+{
+    matches!(
+        (a, b),
+        (Instr::Bypass, Instr::Bypass)
+            | (Instr::Extest, Instr::Extest)
+            | (Instr::Sample, Instr::Sample)
+            | (Instr::Preload, Instr::Preload)
+            | (Instr::Idcode, Instr::Idcode)
+            | (Instr::Highz, Instr::Highz)
+            | (Instr::Clamp, Instr::Clamp)
+    )
+}
+
+/// The register that an instruction selects.
+pub fn selected_register(instruction: Instr) -> Register
+    ensures { result ≡ profile.selected_register instruction }
+{
+    match instruction {
+        Instr::Extest | Instr::Sample | Instr::Preload => Register::Boundary,
+        Instr::Bypass | Instr::Highz | Instr::Clamp => Register::Bypass,
+        Instr::Idcode => Register::DeviceId,
+    }
+}
+
+/// What an instruction makes of the boundary cells.
+pub fn mode_of(instruction: Instr) -> Mode
+    ensures { result ≡ definition.mode_of instruction }
+{
+    let (takes_updates, hiz) = match instruction {
+        Instr::Extest | Instr::Clamp => (true, false),
+        Instr::Highz => (true, true),
+        Instr::Sample | Instr::Preload | Instr::Bypass | Instr::Idcode => (false, false),
+    };
+    Mode {
+        m_out: takes_updates,
+        m_in: takes_updates,
+        hiz,
+    }
+}
+
+fn opcode_of(opcodes: &[Opcode], instruction: Instr) -> Option<Bits>
+    ensures { result ≡ definition.opcode_of opcodes.now instruction }
+{
+    opcodes
+        .iter()
+        .find(|opcode| is_instruction(instruction, opcode.instr))
+        .map(|opcode| opcode.bits)
+}
+
+fn names(opcodes: &[Opcode], latched: &[Sig], instruction: Instr) -> bool
+    ensures { result ≡ definition.is_opcode latched.now (definition.opcode_of opcodes.now instruction) }
+{
+    match opcode_of(opcodes, instruction) {
+        Some(bits) => are_bits(latched, bits.len, bits.value),
+        None => false,
+    }
+}
+
+// An opcode that names nothing acts as BYPASS.
+const NAMELESS: Instr = Instr::Bypass;
+
+/// The instruction in effect while this opcode is latched.
+#[tactic(auto, unfolding(test_logic::specs::Instructions::instruction_of))]
+pub fn instruction_of(opcodes: &[Opcode], latched: &[Sig]) -> Instr
+    ensures { result ≡ definition.instruction_of opcodes.now latched.now }
+{
+    if names(opcodes, latched, Instr::Bypass) {
+        Instr::Bypass
+    } else if names(opcodes, latched, Instr::Extest) {
+        Instr::Extest
+    } else if names(opcodes, latched, Instr::Sample) {
+        Instr::Sample
+    } else if names(opcodes, latched, Instr::Preload) {
+        Instr::Preload
+    } else if names(opcodes, latched, Instr::Idcode) {
+        Instr::Idcode
+    } else if names(opcodes, latched, Instr::Highz) {
+        Instr::Highz
+    } else if names(opcodes, latched, Instr::Clamp) {
+        Instr::Clamp
+    } else {
+        NAMELESS
+    }
+}
+
+/// The opcode that reset latches.
+pub fn reset_opcode(alloc: Global, opcodes: &[Opcode]) -> Result<Vec<Sig>, OutOfMemory>
+    ensures { IfOk result (λ bits. bits.items ≡ definition.reset_opcode opcodes.now) }
+{
+    match opcode_of(opcodes, Instr::Idcode) {
+        Some(bits) => pattern(alloc, bits),
+        None => match opcode_of(opcodes, Instr::Bypass) {
+            Some(bits) => pattern(alloc, bits),
+            None => Ok(Vec::new(alloc)),
+        },
+    }
+}

@@ -1,0 +1,13 @@
+// Trials of calls that no command reaches, each once: refusals in memory, real files and standard output, and parts of netlists.
+// Each trial is a test; what it wants was worked out by hand.
+// Own: commands are tried by `worked_rows`.
+#![tactic(auto)]
+
+#[cfg(test)]
+mod calls;
+#[cfg(test)]
+mod netlists;
+#[cfg(test)]
+mod outside;
+#[cfg(test)]
+mod remembered;
