@@ -1,0 +1,30 @@
+// Laws of written netlists: what a written tree denotes is what was written, with its nets and cells numbered anew.
+// Each function has nothing to do, and its contract cites a statement in specs/Laws.antt.
+// IEEE Std 1364-2001: modules and ports, module instances; the numbers are own.
+#![tactic(auto)]
+
+ghost use Rattle.written_images.specs.Laws.{DenotedIsRenumbered, WrittenIsRenumbered, DenseKeepsPlaces};
+
+use netlist_images::copy_is_renumbering;
+use netlist_laws::numbers_of_a_dense_netlist;
+
+/// Any netlist that the written tree denotes.
+pub fn denoted_is_renumbered()
+    ensures { DenotedIsRenumbered }
+{
+    copy_is_renumbering();
+}
+
+/// What the written tree links as.
+pub fn written_is_renumbered()
+    ensures { WrittenIsRenumbered }
+{
+    copy_is_renumbering();
+}
+
+/// Without gaps, cells keep their numbers.
+pub fn dense_keeps_places()
+    ensures { DenseKeepsPlaces }
+{
+    numbers_of_a_dense_netlist();
+}
