@@ -6,14 +6,16 @@ use Rattle.std.proofs.lemmas.Option.{slice_get_within, get_or_from_slice_get, sl
 use Rattle.cell_library.specs.Gates.{is_flop}
 use Rattle.gate_order.specs.Graph.{reads_of, IsGraph, IsOrder, IsCycle, HasNoCycle}
 use Rattle.gate_order.specs.Fault.{NamesCycle}
+use Rattle.gate_order.specs.Laws.{AcyclicHasOrder}
 use Rattle.gate_order.specs.declared.fault.OrderFault.{OrderFault}
 use Rattle.gate_order.specs.declared.fault.OrderFault.TheVariants as fault
 use Rattle.link_model.specs.Cells.{NamedCell}
 use Rattle.link_model.specs.Late.{ReadsItem, IsLoop}
-use Rattle.link_order.specs.Orders.{StandsAt, IsItemOrder}
+use Rattle.link_order.specs.Orders.{StandsAt, IsItemOrder, LooplessHasOrder}
 use Rattle.link_order.specs.Drivers.{IsDriverTable, cell_reads, OrderedCells, AreOrdered}
 use Rattle.link_order.specs.Faults.{NamesLoop}
 use Rattle.link_order.proofs.Reading.{reads_from, reads_to, reads_below}
+use Rattle.link_order.proofs.Tables.{driver_table}
 
 stands-within : (order : List ℕ) (place number : ℕ) → StandsAt order place number → place < length order
 stands-within order place number s = slice_get_within order place number s
@@ -114,3 +116,11 @@ pub names_loop : (nets : ℕ) (cells : List NamedCell) (table : List (Option ℕ
     → (f : OrderFault) → NamesCycle graph f → NamesLoop cells f
 names_loop nets cells table graph t is (fault.Cycle vertices) c = loop_from nets cells table graph t is vertices c
 names_loop nets cells table graph t is fault.OutOfMemory c = tt
+
+pub loopless_has_order : AcyclicHasOrder → LooplessHasOrder
+loopless_has_order orders nets cells fits driven loopless =
+    let table = driver_table nets cells driven fits in
+    let graph : List (List ℕ) = map (cell_reads table.0) cells in
+    let order = orders graph (reads_below (length nets) cells table.0 table.1)
+    (λ cycle c. loopless cycle (loop_from (length nets) cells table.0 graph table.1 refl cycle c)) in
+    (order.0, item_order (length nets) cells (record { drivers = table.0; reads = graph; order = order.0 }) (record { drivers = table.1; reads = refl; order = order.1 }))

@@ -1,8 +1,10 @@
 -- Orders in which the cells of a module can be worked out one after another.
 use Rattle.std.specs.Prelude.{◌≡◌, ℕ, ◌<◌, List, length, slice_get, Some}
+use Rattle.link_model.specs.Nets.{NamedNet}
 use Rattle.link_model.specs.Cells.{NamedCell}
-use Rattle.link_model.specs.Late.{IsGate, HasOperand}
-use Rattle.link_drivers.specs.Drivers.{DrivesNet}
+use Rattle.link_model.specs.Fits.{FitCells}
+use Rattle.link_model.specs.Late.{IsGate, IsLoop, HasOperand}
+use Rattle.link_drivers.specs.Drivers.{DrivesNet, HasItsDrivers}
 
 -- own: a cell stands at a place of the order
 abbrev pub StandsAt : List ℕ → ℕ → ℕ → Type 0
@@ -15,3 +17,8 @@ pub record IsItemOrder (cells : List NamedCell) (order : List ℕ) : Type 0 wher
   pub once : (j k number : ℕ) → StandsAt order j number → StandsAt order k number → j ≡ k
   pub after : (place number other net : ℕ) (cell driver : NamedCell) → StandsAt order place number → IsGate cells number cell → HasOperand cell net → DrivesNet cells other driver net
       → (before : ℕ) × (before < place) × StandsAt order before other
+
+-- own: cells that fit their nets, none of which reads in a loop, have an order
+abbrev pub LooplessHasOrder : Type 0
+LooplessHasOrder = (nets : List NamedNet) (cells : List NamedCell) → FitCells (length nets) cells → HasItsDrivers nets cells
+    → ((numbers : List ℕ) → IsLoop cells numbers → ⊥) → (order : List ℕ) × IsItemOrder cells order

@@ -17,3 +17,6 @@ pub mod Loops
 pub mod Converse
 pub mod Spelled
 pub mod Rewriting
+pub mod NamesOnce
+pub mod ViewsAgree
+pub mod ViewExists

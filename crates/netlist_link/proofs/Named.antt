@@ -107,7 +107,7 @@ bit_of (n ∷ nets) (suc d) net bit e less =
 
 -- Names of a module by the place where they stand.
 
-port_name_at : (m : Module) (p : ℕ) (port : Port) → slice_get m.ports p ≡ Some port → (p < length m.ports) × (slice_get (names_of m) p ≡ Some port.name)
+pub port_name_at : (m : Module) (p : ℕ) (port : Port) → slice_get m.ports p ≡ Some port → (p < length m.ports) × (slice_get (names_of m) p ≡ Some port.name)
 port_name_at m p port at =
     let less = slice_get_within m.ports p port at in
     let names : List (List ℕ) = map (λ (x : Port). x.name) m.ports in
@@ -118,7 +118,7 @@ port_name_at m p port at =
     let second : p < length (names ++ wires) = omega (arith, length-append names wires) in
     (less, slice_get-append_left (names ++ wires) items p second ∙ slice_get-append_left names wires p first ∙ slice_get-map (λ (x : Port). x.name) m.ports p ∙ ap (option_map (λ (x : Port). x.name)) at)
 
-wire_name_at : (m : Module) (w : ℕ) (wire : Wire) → slice_get m.wires w ≡ Some wire → (w < length m.wires) × (slice_get (names_of m) (length m.ports + w) ≡ Some wire.name)
+pub wire_name_at : (m : Module) (w : ℕ) (wire : Wire) → slice_get m.wires w ≡ Some wire → (w < length m.wires) × (slice_get (names_of m) (length m.ports + w) ≡ Some wire.name)
 wire_name_at m w wire at =
     let less = slice_get_within m.wires w wire at in
     let names : List (List ℕ) = map (λ (x : Port). x.name) m.ports in
@@ -144,7 +144,7 @@ item_place (x ∷ items) (suc i) item name at named = later (item_name x) refl (
     later None e rest = (rest.0, rw e rest.1)
     later (Some first) e rest = (suc rest.0, rw e rest.1)
 
-item_name_at : (m : Module) (i : ℕ) (item : Item) (name : List ℕ) → slice_get m.items i ≡ Some item → item_name item ≡ Some name
+pub item_name_at : (m : Module) (i : ℕ) (item : Item) (name : List ℕ) → slice_get m.items i ≡ Some item → item_name item ≡ Some name
     → (r : ℕ) × (slice_get (names_of m) (length m.ports + length m.wires + r) ≡ Some name)
 item_name_at m i item name at named =
     let r = item_place m.items i item name at named in
@@ -236,7 +236,7 @@ cell_in table N m i cell d at =
         record { item = item; there = e; is = subst P (sym same) is }
 
 -- the name of a cell is that of its item
-cell_name_is : (m : Module) (item : Item) → (cell_of (declared_names m) item).name ≡ item_name item
+pub cell_name_is : (m : Module) (item : Item) → (cell_of (declared_names m) item).name ≡ item_name item
 cell_name_is m (item.Gate g) = refl
 cell_name_is m (item.Instance i) = refl
 cell_name_is m (item.Assign output input) = refl
