@@ -9,7 +9,7 @@ use Rattle.insert_cli.specs.Commands.{IsShort, IsLong}
 use Rattle.insert_cli.specs.Conversions.{IsConverted, IsAccepted, IsSpelled}
 use Rattle.insert_cli.specs.Seen.{ShelfSeen, NameRose}
 use Rattle.insert_cli.specs.EdgeFaults.{StandsInReading}
-use Rattle.insert_cli.specs.ConvertFaults.{StandsInText, IsWritten, IsWrittenInPart, IsCutShort}
+use Rattle.insert_cli.specs.ConvertFaults.{StandsInText, IsWritten, IsCutShort}
 
 -- the text is the bytes that are told
 abbrev pub IsTold : List ℕ → List ℕ → Type 0

@@ -1,6 +1,6 @@
 -- What a command comes to: its end, or the fault that stands, its line and what it leaves. Own.
 use Rattle.std.specs.Prelude.{◌≡◌, ℕ, ◌⊎◌, List, take, Option, Some}
-use Rattle.edge_io.specs.Shelf.{WhereTold, appended}
+use Rattle.edge_io.specs.Shelf.{appended}
 use Rattle.command_faults.specs.declared.fault.Fault.{Fault}
 use Rattle.command_faults.specs.declared.fault.Fault.TheVariants as fault
 use Rattle.command_faults.specs.declared.status.Status.{Status}
