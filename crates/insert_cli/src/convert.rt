@@ -58,8 +58,8 @@ pub fn convert<'a, S: Shelf>(
     input: &'a str,
     output: &'a str,
 ) -> Result<(), Fault<'a>>
-    ensures done { OnOk result (WhereTold (S.held shelf.old input.now) (IsWritten conversion output.now
-        (shelf_seen S.tells S.held S.written S.faults shelf.old shelf.new))) }
+    ensures done { OnOk result (IsWritten conversion input.now output.now
+        (shelf_seen S.tells S.held S.written S.faults shelf.old shelf.new)) }
     ensures fault { IfErr result (StandsInConvert conversion input.now output.now
         (shelf_seen S.tells S.held S.written S.faults shelf.old shelf.new)) }
 
@@ -69,7 +69,8 @@ pub fn convert<'a, S: Shelf>(
     ensures cut_short { IfErr result (λ fault. (status_of fault ≡ Status.WriteFault)
         → IsCutShort conversion input.now output.now
         (shelf_seen S.tells S.held S.written S.faults shelf.old shelf.new)) }
-    ensures others { (name : List ℕ) → name ≢ output.now → S.written shelf.new name ≡ S.written shelf.old name }
+    ensures others { (name : List ℕ) → name ≢ output.now
+        → S.written shelf.new name ≡ S.written shelf.old name }
     ensures held { SameTold (S.held shelf.old) (S.held shelf.new) }
     ensures later { NoneFell (S.faults shelf.old) (S.faults shelf.new) }
 {
