@@ -3,6 +3,7 @@ use Rattle.std.proofs.Common.{◌≡◌, ℕ, zero, suc, ◌+◌, ◌-◌, ◌<�
 use Rattle.std.specs.Prelude.{slice_get}
 use Rattle.std.specs.List.{All}
 use Rattle.std.proofs.lemmas.Bool.Decides.{eqb_tells}
+use Rattle.list_laws.proofs.Numbers.{eqb_less}
 use Rattle.netlist_model.specs.declared.NetId.{NetId}
 use Rattle.netlist_model.specs.Lists.{is_among}
 use Rattle.link_model.specs.Nets.{counted_from}
@@ -14,26 +15,10 @@ AreAll-append Is [] (y ∷ ys) us vs a b = absurd a
 AreAll-append Is (x ∷ xs) [] us vs a b = absurd a
 AreAll-append Is (x ∷ xs) (y ∷ ys) us vs a b = (a.0, AreAll-append Is xs ys us vs a.1 b)
 
-pub AreAll-length : {X Y : Type 0} (Is : X → Y → Type 0) (xs : List X) (ys : List Y) → AreAll Is xs ys → length xs ≡ length ys
-AreAll-length Is [] [] a = refl
-AreAll-length Is [] (y ∷ ys) a = absurd a
-AreAll-length Is (x ∷ xs) [] a = absurd a
-AreAll-length Is (x ∷ xs) (y ∷ ys) a = ap (λ (n : ℕ). suc n) (AreAll-length Is xs ys a.1)
-
-pub at-below : {X : Type 0} (xs : List X) (k : ℕ) → k < length xs → (x : X) × (slice_get xs k ≡ Some x)
-at-below [] k h = absurd (omega arith)
-at-below (x ∷ xs) zero h = (x, refl)
-at-below (x ∷ xs) (suc k) h = at-below xs k (omega arith)
-
 pub at-append_left : {X : Type 0} (xs ys : List X) (k : ℕ) (x : X) → slice_get xs k ≡ Some x → slice_get (xs ++ ys) k ≡ Some x
 at-append_left [] ys k x h = absurd (cc)
 at-append_left (y ∷ xs) ys zero x h = h
 at-append_left (y ∷ xs) ys (suc k) x h = at-append_left xs ys k x h
-
-pub at-append_right : {X : Type 0} (xs ys : List X) (n k : ℕ) → n ≡ length xs + k → slice_get (xs ++ ys) n ≡ slice_get ys k
-at-append_right [] ys n k e = ap (slice_get ys) (omega arith)
-at-append_right (x ∷ xs) ys zero k e = absurd (omega arith)
-at-append_right (x ∷ xs) ys (suc n) k e = at-append_right xs ys n k (omega arith)
 
 pub at-take : {X : Type 0} (xs : List X) (n k : ℕ) → k < n → slice_get (take n xs) k ≡ slice_get xs k
 at-take xs zero k h = absurd (omega arith)
@@ -61,12 +46,6 @@ pub All-counted : (P : NetId → Type 0) (first n : ℕ) → ((k : ℕ) → firs
 All-counted P first zero each j d h = absurd (omega arith)
 All-counted P first (suc n) each zero d h = each first (omega arith) (omega arith)
 All-counted P first (suc n) each (suc j) d h = All-counted P (suc first) n (λ k low high. each k (omega arith) (omega arith)) j d (omega arith)
-
-eqb_same : (a : ℕ) → a == a ≡ true
-eqb_same a = elim (eqb_tells a a) [ inl e ↦ e.0 | inr e ↦ absurd (e.1 refl) ]
-
-eqb_less : (a b : ℕ) → a < b → a == b ≡ false
-eqb_less a b h = elim (eqb_tells a b) [ inl e ↦ let same = e.1 in absurd (omega arith) | inr e ↦ e.0 ]
 
 pub among-counted : (net first n : ℕ) → first ≤ net → net < first + n → is_among net (map net_id (counted_from first n)) ≡ true
 among-counted net first zero low high = absurd (omega arith)

@@ -6,13 +6,13 @@ use Rattle.std.specs.Option.{option_map_or}
 use Rattle.std.proofs.lemmas.List.{length-map, length-replicate, get_or-replicate, get_or_past}
 use Rattle.std.proofs.lemmas.Bool.Decides.{eqb_tells, leb_tells}
 use Rattle.std.proofs.lemmas.Option.{slice_get_within, none-some, same_Some, option_and_then_some}
+use Rattle.list_laws.proofs.Marks.{mark_all-keeps, mark_all-marks, mark_all-only, length-mark_all, marked_inside}
 use Rattle.cell_library.specs.Gates.{is_flop}
 use Rattle.netlist_model.specs.declared.NetId.{NetId}
 use Rattle.netlist_model.specs.declared.Feed.{Feed}
 use Rattle.netlist_model.specs.declared.Feed.TheVariants.{Net, Const}
 use Rattle.net_cones.specs.Cone.{Marked, InConeOf}
 use Rattle.net_cones.specs.Marks.{mark_all}
-use Rattle.net_cones.proofs.Backward.{mark_all-keeps, mark_all-marks, mark_all-only, length-mark_all, marked_inside}
 use Rattle.link_model.specs.Cells.{NamedCell}
 use Rattle.link_model.specs.Fits.{FitsCell, FitCells}
 use Rattle.link_model.specs.Late.{InCone, itself, behind, HasOperand}
