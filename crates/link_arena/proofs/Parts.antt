@@ -10,7 +10,7 @@ use Rattle.verilog_tree.specs.declared.tree.Port.{Port}
 use Rattle.netlist_model.specs.declared.What.{What}
 use Rattle.netlist_model.specs.declared.What.TheVariants as what
 use Rattle.netlist_model.specs.Lists.{NetlistView, direction}
-use Rattle.link_model.specs.Lists.{or_else, repeated}
+use Rattle.link_model.specs.Lists.{repeated}
 use Rattle.link_model.specs.Nets.{NetDeclaration, NamedNet, bits_in, width, port_nets, wire_nets, declared_nets, nets_in, net_at, counted_from}
 use Rattle.link_model.specs.Cells.{NamedCell}
 use Rattle.link_model.specs.Fits.{FitCells}

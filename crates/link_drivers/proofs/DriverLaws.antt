@@ -18,7 +18,6 @@ use Rattle.netlist_model.specs.declared.Dir.{Dir}
 use Rattle.netlist_model.specs.declared.Dir.TheVariants.{Input, Output, Inout}
 use Rattle.netlist_model.specs.Below.{IsFeedBelow, AreFeedsBelow}
 use Rattle.link_model.specs.declared.fault.LinkFault.{LinkFault}
-use Rattle.link_model.specs.Lists.{or_else, first_in}
 use Rattle.link_model.specs.Nets.{NamedNet}
 use Rattle.link_model.specs.Cells.{NamedCell}
 use Rattle.link_model.specs.Fits.{FitsCell, FitCells}
