@@ -18,13 +18,15 @@ use edge_io::text::Text;
 use edge_io::whole::write_whole;
 use std::alloc::Global;
 use verilog_printing::print_module;
-use verilog_texts::{TextFault, read_module};
+use verilog_texts::{TextFault, bytes_spell_one_tree, read_module};
 
 // The canonical text of the module that a text spells.
 fn canonical_module(alloc: Global, text: Text) -> Result<Text, TextFault>
     ensures found { IfOk result (IsCanonicalModule text) }
     ensures fault { IfErr result (IsTextFault text) }
 {
+    // A law that the proof uses.
+    bytes_spell_one_tree();
     let tree = read_module(alloc, text)?;
     Ok(print_module(alloc, &tree)?)
 }
