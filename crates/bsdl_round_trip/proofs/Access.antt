@@ -1,7 +1,7 @@
 -- The registers of the canonical text, with the instructions that the device has.
-use Rattle.std.proofs.Common.{◌≡◌, ℕ, List, [], ◌∷◌, ◌++◌, Bool, true, false, cond, Option, Some, None, map, find, refl, sym, ap, subst, ◌∙◌}
-use Rattle.std.specs.Prelude.{◌||◌, ◌&&◌, not, codes, IsTrue}
-use Rattle.std.specs.List.{list_any, list_all, filter, flat_map}
+use Rattle.std.proofs.Common.{◌≡◌, List, [], ◌∷◌, ◌++◌, Bool, true, false, cond, map, refl, sym, ap, subst, ◌∙◌}
+use Rattle.std.specs.Prelude.{◌||◌, not, codes}
+use Rattle.std.specs.List.{list_any, list_all, filter}
 use Rattle.std.proofs.lemmas.List.Folds.{list_any-append}
 use Rattle.cell_library.specs.declared.codes.Instr.{Instr}
 use Rattle.cell_library.specs.declared.codes.Instr.TheVariants as instr

@@ -1,8 +1,8 @@
 -- A device's canonical file and contents, where a file and contents that break no rule describe the device.
-use Rattle.std.proofs.Common.{◌≡◌, ℕ, List, [], ◌∷◌, ◌++◌, Bool, true, false, cond, Option, Some, None, map, length, refl, sym, ap, subst, ◌∙◌, eq-eqb, eqb-true}
+use Rattle.std.proofs.Common.{◌≡◌, ℕ, List, [], ◌∷◌, Bool, false, Option, Some, None, map, length, refl, ap, ◌∙◌, eq-eqb}
 use Rattle.std.proofs.lemmas.List.{length-map}
-use Rattle.std.specs.Prelude.{◌==◌, ◌||◌, ◌&&◌, not, IsTrue, nat_lt}
-use Rattle.std.specs.List.{list_any, list_all, filter_map, flat_map}
+use Rattle.std.specs.Prelude.{◌==◌, ◌||◌, ◌&&◌, not, nat_lt}
+use Rattle.std.specs.List.{list_any, filter_map}
 use Rattle.std.specs.Option.{option_map, option_map_or}
 use Rattle.cell_library.specs.declared.codes.Instr.TheVariants as instr
 use Rattle.cell_library.specs.declared.codes.Function.TheVariants as function
@@ -19,23 +19,22 @@ use Rattle.bsdl_device.specs.declared.entries.OpcodeEntry.{OpcodeEntry}
 use Rattle.bsdl_device.specs.declared.entries.PinEntry.{PinEntry}
 use Rattle.bsdl_device.specs.declared.entries.RowEntry.{RowEntry}
 use Rattle.bsdl_device.specs.declared.entries.Contents.{Contents}
-use Rattle.bsdl_device.specs.Ports.{declared_ports, port_names, port_bits, port_named}
-use Rattle.bsdl_device.specs.Checks.{any_pair, is_repeated, port_named_twice, port_named_as_unit, has_too_many_bits, names_other_entity, names_other_package, name_fails, port_not_mapped_once, entry_misfits, all_pins, pin_map_fails, tap_names, tap_port_misfits, tap_fails, length_fails, opcode_fails, capture_fails, idcode_fails, code_is_barred, register_fails, boundary_fails, opcode_is_unknown, opcode_named_twice, lacks_instruction, has_other_length, bypass_is_not_ones, opcodes_clash, numbers_misfit, has_instruction, is_numbered}
+use Rattle.bsdl_device.specs.Ports.{declared_ports, port_names, port_bits}
+use Rattle.bsdl_device.specs.Checks.{any_pair, is_repeated, port_named_twice, port_named_as_unit, has_too_many_bits, names_other_entity, names_other_package, name_fails, port_not_mapped_once, entry_misfits, all_pins, pin_map_fails, tap_names, tap_port_misfits, tap_fails, opcode_fails, idcode_fails, code_is_barred, boundary_fails, opcode_is_unknown, opcode_named_twice, lacks_instruction, has_other_length, bypass_is_not_ones, opcodes_clash, numbers_misfit, has_instruction}
 use Rattle.bsdl_device.specs.RowRules.{is_function, row_fails, row_misfits, bit_not_in_one_row, system_bits, rows_disagree, highz_fails}
-use Rattle.bsdl_device.specs.Meanings.{first_meaning_fault}
 use Rattle.bsdl_device.specs.Denoted.{device_of, port_of, cell_of, place_of, ordered_rows, opcode_of}
 use Rattle.bsdl_round_trip.proofs.Totals.{Shuffled, any_shuffled}
 use Rattle.bsdl_round_trip.proofs.Pairs.{or_first, or_second, neither}
 use Rattle.bsdl_round_trip.proofs.Names.{same_self}
 use Rattle.bsdl_round_trip.proofs.Lookups.{place_of_same}
-use Rattle.bsdl_round_trip.proofs.Rebuilt.{code_strings, rebuilt_file, rebuilt_contents, as_declared, rebuilt_ports, entry_of, opcode_entry, row_entries, access_entries, tap_of}
-use Rattle.bsdl_round_trip.proofs.PinMaps.{MapsPorts, maps_again, pins_filled, ports_again, entry_again}
+use Rattle.bsdl_round_trip.proofs.Rebuilt.{code_strings, rebuilt_file, rebuilt_contents, as_declared, rebuilt_ports, entry_of, opcode_entry, tap_of}
+use Rattle.bsdl_round_trip.proofs.PinMaps.{MapsPorts, maps_again, ports_again, entry_again}
 use Rattle.bsdl_round_trip.proofs.Taps.{SameTap, spelled_tap, tap_again, same_turn, tap_repeats_same, tap_misfits_same, system_bits_same}
 use Rattle.bsdl_round_trip.proofs.Instructions as opcodes
 use Rattle.bsdl_round_trip.proofs.Access.{HasAll, has_all, registers_keep}
 use Rattle.bsdl_round_trip.proofs.Numbered.{CountedRows, InOrder, ordered_shuffled, ordered_in_order, ordered_again, counted_again}
 use Rattle.bsdl_round_trip.proofs.Rows.{respelled_row, is_known, known_from, rows_respelled, numbered_respelled, cells_respelled, rows_same, bits_same, agree_again, outputs_same}
-use Rattle.bsdl_round_trip.proofs.Means.{Keeps, keeps, none_broken}
+use Rattle.bsdl_round_trip.proofs.Means.{Keeps}
 
 -- The parts of the canonical contents.
 

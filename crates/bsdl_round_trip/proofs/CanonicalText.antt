@@ -1,8 +1,7 @@
 -- The canonical text is that of the atoms.
-use Rattle.std.proofs.Common.{◌≡◌, ℕ, ◌+◌, ◌/◌, ◌^◌, List, [], ◌∷◌, ◌++◌, Bool, true, false, cond, Option, Some, None, map, length, refl, sym, ap, subst, ◌∙◌, append_assoc, append-nil, add-one}
+use Rattle.std.proofs.Common.{◌≡◌, ℕ, ◌+◌, ◌/◌, ◌^◌, List, [], ◌∷◌, ◌++◌, Bool, true, false, Option, Some, None, map, length, refl, sym, ap, ◌∙◌, append_assoc, append-nil}
 use Rattle.std.specs.Prelude.{nat_le, codes, if◌then◌else◌}
-use Rattle.std.specs.List.{flat_map, filter, enumerate_from, AllByRecursion}
-use Rattle.std.specs.Option.{option_map}
+use Rattle.std.specs.List.{filter, enumerate_from, AllByRecursion}
 use Rattle.std.specs.Fmt.{decimal}
 use Rattle.cell_library.specs.declared.codes.Instr.{Instr}
 use Rattle.cell_library.specs.declared.codes.Instr.TheVariants as instr
@@ -13,23 +12,19 @@ use Rattle.bsdl_device.specs.declared.values.DevPort.{DevPort}
 use Rattle.bsdl_device.specs.declared.values.CellRow.{CellRow}
 use Rattle.bsdl_device.specs.declared.values.Device.{Device}
 use Rattle.bsdl_device.specs.declared.written.Direction.TheVariants as direction
-use Rattle.bsdl_device.specs.declared.entries.AccessEntry.{AccessEntry}
 use Rattle.bsdl_device.specs.declared.entries.Register.TheVariants as register
-use Rattle.bsdl_device.specs.declared.entries.RowEntry.{RowEntry}
 use Rattle.bsdl_device.specs.Matching.{is_filled}
-use Rattle.bsdl_device.specs.Instructions.{instruction_word}
 use Rattle.bsdl_device.specs.Shape.{joined, mode_word, direction_word, stop_word}
-use Rattle.bsdl_device.specs.Canonical.{pieces, each_after, separated_text, next_string, bits_text, pattern_text, direction_text, bounds_text, vector_text, type_text, named_text, port_text, ports_text, pin_entry_text, pin_map_text, entity_text, conformance_text, head_text, port_name, scan_in_text, scan_mode_text, scan_out_text, scan_reset_text, scan_clock_text, tap_text, attribute_text, opcode_text, opcodes_text, and_string, code_text, idcode_text, has_opcode, instructions_text, device_id_text, boundary_access_text, bypass_access_text, access_text, registers_text, row_text, rows_text, boundary_length_text, boundary_rows_text, boundary_text, canonical_device}
-use Rattle.bsdl_round_trip.proofs.Pieces.{then_all, pieces_then}
-use Rattle.bsdl_round_trip.proofs.FileAtoms.{FileAtom, Blank, Key, Name, Integer, Real, String, Symbol, Becomes, text_then, text_then-append}
+use Rattle.bsdl_device.specs.Canonical.{pieces, separated_text, next_string, bits_text, pattern_text, direction_text, bounds_text, vector_text, type_text, named_text, port_text, ports_text, pin_entry_text, pin_map_text, entity_text, conformance_text, head_text, port_name, scan_in_text, scan_mode_text, scan_out_text, scan_reset_text, scan_clock_text, tap_text, attribute_text, opcode_text, opcodes_text, and_string, code_text, idcode_text, has_opcode, instructions_text, device_id_text, boundary_access_text, bypass_access_text, access_text, registers_text, row_text, rows_text, boundary_length_text, boundary_rows_text, boundary_text, canonical_device}
+use Rattle.bsdl_round_trip.proofs.Pieces.{pieces_then}
+use Rattle.bsdl_round_trip.proofs.FileAtoms.{FileAtom, text_then, text_then-append}
 use Rattle.bsdl_round_trip.proofs.ContentAtoms.{ContentAtom, bytes_of, bytes_of-append, Mark}
 use Rattle.bsdl_round_trip.proofs.EntryAtoms.{comma_strings, pin_entry_bytes, opcode_bytes, access_bytes, row_bytes, names_atoms}
 use Rattle.bsdl_round_trip.proofs.ContentTexts as contents
 use Rattle.bsdl_round_trip.proofs.ContentTexts.{IsPort}
-use Rattle.bsdl_round_trip.proofs.Access.{HasAll}
 use Rattle.bsdl_round_trip.proofs.Held.{GoodDevice, opcodes_filled}
-use Rattle.bsdl_round_trip.proofs.Rebuilt.{direction_of, entry_of, opcode_entry, row_entry, row_entries, access_entries, device_id_entries, present, code_strings, rebuilt_file}
-use Rattle.bsdl_round_trip.proofs.FileTexts.{section_atoms, attribute_atoms, signal_atoms, tap_atoms, strings_atoms, margin, line_end, listed_atoms, integer_atoms, type_atoms, port_atoms, port_end, port_close, ports_atoms, entity_atoms, generic_atoms, port_open, use_atoms, conformance_atoms, pin_map_atoms, constant_open, clock_atoms, capture_atoms, code_atoms, idcode_atoms, end_atoms}
+use Rattle.bsdl_round_trip.proofs.Rebuilt.{entry_of, opcode_entry, row_entry, row_entries, access_entries, device_id_entries, present, rebuilt_file}
+use Rattle.bsdl_round_trip.proofs.FileTexts.{section_atoms, attribute_atoms, tap_atoms, strings_atoms, line_end, listed_atoms, integer_atoms, type_atoms, port_atoms, port_end, port_close, ports_atoms, entity_atoms, generic_atoms, port_open, use_atoms, conformance_atoms, pin_map_atoms, constant_open, clock_atoms, capture_atoms, idcode_atoms, end_atoms}
 
 -- Sections, one behind the other.
 

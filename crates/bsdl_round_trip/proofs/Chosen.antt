@@ -1,7 +1,7 @@
 -- The one of a list that goes with each of some keys.
-use Rattle.std.proofs.Common.{◌≡◌, ℕ, zero, suc, ◌+◌, ◌<◌, ◌≤◌, List, [], ◌∷◌, ◌++◌, Bool, true, false, cond, Option, Some, None, ◌||◌, not, map, length, refl, sym, ap, subst, ◌∙◌, arith}
-use Rattle.std.specs.List.{find, filter_map, cons_option, list_any, AllByRecursion}
-use Rattle.bsdl_round_trip.proofs.Totals.{total, weigh, tally, total_same, swapped, Shuffled}
+use Rattle.std.proofs.Common.{◌≡◌, ℕ, ◌+◌, List, [], ◌∷◌, Bool, true, false, cond, Option, Some, None, refl, ap, ◌∙◌, arith}
+use Rattle.std.specs.List.{find, filter_map, cons_option, AllByRecursion}
+use Rattle.bsdl_round_trip.proofs.Totals.{total, weigh, tally, swapped, Shuffled}
 
 -- the weight of what may be there
 abbrev weight_of : {X : Type 0} → (X → ℕ) → Option X → ℕ

@@ -1,11 +1,10 @@
 -- Entries of the canonical text: their atoms, bytes and patterns.
-use Rattle.std.proofs.Common.{◌≡◌, ℕ, suc, zero, ◌+◌, ◌<◌, ◌≤◌, List, [], ◌∷◌, ◌++◌, Bool, true, false, cond, Option, Some, None, map, length, refl, sym, ap, subst, ◌∙◌, arith, append_assoc, append-nil}
-use Rattle.std.specs.Prelude.{◌^◌, ◌/◌, ◌&&◌, not, IsTrue, codes, if◌then◌else◌}
-use Rattle.std.specs.List.{flat_map, filter, AllByRecursion}
+use Rattle.std.proofs.Common.{◌≡◌, ℕ, ◌<◌, List, [], ◌∷◌, ◌++◌, Bool, true, false, Option, Some, None, map, refl, sym, ap, ◌∙◌, append_assoc}
+use Rattle.std.specs.Prelude.{◌^◌, ◌&&◌, not, codes}
+use Rattle.std.specs.List.{AllByRecursion}
 use Rattle.std.specs.Option.{option_map, option_map_or}
 use Rattle.std.specs.Fmt.{decimal}
 use Rattle.std.proofs.Math.Bool.{and-false}
-use Rattle.cell_library.specs.declared.codes.Bits.{Bits}
 use Rattle.cell_library.specs.declared.codes.BoundaryKind.{BoundaryKind}
 use Rattle.cell_library.specs.declared.codes.BoundaryKind.TheVariants as cell
 use Rattle.cell_library.specs.declared.codes.Function.{Function}
@@ -20,10 +19,6 @@ use Rattle.bsdl_device.specs.declared.values.DevPort.{DevPort}
 use Rattle.bsdl_device.specs.declared.values.DevBit.{DevBit}
 use Rattle.bsdl_device.specs.declared.values.Disable.{Disable}
 use Rattle.bsdl_device.specs.declared.values.CellRow.{CellRow}
-use Rattle.bsdl_device.specs.declared.entries.MappedPins.{MappedPins}
-use Rattle.bsdl_device.specs.declared.entries.MappedPins.TheVariants as pins
-use Rattle.bsdl_device.specs.declared.entries.PinEntry.{PinEntry}
-use Rattle.bsdl_device.specs.declared.entries.OpcodeEntry.{OpcodeEntry}
 use Rattle.bsdl_device.specs.declared.entries.PortBit.{PortBit}
 use Rattle.bsdl_device.specs.declared.entries.RowEntry.{RowEntry}
 use Rattle.bsdl_device.specs.declared.entries.Register.{Register}
@@ -32,13 +27,13 @@ use Rattle.bsdl_device.specs.Matching.{separated_by}
 use Rattle.bsdl_device.specs.Matching as matching
 use Rattle.bsdl_device.specs.Runs.{ContentPattern, KeyRun, IdentifierRun, NameRun, PinRun, MarkByte, comma, is_identifier}
 use Rattle.bsdl_device.specs.Instructions.{instruction_word}
-use Rattle.bsdl_device.specs.Grammar.{register_word, access_words, cell_word, function_word, safe_word, bit_word, pins_words, pin_entry_words, opcode_words, row_port_words, disable_words, row_words}
+use Rattle.bsdl_device.specs.Grammar.{register_word, access_words, cell_word, function_word, safe_word, bit_word, pin_entry_words, opcode_words, row_words}
 use Rattle.bsdl_device.specs.Canonical.{pieces, each_after, separated_text, pattern_text, pin_list_text, pins_text, pin_entry_text, opcode_text, port_name, index_text, pin_text, disable_text, row_text}
 use Rattle.bsdl_round_trip.proofs.Good.{GoodBits, GoodPin, is_name}
-use Rattle.bsdl_round_trip.proofs.ContentAtoms.{ContentAtom, Space, Key, Identifier, Name, Pin, Integer, Pattern, Mark, IsAtom, is_run, is_mark, last_long, spaced-append, bytes_of, patterns_of, bytes_of-append, patterns_of-append, spaced, all_append, Entry, after_commas, between_commas, entries}
-use Rattle.bsdl_round_trip.proofs.EntryAtoms.{index_atoms, port_atoms, disable_atoms, row_atoms, pin_atoms, pins_atoms, pin_entry_atoms, opcode_atoms, more_names, names_atoms, access_atoms, comma_strings}
-use Rattle.bsdl_round_trip.proofs.Rebuilt.{mapped, entry_of, opcode_entry, present, port_bit, row_entry}
-use Rattle.bsdl_round_trip.proofs.Pieces.{then_all, pieces_then}
+use Rattle.bsdl_round_trip.proofs.ContentAtoms.{ContentAtom, Space, Key, Name, Integer, Mark, IsAtom, is_run, is_mark, last_long, spaced-append, bytes_of, patterns_of, bytes_of-append, patterns_of-append, spaced, all_append, Entry, after_commas, between_commas, entries}
+use Rattle.bsdl_round_trip.proofs.EntryAtoms.{index_atoms, port_atoms, disable_atoms, row_atoms, pin_atoms, pins_atoms, pin_entry_atoms, opcode_atoms, more_names, names_atoms, access_atoms}
+use Rattle.bsdl_round_trip.proofs.Rebuilt.{mapped, entry_of, opcode_entry, port_bit, row_entry}
+use Rattle.bsdl_round_trip.proofs.Pieces.{pieces_then}
 
 -- Rows.
 

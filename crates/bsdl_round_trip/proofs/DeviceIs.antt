@@ -1,32 +1,26 @@
 -- A device that some text spells keeps the conditions.
-use Rattle.std.proofs.Common.{◌≡◌, ℕ, zero, suc, ◌+◌, ◌%◌, ◌^◌, ◌<◌, ◌≤◌, List, [], ◌∷◌, ◌++◌, Bool, true, false, cond, Option, Some, None, map, length, refl, sym, ap, subst, ◌∙◌, arith, eqb-true, ltb-false}
-use Rattle.std.specs.Prelude.{◌==◌, ◌||◌, ◌&&◌, not, nat_lt, is_some, count_by, sum_by, IfSome}
-use Rattle.std.specs.List.{list_any, AllByRecursion}
+use Rattle.std.proofs.Common.{◌≡◌, ℕ, zero, suc, ◌%◌, ◌<◌, ◌≤◌, List, Bool, true, false, Option, Some, None, map, length, refl, sym, ap, subst, ◌∙◌, arith, eqb-true, ltb-false}
+use Rattle.std.specs.Prelude.{◌==◌, ◌||◌, not, nat_lt, is_some, count_by, sum_by, IfSome}
+use Rattle.std.specs.List.{list_any}
 use Rattle.std.specs.Option.{option_map_or}
-use Rattle.cell_library.specs.declared.codes.Bits.{Bits}
 use Rattle.cell_library.specs.declared.codes.Instr.TheVariants as instr
-use Rattle.cell_library.specs.declared.codes.Opcode.{Opcode}
 use Rattle.bsdl_lexicon.specs.Names.{is_same_name}
 use Rattle.bsdl_device.specs.declared.values.PortMode.TheVariants as mode
 use Rattle.bsdl_device.specs.declared.values.DevPort.{DevPort}
-use Rattle.bsdl_device.specs.declared.values.DevBit.{DevBit}
 use Rattle.bsdl_device.specs.declared.values.Device.{Device}
 use Rattle.bsdl_device.specs.declared.written.DeclaredPort.{DeclaredPort}
 use Rattle.bsdl_device.specs.declared.entries.OpcodeEntry.{OpcodeEntry}
-use Rattle.bsdl_device.specs.declared.entries.RowEntry.{RowEntry}
-use Rattle.bsdl_device.specs.Ports as declared
 use Rattle.bsdl_device.specs.Ports.{declared_ports, port_bits, width}
 use Rattle.bsdl_device.specs.Checks.{any_pair, is_repeated, port_named_twice, port_named_as_unit, has_too_many_bits, names_other_entity, names_other_package, port_not_mapped_once, entry_misfits, all_pins, is_scalar_port, tap_names, tap_port_misfits, opcode_is_unknown, opcode_named_twice, lacks_instruction, has_other_length, bypass_is_not_ones, opcodes_clash, has_instruction, code_is_barred, numbers_misfit}
 use Rattle.bsdl_device.specs.RowRules.{row_misfits, bit_not_in_one_row, system_bits, rows_disagree, highz_fails}
 use Rattle.bsdl_device.specs.Spelled.{SpellsText}
-use Rattle.bsdl_device.specs.IsDevice.{IsBits, AreDevicePorts, names_of, IsDeviceTap, IsInstructionRegister, IsDeviceCode, own_bits, is_at, AreDeviceRows, IsDevice}
+use Rattle.bsdl_device.specs.IsDevice.{AreDevicePorts, names_of, IsDeviceTap, IsInstructionRegister, IsDeviceCode, own_bits, is_at, AreDeviceRows, IsDevice}
 use Rattle.bsdl_round_trip.proofs.Pairs.{or_first, or_second, any-map}
 use Rattle.bsdl_round_trip.proofs.Names.{all_to, none_all}
 use Rattle.bsdl_round_trip.proofs.Instructions.{has_by_opcode}
 use Rattle.bsdl_round_trip.proofs.Rebuilt.{as_declared, entry_of, opcode_entry, tap_of, row_entries, rebuilt_file, rebuilt_contents, rebuilt_ports}
 use Rattle.bsdl_round_trip.proofs.Good.{GoodBits}
-use Rattle.bsdl_round_trip.proofs.Means.{Keeps}
-use Rattle.bsdl_round_trip.proofs.Held.{GoodDevice, IsCode}
+use Rattle.bsdl_round_trip.proofs.Held.{IsCode}
 use Rattle.bsdl_round_trip.proofs.ReadBack.{Stands, stands}
 use Rattle.bsdl_round_trip.proofs.Places.{AreNamed, scalar_at, tap_repeats_at}
 use Rattle.bsdl_round_trip.proofs.DeviceRows.{agree_rows, rows_from, not_once}

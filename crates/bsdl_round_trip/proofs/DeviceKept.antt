@@ -1,13 +1,12 @@
 -- A device keeps the conditions just where its canonical file can be written, breaks no rule and describes it.
-use Rattle.std.proofs.Common.{◌≡◌, ℕ, zero, suc, ◌+◌, ◌%◌, ◌^◌, ◌<◌, ◌≤◌, List, [], ◌∷◌, ◌++◌, Bool, true, false, cond, Option, Some, None, map, length, refl, sym, ap, subst, ◌∙◌, arith, eq-eqb, eqb-true, leb-true}
+use Rattle.std.proofs.Common.{◌≡◌, ℕ, zero, suc, ◌+◌, ◌%◌, ◌^◌, ◌<◌, ◌≤◌, List, [], ◌∷◌, Bool, true, false, Option, Some, None, map, length, refl, sym, ap, subst, ◌∙◌, arith, eq-eqb}
 use Rattle.std.proofs.lemmas.Bool.{le-ltb}
 use Rattle.std.proofs.lemmas.Option.{slice_get_within}
 use Rattle.std.specs.Prelude.{◌==◌, ◌||◌, ◌&&◌, not, nat_lt, nat_le, is_some, is_none, slice_get, count_by, IfSome}
-use Rattle.std.specs.List.{list_any, list_all, flat_map, enumerate_from, AllByRecursion}
+use Rattle.std.specs.List.{list_any, enumerate_from, AllByRecursion}
 use Rattle.std.specs.Option.{option_map, option_map_or}
 use Rattle.cell_library.specs.declared.codes.Function.TheVariants as function
 use Rattle.cell_library.specs.declared.codes.Instr.TheVariants as instr
-use Rattle.cell_library.specs.declared.codes.Bits.{Bits}
 use Rattle.cell_library.specs.declared.codes.Opcode.{Opcode}
 use Rattle.bsdl_lexicon.specs.Names.{is_same_name}
 use Rattle.bsdl_device.specs.declared.values.PortMode.TheVariants as mode
@@ -20,33 +19,31 @@ use Rattle.bsdl_device.specs.declared.values.Device.{Device}
 use Rattle.bsdl_device.specs.declared.written.DeclaredPort.{DeclaredPort}
 use Rattle.bsdl_device.specs.declared.entries.OpcodeEntry.{OpcodeEntry}
 use Rattle.bsdl_device.specs.declared.entries.PinEntry.{PinEntry}
-use Rattle.bsdl_device.specs.declared.entries.PortBit.{PortBit}
 use Rattle.bsdl_device.specs.declared.entries.RowEntry.{RowEntry}
 use Rattle.bsdl_device.specs.Matching.{is_filled}
 use Rattle.bsdl_device.specs.Ports as declared
 use Rattle.bsdl_device.specs.Ports.{declared_ports, port_bits, has_bit, is_within}
-use Rattle.bsdl_device.specs.Checks.{any_pair, is_repeated, port_named_twice, port_named_as_unit, has_too_many_bits, names_other_entity, names_other_package, name_fails, port_not_mapped_once, entry_misfits, all_pins, pin_map_fails, is_scalar_port, tap_names, tap_port_misfits, tap_fails, length_fails, opcode_is_unknown, opcode_named_twice, lacks_instruction, has_other_length, bypass_is_not_ones, opcodes_clash, opcode_fails, capture_fails, has_instruction, code_is_barred, idcode_fails, register_fails, numbers_misfit, boundary_fails}
+use Rattle.bsdl_device.specs.Checks.{any_pair, is_repeated, port_named_twice, port_named_as_unit, has_too_many_bits, names_other_entity, names_other_package, name_fails, port_not_mapped_once, entry_misfits, all_pins, pin_map_fails, is_scalar_port, tap_names, tap_port_misfits, tap_fails, length_fails, opcode_is_unknown, opcode_named_twice, lacks_instruction, has_other_length, bypass_is_not_ones, opcodes_clash, opcode_fails, capture_fails, has_instruction, code_is_barred, idcode_fails, numbers_misfit, boundary_fails}
 use Rattle.bsdl_device.specs.RowRules.{is_function, row_misfits, bit_not_in_one_row, system_bits, rows_disagree, highz_fails, row_fails}
-use Rattle.bsdl_device.specs.Denoted.{device_of, port_of, cell_of, place_of, ordered_rows, opcode_of}
+use Rattle.bsdl_device.specs.Denoted.{device_of, port_of, cell_of, place_of, ordered_rows}
 use Rattle.bsdl_device.specs.Canonical.{port_name, has_opcode, canonical_device}
 use Rattle.bsdl_device.specs.Spelled.{SpellsText}
-use Rattle.bsdl_device.specs.IsDevice.{IsDeviceName, IsBits, IsDeviceRange, IsDevicePort, AreDevicePorts, names_of, tap_places, is_scalar_at, IsDeviceTap, opcode_entries, IsInstructionRegister, IsDeviceCode, is_control_at, disable_right, is_disabled, IsDeviceRow, own_bits, is_at, rows_clash, AreDeviceRows, IsDevice}
-use Rattle.bsdl_round_trip.proofs.Pairs.{or_first, or_second, neither, any-map}
-use Rattle.bsdl_round_trip.proofs.Names.{same_self, all_to, all_none, none_all}
+use Rattle.bsdl_device.specs.IsDevice.{IsBits, IsDeviceRange, IsDevicePort, names_of, tap_places, is_scalar_at, IsDeviceTap, IsDeviceCode, is_control_at, is_disabled, IsDeviceRow, own_bits, is_at, IsDevice}
+use Rattle.bsdl_round_trip.proofs.Pairs.{neither, any-map}
+use Rattle.bsdl_round_trip.proofs.Names.{same_self, all_to, all_none}
 use Rattle.bsdl_round_trip.proofs.Identifiers.{name_test}
 use Rattle.bsdl_round_trip.proofs.Instructions.{named_again, has_by_opcode, opcodes_again}
-use Rattle.bsdl_round_trip.proofs.Access.{HasAll, has_all, registers_keep}
-use Rattle.bsdl_round_trip.proofs.Numbered.{InOrder, CountedRows, counted_again, ordered_again}
-use Rattle.bsdl_round_trip.proofs.Rebuilt.{as_declared, entry_of, opcode_entry, tap_of, port_bit, row_entry, row_entries, rebuilt_file, rebuilt_contents, rebuilt_ports}
-use Rattle.bsdl_round_trip.proofs.Good.{GoodBits}
+use Rattle.bsdl_round_trip.proofs.Access.{has_all, registers_keep}
+use Rattle.bsdl_round_trip.proofs.Numbered.{InOrder, counted_again, ordered_again}
+use Rattle.bsdl_round_trip.proofs.Rebuilt.{as_declared, entry_of, opcode_entry, tap_of, port_bit, row_entries, rebuilt_file, rebuilt_contents, rebuilt_ports}
 use Rattle.bsdl_round_trip.proofs.Means.{Keeps}
 use Rattle.bsdl_round_trip.proofs.Again.{entity_named, with_parts, same_parts}
 use Rattle.bsdl_round_trip.proofs.ContentTexts.{IsRow, IsRowPort}
-use Rattle.bsdl_round_trip.proofs.Held.{GoodDevice, IsFileName, IsCode, IsSmallRange, filled_map}
-use Rattle.bsdl_round_trip.proofs.ReadBack.{Stands, spells, stands}
+use Rattle.bsdl_round_trip.proofs.Held.{GoodDevice, IsFileName, IsCode}
+use Rattle.bsdl_round_trip.proofs.ReadBack.{spells}
 use Rattle.bsdl_round_trip.proofs.Places.{AreNamed, place_at, scalar_at, scalar_within, tap_repeats_at}
-use Rattle.bsdl_round_trip.proofs.DeviceRows.{agree_rows, outputs_rows, PinThere, pin_there, rows_keep, rows_from, not_once, bits_at, cells_at, rows_numbered, rows_many}
-use Rattle.bsdl_round_trip.proofs.DevicePorts.{name_good, name_is, bits_good, bits_are, declared_good, ports_good, ports_named, names_same, widths_same, ports_filled, pins_same, mapped_once, entries_fit, entries_wide, own_ports_again, are_wide, ports_are}
+use Rattle.bsdl_round_trip.proofs.DeviceRows.{agree_rows, outputs_rows, PinThere, pin_there, rows_keep, not_once, bits_at, cells_at, rows_numbered, rows_many}
+use Rattle.bsdl_round_trip.proofs.DevicePorts.{name_good, bits_good, declared_good, ports_good, ports_named, names_same, widths_same, ports_filled, pins_same, mapped_once, entries_fit, own_ports_again, are_wide}
 
 not_false : (b : Bool) → not b ≡ false → b ≡ true
 not_false true h = refl

@@ -1,5 +1,5 @@
 -- Names, bits, pins and ports of a device, by its conditions and in its canonical text.
-use Rattle.std.proofs.Common.{◌≡◌, ℕ, zero, suc, ◌+◌, ◌^◌, ◌<◌, ◌≤◌, List, [], ◌∷◌, ◌++◌, Bool, true, false, cond, Option, Some, None, map, length, find, refl, sym, ap, subst, ◌∙◌, arith, eq-eqb, eqb-true, le-leb, leb-true}
+use Rattle.std.proofs.Common.{◌≡◌, ℕ, ◌+◌, ◌≤◌, List, [], ◌∷◌, ◌++◌, Bool, true, false, Option, Some, None, map, length, find, refl, sym, ap, ◌∙◌, arith, eq-eqb, eqb-true, le-leb, leb-true}
 use Rattle.std.specs.Prelude.{◌==◌, ◌||◌, ◌&&◌, not, nat_le, count_by, sum_by, IfSome}
 use Rattle.std.specs.List.{list_any, list_all, flat_map, AllByRecursion}
 use Rattle.std.specs.Option.{option_map, option_map_or}
@@ -11,18 +11,17 @@ use Rattle.bsdl_device.specs.declared.values.PortRange.{PortRange}
 use Rattle.bsdl_device.specs.declared.values.DevPort.{DevPort}
 use Rattle.bsdl_device.specs.declared.values.Device.{Device}
 use Rattle.bsdl_device.specs.declared.written.DeclaredPort.{DeclaredPort}
-use Rattle.bsdl_device.specs.declared.entries.MappedPins.{MappedPins}
 use Rattle.bsdl_device.specs.declared.entries.PinEntry.{PinEntry}
 use Rattle.bsdl_device.specs.Matching.{is_filled}
 use Rattle.bsdl_device.specs.Grammar.{has_pins}
 use Rattle.bsdl_device.specs.Ports as declared
 use Rattle.bsdl_device.specs.Ports.{port_named, port_bits, width}
 use Rattle.bsdl_device.specs.Checks.{is_repeated, entry_pins, has_pins_for, port_not_mapped_once, entry_misfits, all_pins}
-use Rattle.bsdl_device.specs.Denoted.{pins_of, port_of}
-use Rattle.bsdl_device.specs.Canonical.{bits_text, pattern_text}
+use Rattle.bsdl_device.specs.Denoted.{port_of}
+use Rattle.bsdl_device.specs.Canonical.{bits_text}
 use Rattle.bsdl_device.specs.IsDevice.{IsDeviceName, IsBits, IsDeviceRange, IsDevicePin, IsDevicePort, AreDevicePorts, names_of}
-use Rattle.bsdl_round_trip.proofs.Totals.{total, weigh, tally, count_by-tally}
-use Rattle.bsdl_round_trip.proofs.Pairs.{or_first, or_second, neither, any_same, any-map}
+use Rattle.bsdl_round_trip.proofs.Totals.{weigh, tally, count_by-tally}
+use Rattle.bsdl_round_trip.proofs.Pairs.{neither, any-map}
 use Rattle.bsdl_round_trip.proofs.Names.{same_turned, at_most_one, found_each, found_some, find_same, all_to, all_none, none_all}
 use Rattle.bsdl_round_trip.proofs.Identifiers.{name_test}
 use Rattle.bsdl_round_trip.proofs.Rebuilt.{mapped, entry_of, as_declared}

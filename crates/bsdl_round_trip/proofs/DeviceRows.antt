@@ -1,6 +1,6 @@
 -- The rows of a device and those of its canonical text keep the same rules.
-use Rattle.std.proofs.Common.{◌≡◌, ℕ, zero, suc, ◌+◌, ◌^◌, ◌<◌, ◌≤◌, List, [], ◌∷◌, ◌++◌, Bool, true, false, cond, Option, Some, None, map, length, refl, sym, ap, subst, ◌∙◌, arith, eq-eqb, eqb-true, add-one, leb-true}
-use Rattle.std.specs.Prelude.{◌==◌, ◌||◌, ◌&&◌, not, is_some, is_none, slice_get, count_by, filter, nat_le, IfSome}
+use Rattle.std.proofs.Common.{◌≡◌, ℕ, zero, suc, ◌+◌, ◌<◌, List, [], ◌∷◌, ◌++◌, Bool, true, false, cond, Option, Some, None, map, length, refl, sym, ap, subst, ◌∙◌, arith, eq-eqb, eqb-true, add-one}
+use Rattle.std.specs.Prelude.{◌==◌, ◌||◌, ◌&&◌, not, is_some, is_none, slice_get, count_by, filter}
 use Rattle.std.specs.List.{list_any, flat_map, enumerate_from, AllByRecursion}
 use Rattle.std.specs.Option.{option_map, option_map_or}
 use Rattle.std.proofs.lemmas.List.Folds.{list_any-append}
@@ -11,23 +11,21 @@ use Rattle.cell_library.specs.declared.codes.Function.{Function}
 use Rattle.cell_library.specs.declared.codes.Function.TheVariants as function
 use Rattle.bsdl_device.specs.declared.values.PortMode.{PortMode}
 use Rattle.bsdl_device.specs.declared.values.PortMode.TheVariants as mode
-use Rattle.bsdl_device.specs.declared.values.PortRange.{PortRange}
 use Rattle.bsdl_device.specs.declared.values.DevPort.{DevPort}
 use Rattle.bsdl_device.specs.declared.values.DevBit.{DevBit}
 use Rattle.bsdl_device.specs.declared.values.Disable.{Disable}
 use Rattle.bsdl_device.specs.declared.values.CellRow.{CellRow}
 use Rattle.bsdl_device.specs.declared.values.Device.{Device}
 use Rattle.bsdl_device.specs.declared.written.DeclaredPort.{DeclaredPort}
-use Rattle.bsdl_device.specs.declared.written.TapNames.{TapNames}
 use Rattle.bsdl_device.specs.declared.entries.PortBit.{PortBit}
 use Rattle.bsdl_device.specs.declared.entries.RowEntry.{RowEntry}
-use Rattle.bsdl_device.specs.Ports.{port_named, has_bit, is_within, indices, bits_of, bit_of_port, same_bit, same_index, is_mode}
+use Rattle.bsdl_device.specs.Ports.{port_named, has_bit, indices, bits_of, bit_of_port, same_bit, same_index, is_mode}
 use Rattle.bsdl_device.specs.Checks.{any_pair, is_numbered}
-use Rattle.bsdl_device.specs.RowRules.{is_function, is_cell, is_control, is_disabled_by, control_fails, lacks_port, is_tap_port, is_system_port, is_system_bit, port_misfits, is_row_of, bit_not_in_one_row, system_bits, stands_at, input_fails, clock_fails, output_fails, bidir_fails, takes_disable, disable_misfits, control_is_unknown, disables_disagree, rows_disagree, row_misfits}
-use Rattle.bsdl_device.specs.Denoted.{place_of, bit_of, cell_of}
+use Rattle.bsdl_device.specs.RowRules.{is_function, is_cell, is_control, is_disabled_by, is_tap_port, is_system_port, is_system_bit, port_misfits, is_row_of, bit_not_in_one_row, system_bits, stands_at, rows_disagree, row_misfits}
+use Rattle.bsdl_device.specs.Denoted.{bit_of, cell_of}
 use Rattle.bsdl_device.specs.Canonical.{port_name}
-use Rattle.bsdl_device.specs.IsDevice.{is_tap_place, suits, wanted_mode, is_disabled, is_bit_of, stands_right, is_control_at, names_control, disable_right, is_used, IsDeviceRow, own_bits_at, own_bits, is_at, rows_clash}
-use Rattle.bsdl_round_trip.proofs.Totals.{total, weigh, tally, count_by-tally}
+use Rattle.bsdl_device.specs.IsDevice.{is_tap_place, suits, wanted_mode, is_bit_of, stands_right, is_control_at, names_control, disable_right, is_used, IsDeviceRow, own_bits_at, is_at, rows_clash}
+use Rattle.bsdl_round_trip.proofs.Totals.{weigh, tally, count_by-tally}
 use Rattle.bsdl_round_trip.proofs.Pairs.{or_first, or_second, neither, any_same, any-map}
 use Rattle.bsdl_round_trip.proofs.Numbered.{differ_by_order, NumberedFrom}
 use Rattle.bsdl_round_trip.proofs.Rebuilt.{as_declared, tap_of, port_bit, row_entry, row_entries}

@@ -1,17 +1,14 @@
 -- What is known of a file whose words a text has, and of its contents.
-use Rattle.std.proofs.Common.{◌≡◌, ℕ, suc, zero, ◌+◌, ◌^◌, ◌<◌, ◌≤◌, List, [], ◌∷◌, ◌++◌, Bool, true, false, cond, Option, Some, None, map, length, find, refl, sym, ap, subst, ◌∙◌, arith, lit<}
-use Rattle.std.specs.Prelude.{◌&&◌, ◌||◌, not, is_none, IsTrue}
-use Rattle.std.specs.List.{list_all, list_any, flat_map, filter_map, cons_option, AllByRecursion}
+use Rattle.std.proofs.Common.{◌≡◌, ℕ, ◌^◌, ◌<◌, List, [], ◌∷◌, ◌++◌, Bool, true, false, cond, Option, Some, None, map, find, refl, sym, subst, lit<}
+use Rattle.std.specs.Prelude.{◌&&◌}
+use Rattle.std.specs.List.{list_all, flat_map, filter_map, cons_option, AllByRecursion}
 use Rattle.std.specs.Option.{option_map, option_map_or}
-use Rattle.cell_library.specs.declared.codes.Bits.{Bits}
 use Rattle.cell_library.specs.declared.codes.Instr.{Instr}
 use Rattle.cell_library.specs.declared.codes.Opcode.{Opcode}
 use Rattle.bsdl_lexicon.specs.declared.token.BsdlSpanned.{BsdlSpanned}
 use Rattle.bsdl_lexicon.specs.declared.symbol.BsdlSymbol.TheVariants.{Comma, Semicolon, RightParenthesis}
 use Rattle.bsdl_lexicon.specs.Words.{plain}
 use Rattle.bsdl_lexicon.specs.Pieces.{words_of, IsReal}
-use Rattle.bsdl_device.specs.declared.values.PortRange.{PortRange}
-use Rattle.bsdl_device.specs.declared.values.PortMode.{PortMode}
 use Rattle.bsdl_device.specs.declared.values.Disable.{Disable}
 use Rattle.bsdl_device.specs.declared.written.WrittenRange.{WrittenRange}
 use Rattle.bsdl_device.specs.declared.written.PortDeclaration.{PortDeclaration}
@@ -26,8 +23,7 @@ use Rattle.bsdl_device.specs.declared.entries.PortBit.{PortBit}
 use Rattle.bsdl_device.specs.declared.entries.RowEntry.{RowEntry}
 use Rattle.bsdl_device.specs.declared.entries.Contents.{Contents}
 use Rattle.bsdl_device.specs.Matching.{separated_by, is_filled}
-use Rattle.bsdl_device.specs.Shape as shape
-use Rattle.bsdl_device.specs.Shape.{Pattern, NameOf, Mark, joined, sections, file_words, declaration_words, names_words, type_words, IsFile, is_declaration}
+use Rattle.bsdl_device.specs.Shape.{NameOf, Mark, joined, sections, file_words, declaration_words, names_words, type_words, IsFile, is_declaration}
 use Rattle.bsdl_device.specs.Runs as runs
 use Rattle.bsdl_device.specs.Runs.{content_words, comma, PinRun}
 use Rattle.bsdl_device.specs.Grammar.{pin_entry_words, opcode_words, row_words, pins_words}
@@ -35,8 +31,8 @@ use Rattle.bsdl_device.specs.Instructions.{instruction_named}
 use Rattle.bsdl_device.specs.Ports.{declared_ports, port_declared, range_of}
 use Rattle.bsdl_device.specs.Checks.{entry_pins}
 use Rattle.bsdl_device.specs.Denoted.{opcode_of}
-use Rattle.bsdl_device.specs.Spelled.{SpellsFile, HasContents, HoldIdcode}
-use Rattle.bsdl_round_trip.proofs.Good.{GoodToken, GoodPattern, GoodContent, GoodBits, GoodPin, good_tokens, good_words, all_patterns, all_contents, all_front, all_behind, all_separated}
+use Rattle.bsdl_device.specs.Spelled.{HasContents, HoldIdcode}
+use Rattle.bsdl_round_trip.proofs.Good.{GoodToken, GoodPattern, GoodContent, GoodBits, GoodPin, good_tokens, good_words, all_contents, all_front, all_behind, all_separated}
 use Rattle.bsdl_round_trip.proofs.ContentAtoms.{all_append}
 use Rattle.bsdl_round_trip.proofs.Names.{all_to}
 use Rattle.bsdl_round_trip.proofs.Held.{IsFileName, IsSmallRange, IsCode}

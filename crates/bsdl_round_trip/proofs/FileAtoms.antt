@@ -1,16 +1,13 @@
 -- A file's text as a list of atoms: their pieces, and the patterns that they are.
-use Rattle.std.proofs.Common.{◌≡◌, ℕ, suc, zero, ◌+◌, ◌-◌, ◌*◌, ◌/◌, ◌%◌, ◌^◌, ◌<◌, ◌≤◌, List, [], ◌∷◌, ◌++◌, Bool, true, false, Option, Some, None, map, length, refl, sym, ap, subst, ◌∙◌, arith, append_assoc, lit<}
-use Rattle.std.specs.Prelude.{◌==◌, ◌||◌, ◌&&◌, not, nat_le, IsTrue, if◌then◌else◌}
-use Rattle.std.specs.Bool.{IsFalse}
+use Rattle.std.proofs.Common.{◌≡◌, ℕ, ◌+◌, ◌-◌, ◌*◌, ◌^◌, ◌<◌, List, [], ◌∷◌, ◌++◌, Bool, true, false, Option, Some, None, map, length, refl, ap, ◌∙◌, arith, append_assoc, lit<}
+use Rattle.std.specs.Prelude.{◌==◌, ◌&&◌, not, IsTrue, if◌then◌else◌}
 use Rattle.std.specs.List.{list_all, flat_map, AllByRecursion}
 use Rattle.std.specs.Fmt.{decimal}
 use Rattle.std.proofs.lemmas.Fmt.{length-decimal-le, decimal_nonempty}
-use Rattle.bsdl_lexicon.specs.declared.token.BsdlToken.{BsdlToken}
 use Rattle.bsdl_lexicon.specs.declared.token.BsdlToken.TheVariants as word
 use Rattle.bsdl_lexicon.specs.declared.symbol.BsdlSymbol.{BsdlSymbol}
 use Rattle.bsdl_lexicon.specs.declared.symbol.BsdlSymbol.TheVariants.{LeftParenthesis, RightParenthesis, Colon, Semicolon, Comma, Ampersand, Dot}
-use Rattle.bsdl_lexicon.specs.Bytes.{is_blank, is_name_byte, is_digit, is_letter, clings, is_quotable}
-use Rattle.bsdl_lexicon.specs.Names.{is_same_name}
+use Rattle.bsdl_lexicon.specs.Bytes.{is_blank, is_name_byte, is_digit, clings, is_quotable}
 use Rattle.bsdl_lexicon.specs.Reserved.{is_reserved}
 use Rattle.bsdl_lexicon.specs.Words.{plain, symbol_byte}
 use Rattle.bsdl_lexicon.specs.Pieces as piece

@@ -1,9 +1,7 @@
 -- The canonical text as atoms, section by section.
-use Rattle.std.proofs.Common.{◌≡◌, ℕ, suc, zero, ◌+◌, ◌/◌, ◌^◌, ◌<◌, ◌≤◌, List, [], ◌∷◌, ◌++◌, Bool, true, false, cond, Option, Some, None, map, length, refl, sym, ap, subst, ◌∙◌, append_assoc, append-nil}
-use Rattle.std.specs.Prelude.{◌&&◌, nat_le, codes, if◌then◌else◌}
-use Rattle.std.specs.List.{list_all, flat_map, AllByRecursion}
-use Rattle.std.specs.Option.{option_map, option_map_or}
-use Rattle.std.specs.Fmt.{decimal}
+use Rattle.std.proofs.Common.{◌≡◌, ℕ, ◌^◌, ◌<◌, List, [], ◌∷◌, ◌++◌, Bool, true, false, Option, Some, None, map, length, refl, sym, ap, ◌∙◌, append-nil}
+use Rattle.std.specs.Prelude.{◌&&◌, codes}
+use Rattle.std.specs.List.{list_all, AllByRecursion}
 use Rattle.bsdl_lexicon.specs.declared.symbol.BsdlSymbol.TheVariants.{LeftParenthesis, RightParenthesis, Colon, Semicolon, Comma, Ampersand, Dot}
 use Rattle.bsdl_lexicon.specs.Bytes.{is_quotable}
 use Rattle.bsdl_device.specs.declared.values.PortMode.{PortMode}
@@ -15,14 +13,8 @@ use Rattle.bsdl_device.specs.declared.values.DevPort.{DevPort}
 use Rattle.bsdl_device.specs.declared.values.Device.{Device}
 use Rattle.bsdl_device.specs.declared.written.Direction.{Direction}
 use Rattle.bsdl_device.specs.declared.written.Direction.TheVariants as direction
-use Rattle.bsdl_device.specs.declared.written.PortDeclaration.{PortDeclaration}
-use Rattle.bsdl_device.specs.declared.written.TapNames.{TapNames}
-use Rattle.bsdl_device.specs.declared.written.StringAttribute.{StringAttribute}
-use Rattle.bsdl_device.specs.declared.written.File.{File}
-use Rattle.bsdl_device.specs.Matching as matching
-use Rattle.bsdl_device.specs.Shape.{Pattern, KeyWord, NameOf, IntegerOf, StringOf, Mark, mode_word, direction_word, stop_word, type_words, declaration_words, strings_words, joined, sections, file_words, section_word}
-use Rattle.bsdl_device.specs.Shape as shape
-use Rattle.bsdl_round_trip.proofs.FileAtoms.{FileAtom, Blank, Key, Name, Integer, Real, String, Symbol, Becomes, IsFileAtom, is_space, Ending, Free, ending, goes, is_free, fitting, patterns_of}
+use Rattle.bsdl_device.specs.Shape.{mode_word, direction_word, stop_word, joined}
+use Rattle.bsdl_round_trip.proofs.FileAtoms.{FileAtom, Blank, Key, Name, Integer, Real, String, Symbol, Becomes, IsFileAtom, is_space, Ending, Free, ending, goes, is_free, fitting}
 use Rattle.bsdl_round_trip.proofs.ContentAtoms.{all_append}
 use Rattle.bsdl_round_trip.proofs.ContentAtoms.{Name as ContentName, atoms_quotable}
 use Rattle.bsdl_round_trip.proofs.EntryAtoms.{pin_entry_atoms, opcode_atoms, access_atoms, row_atoms}
@@ -31,7 +23,7 @@ use Rattle.bsdl_device.specs.Grammar.{pin_entry_words, opcode_words, access_word
 use Rattle.bsdl_device.specs.Canonical.{pattern_text}
 use Rattle.bsdl_device.specs.Runs.{is_identifier}
 use Rattle.bsdl_round_trip.proofs.Held.{IsFileName, IsSmallRange, IsDeclared, AreStrings, GoodDevice, entry_strings, code_are_strings, bits_are_strings, pin_entries_are, opcodes_are, access_are, rows_are}
-use Rattle.bsdl_round_trip.proofs.Rebuilt.{direction_of, declaration_of, of_entity, code_strings, rebuilt_file, entry_of, opcode_entry, access_entries, row_entries}
+use Rattle.bsdl_round_trip.proofs.Rebuilt.{direction_of, code_strings, rebuilt_file, entry_of, opcode_entry, access_entries, row_entries}
 
 -- Parts.
 

@@ -1,7 +1,7 @@
 -- The words of the canonical text are those of the canonical file.
-use Rattle.std.proofs.Common.{◌≡◌, ℕ, List, [], ◌∷◌, ◌++◌, Bool, true, false, Option, Some, None, map, length, refl, sym, ap, subst, ◌∙◌, append_assoc, append-nil, ◌<◌, ◌≤◌, arith, le-leb, leb-false}
-use Rattle.std.specs.Prelude.{◌&&◌, nat_le, codes, IsTrue, if◌then◌else◌}
-use Rattle.std.specs.List.{flat_map, AllByRecursion, list_all}
+use Rattle.std.proofs.Common.{◌≡◌, ℕ, List, [], ◌∷◌, ◌++◌, Bool, true, false, Option, Some, None, map, refl, sym, ap, subst, ◌∙◌, append_assoc, append-nil, ◌<◌, arith, le-leb, leb-false}
+use Rattle.std.specs.Prelude.{◌&&◌, nat_le, codes, if◌then◌else◌}
+use Rattle.std.specs.List.{list_all}
 use Rattle.std.specs.Option.{option_map, option_map_or}
 use Rattle.bsdl_lexicon.specs.declared.symbol.BsdlSymbol.TheVariants.{RightParenthesis, Semicolon, Ampersand}
 use Rattle.bsdl_lexicon.specs.Words.{plain}
@@ -10,7 +10,6 @@ use Rattle.bsdl_device.specs.declared.values.PortRange.{PortRange}
 use Rattle.bsdl_device.specs.declared.values.DevPort.{DevPort}
 use Rattle.bsdl_device.specs.declared.values.Device.{Device}
 use Rattle.bsdl_device.specs.declared.written.Direction.TheVariants as direction
-use Rattle.bsdl_device.specs.declared.written.PortDeclaration.{PortDeclaration}
 use Rattle.bsdl_device.specs.declared.written.StringAttribute.{StringAttribute}
 use Rattle.bsdl_device.specs.declared.written.File.{File}
 use Rattle.bsdl_device.specs.Matching as matching
@@ -22,7 +21,7 @@ use Rattle.bsdl_round_trip.proofs.FileAtoms.{FileAtom, file_patterns, patterns_o
 use Rattle.bsdl_round_trip.proofs.Held.{GoodDevice, opcodes_filled, filled_map}
 use Rattle.bsdl_round_trip.proofs.EntryAtoms.{comma_strings, pin_entry_bytes, opcode_bytes, access_bytes, row_bytes}
 use Rattle.bsdl_round_trip.proofs.Rebuilt.{declaration_of, of_entity, code_strings, rebuilt_file, entry_of, opcode_entry, access_entries, row_entries, written_range}
-use Rattle.bsdl_round_trip.proofs.FileTexts.{Section, all_joined, sections_are, section_atoms, strings_atoms, line_end, attribute_atoms, margin, listed_atoms, port_atoms, port_end, port_close, ports_atoms, port_open, constant_open, idcode_atoms}
+use Rattle.bsdl_round_trip.proofs.FileTexts.{all_joined, sections_are, section_atoms, strings_atoms, line_end, margin, listed_atoms, port_atoms, port_end, port_close, ports_atoms, port_open, constant_open, idcode_atoms}
 
 patterns_of-append : (xs ys : List FileAtom) → patterns_of (xs ++ ys) ≡ patterns_of xs ++ patterns_of ys
 patterns_of-append [] ys = refl

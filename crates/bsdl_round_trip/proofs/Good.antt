@@ -1,18 +1,15 @@
 -- What is known of the words of a text, and of the runs of a section's strings.
-use Rattle.std.proofs.Common.{◌≡◌, ℕ, suc, zero, ◌+◌, ◌-◌, ◌*◌, ◌^◌, ◌<◌, ◌≤◌, List, [], ◌∷◌, ◌++◌, Bool, true, false, cond, Option, Some, None, map, length, refl, sym, ap, subst, ◌∙◌, arith, leb-true}
-use Rattle.std.specs.Prelude.{◌==◌, ◌||◌, ◌&&◌, not, nat_le, IsTrue, if◌then◌else◌, ◌⊎◌}
+use Rattle.std.proofs.Common.{◌≡◌, ℕ, ◌+◌, ◌-◌, ◌*◌, ◌^◌, ◌<◌, ◌≤◌, List, [], ◌∷◌, ◌++◌, Bool, true, false, Option, Some, None, length, refl, sym, ap, subst, ◌∙◌, arith, leb-true}
+use Rattle.std.specs.Prelude.{◌==◌, ◌&&◌, not, nat_le, IsTrue, if◌then◌else◌}
 use Rattle.std.specs.List.{list_all, AllByRecursion}
-use Rattle.std.proofs.lemmas.List.{map-append}
 use Rattle.cell_library.specs.declared.codes.Bits.{Bits}
 use Rattle.bsdl_lexicon.specs.declared.token.BsdlToken.{BsdlToken}
 use Rattle.bsdl_lexicon.specs.declared.token.BsdlToken.TheVariants as word
-use Rattle.bsdl_lexicon.specs.declared.token.BsdlSpanned.{BsdlSpanned}
 use Rattle.bsdl_lexicon.specs.Bytes.{is_name_byte, is_digit}
 use Rattle.bsdl_lexicon.specs.Reserved.{is_reserved}
-use Rattle.bsdl_lexicon.specs.Words as words
 use Rattle.bsdl_lexicon.specs.Words.{plain}
-use Rattle.bsdl_lexicon.specs.Pieces.{Piece, blank, comment, identifier, integer, real, quoted, symbol, becomes, spelling, IsIdentifier, IsInteger, IsReal, ArePieces, value_from, word_at, words_from}
-use Rattle.bsdl_device.specs.Matching.{MatchesBy, each_after, separated_by}
+use Rattle.bsdl_lexicon.specs.Pieces.{Piece, blank, comment, identifier, integer, real, quoted, symbol, becomes, spelling, IsIdentifier, IsInteger, IsReal, ArePieces, value_from, words_from}
+use Rattle.bsdl_device.specs.Matching.{each_after, separated_by}
 use Rattle.bsdl_device.specs.Shape as shape
 use Rattle.bsdl_device.specs.Runs as runs
 use Rattle.bsdl_device.specs.Runs.{ContentWord, Run, Other, content_words, lengthened, begins_run, value_after, is_integer, is_pattern, is_pin, is_identifier}

@@ -1,8 +1,8 @@
 -- The strings of the canonical file hold the canonical contents.
-use Rattle.std.proofs.Common.{◌≡◌, ℕ, suc, zero, ◌+◌, ◌*◌, ◌/◌, ◌%◌, ◌^◌, ◌<◌, ◌≤◌, List, [], ◌∷◌, ◌++◌, Bool, true, false, cond, Option, Some, None, map, length, refl, sym, ap, subst, ◌∙◌, arith, append_assoc, append-nil}
-use Rattle.std.specs.Prelude.{◌&&◌, ◌||◌, ◌==◌, not, IsTrue, codes}
+use Rattle.std.proofs.Common.{◌≡◌, ℕ, suc, zero, ◌+◌, ◌/◌, ◌%◌, ◌^◌, ◌<◌, List, [], ◌∷◌, ◌++◌, Bool, true, false, Option, Some, None, map, refl, sym, ap, subst, ◌∙◌, arith, append_assoc, append-nil}
+use Rattle.std.specs.Prelude.{◌&&◌, codes}
 use Rattle.std.specs.List.{list_all, filter, AllByRecursion}
-use Rattle.std.specs.Option.{option_map, option_map_or}
+use Rattle.std.specs.Option.{option_map}
 use Rattle.std.proofs.Math.Nat.{div-div-eq-div-mul, pow-succ'}
 use Rattle.std.proofs.lemmas.List.Folds.{list_all-append}
 use Rattle.cell_library.specs.declared.codes.Bits.{Bits}
@@ -13,9 +13,7 @@ use Rattle.bsdl_lexicon.specs.Reserved.{is_reserved}
 use Rattle.bsdl_lexicon.specs.Pieces.{IsIdentifier, IsReal}
 use Rattle.bsdl_device.specs.declared.values.PortRange.{PortRange}
 use Rattle.bsdl_device.specs.declared.values.DevPort.{DevPort}
-use Rattle.bsdl_device.specs.declared.values.CellRow.{CellRow}
 use Rattle.bsdl_device.specs.declared.values.Device.{Device}
-use Rattle.bsdl_device.specs.declared.written.StringAttribute.{StringAttribute}
 use Rattle.bsdl_device.specs.declared.entries.PinEntry.{PinEntry}
 use Rattle.bsdl_device.specs.declared.entries.OpcodeEntry.{OpcodeEntry}
 use Rattle.bsdl_device.specs.declared.entries.Register.TheVariants as register
@@ -26,10 +24,10 @@ use Rattle.bsdl_device.specs.Runs as runs
 use Rattle.bsdl_device.specs.Runs.{ContentPattern, content_words, comma}
 use Rattle.bsdl_device.specs.Shape.{joined}
 use Rattle.bsdl_device.specs.Grammar.{has_pins, pin_entry_words, opcode_words, access_words, row_words}
-use Rattle.bsdl_device.specs.Spelled.{Hold, HoldPinMap, HoldOpcodes, HoldCapture, HoldIdcode, HoldAccess, HoldRows, HasContents}
+use Rattle.bsdl_device.specs.Spelled.{Hold, HoldIdcode, HasContents}
 use Rattle.bsdl_device.specs.Canonical.{bits_text, pattern_text, has_opcode}
 use Rattle.bsdl_round_trip.proofs.Good.{GoodBits}
-use Rattle.bsdl_round_trip.proofs.ContentAtoms.{ContentAtom, Pattern, Mark, IsAtom, bytes_of, bytes_of-append, Entry, after_commas, between_commas, entries, entry_read, atoms_quotable}
+use Rattle.bsdl_round_trip.proofs.ContentAtoms.{ContentAtom, Pattern, Mark, bytes_of, bytes_of-append, Entry, between_commas, entries, entry_read, atoms_quotable}
 use Rattle.bsdl_round_trip.proofs.EntryAtoms.{pin_entry_atoms, opcode_atoms, access_atoms, row_atoms, comma_strings}
 use Rattle.bsdl_round_trip.proofs.ContentTexts.{IsPort, IsRow, pin_entry_is, opcode_is, access_is, row_entry_is}
 use Rattle.bsdl_round_trip.proofs.Access.{HasAll, is_access}

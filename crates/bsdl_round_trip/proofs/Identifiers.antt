@@ -1,11 +1,11 @@
 -- Identifiers of the words and of the strings are one.
-use Rattle.std.proofs.Common.{◌≡◌, ℕ, suc, zero, ◌+◌, ◌<◌, ◌≤◌, List, [], ◌∷◌, Bool, true, false, length, refl, sym, ap, ◌∙◌, arith, leb-true, le-leb}
+use Rattle.std.proofs.Common.{◌≡◌, ℕ, ◌<◌, ◌≤◌, List, [], ◌∷◌, Bool, true, false, length, refl, ap, arith, leb-true, le-leb}
 use Rattle.std.specs.Prelude.{◌==◌, ◌||◌, ◌&&◌, not, nat_le, IsTrue}
 use Rattle.std.specs.List.{list_all, AllByRecursion}
 use Rattle.bsdl_lexicon.specs.Bytes.{is_letter, is_name_byte, is_letter_or_digit}
 use Rattle.bsdl_lexicon.specs.Reserved.{is_reserved}
-use Rattle.bsdl_lexicon.specs.Pieces.{IsIdentifier, HasSingleUnderscores, IsFirst}
-use Rattle.bsdl_device.specs.Runs.{is_identifier, has_single_underscores, begins_with_letter}
+use Rattle.bsdl_lexicon.specs.Pieces.{IsIdentifier, HasSingleUnderscores}
+use Rattle.bsdl_device.specs.Runs.{is_identifier, has_single_underscores}
 use Rattle.bsdl_round_trip.proofs.Good.{is_name}
 
 and_left : (a b : Bool) → (a && b) ≡ true → a ≡ true

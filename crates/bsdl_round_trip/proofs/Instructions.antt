@@ -1,21 +1,19 @@
 -- Opcodes and registers of the canonical text.
-use Rattle.std.proofs.Common.{◌≡◌, ℕ, List, [], ◌∷◌, ◌++◌, Bool, true, false, cond, Option, Some, None, map, find, refl, sym, ap, subst, ◌∙◌}
-use Rattle.std.specs.Prelude.{◌||◌, ◌&&◌, ◌==◌, ◌-◌, ◌^◌, not, is_none, codes}
-use Rattle.std.specs.List.{list_any, filter, filter_map, cons_option, flat_map}
-use Rattle.std.specs.Option.{option_map, option_map_or}
-use Rattle.cell_library.specs.declared.codes.Bits.{Bits}
+use Rattle.std.proofs.Common.{◌≡◌, ℕ, List, [], ◌∷◌, Bool, false, Option, Some, None, map, refl, sym, ap, ◌∙◌}
+use Rattle.std.specs.Prelude.{◌||◌, ◌&&◌, ◌==◌, ◌-◌, ◌^◌, not, is_none}
+use Rattle.std.specs.List.{list_any, filter_map, cons_option}
+use Rattle.std.specs.Option.{option_map}
 use Rattle.cell_library.specs.declared.codes.Instr.{Instr}
 use Rattle.cell_library.specs.declared.codes.Instr.TheVariants as instr
 use Rattle.cell_library.specs.declared.codes.Opcode.{Opcode}
 use Rattle.bsdl_lexicon.specs.Names.{same_name, is_same_name}
 use Rattle.bsdl_device.specs.declared.entries.OpcodeEntry.{OpcodeEntry}
-use Rattle.bsdl_device.specs.declared.entries.AccessEntry.{AccessEntry}
 use Rattle.bsdl_device.specs.Instructions.{instruction_word, instruction_named, names_instruction, all_instructions, same_bits, is_instruction}
-use Rattle.bsdl_device.specs.Checks.{any_pair, is_repeated, has_instruction, opcode_is_unknown, opcode_named_twice, lacks_instruction, has_other_length, bypass_is_not_ones, are_sample_and_preload, opcodes_clash}
+use Rattle.bsdl_device.specs.Checks.{any_pair, has_instruction, opcode_is_unknown, opcode_named_twice, lacks_instruction, has_other_length, bypass_is_not_ones, are_sample_and_preload, opcodes_clash}
 use Rattle.bsdl_device.specs.Denoted.{opcode_of}
 use Rattle.bsdl_device.specs.Canonical.{has_opcode}
-use Rattle.bsdl_round_trip.proofs.Pairs.{or_first, or_second, neither, any_same, any-map, pair-map, pair_same}
-use Rattle.bsdl_round_trip.proofs.Names.{same_name-true, same_left, same_right, same_turned, find_same, found_passes}
+use Rattle.bsdl_round_trip.proofs.Pairs.{or_first, or_second, any_same, any-map, pair-map, pair_same}
+use Rattle.bsdl_round_trip.proofs.Names.{same_name-true, same_left, same_right, find_same, found_passes}
 use Rattle.bsdl_round_trip.proofs.Rebuilt.{opcode_entry}
 
 -- One opcode.

@@ -1,5 +1,5 @@
 -- Names that are looked up among declared ports.
-use Rattle.std.proofs.Common.{◌≡◌, ℕ, suc, zero, ◌+◌, ◌<◌, ◌≤◌, List, [], ◌∷◌, ◌++◌, Bool, true, false, cond, Option, Some, None, map, length, find, refl, sym, ap, subst, ◌∙◌, arith}
+use Rattle.std.proofs.Common.{◌≡◌, ℕ, ◌+◌, List, [], ◌∷◌, Bool, true, cond, Option, Some, None, map, length, find, refl, sym, ap, subst, ◌∙◌}
 use Rattle.std.specs.Prelude.{slice_get, position, unwrap_or, nat_lt, not}
 use Rattle.std.specs.List.{position_or_len, prefix_len}
 use Rattle.std.specs.Option.{option_map, option_map_or}
@@ -10,11 +10,10 @@ use Rattle.bsdl_lexicon.specs.Names.{same_name, is_same_name}
 use Rattle.bsdl_device.specs.declared.values.DevPort.{DevPort}
 use Rattle.bsdl_device.specs.declared.written.DeclaredPort.{DeclaredPort}
 use Rattle.bsdl_device.specs.declared.entries.PinEntry.{PinEntry}
-use Rattle.bsdl_device.specs.Ports.{port_named, place_named}
+use Rattle.bsdl_device.specs.Ports.{port_named}
 use Rattle.bsdl_device.specs.Denoted.{place_of, port_of}
 use Rattle.bsdl_device.specs.Canonical.{port_name}
-use Rattle.bsdl_round_trip.proofs.Names.{same_name-true, same_right, same_left, find_same, found_passes}
-use Rattle.bsdl_round_trip.proofs.Rebuilt.{as_declared}
+use Rattle.bsdl_round_trip.proofs.Names.{same_name-true, same_left, find_same, found_passes}
 
 -- One name for another.
 

@@ -1,27 +1,11 @@
 -- The file of the canonical text breaks no rule and describes the device.
-use Rattle.std.proofs.Common.{◌≡◌, ℕ, List, [], ◌∷◌, ◌++◌, Bool, true, false, cond, Option, Some, None, map, length, refl, sym, ap, subst, ◌∙◌}
-use Rattle.std.specs.Prelude.{◌==◌, ◌||◌, ◌&&◌, not, IsTrue, nat_lt}
-use Rattle.std.specs.List.{list_any, list_all, filter_map, flat_map}
+use Rattle.std.proofs.Common.{◌≡◌, Bool, true, false, cond, Option, Some, None, refl}
 use Rattle.std.specs.Option.{option_map}
-use Rattle.cell_library.specs.declared.codes.Instr.TheVariants as instr
-use Rattle.cell_library.specs.declared.codes.Opcode.{Opcode}
-use Rattle.bsdl_lexicon.specs.Names.{is_same_name}
-use Rattle.bsdl_device.specs.declared.values.DevPort.{DevPort}
-use Rattle.bsdl_device.specs.declared.values.CellRow.{CellRow}
-use Rattle.bsdl_device.specs.declared.values.Device.{Device}
-use Rattle.bsdl_device.specs.declared.written.DeclaredPort.{DeclaredPort}
 use Rattle.bsdl_device.specs.declared.written.File.{File}
-use Rattle.bsdl_device.specs.declared.entries.OpcodeEntry.{OpcodeEntry}
-use Rattle.bsdl_device.specs.declared.entries.PinEntry.{PinEntry}
-use Rattle.bsdl_device.specs.declared.entries.RowEntry.{RowEntry}
 use Rattle.bsdl_device.specs.declared.entries.Contents.{Contents}
-use Rattle.bsdl_device.specs.Ports.{declared_ports, port_names, port_bits, port_named}
-use Rattle.bsdl_device.specs.Checks.{any_pair, is_repeated, port_named_twice, port_named_as_unit, has_too_many_bits, names_other_entity, names_other_package, name_fails, port_not_mapped_once, entry_misfits, all_pins, pin_map_fails, tap_names, tap_port_misfits, tap_fails, length_fails, opcode_fails, capture_fails, idcode_fails, register_fails, boundary_fails, opcode_is_unknown, opcode_named_twice, lacks_instruction, has_other_length, bypass_is_not_ones, opcodes_clash, numbers_misfit, has_instruction, is_numbered}
-use Rattle.bsdl_device.specs.RowRules.{row_fails, row_misfits, bit_not_in_one_row, system_bits, rows_disagree, highz_fails}
-use Rattle.bsdl_device.specs.Meanings.{first_meaning_fault, fault_of, checks}
-use Rattle.bsdl_device.specs.Denoted.{device_of, port_of, cell_of, place_of, ordered_rows, opcode_of}
-use Rattle.bsdl_round_trip.proofs.Pairs.{or_first, or_second, neither}
-use Rattle.bsdl_round_trip.proofs.Names.{same_self}
+use Rattle.bsdl_device.specs.Checks.{name_fails, pin_map_fails, tap_fails, length_fails, opcode_fails, capture_fails, idcode_fails, register_fails, boundary_fails}
+use Rattle.bsdl_device.specs.RowRules.{row_fails}
+use Rattle.bsdl_device.specs.Meanings.{first_meaning_fault, fault_of}
 
 -- The rules, one by one.
 

@@ -1,12 +1,11 @@
 -- Names that are one without regard to case can stand for each other, and lists in which no name stands twice.
-use Rattle.std.proofs.Common.{◌≡◌, ℕ, zero, suc, ◌+◌, ◌<◌, ◌≤◌, List, [], ◌∷◌, ◌++◌, Bool, true, false, cond, Option, Some, None, map, length, find, refl, sym, ap, subst, ◌∙◌, arith}
-use Rattle.std.specs.Prelude.{◌||◌, not, count_by}
+use Rattle.std.proofs.Common.{◌≡◌, ℕ, ◌+◌, ◌≤◌, List, [], ◌∷◌, Bool, true, false, cond, Option, Some, map, find, refl, sym, ap, subst, ◌∙◌, arith}
 use Rattle.std.specs.List.{list_any, AllByRecursion}
 use Rattle.std.specs.Str.{bytes_eq}
 use Rattle.std.proofs.lemmas.Slice.Eq.{bytes_eq-Decides}
 use Rattle.bsdl_lexicon.specs.Names.{lower, same_name, is_same_name}
 use Rattle.bsdl_device.specs.Checks.{any_pair, is_repeated}
-use Rattle.bsdl_round_trip.proofs.Totals.{total, weigh, tally, none_any, any_none, Shuffled, count_by-tally}
+use Rattle.bsdl_round_trip.proofs.Totals.{weigh, tally, none_any, any_none, Shuffled}
 use Rattle.bsdl_round_trip.proofs.Pairs.{or_first, or_second, neither}
 
 -- what the test says

@@ -1,13 +1,12 @@
 -- Rows in the order of their numbers.
-use Rattle.std.proofs.Common.{◌≡◌, ℕ, suc, zero, ◌+◌, ◌<◌, ◌≤◌, List, [], ◌∷◌, ◌++◌, Bool, true, false, cond, Option, Some, None, map, length, find, refl, sym, ap, subst, ◌∙◌, arith, eq-eqb, eqb-true, ltb-true, lt-ltb, add-one}
-use Rattle.std.specs.Prelude.{◌==◌, ◌||◌, ◌&&◌, not, nat_lt}
+use Rattle.std.proofs.Common.{◌≡◌, ℕ, suc, zero, ◌+◌, ◌<◌, ◌≤◌, List, [], ◌∷◌, Bool, true, false, cond, Option, Some, length, find, refl, sym, ap, subst, ◌∙◌, arith, eq-eqb, eqb-true, ltb-true, lt-ltb, add-one}
+use Rattle.std.specs.Prelude.{◌==◌, ◌||◌, not, nat_lt}
 use Rattle.std.specs.List.{list_any, filter_map, cons_option, AllByRecursion}
-use Rattle.std.specs.Option.{option_map}
 use Rattle.bsdl_device.specs.declared.entries.RowEntry.{RowEntry}
 use Rattle.bsdl_device.specs.Ports.{counted_from}
-use Rattle.bsdl_device.specs.Checks.{any_pair, is_numbered, numbers_misfit}
+use Rattle.bsdl_device.specs.Checks.{any_pair, is_numbered}
 use Rattle.bsdl_device.specs.Denoted.{ordered_rows}
-use Rattle.bsdl_round_trip.proofs.Totals.{total, weigh, tally, none_any, any_none, Shuffled}
+use Rattle.bsdl_round_trip.proofs.Totals.{weigh, tally, none_any, Shuffled}
 use Rattle.bsdl_round_trip.proofs.Chosen.{chosen_shuffled}
 use Rattle.bsdl_round_trip.proofs.Pairs.{or_first, or_second, neither}
 use Rattle.bsdl_round_trip.proofs.Names.{found_passes, some_found, all_to, none_all}

@@ -1,8 +1,8 @@
 -- Pairs that pass a test, in any order of the list.
-use Rattle.std.proofs.Common.{◌≡◌, ℕ, zero, suc, ◌+◌, ◌<◌, ◌≤◌, List, [], ◌∷◌, ◌++◌, Bool, true, false, cond, Option, Some, None, ◌||◌, not, map, length, refl, sym, ap, subst, ◌∙◌, arith}
-use Rattle.std.specs.List.{find, list_any, AllByRecursion}
+use Rattle.std.proofs.Common.{◌≡◌, List, [], ◌∷◌, Bool, true, false, ◌||◌, map, refl, ap, ◌∙◌}
+use Rattle.std.specs.List.{list_any}
 use Rattle.bsdl_device.specs.Checks.{any_pair}
-use Rattle.bsdl_round_trip.proofs.Totals.{total, weigh, tally, none_any, any_none, any_shuffled, Shuffled, total_same}
+use Rattle.bsdl_round_trip.proofs.Totals.{any_shuffled, Shuffled}
 
 pub or_first : (a b : Bool) → (a || b) ≡ false → a ≡ false
 or_first true b h = h

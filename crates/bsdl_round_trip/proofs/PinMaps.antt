@@ -1,7 +1,7 @@
 -- The pin map of the canonical text breaks no rule and maps the ports as before.
-use Rattle.std.proofs.Common.{◌≡◌, ℕ, suc, zero, ◌+◌, ◌-◌, ◌<◌, ◌≤◌, List, [], ◌∷◌, ◌++◌, Bool, true, false, cond, Option, Some, None, map, length, find, refl, sym, ap, subst, ◌∙◌, arith, eq-eqb, eqb-true}
-use Rattle.std.specs.Prelude.{◌==◌, ◌||◌, not, count_by, IsTrue}
-use Rattle.std.specs.List.{list_any, list_all, flat_map, filter_map, cons_option, AllByRecursion}
+use Rattle.std.proofs.Common.{◌≡◌, ℕ, ◌+◌, ◌≤◌, List, [], ◌∷◌, ◌++◌, Bool, true, false, cond, Option, Some, None, map, find, refl, sym, ap, ◌∙◌, arith, eqb-true}
+use Rattle.std.specs.Prelude.{◌==◌, ◌||◌, not, count_by}
+use Rattle.std.specs.List.{list_any, list_all, filter_map, cons_option, AllByRecursion}
 use Rattle.std.specs.Option.{option_map, option_map_or}
 use Rattle.bsdl_lexicon.specs.Names.{same_name, is_same_name}
 use Rattle.bsdl_device.specs.declared.values.PortRange.{PortRange}
@@ -10,15 +10,14 @@ use Rattle.bsdl_device.specs.declared.written.DeclaredPort.{DeclaredPort}
 use Rattle.bsdl_device.specs.declared.entries.MappedPins.{MappedPins}
 use Rattle.bsdl_device.specs.declared.entries.MappedPins.TheVariants as pins
 use Rattle.bsdl_device.specs.declared.entries.PinEntry.{PinEntry}
-use Rattle.bsdl_device.specs.Matching.{is_filled}
-use Rattle.bsdl_device.specs.Grammar.{has_pins, IsPinMap}
+use Rattle.bsdl_device.specs.Grammar.{has_pins}
 use Rattle.bsdl_device.specs.Ports.{port_named, port_names, width}
 use Rattle.bsdl_device.specs.Checks.{is_repeated, entry_pins, has_pins_for, port_not_mapped_once, entry_misfits, all_pins}
 use Rattle.bsdl_device.specs.Denoted.{pins_of, port_of}
 use Rattle.bsdl_round_trip.proofs.Totals.{total, weigh, tally, total-flat_map, count_by-tally, Shuffled}
 use Rattle.bsdl_round_trip.proofs.Chosen.{chosen_shuffled}
 use Rattle.bsdl_round_trip.proofs.Names.{same_name-true, same_left, same_turned, find_same, at_most_one, repeats_shuffled, found_each, found_passes, found_is_none_of, some_found, found_some, all_to, all_none, none_all, all_both}
-use Rattle.bsdl_round_trip.proofs.Rebuilt.{mapped, entry_of}
+use Rattle.bsdl_round_trip.proofs.Rebuilt.{mapped}
 
 -- Pins of one port.
 

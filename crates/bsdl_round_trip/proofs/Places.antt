@@ -1,5 +1,5 @@
 -- Ports by their places: where each name stands once, a place and the name of its port say the same.
-use Rattle.std.proofs.Common.{◌≡◌, ℕ, zero, suc, ◌+◌, ◌<◌, ◌≤◌, List, [], ◌∷◌, Bool, true, false, cond, Option, Some, None, map, length, refl, sym, ap, subst, ◌∙◌, arith, eq-eqb, eqb-true}
+use Rattle.std.proofs.Common.{◌≡◌, ℕ, zero, suc, ◌+◌, ◌<◌, List, [], ◌∷◌, Bool, true, false, cond, Option, Some, None, map, length, refl, sym, ap, ◌∙◌, arith, eq-eqb, eqb-true}
 use Rattle.std.proofs.lemmas.List.{length-map}
 use Rattle.std.proofs.lemmas.Bool.{lt-ltb}
 use Rattle.std.proofs.lemmas.Option.{slice_get_within}
@@ -8,13 +8,12 @@ use Rattle.std.specs.List.{list_any, prefix_len, AllByRecursion}
 use Rattle.std.specs.Option.{option_map, option_map_or}
 use Rattle.bsdl_lexicon.specs.Names.{same_name, is_same_name}
 use Rattle.bsdl_device.specs.declared.values.PortMode.{PortMode}
-use Rattle.bsdl_device.specs.declared.values.PortMode.TheVariants as mode
 use Rattle.bsdl_device.specs.declared.values.DevPort.{DevPort}
 use Rattle.bsdl_device.specs.declared.values.Device.{Device}
 use Rattle.bsdl_device.specs.declared.written.DeclaredPort.{DeclaredPort}
 use Rattle.bsdl_device.specs.Matching.{is_filled}
 use Rattle.bsdl_device.specs.Ports.{port_named, is_mode}
-use Rattle.bsdl_device.specs.Checks.{any_pair, is_repeated, tap_names, is_scalar_port, tap_port_misfits}
+use Rattle.bsdl_device.specs.Checks.{any_pair, is_repeated, tap_names, is_scalar_port}
 use Rattle.bsdl_device.specs.RowRules.{is_tap_port}
 use Rattle.bsdl_device.specs.Denoted.{place_of}
 use Rattle.bsdl_device.specs.Canonical.{port_name}

@@ -1,7 +1,7 @@
 -- The canonical text of a device that some text spells spells that device.
-use Rattle.std.proofs.Common.{◌≡◌, ℕ, suc, zero, ◌+◌, ◌^◌, ◌<◌, ◌≤◌, List, [], ◌∷◌, ◌++◌, Bool, true, false, cond, Option, Some, None, map, length, find, refl, sym, ap, subst, ◌∙◌, arith}
-use Rattle.std.specs.Prelude.{◌&&◌, ◌||◌, ◌==◌, not, is_none, is_some, IsTrue}
-use Rattle.std.specs.List.{list_all, list_any, filter_map, AllByRecursion}
+use Rattle.std.proofs.Common.{◌≡◌, ℕ, suc, ◌+◌, ◌^◌, ◌<◌, ◌≤◌, List, [], ◌∷◌, true, false, Option, Some, None, map, length, refl, sym, ap, subst, ◌∙◌, arith}
+use Rattle.std.specs.Prelude.{◌&&◌, ◌||◌, ◌==◌, not, is_none, is_some}
+use Rattle.std.specs.List.{list_all, list_any, AllByRecursion}
 use Rattle.std.specs.Option.{option_map, option_map_or}
 use Rattle.bsdl_lexicon.specs.Names.{is_same_name}
 use Rattle.bsdl_lexicon.specs.Words.{plain}
@@ -9,7 +9,6 @@ use Rattle.bsdl_lexicon.specs.Pieces.{words_from}
 use Rattle.bsdl_device.specs.declared.values.PortRange.{PortRange}
 use Rattle.bsdl_device.specs.declared.values.PortMode.{PortMode}
 use Rattle.bsdl_device.specs.declared.values.PortMode.TheVariants as mode
-use Rattle.bsdl_device.specs.declared.values.DevPort.{DevPort}
 use Rattle.bsdl_device.specs.declared.values.Device.{Device}
 use Rattle.bsdl_device.specs.declared.written.DeclaredPort.{DeclaredPort}
 use Rattle.bsdl_device.specs.declared.written.File.{File}
@@ -24,16 +23,16 @@ use Rattle.bsdl_device.specs.Shape.{joined, file_words}
 use Rattle.bsdl_device.specs.Grammar.{has_pins}
 use Rattle.bsdl_device.specs.Ports.{declared_ports, port_named, is_mode}
 use Rattle.bsdl_device.specs.Checks.{has_pins_for, entry_pins, is_scalar_port, tap_port_misfits, tap_names, is_repeated, is_numbered, numbers_misfit}
-use Rattle.bsdl_device.specs.Denoted.{device_of, port_of, cell_of, pins_of, place_of, ordered_rows}
-use Rattle.bsdl_device.specs.Spelled.{SpellsText, SpellsDevice, SpellsFile, HasContents}
+use Rattle.bsdl_device.specs.Denoted.{device_of, port_of, place_of, ordered_rows}
+use Rattle.bsdl_device.specs.Spelled.{SpellsText}
 use Rattle.bsdl_device.specs.Canonical.{port_name, canonical_device}
 use Rattle.bsdl_round_trip.specs.Laws.{CanonicalReadsBack}
 use Rattle.bsdl_round_trip.proofs.Good.{GoodPin, all_patterns}
 use Rattle.bsdl_round_trip.proofs.Pairs.{or_first, or_second}
 use Rattle.bsdl_round_trip.proofs.Lookups.{name_at_place}
 use Rattle.bsdl_round_trip.proofs.Identifiers.{name_test}
-use Rattle.bsdl_round_trip.proofs.Rebuilt.{rebuilt_file, rebuilt_contents, entry_of, row_entries}
-use Rattle.bsdl_round_trip.proofs.PinMaps.{PortMapped, ports_mapped, pins_found, pins_filled, entry_again}
+use Rattle.bsdl_round_trip.proofs.Rebuilt.{rebuilt_file, rebuilt_contents}
+use Rattle.bsdl_round_trip.proofs.PinMaps.{PortMapped, ports_mapped, pins_found, pins_filled}
 use Rattle.bsdl_round_trip.proofs.Numbered.{NumberedFrom}
 use Rattle.bsdl_round_trip.proofs.Rows.{respelled_row, respelled_bit, own_spelling, is_known}
 use Rattle.bsdl_round_trip.proofs.Means.{Keeps, keeps, none_broken}

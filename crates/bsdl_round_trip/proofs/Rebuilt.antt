@@ -1,9 +1,8 @@
 -- The file and the contents of a device's canonical text.
-use Rattle.std.proofs.Common.{◌≡◌, ℕ, ◌+◌, List, [], ◌∷◌, ◌++◌, length, map, Bool, true, false, cond, Option, Some, None, refl, sym, ap, ◌∙◌}
+use Rattle.std.proofs.Common.{◌≡◌, ℕ, ◌+◌, List, [], ◌∷◌, length, map, Bool, true, false, Option, Some, None, refl, ap, ◌∙◌}
 use Rattle.std.specs.Prelude.{◌/◌, ◌^◌, nat_le, codes, if◌then◌else◌}
-use Rattle.std.specs.List.{flat_map, filter, enumerate_from}
-use Rattle.std.specs.Option.{option_map, option_map_or}
-use Rattle.cell_library.specs.declared.codes.Bits.{Bits}
+use Rattle.std.specs.List.{flat_map, filter}
+use Rattle.std.specs.Option.{option_map}
 use Rattle.cell_library.specs.declared.codes.Instr.{Instr}
 use Rattle.cell_library.specs.declared.codes.Instr.TheVariants as instr
 use Rattle.cell_library.specs.declared.codes.Opcode.{Opcode}
@@ -23,7 +22,6 @@ use Rattle.bsdl_device.specs.declared.written.File.{File}
 use Rattle.bsdl_device.specs.declared.entries.MappedPins.{MappedPins}
 use Rattle.bsdl_device.specs.declared.entries.MappedPins.TheVariants as pins
 use Rattle.bsdl_device.specs.declared.entries.PinEntry.{PinEntry}
-use Rattle.bsdl_device.specs.declared.entries.OpcodeEntry.{OpcodeEntry}
 use Rattle.bsdl_device.specs.declared.entries.Register.TheVariants as register
 use Rattle.bsdl_device.specs.declared.entries.AccessEntry.{AccessEntry}
 use Rattle.bsdl_device.specs.declared.entries.PortBit.{PortBit}

@@ -1,16 +1,14 @@
 -- The rows of the canonical text keep the rules on rows and describe the cells as before.
-use Rattle.std.proofs.Common.{◌≡◌, ℕ, suc, zero, ◌+◌, ◌<◌, ◌≤◌, List, [], ◌∷◌, ◌++◌, Bool, true, false, cond, Option, Some, None, map, length, find, refl, sym, ap, subst, ◌∙◌, arith, add-one}
-use Rattle.std.specs.Prelude.{◌==◌, ◌||◌, ◌&&◌, not, is_some, is_none, count_by}
-use Rattle.std.specs.List.{list_any, AllByRecursion}
+use Rattle.std.proofs.Common.{◌≡◌, ℕ, suc, List, [], ◌∷◌, Bool, true, false, Option, Some, None, map, refl, sym, ap, ◌∙◌, add-one}
+use Rattle.std.specs.Prelude.{◌==◌, ◌||◌, ◌&&◌, not, is_some, is_none}
+use Rattle.std.specs.List.{list_any}
 use Rattle.std.specs.Option.{option_map, option_map_or}
 use Rattle.std.proofs.Math.Bool.{and-false}
-use Rattle.cell_library.specs.declared.codes.Function.{Function}
 use Rattle.cell_library.specs.declared.codes.Function.TheVariants as function
 use Rattle.cell_library.specs.declared.codes.BoundaryKind.TheVariants as cell
 use Rattle.bsdl_lexicon.specs.Names.{same_name, is_same_name}
 use Rattle.bsdl_device.specs.declared.values.PortMode.{PortMode}
 use Rattle.bsdl_device.specs.declared.values.PortMode.TheVariants as mode
-use Rattle.bsdl_device.specs.declared.values.DevPort.{DevPort}
 use Rattle.bsdl_device.specs.declared.values.DevBit.{DevBit}
 use Rattle.bsdl_device.specs.declared.values.Disable.{Disable}
 use Rattle.bsdl_device.specs.declared.values.CellRow.{CellRow}
@@ -21,10 +19,9 @@ use Rattle.bsdl_device.specs.declared.entries.PortBit.{PortBit}
 use Rattle.bsdl_device.specs.declared.entries.RowEntry.{RowEntry}
 use Rattle.bsdl_device.specs.Ports.{port_named, has_bit, same_bit, same_index, is_mode}
 use Rattle.bsdl_device.specs.Checks.{any_pair, is_numbered}
-use Rattle.bsdl_device.specs.RowRules.{is_control, is_cell, is_function, is_disabled_by, control_fails, lacks_port, is_system_port, is_system_bit, port_misfits, is_row_of, bit_not_in_one_row, stands_at, input_fails, clock_fails, output_fails, bidir_fails, disable_misfits, takes_disable, control_is_unknown, differ, disables_disagree, rows_disagree, row_misfits}
-use Rattle.bsdl_device.specs.Denoted.{place_of, port_of, bit_of, cell_of}
-use Rattle.bsdl_device.specs.Canonical.{port_name}
-use Rattle.bsdl_round_trip.proofs.Totals.{total, weigh, tally, total_same, total-map, count_by-tally, any_shuffled, count_shuffled, Shuffled}
+use Rattle.bsdl_device.specs.RowRules.{is_control, is_cell, is_function, is_disabled_by, control_fails, lacks_port, is_system_port, is_system_bit, port_misfits, is_row_of, bit_not_in_one_row, stands_at, input_fails, clock_fails, output_fails, bidir_fails, disable_misfits, control_is_unknown, differ, disables_disagree, rows_disagree, row_misfits}
+use Rattle.bsdl_device.specs.Denoted.{port_of, bit_of, cell_of}
+use Rattle.bsdl_round_trip.proofs.Totals.{weigh, total_same, total-map, count_by-tally, any_shuffled, count_shuffled, Shuffled}
 use Rattle.bsdl_round_trip.proofs.Pairs.{or_first, or_second, neither, any_same, any-map, pair-map, pairs_shuffled}
 use Rattle.bsdl_round_trip.proofs.Names.{same_name-true, same_right, found_passes}
 use Rattle.bsdl_round_trip.proofs.Lookups.{port_named_same, place_of_same, name_at_place}

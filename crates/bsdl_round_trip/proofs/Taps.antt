@@ -1,5 +1,5 @@
 -- The test access port's names, as the ports spell them.
-use Rattle.std.proofs.Common.{◌≡◌, ℕ, List, [], ◌∷◌, Bool, true, false, cond, Option, Some, None, map, find, refl, sym, ap, subst, ◌∙◌}
+use Rattle.std.proofs.Common.{◌≡◌, ℕ, List, [], ◌∷◌, Bool, false, cond, Option, Some, None, map, refl, sym, ap, ◌∙◌}
 use Rattle.std.specs.Prelude.{◌||◌, ◌&&◌, not, is_none}
 use Rattle.std.specs.List.{list_any, filter}
 use Rattle.std.specs.Option.{option_map_or}
@@ -10,14 +10,14 @@ use Rattle.bsdl_device.specs.declared.written.DeclaredPort.{DeclaredPort}
 use Rattle.bsdl_device.specs.declared.written.TapNames.{TapNames}
 use Rattle.bsdl_device.specs.declared.entries.PinEntry.{PinEntry}
 use Rattle.bsdl_device.specs.Ports.{port_named, is_mode}
-use Rattle.bsdl_device.specs.Checks.{any_pair, is_repeated, tap_names, is_scalar_port, tap_port_misfits}
-use Rattle.bsdl_device.specs.RowRules.{is_tap_port, is_system_port, system_bits}
+use Rattle.bsdl_device.specs.Checks.{is_repeated, tap_names, is_scalar_port, tap_port_misfits}
+use Rattle.bsdl_device.specs.RowRules.{is_system_port, system_bits}
 use Rattle.bsdl_device.specs.Ports.{bits_of}
 use Rattle.bsdl_device.specs.Denoted.{place_of, port_of}
 use Rattle.bsdl_device.specs.Canonical.{port_name}
-use Rattle.bsdl_round_trip.proofs.Pairs.{or_first, or_second, neither}
+use Rattle.bsdl_round_trip.proofs.Pairs.{or_first, or_second}
 use Rattle.bsdl_round_trip.proofs.Names.{same_left, same_right}
-use Rattle.bsdl_round_trip.proofs.Lookups.{port_named_same, place_of_same, same_at_place, name_at_place}
+use Rattle.bsdl_round_trip.proofs.Lookups.{port_named_same, same_at_place}
 
 -- the same names, without regard to case
 pub record SameTap (a b : TapNames) : Type 0 where

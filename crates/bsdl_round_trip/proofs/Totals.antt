@@ -1,6 +1,6 @@
 -- Sums over lists whose order doesn't matter.
-use Rattle.std.proofs.Common.{◌≡◌, ℕ, zero, suc, ◌+◌, ◌<◌, ◌≤◌, List, [], ◌∷◌, ◌++◌, Bool, true, false, cond, ◌||◌, not, map, length, refl, sym, ap, subst, ◌∙◌, arith}
-use Rattle.std.specs.List.{sum_by, count_by, list_any, flat_map}
+use Rattle.std.proofs.Common.{◌≡◌, ℕ, ◌+◌, List, [], ◌∷◌, ◌++◌, Bool, true, false, cond, ◌||◌, map, refl, sym, ap, ◌∙◌, arith}
+use Rattle.std.specs.List.{count_by, list_any, flat_map}
 use Rattle.std.proofs.lemmas.List.Sums.{sum_by-cons}
 
 -- the sum of the weights

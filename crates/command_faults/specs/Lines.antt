@@ -1,5 +1,5 @@
 -- The line of each fault: its name and its fields, with one blank between them, and LF. Own.
-use Rattle.std.specs.Prelude.{◌≡◌, ℕ, List, [], ◌∷◌, ◌++◌, map, codes}
+use Rattle.std.specs.Prelude.{ℕ, List, [], ◌∷◌, map, codes}
 use Rattle.std.specs.Fmt.{decimal}
 use Rattle.link_model.specs.declared.fault.BitName.{BitName}
 use Rattle.link_model.specs.declared.fault.LinkFault.{LinkFault}

@@ -40,11 +40,6 @@ take_push [] k x at = absurd (cc)
 take_push {X = X} (y ∷ xs) zero x at = ap (λ (z : X). z ∷ []) (same_Some y x at)
 take_push (y ∷ xs) (suc k) x at = let e : suc k + 1 ≡ suc (k + 1) = omega arith in rw e (ap (λ zs. y ∷ zs) (take_push xs k x at))
 
-pub get_within : {X : Type 0} (xs : List X) (k : ℕ) → k < length xs → (x : X) × (slice_get xs k ≡ Some x)
-get_within [] k less = absurd (omega arith)
-get_within (x ∷ xs) zero less = (x, refl)
-get_within (x ∷ xs) (suc k) less = get_within xs k (omega arith)
-
 pub get_take : {X : Type 0} (xs : List X) (n k : ℕ) (x : X) → k < n → slice_get xs k ≡ Some x → slice_get (take n xs) k ≡ Some x
 get_take [] n k x less at = absurd (cc)
 get_take (y ∷ xs) zero k x less at = absurd (omega arith)

@@ -5,6 +5,7 @@ use Rattle.std.specs.Option.{option_map}
 use Rattle.std.proofs.lemmas.List.{length-replicate}
 use Rattle.std.proofs.lemmas.Bool.{cases_eq, cases_lt}
 use Rattle.std.proofs.lemmas.Option.{same_Some, slice_get_within, option_and_then_some}
+use Rattle.list_laws.proofs.Lists.{slice_get_there}
 use Rattle.netlist_model.specs.declared.Dir.TheVariants.{Output}
 use Rattle.netlist_model.specs.declared.NetId.{NetId}
 use Rattle.netlist_model.specs.declared.PinBit.{PinBit}
@@ -16,7 +17,7 @@ use Rattle.netlist_link.specs.Linked.{LinkedView}
 use Rattle.scan_vectors.specs.declared.lines.Line.{Line}
 use Rattle.event_scripts.specs.Pins.{side_at, net_of, TakesValue}
 use Rattle.event_scripts.specs.Starts.{IsPortBefore, IsBitBefore, AreMarked, IsAfter}
-use Rattle.event_scripts.proofs.Flags.{get_set_same, get_set_other, get_replicate, get_within}
+use Rattle.event_scripts.proofs.Flags.{get_set_same, get_set_other, get_replicate}
 
 nothing : (k : ℕ) (line : Line) → slice_get [] k ≡ Some line → ⊥
 nothing k line at = cc
@@ -99,7 +100,7 @@ pub bit_there : (N : NetlistView) (number : ℕ) (range : Option Range) (bit : �
     → (net : NetId) × (net_of N (record { port = record { 0 = number }; bit = bit }) ≡ Some net)
 bit_there N number range bit laid has less =
     let wide : length has.port.nets ≡ width_of range = laid.widths number has.port has.there ∙ ap width_of has.range_is in
-    let found = get_within has.port.nets bit (omega arith) in
+    let found = slice_get_there has.port.nets bit (omega arith) in
     (found.0, ap (option_and_then (λ (p : PortView). slice_get p.nets bit)) has.there ∙ found.1)
 
 -- the bit takes a value where its port does

@@ -4,6 +4,7 @@ use Rattle.std.specs.Prelude.{slice_get}
 use Rattle.std.proofs.lemmas.List.{length_push, length-map, take_all}
 use Rattle.std.proofs.lemmas.Bool.{cases_eq, cases_lt}
 use Rattle.std.proofs.lemmas.Option.{same_Some, slice_get_within, slice_get_read, slice_get-get_or}
+use Rattle.list_laws.proofs.Lists.{slice_get_there}
 use Rattle.netlist_model.specs.declared.PinBit.{PinBit}
 use Rattle.netlist_link.specs.Linked.{LinkedView}
 use Rattle.scan_vectors.specs.declared.lines.Act.TheVariants.{Start}
@@ -17,7 +18,7 @@ use Rattle.event_scripts.specs.Rules.BreaksRule.{output, input, again, late}
 use Rattle.event_scripts.specs.Rules.AreIllegalAt.{broken, unstarted}
 use Rattle.event_scripts.specs.Scripts.{IsFound, IsScriptOf, IsStartAt, IsPlayable, IsResolved, IsSpelled}
 use Rattle.event_scripts.specs.Starts.{IsAfter, IsWaiting, IsComplete, IsTaken, TakesLine}
-use Rattle.event_scripts.proofs.Flags.{get_push, get_take, get_within, take_push}
+use Rattle.event_scripts.proofs.Flags.{get_push, get_take, take_push}
 use Rattle.event_scripts.proofs.Steps.{all_started, start_lacks}
 
 -- there are as many numbers as lines
@@ -182,7 +183,7 @@ gone_start : (L : LinkedView) (lines : Lines) (place : ℕ) (script : List Scrip
 gone_start L lines place script starts all gone pin has =
     let within = slice_get_within lines.list has.place has.line has.there in
     let count = gone.count in
-    let found = get_within script has.place (omega arith) in
+    let found = slice_get_there script has.place (omega arith) in
     let is = gone.each has.place found.0 found.1 in
     let same : has.line ≡ is.line = same_Some has.line is.line (sym has.there ∙ is.there) in
     let P : Line → Type 0 = λ l. Names L (pin_of l) pin in (

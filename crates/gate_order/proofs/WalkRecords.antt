@@ -2,13 +2,14 @@
 use Rattle.std.proofs.Common.{◌≡◌, ◌≢◌, ℕ, ◌+◌, ◌-◌, ◌<◌, ◌≤◌, ◌⊎◌, List, [], ◌∷◌, ◌++◌, length, slice_index, set, take, drop, reverse, replicate, Contains, inl, inr, arith, refl, sym, ap, ◌∙◌}
 use Rattle.std.proofs.lemmas.List.{get_or_default, get_or-take, get_or-replicate, get_or-reverse, get_or-drop, length-take, length-reverse, length-drop, get_or_past, length-replicate}
 use Rattle.std.proofs.lemmas.Bool.Decides.{leb_tells}
+use Rattle.list_laws.proofs.Lists.{at_set}
 use Rattle.gate_order.specs.declared.walk.State.{State}
 use Rattle.gate_order.specs.declared.walk.State.TheVariants.{Unseen, OnPath, Placed}
 use Rattle.gate_order.specs.declared.walk.Walk.{Walk}
 use Rattle.gate_order.specs.State.{state}
 use Rattle.gate_order.specs.Walk.{IsWalk, Walks, steps_of, KeepsSeen}
 use Rattle.gate_order.specs.Graph.{reads_of, IsCycle, IsOrder}
-use Rattle.gate_order.proofs.WalkSteps.{at_set, enter, finish, path_once, enter_steps, finish_steps}
+use Rattle.gate_order.proofs.WalkSteps.{enter, finish, path_once, enter_steps, finish_steps}
 
 seen_after_set : (states : List State) (v x : ℕ) (s : State) → v < length states → s ≢ Unseen → state states x ≢ Unseen → state (set states v s) x ≢ Unseen
 seen_after_set states v x s h new old e = elim (at_set states v x s Unseen h) [ inl f ↦ new (sym f.1 ∙ e) | inr f ↦ old (sym f.1 ∙ e) ]

@@ -6,15 +6,12 @@ use Rattle.std.proofs.lemmas.List.{get_or-take}
 use Rattle.std.proofs.lemmas.List.Sums.{sum_by-set}
 use Rattle.std.proofs.Math.ListN.{get_or-append}
 use Rattle.std.proofs.Math.Seq.{get_or-append_seam}
+use Rattle.list_laws.proofs.Lists.{at_set}
 use Rattle.gate_order.specs.declared.walk.State.{State}
 use Rattle.gate_order.specs.declared.walk.State.TheVariants.{Unseen, OnPath, Placed}
 use Rattle.gate_order.specs.State.{state, weight}
 use Rattle.gate_order.specs.Walk.{IsWalk, steps_left}
 use Rattle.gate_order.specs.Graph.{reads_of}
-
--- what stands at a place after a write
-pub at_set : {X : Type 0} (xs : List X) (i j : ℕ) (y d : X) → i < length xs → ((j ≡ i) × (get_or (set xs i y) j d ≡ y)) ⊎ ((j ≢ i) × (get_or (set xs i y) j d ≡ get_or xs j d))
-at_set xs i j y d h = elim (eqb_tells j i) [ inl e ↦ inl (e.1, get_or-set_at xs i j y d e.1 h) | inr e ↦ inr (e.1, get_or-set_other xs i j y d e.1) ]
 
 -- and after a push
 pub at_push : {X : Type 0} (xs : List X) (y d : X) (j : ℕ) → j < length (xs ++ y ∷ []) → ((j ≡ length xs) × (get_or (xs ++ y ∷ []) j d ≡ y)) ⊎ ((j < length xs) × (get_or (xs ++ y ∷ []) j d ≡ get_or xs j d))

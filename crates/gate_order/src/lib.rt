@@ -11,5 +11,5 @@ mod walk;
 
 pub use fault::OrderFault;
 pub use graph::Graph;
-pub use laws::some_order;
+pub use laws::{reads_stand_earlier, some_order};
 pub use order::order_of;

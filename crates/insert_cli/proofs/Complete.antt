@@ -1,5 +1,5 @@
 -- A fault that stands where the input is accepted and the shelf doesn't fail is want of memory.
-use Rattle.std.proofs.Common.{◌≡◌, ℕ, List, Option, Some, inl, inr, ◌⊎◌, sym, subst, ◌∙◌, arith, refl}
+use Rattle.std.proofs.Common.{◌≡◌, ℕ, List, Option, Some, inl, inr, sym, subst, ◌∙◌, arith, refl}
 use Rattle.edge_io.specs.Shelf.{WhereTold}
 use Rattle.verilog_lexicon.specs.declared.word.Spanned.{Spanned}
 use Rattle.verilog_tree.specs.Texts.{SpellsModule}

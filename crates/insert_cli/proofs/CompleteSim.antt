@@ -1,5 +1,5 @@
 -- A fault that stands where both texts are free of faults and no count rises is want of memory.
-use Rattle.std.proofs.Common.{◌≡◌, ℕ, ◌⊎◌, List, Option, Some, None, inl, inr, sym, subst, ◌∙◌, arith, refl}
+use Rattle.std.proofs.Common.{◌≡◌, ℕ, List, Option, Some, None, inl, inr, sym, subst, ◌∙◌, refl}
 use Rattle.verilog_tree.specs.declared.tree.Module.{Module}
 use Rattle.link_model.specs.declared.fault.LinkFault.{LinkFault}
 use Rattle.link_model.specs.Late.{IsLinkable}
@@ -20,8 +20,7 @@ use Rattle.command_faults.specs.declared.status.Status.TheVariants as status
 use Rattle.command_faults.specs.Statuses.{status_of, link_status, event_status, script_status}
 use Rattle.insert_cli.specs.declared.command.Conversion.TheVariants.{Canon}
 use Rattle.insert_cli.specs.Commands.{SimForm}
-use Rattle.insert_cli.specs.Seen.{ShelfSeen, SinkSeen, NameRose, SinkRose, WhereBothTold}
-use Rattle.insert_cli.specs.EdgeFaults.{StandsInReadingTwo}
+use Rattle.insert_cli.specs.Seen.{ShelfSeen, SinkSeen, NameRose, SinkRose}
 use Rattle.insert_cli.specs.Causes.{Stands, StandsInWords}
 use Rattle.insert_cli.specs.SimFaults.{StandsInPlay, StandsInSim}
 use Rattle.insert_cli.specs.Simulations.{IsSimulable, HasLinkFault, HasScriptFault}

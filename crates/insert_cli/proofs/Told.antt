@@ -9,7 +9,7 @@ use Rattle.insert_cli.specs.Commands.{IsShort, IsLong}
 use Rattle.insert_cli.specs.Conversions.{IsConverted, IsAccepted, IsSpelled}
 use Rattle.insert_cli.specs.Seen.{ShelfSeen, NameRose}
 use Rattle.insert_cli.specs.EdgeFaults.{StandsInReading}
-use Rattle.insert_cli.specs.ConvertFaults.{StandsInText, IsWritten, IsWrittenInPart, IsCutShort}
+use Rattle.insert_cli.specs.ConvertFaults.{StandsInText, IsWritten, IsCutShort}
 
 -- the text is the bytes that are told
 abbrev pub IsTold : List ℕ → List ℕ → Type 0
@@ -49,13 +49,22 @@ pub accepted_told : (c : Conversion) (told : Option (List ℕ)) (text printed : 
     → WhereTold told (IsAccepted c)
 accepted_told c told text printed is short made = told_as told text (IsAccepted c) is (record { short = short; spelled = spelled_of c text printed made })
 
-pub written_told : (c : Conversion) (output : List ℕ) (shelf : ShelfSeen) (told : Option (List ℕ)) (text printed : List ℕ) → WhereTold told (IsTold text) → IsShort text
-    → IsConverted c text printed → shelf.written_after output ≡ told_if shelf.tells printed → WhereTold told (IsWritten c output shelf)
-written_told c output shelf told text printed is short made there =
-    told_as told text (IsWritten c output shelf) is (short, (printed, (made, there)))
+-- a text that is short, and what the conversion makes of it
+abbrev Made : Conversion → List ℕ → List ℕ → Type 0
+Made c printed bytes = IsShort bytes × IsConverted c bytes printed
 
-pub cut_told : (c : Conversion) (input output : List ℕ) (shelf : ShelfSeen) (mid : Option (List ℕ)) (text printed put : List ℕ) → WhereTold (shelf.held input) (IsTold text) → IsConverted c text printed
-    → put ≡ printed → mid ≡ shelf.written output → (shelf.written_after output ≡ mid) ⊎ ((k : ℕ) × (shelf.written_after output ≡ told_if shelf.tells (take k put))) → IsCutShort c input output shelf
-cut_told c input output shelf mid text printed put is made same kept (inl as_before) = inl (as_before ∙ kept)
-cut_told c input output shelf mid text printed put is made same kept (inr (k, front)) =
-    inr (told_as (shelf.held input) text (IsWrittenInPart c output shelf) is (printed, (k, (made, front ∙ ap (λ (l : List ℕ). told_if shelf.tells (take k l)) same))))
+pub written_told : (c : Conversion) (input output : List ℕ) (shelf : ShelfSeen) (text printed : List ℕ) → WhereTold (shelf.held input) (IsTold text) → IsShort text
+    → IsConverted c text printed → shelf.written_after output ≡ told_if shelf.tells printed → IsWritten c input output shelf
+written_told c input output shelf text printed is short made there =
+    record { text = printed; written = there; converted = told_as (shelf.held input) text (Made c printed) is (short, made) }
+
+pub cut_told : (c : Conversion) (input output : List ℕ) (shelf : ShelfSeen) (mid : Option (List ℕ)) (text printed put : List ℕ) → WhereTold (shelf.held input) (IsTold text) → IsShort text
+    → IsConverted c text printed → put ≡ printed → mid ≡ shelf.written output
+    → (shelf.written_after output ≡ mid) ⊎ ((k : ℕ) × (shelf.written_after output ≡ told_if shelf.tells (take k put))) → IsCutShort c input output shelf
+cut_told c input output shelf mid text printed put is short made same kept (inl as_before) = inl (as_before ∙ kept)
+cut_told c input output shelf mid text printed put is short made same kept (inr (k, front)) = inr (record {
+  text = printed;
+  count = k;
+  written = front ∙ ap (λ (l : List ℕ). told_if shelf.tells (take k l)) same;
+  converted = told_as (shelf.held input) text (Made c printed) is (short, made);
+})

@@ -1,6 +1,6 @@
 -- What a command comes to: its end, or the fault that stands, its line and what it leaves. Own.
 use Rattle.std.specs.Prelude.{◌≡◌, ℕ, ◌⊎◌, List, take, Option, Some}
-use Rattle.edge_io.specs.Shelf.{WhereTold, appended}
+use Rattle.edge_io.specs.Shelf.{appended}
 use Rattle.command_faults.specs.declared.fault.Fault.{Fault}
 use Rattle.command_faults.specs.declared.fault.Fault.TheVariants as fault
 use Rattle.command_faults.specs.declared.status.Status.{Status}
@@ -16,11 +16,12 @@ use Rattle.insert_cli.specs.ConvertFaults.{StandsInConvert, IsWritten, IsCutShor
 use Rattle.insert_cli.specs.Simulations.{IsSimulable, IsEnd}
 use Rattle.insert_cli.specs.SimFaults.{StandsInSim, IsPlayed, GaveFront}
 
--- The command came to its end: a conversion's output is written and nothing is put, or the text of a run is put.
+-- The command came to its end: a conversion's output is written and nothing is put, or a run's text is put.
 abbrev pub Finishes : List (List ℕ) → ShelfSeen → SinkSeen → Status → Type 0
-Finishes words shelf sink end = OfConvert words (λ c input output. (end ≡ status.Done) × (sink.given_after ≡ sink.given)
-    × WhereTold (shelf.held input) (IsWritten c output shelf))
-    ⊎ OfSim words (λ netlist events. AreShort netlist events shelf × IsPlayed (shelf.held netlist) (shelf.held events) sink end)
+Finishes words shelf sink end = OfConvert words (λ c input output.
+    (end ≡ status.Done) × (sink.given_after ≡ sink.given) × IsWritten c input output shelf)
+    ⊎ OfSim words (λ netlist events.
+    AreShort netlist events shelf × IsPlayed (shelf.held netlist) (shelf.held events) sink end)
 
 -- the fault stands in the words
 abbrev pub StandsInWords : List (List ℕ) → Fault → Type 0
@@ -60,13 +61,14 @@ CutsShort words shelf = (c : Conversion) (input output : List ℕ) → RunsConve
 
 -- A conversion of an accepted text, where no count of its names rises, is done or wants memory.
 abbrev pub CompletesConvert : List (List ℕ) → ShelfSeen → Status → Type 0
-CompletesConvert words shelf end = (c : Conversion) (input output bytes : List ℕ) → RunsConvert words c input output
-    → shelf.held input ≡ Some bytes → IsAccepted c bytes → (NameRose shelf input → ⊥) → (NameRose shelf output → ⊥)
-    → (end ≡ status.Done) ⊎ (end ≡ status.Memory)
+CompletesConvert words shelf end = (c : Conversion) (input output bytes : List ℕ)
+    → RunsConvert words c input output → shelf.held input ≡ Some bytes → IsAccepted c bytes
+    → (NameRose shelf input → ⊥) → (NameRose shelf output → ⊥) → (end ≡ status.Done) ⊎ (end ≡ status.Memory)
 
 -- A simulation of texts in which no fault stands, where no count of its names or of the sink rises, comes to
 -- its end or wants memory.
 abbrev pub CompletesSim : List (List ℕ) → ShelfSeen → SinkSeen → Status → Type 0
 CompletesSim words shelf sink end = (netlist events net text : List ℕ) → SimForm words netlist events
     → shelf.held netlist ≡ Some net → shelf.held events ≡ Some text → IsSimulable net text
-    → (NameRose shelf netlist → ⊥) → (NameRose shelf events → ⊥) → (SinkRose sink → ⊥) → IsEnd end ⊎ (end ≡ status.Memory)
+    → (NameRose shelf netlist → ⊥) → (NameRose shelf events → ⊥) → (SinkRose sink → ⊥)
+    → IsEnd end ⊎ (end ≡ status.Memory)

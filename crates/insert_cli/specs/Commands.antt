@@ -61,7 +61,8 @@ Writes words name = (c : Conversion) × ((input : List ℕ) × RunsConvert words
 
 -- a conversion runs on a command's names, of which this holds
 abbrev pub OfConvert : List (List ℕ) → (Conversion → List ℕ → List ℕ → Type 0) → Type 0
-OfConvert words P = (c : Conversion) × ((input : List ℕ) × ((output : List ℕ) × (RunsConvert words c input output × P c input output)))
+OfConvert words P = (c : Conversion) × ((input : List ℕ) × ((output : List ℕ)
+    × (RunsConvert words c input output × P c input output)))
 
 -- `sim` runs on a command's names, of which this holds
 abbrev pub OfSim : List (List ℕ) → (List ℕ → List ℕ → Type 0) → Type 0

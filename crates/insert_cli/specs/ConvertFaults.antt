@@ -25,17 +25,20 @@ StandsInConvert c input output shelf f = StandsInReading input shelf f
     ⊎ ((WhereTold (shelf.held input) IsShort × StandsInText c (shelf.held input) f)
     ⊎ (WhereTold (shelf.held input) (IsAccepted c) × StandsInWriting output shelf f))
 
--- The bytes are accepted, and what is written is what the conversion makes of them.
-abbrev pub IsWritten : Conversion → List ℕ → ShelfSeen → List ℕ → Type 0
-IsWritten c output shelf bytes =
-    IsShort bytes × ((text : List ℕ) × (IsConverted c bytes text × (shelf.written_after output ≡ told_if shelf.tells text)))
+-- A text is written; where the input is told, it is short, and the text is what the conversion makes of it.
+pub record IsWritten (c : Conversion) (input output : List ℕ) (shelf : ShelfSeen) : Type 0 where
+  pub text : List ℕ
+  pub written : shelf.written_after output ≡ told_if shelf.tells text
+  pub converted : WhereTold (shelf.held input) (λ bytes. IsShort bytes × IsConverted c bytes text)
 
--- What is written is a front of that text.
-abbrev pub IsWrittenInPart : Conversion → List ℕ → ShelfSeen → List ℕ → Type 0
-IsWrittenInPart c output shelf bytes =
-    (text : List ℕ) × ((k : ℕ) × (IsConverted c bytes text × (shelf.written_after output ≡ told_if shelf.tells (take k text))))
+-- A front of such a text is written.
+pub record IsWrittenInPart (c : Conversion) (input output : List ℕ) (shelf : ShelfSeen) : Type 0 where
+  pub text : List ℕ
+  pub count : ℕ
+  pub written : shelf.written_after output ≡ told_if shelf.tells (take count text)
+  pub converted : WhereTold (shelf.held input) (λ bytes. IsShort bytes × IsConverted c bytes text)
 
 -- A write failed: what is written is as before, or a front of the converted text.
 abbrev pub IsCutShort : Conversion → List ℕ → List ℕ → ShelfSeen → Type 0
 IsCutShort c input output shelf =
-    (shelf.written_after output ≡ shelf.written output) ⊎ WhereTold (shelf.held input) (IsWrittenInPart c output shelf)
+    (shelf.written_after output ≡ shelf.written output) ⊎ IsWrittenInPart c input output shelf

@@ -29,7 +29,8 @@ StandsInNetlist net f = ⊥
 abbrev pub StandsInPlay : Option (List ℕ) → Option (List ℕ) → SinkSeen → Fault → Type 0
 StandsInPlay net events sink (fault.Netlist f) = WhereTold net (λ bytes. IsTextFault bytes f)
 StandsInPlay net events sink (fault.Link f) = WhereTold net (HasLinkFault f)
-StandsInPlay net events sink (fault.Events f) = WhereTold net SpellsLinkable × WhereTold events (λ bytes. IsFault bytes f)
+StandsInPlay net events sink (fault.Events f) =
+    WhereTold net SpellsLinkable × WhereTold events (λ bytes. IsFault bytes f)
 StandsInPlay net events sink (fault.Script f) =
     WhereTold net SpellsLinkable × WhereTold events SpellsEvents × WhereBothTold net events (HasScriptFault f)
 StandsInPlay net events sink (fault.WriteFault name) = StandsInPutting sink (fault.WriteFault name)

@@ -18,13 +18,15 @@ use edge_io::text::Text;
 use edge_io::whole::write_whole;
 use std::alloc::Global;
 use verilog_printing::print_module;
-use verilog_texts::{TextFault, read_module};
+use verilog_texts::{TextFault, bytes_spell_one_tree, read_module};
 
 // The canonical text of the module that a text spells.
 fn canonical_module(alloc: Global, text: Text) -> Result<Text, TextFault>
     ensures found { IfOk result (IsCanonicalModule text) }
     ensures fault { IfErr result (IsTextFault text) }
 {
+    // A law that the proof uses.
+    bytes_spell_one_tree();
     let tree = read_module(alloc, text)?;
     Ok(print_module(alloc, &tree)?)
 }
@@ -58,8 +60,8 @@ pub fn convert<'a, S: Shelf>(
     input: &'a str,
     output: &'a str,
 ) -> Result<(), Fault<'a>>
-    ensures done { OnOk result (WhereTold (S.held shelf.old input.now) (IsWritten conversion output.now
-        (shelf_seen S.tells S.held S.written S.faults shelf.old shelf.new))) }
+    ensures done { OnOk result (IsWritten conversion input.now output.now
+        (shelf_seen S.tells S.held S.written S.faults shelf.old shelf.new)) }
     ensures fault { IfErr result (StandsInConvert conversion input.now output.now
         (shelf_seen S.tells S.held S.written S.faults shelf.old shelf.new)) }
 
@@ -69,7 +71,8 @@ pub fn convert<'a, S: Shelf>(
     ensures cut_short { IfErr result (λ fault. (status_of fault ≡ Status.WriteFault)
         → IsCutShort conversion input.now output.now
         (shelf_seen S.tells S.held S.written S.faults shelf.old shelf.new)) }
-    ensures others { (name : List ℕ) → name ≢ output.now → S.written shelf.new name ≡ S.written shelf.old name }
+    ensures others { (name : List ℕ) → name ≢ output.now
+        → S.written shelf.new name ≡ S.written shelf.old name }
     ensures held { SameTold (S.held shelf.old) (S.held shelf.new) }
     ensures later { NoneFell (S.faults shelf.old) (S.faults shelf.new) }
 {

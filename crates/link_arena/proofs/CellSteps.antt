@@ -4,6 +4,7 @@ use Rattle.std.specs.Prelude.{slice_get, IsSome, MatchOption, ⊤}
 use Rattle.std.proofs.lemmas.List.{length-take}
 use Rattle.std.proofs.lemmas.Bool.Decides.{eqb_tells}
 use Rattle.std.proofs.lemmas.Option.{slice_get_within}
+use Rattle.list_laws.proofs.Lists.{slice_get_there}
 use Rattle.netlist_model.specs.declared.NetId.{NetId}
 use Rattle.netlist_model.specs.Lists.{CellView, NetlistView, cell_at, cell_count}
 use Rattle.netlist_model.specs.Contained.{IsDense}
@@ -13,7 +14,7 @@ use Rattle.link_model.specs.Fits.{FitsCell}
 use Rattle.link_model.specs.Denoted.{AreCells, IsLive, IsCell}
 use Rattle.link_drivers.specs.Drivers.{DrivesNet}
 use Rattle.link_arena.specs.Named.{DriveApart}
-use Rattle.link_arena.proofs.Rows.{at-below, at-take}
+use Rattle.link_arena.proofs.Rows.{at-take}
 
 same-number : (a b : ℕ) → (a ≡ b) ⊎ (a ≢ b)
 same-number a b = elim (eqb_tells a b) [ inl e ↦ inl e.1 | inr e ↦ inr e.1 ]
@@ -25,7 +26,7 @@ live-some table (Some cell) named live = refl
 -- the live cells have the numbers of the named ones
 pub dense-cells : (table : List (List ℕ)) (N : NetlistView) (cells : List NamedCell) → AreCells table N cells → cell_count N ≡ length cells → IsDense N
 dense-cells table N cells are count i h =
-    let named = at-below cells i (omega (arith, count)) in live-some table (cell_at N i) named.0 (are.each i named.0 named.1)
+    let named = slice_get_there cells i (omega (arith, count)) in live-some table (cell_at N i) named.0 (are.each i named.0 named.1)
 
 -- what a live cell's named cell drives
 named-drives : (table : List (List ℕ)) (N : NetlistView) (cells : List NamedCell) (i j : ℕ) (cell : CellView) (net : ℕ) → AreCells table N (take i cells) → i ≤ length cells → cell_at N j ≡ Some cell
@@ -35,7 +36,7 @@ named-drives table N cells i j cell net are few at output =
     let some : IsSome (cell_at N j) = rw at refl in
     let inside = are.only j some in
     let less : j < i = omega (arith, count, inside) in
-    let named = at-below (take i cells) j inside in
+    let named = slice_get_there (take i cells) j inside in
     let is : IsCell table cell named.0 = rw at at (are.each j named.0 named.1) in
     (less, (named.0, record { there = sym (at-take cells i j less) ∙ named.1; output = sym is.output ∙ output }))
 

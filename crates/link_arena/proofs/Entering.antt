@@ -6,10 +6,10 @@ use Rattle.std.specs.List.{filter_map, All}
 use Rattle.std.specs.Str.{bytes_eq}
 use Rattle.std.proofs.Math.Seq.{drop-cons}
 use Rattle.std.proofs.Math.ListN.{get_or-map}
-use Rattle.std.proofs.lemmas.List.{take_more, length-map}
+use Rattle.std.proofs.lemmas.List.{take_more, length-map, append-nil}
 use Rattle.std.proofs.lemmas.List.Elements.{filter_map-append, All-append, All-map}
 use Rattle.std.proofs.lemmas.List.Folds.{list_any_at, list_any-append}
-use Rattle.std.proofs.lemmas.Slice.Eq.{bytes_eq-Decides}
+use Rattle.list_laws.proofs.Bytes.{bytes_eq-same}
 use Rattle.verilog_tree.specs.declared.tree.Item.{Item}
 use Rattle.verilog_tree.specs.declared.tree.Item.TheVariants.{Gate, Instance, Assign}
 use Rattle.verilog_tree.specs.declared.tree.Module.{Module}
@@ -21,10 +21,6 @@ use Rattle.link_model.specs.Nets.{Declared, NetDeclaration, NamedNet, port_nets,
 use Rattle.link_model.specs.Cells.{NamedCell, cell_of}
 use Rattle.link_arena.specs.Named.{port_name, wire_name, IsEntered, AreNetsEntered, ArePortsEntered, AreCellsEntered}
 
-nil-right : {X : Type 0} (xs : List X) → xs ++ [] ≡ xs
-nil-right [] = refl
-nil-right {X} (x ∷ xs) = ap (λ (l : List X). x ∷ l) (nil-right xs)
-
 -- a list of names without repetition goes on with a new one
 not_before : (before names : List (List ℕ)) (name : List ℕ) → repeated_after before (name ∷ names) ≡ None → (has_name before name ≡ false) × (repeated_after (before ++ name ∷ []) names ≡ None)
 not_before before names name h = by (has_name before name) refl
@@ -34,7 +30,7 @@ not_before before names name h = by (has_name before name) refl
     by false e = (e, sym (ap (λ b. if b then Some name else repeated_after (before ++ name ∷ []) names) e) ∙ h)
 
 pub repeated_after-append : (before xs ys : List (List ℕ)) → repeated_after before (xs ++ ys) ≡ None → (repeated_after before xs ≡ None) × (repeated_after (before ++ xs) ys ≡ None)
-repeated_after-append before [] ys h = (refl, rw (nil-right before) h)
+repeated_after-append before [] ys h = (refl, rw (append-nil before) h)
 repeated_after-append before (x ∷ xs) ys h =
     let first = not_before before (xs ++ ys) x h in
     let rest = repeated_after-append (before ++ x ∷ []) xs ys first.1 in
@@ -43,7 +39,7 @@ repeated_after-append before (x ∷ xs) ys h =
 -- what the head of the names, if there is one, leaves
 fresh-head : (before : List (List ℕ)) (o : Option (List ℕ)) (rest : List (List ℕ)) → repeated_after before (option_to_list o ++ rest) ≡ None
     → IfSome o (λ name. has_name before name ≡ false) × (repeated_after (before ++ option_to_list o) rest ≡ None)
-fresh-head before None rest h = (tt, rw (nil-right before) h)
+fresh-head before None rest h = (tt, rw (append-nil before) h)
 fresh-head before (Some name) rest h = not_before before rest name h
 
 named-cons : (item : Item) (items : List Item) → filter_map item_name (item ∷ items) ≡ option_to_list (item_name item) ++ filter_map item_name items
@@ -67,7 +63,7 @@ pub entered-item : (start : List (List ℕ)) (items : List Item) (i : ℕ) (item
     → (start ++ filter_map item_name (take i items)) ++ option_to_list (item_name item) ≡ start ++ filter_map item_name (take (i + 1) items)
 entered-item start items i item h is =
     append_assoc start (filter_map item_name (take i items)) (option_to_list (item_name item))
-    ∙ ap (λ (l : List (List ℕ)). start ++ (filter_map item_name (take i items) ++ l)) (sym (named-cons item [] ∙ nil-right (option_to_list (item_name item))))
+    ∙ ap (λ (l : List (List ℕ)). start ++ (filter_map item_name (take i items) ++ l)) (sym (named-cons item [] ∙ append-nil (option_to_list (item_name item))))
     ∙ ap (λ (l : List (List ℕ)). start ++ l) (sym (filter_map-append item_name (take i items) (item ∷ [])))
     ∙ ap (λ (x : Item). start ++ filter_map item_name (take i items ++ x ∷ [])) is
     ∙ ap (λ (l : List Item). start ++ filter_map item_name l) (sym (take_more items i item h))
@@ -95,9 +91,6 @@ pub names-entered : (m : Module) (start first second names : List (List ℕ)) (p
 names-entered m start first second names ports wires items none are entered same further these all = rw (all, further, entered, none, are, same, these) refl
 
 -- Names that were entered.
-
-bytes_eq-same : (name : List ℕ) → bytes_eq name name ≡ true
-bytes_eq-same name = (bytes_eq-Decides name name).1 refl
 
 has-left : (xs ys : List (List ℕ)) (name : List ℕ) → has_name xs name ≡ true → has_name (xs ++ ys) name ≡ true
 has-left xs ys name h = list_any-append (bytes_eq name) xs ys ∙ rw h refl

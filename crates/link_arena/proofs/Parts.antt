@@ -4,25 +4,22 @@ use Rattle.std.specs.Prelude.{nat_lt}
 use Rattle.std.proofs.lemmas.List.Sums.{sum_by-cons, sum_by-append}
 use Rattle.std.proofs.Common.{length-append}
 use Rattle.std.proofs.lemmas.Bool.{ltb-false}
+use Rattle.list_laws.proofs.Options.{or_else-parts}
 use Rattle.verilog_tree.specs.declared.tree.Module.{Module}
 use Rattle.verilog_tree.specs.declared.tree.Port.{Port}
 use Rattle.netlist_model.specs.declared.What.{What}
 use Rattle.netlist_model.specs.declared.What.TheVariants as what
 use Rattle.netlist_model.specs.Lists.{NetlistView, direction}
-use Rattle.link_model.specs.Lists.{or_else, repeated}
+use Rattle.link_model.specs.Lists.{repeated}
 use Rattle.link_model.specs.Nets.{NetDeclaration, NamedNet, bits_in, width, port_nets, wire_nets, declared_nets, nets_in, net_at, counted_from}
 use Rattle.link_model.specs.Cells.{NamedCell}
 use Rattle.link_model.specs.Fits.{FitCells}
 use Rattle.link_model.specs.Faults.{text_fault, too_many, name_twice, names_of, driver_fault}
 use Rattle.link_model.specs.Denoted.{IsPort, AreAll, ports_from}
-use Rattle.link_drivers.proofs.DriverLaws.{has_its_drivers}
+use Rattle.link_drivers.specs.Drivers.{HaveTheirDrivers}
 use Rattle.link_arena.specs.Named.{DriveApart}
 use Rattle.link_arena.proofs.Rows.{length-counted}
 use Rattle.link_arena.proofs.PortSteps.{dir-input}
-
-or_else-parts : {X : Type 0} (a b : Option X) → or_else a b ≡ None → (a ≡ None) × (b ≡ None)
-or_else-parts None b h = (refl, h)
-or_else-parts (Some x) b h = absurd (cc)
 
 within : (things : What) (limit count : ℕ) → too_many things limit count ≡ None → count ≤ limit
 within things limit count h = by (nat_lt limit count) refl
@@ -55,10 +52,10 @@ port-bits-few m = let both = sum_by-append (λ (net : NetDeclaration). width net
 pub bits-of : (ports others : List Port) → ports ≡ others → bits_in (map port_nets ports) ≡ bits_in (map port_nets others)
 bits-of ports others same = ap (λ (ps : List Port). bits_in (map port_nets ps)) same
 
-pub drive_apart : (table : List (List ℕ)) (N : NetlistView) (m : Module) (nets : List NamedNet) (cells : List NamedCell) → nets ≡ nets_in (declared_nets m) → FitCells (length nets) cells → driver_fault nets cells ≡ None
+pub drive_apart : HaveTheirDrivers → (table : List (List ℕ)) (N : NetlistView) (m : Module) (nets : List NamedNet) (cells : List NamedCell) → nets ≡ nets_in (declared_nets m) → FitCells (length nets) cells → driver_fault nets cells ≡ None
     → AreAll (IsPort table) N.ports (ports_from 0 m.ports) → DriveApart N cells
-drive_apart table N m nets cells are fits clear ports =
-    let drivers = has_its_drivers nets cells fits clear in
+drive_apart their_drivers table N m nets cells are fits clear ports =
+    let drivers = their_drivers nets cells fits clear in
     record {
       inputs = λ i cell net drives dir.
           let at : net ≡ 0 + net = omega arith in

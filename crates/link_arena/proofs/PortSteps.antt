@@ -7,6 +7,7 @@ use Rattle.std.proofs.lemmas.List.{take_more}
 use Rattle.std.proofs.lemmas.List.Sums.{sum_by-cons}
 use Rattle.std.proofs.lemmas.Option.{slice_get_within}
 use Rattle.std.proofs.lemmas.Bool.{cases_lt}
+use Rattle.list_laws.proofs.Lists.{slice_get-append_right}
 use Rattle.verilog_tree.specs.declared.tree.Port.{Port}
 use Rattle.verilog_tree.specs.declared.tree.Wire.{Wire}
 use Rattle.verilog_tree.specs.declared.tree.Range as tree
@@ -19,7 +20,7 @@ use Rattle.netlist_arena.specs.Adds.{CanBePin, IsOnce}
 use Rattle.link_model.specs.Nets.{NetDeclaration, bits_in, width, port_nets, wire_nets, counted_from, dir_of, nets_in, net_at}
 use Rattle.link_model.specs.Denoted.{IsPort, AreAll, NamedPort, ports_from, net_id, range_of}
 use Rattle.link_drivers.specs.Drivers.{dir_at}
-use Rattle.link_arena.proofs.Rows.{AreAll-append, at-counted, length-counted, All-counted, among-counted, past-counted, at-append_left, at-append_right}
+use Rattle.link_arena.proofs.Rows.{AreAll-append, at-counted, length-counted, All-counted, among-counted, past-counted, at-append_left}
 
 pub width-range_of : (range : Option tree.Range) → width_of (option_map range_of range) ≡ width range
 width-range_of None = refl
@@ -96,7 +97,7 @@ wires-none (w ∷ ws) k e = elim (less-or k (width w.range)) [
       let no : None ≡ Some Input = rw here at e in cc
   | inr more ↦
       let count = length-counted (net_at (wire_nets w)) 0 (width w.range) in
-      let there = at-append_right (map (net_at (wire_nets w)) (counted_from 0 (width w.range))) (nets_in (map wire_nets ws)) k (k - width w.range) (omega (arith, count)) in
+      let there = slice_get-append_right (map (net_at (wire_nets w)) (counted_from 0 (width w.range))) (nets_in (map wire_nets ws)) k (k - width w.range) (omega (arith, count)) in
       wires-none ws (k - width w.range) (rw there at e)
 ]
   where
@@ -119,6 +120,6 @@ dir-input table (v ∷ vs) (p ∷ ps) wires first k are e = elim (cases_lt k (wi
       let next : first + k ≡ (first + width p.range) + (k - width p.range) = omega arith in
       let later : direction vs ((first + width p.range) + (k - width p.range)) ≡ Some Input = rw (sym next) (rw away at e) in
       let count = length-counted (net_at (port_nets p)) 0 (width p.range) in
-      let there = at-append_right (map (net_at (port_nets p)) (counted_from 0 (width p.range))) (nets_in (map port_nets ps ++ map wire_nets wires)) k (k - width p.range) (omega (arith, count)) in
+      let there = slice_get-append_right (map (net_at (port_nets p)) (counted_from 0 (width p.range))) (nets_in (map port_nets ps ++ map wire_nets wires)) k (k - width p.range) (omega (arith, count)) in
       rw there (dir-input table vs ps wires (first + width p.range) (k - width p.range) are.1 later)
 ]

@@ -23,6 +23,7 @@ use crate::nets::add_nets;
 use crate::ports::add_ports;
 use crate::room::netlist_with_room;
 use edge_io::OutOfMemory;
+use link_drivers::nets_have_their_drivers;
 use link_model::{ItemCell, NetBit};
 use name_table::NameTable;
 use netlist_arena::Netlist;
@@ -53,6 +54,8 @@ pub fn build(
     ensures dense { IfOk result (λ built. IsDense built.netlist.lists) }
     ensures names { IfOk result (λ built. built.names ≡ names_of tree.now) }
 {
+    // A law that the proof uses.
+    nets_have_their_drivers();
     let names = names_of_module(alloc, tree)?;
     let mut netlist = netlist_with_room(alloc, tree, nets.len(), cells.len())?;
     add_nets(&mut netlist, &names, nets);

@@ -6,6 +6,10 @@ use Rattle.std.specs.Option.{is_none}
 use Rattle.std.proofs.lemmas.List.Elements.{All-head, All-tail}
 use Rattle.std.proofs.lemmas.List.Sums.{sum_by-cons}
 use Rattle.std.proofs.lemmas.Bool.Decides.{nat_tests, eqb_tells}
+use Rattle.std.proofs.lemmas.Bool.{not-false}
+use Rattle.list_laws.proofs.Options.{or_else-parts, first_in-at}
+use Rattle.list_laws.proofs.Lists.{slice_get_there}
+use Rattle.list_laws.proofs.Numbers.{eqb_same}
 use Rattle.cell_library.specs.Gates.{is_three_state}
 use Rattle.netlist_model.specs.declared.NetId.{NetId}
 use Rattle.netlist_model.specs.declared.Feed.{Feed}
@@ -14,7 +18,6 @@ use Rattle.netlist_model.specs.declared.Dir.{Dir}
 use Rattle.netlist_model.specs.declared.Dir.TheVariants.{Input, Output, Inout}
 use Rattle.netlist_model.specs.Below.{IsFeedBelow, AreFeedsBelow}
 use Rattle.link_model.specs.declared.fault.LinkFault.{LinkFault}
-use Rattle.link_model.specs.Lists.{or_else, first_in}
 use Rattle.link_model.specs.Nets.{NamedNet}
 use Rattle.link_model.specs.Cells.{NamedCell}
 use Rattle.link_model.specs.Fits.{FitsCell, FitCells}
@@ -23,15 +26,6 @@ use Rattle.link_drivers.specs.Drivers.{dir_at, DrivesNet, ReadsNet, HasDriver, H
 use Rattle.link_drivers.proofs.Breaking.{counted_any}
 
 -- Tests along lists.
-
-or_else-parts : {X : Type 0} (a b : Option X) → or_else a b ≡ None → (a ≡ None) × (b ≡ None)
-or_else-parts None b h = (refl, h)
-or_else-parts (Some x) b h = absurd (cc)
-
-first_in-at : {X Y : Type 0} (test : X → Option Y) (xs : List X) (k : ℕ) (x : X) → first_in test xs ≡ None → slice_get xs k ≡ Some x → test x ≡ None
-first_in-at test [] k x clear here = absurd (cc)
-first_in-at {X} test (y ∷ ys) zero x clear here = let same : y ≡ x = cc in rw (sym same) ((or_else-parts (test y) (first_in test ys) clear).0)
-first_in-at test (y ∷ ys) (suc k) x clear here = first_in-at test ys k x ((or_else-parts (test y) (first_in test ys) clear).1) here
 
 enumerate_from-at : {X : Type 0} (first : ℕ) (xs : List X) (k : ℕ) (x : X) → slice_get xs k ≡ Some x → slice_get (enumerate_from first xs) k ≡ Some (first + k, x)
 enumerate_from-at first [] k x here = absurd (cc)
@@ -72,11 +66,6 @@ counted-two p (z ∷ zs) (suc i) (suc j) x y here there passes also =
 
 -- A net that is there, and its direction.
 
-at-below : {X : Type 0} (xs : List X) (k : ℕ) → k < length xs → (x : X) × (slice_get xs k ≡ Some x)
-at-below [] k h = absurd (omega arith)
-at-below (x ∷ xs) zero h = (x, refl)
-at-below (x ∷ xs) (suc k) h = at-below xs k (omega arith)
-
 named-at : (nets : List NamedNet) (net : ℕ) (dir : Dir) → dir_at nets net ≡ Some dir → (n : NamedNet) × (slice_get nets net ≡ Some n) × (n.dir ≡ Some dir)
 named-at nets net dir h = by (slice_get nets net) refl
   where
@@ -98,9 +87,6 @@ feed-at nets (f ∷ fs) zero feed below here = let same : f ≡ feed = cc in rw 
 feed-at nets (f ∷ fs) (suc place) feed below here = feed-at nets fs place feed (All-tail (IsFeedBelow nets) f fs below) here
 
 -- What the tests say of cells that drive and read.
-
-eqb_same : (a : ℕ) → a == a ≡ true
-eqb_same a = elim (eqb_tells a a) [ inl e ↦ e.0 | inr e ↦ absurd (e.1 refl) ]
 
 eqb_is : (a b : ℕ) → a == b ≡ true → a ≡ b
 eqb_is a b h = elim (eqb_tells a b) [ inl e ↦ e.1 | inr e ↦ let no : true ≡ false = sym h ∙ e.0 in absurd (cc) ]
@@ -179,10 +165,6 @@ is-clear nets cells net n clear here =
 
 -- Each part.
 
-not-refused : (b : Bool) → not b ≡ false → b ≡ true
-not-refused true h = refl
-not-refused false h = absurd (cc)
-
 input-only : (dir : Option Dir) (many : Bool) → many ≡ true → not (is_input dir) && many ≡ false → dir ≡ Some Input
 input-only None many e h = let no : true ≡ false = rw e at h in absurd (cc)
 input-only (Some Input) many e h = refl
@@ -206,7 +188,7 @@ one-driver nets cells fits clear i j cell other net d e =
     elim (counted-two (drives net) cells i j cell other d.there e.there (drives-yes cells i cell net d) (drives-yes cells j other net e)) [
       | inl same ↦ same
       | inr many ↦
-          let n = at-below nets net (drives-below (length nets) cells i cell net fits d) in
+          let n = slice_get_there nets net (drives-below (length nets) cells i cell net fits d) in
           let two : nat_le 2 (count_by (drives net) cells) ≡ true = grind (arith, nat_tests, many) in
           let input = input-only n.0.dir (nat_le 2 (count_by (drives net) cells)) two (is-clear nets cells net n.0 clear n.1).two in
           absurd (inputs-free nets cells clear i cell net d (dir_at-named nets net n.0 n.1 ∙ input))
@@ -216,12 +198,12 @@ bufif-at : (nets : List NamedNet) (cells : List NamedCell) (net : ℕ) → drive
 bufif-at nets cells net clear dir =
     let n = named-at nets net Inout dir in
     let named : not (is_driven_by_bufif cells net) ≡ false = rw n.2 at (is-clear nets cells net n.0 clear n.1).inout in
-    bufif-has cells net (not-refused (is_driven_by_bufif cells net) named)
+    bufif-has cells net (not-false (is_driven_by_bufif cells net) named)
 
 outside : (nets : List NamedNet) (cells : List NamedCell) → FitCells (length nets) cells → driver_fault nets cells ≡ None → (i : ℕ) (cell : NamedCell) (net : ℕ) → DrivesNet cells i cell net
     → is_three_state cell.kind ≡ true → (dir_at nets net ≡ Some Output) ⊎ (dir_at nets net ≡ Some Inout)
 outside nets cells fits clear i cell net d three =
-    let n = at-below nets net (drives-below (length nets) cells i cell net fits d) in
+    let n = slice_get_there nets net (drives-below (length nets) cells i cell net fits d) in
     by n.0.dir (dir_at-named nets net n.0 n.1) (rw (by_bufif-yes cells i cell net d three) at (is-clear nets cells net n.0 clear n.1).inside)
   where
     by : (dir : Option Dir) → dir_at nets net ≡ dir → is_none dir && true ≡ false → (dir_at nets net ≡ Some Output) ⊎ (dir_at nets net ≡ Some Inout)
@@ -237,13 +219,13 @@ has_its_drivers nets cells fits clear = record {
   outputs_driven = λ net dir.
       let n = named-at nets net Output dir in
       let named : not (is_driven cells net) ≡ false = rw n.2 at (is-clear nets cells net n.0 clear n.1).driven in
-      driven-has cells net (not-refused (is_driven cells net) named);
+      driven-has cells net (not-false (is_driven cells net) named);
   inouts_driven = λ net dir. (bufif-at nets cells net clear dir).0;
   read_driven = λ i cell place net r dir.
-      let n = at-below nets net (reads-below (length nets) cells i cell place net fits r) in
+      let n = slice_get_there nets net (reads-below (length nets) cells i cell place net fits r) in
       let none : n.0.dir ≡ None = sym (dir_at-named nets net n.0 n.1) ∙ dir in
       let named : not (is_driven cells net) ≡ false = rw (none, read-yes cells i cell place net r) at (is-clear nets cells net n.0 clear n.1).driven in
-      driven-has cells net (not-refused (is_driven cells net) named);
+      driven-has cells net (not-false (is_driven cells net) named);
   bufif_outside = outside nets cells fits clear;
   inout_bufif = λ i cell net d dir.
       let b = bufif-at nets cells net clear dir in

@@ -2,6 +2,7 @@
 -- IEEE Std 1364-2001: modules and ports, data types, gate-level modelling.
 use Rattle.std.specs.Prelude.{◌≡◌, ℕ, ◌+◌, ◌<◌, List, [], ◌∷◌, length, map, Option, Some, None, IsSome, slice_get}
 use Rattle.std.specs.Option.{option_map}
+pub use Rattle.list_laws.specs.Lists.{AreAll}
 use Rattle.verilog_tree.specs.declared.tree.Module.{Module}
 use Rattle.verilog_tree.specs.declared.tree.Port.{Port}
 use Rattle.verilog_tree.specs.declared.tree.Range as tree
@@ -84,13 +85,6 @@ IsLive table (Some cell) named = IsCell table cell named
 pub record AreCells (table : List (List ℕ)) (N : NetlistView) (cells : List NamedCell) : Type 0 where
   pub each : (i : ℕ) (named : NamedCell) → slice_get cells i ≡ Some named → IsLive table (cell_at N i) named
   pub only : (i : ℕ) → IsSome (cell_at N i) → i < length cells
-
--- as many, each of which is the one at its place
-abbrev pub AreAll : {X Y : Type 0} → (X → Y → Type 0) → List X → List Y → Type 0
-AreAll Is [] [] = Unit {0}
-AreAll Is [] (y ∷ ys) = ⊥
-AreAll Is (x ∷ xs) [] = ⊥
-AreAll Is (x ∷ xs) (y ∷ ys) = Is x y × AreAll Is xs ys
 
 -- the netlist with this table of names is the named one
 pub record IsNamed (table : List (List ℕ)) (N : NetlistView) (named : NamedNetlist) : Type 0 where

@@ -1,17 +1,8 @@
--- The first fault along a list, and names that came before.
+-- The first along a list, and names that came before.
 use Rattle.std.specs.Prelude.{ℕ, Bool, List, [], ◌∷◌, ◌++◌, Option, Some, None, if◌then◌else◌}
 use Rattle.std.specs.List.{list_any}
 use Rattle.std.specs.Str.{bytes_eq}
-
--- one, or else the other
-abbrev pub or_else : {X : Type 0} → Option X → Option X → Option X
-or_else None other = other
-or_else (Some x) other = Some x
-
--- the first that a test gives along the list
-abbrev pub first_in : {X Y : Type 0} → (X → Option Y) → List X → Option Y
-first_in test [] = None
-first_in test (x ∷ xs) = or_else (test x) (first_in test xs)
+pub use Rattle.list_laws.specs.Options.{or_else, first_in}
 
 -- a name stands in the list
 abbrev pub has_name : List (List ℕ) → List ℕ → Bool

@@ -7,6 +7,7 @@ use Rattle.std.specs.Str.{bytes_eq}
 use Rattle.std.proofs.lemmas.Bool.Decides.{nat_tests}
 use Rattle.std.proofs.lemmas.List.{length-map}
 use Rattle.std.proofs.lemmas.List.Elements.{All-nil, All-cons, All-head, All-tail}
+use Rattle.list_laws.proofs.Options.{or_else-parts}
 use Rattle.verilog_tree.specs.declared.tree.Bit.{Bit}
 use Rattle.verilog_tree.specs.declared.tree.Operand.{Operand}
 use Rattle.verilog_tree.specs.declared.tree.Operand.TheVariants as operand
@@ -35,7 +36,7 @@ use Rattle.link_model.specs.Cells.{kind_of_gate, feed_of, linked_operand, port_f
 use Rattle.link_model.specs.Faults.{too_many, gate_operands, operand_bits, link_bits, item_bits, name_unknown, bit_outside, wrong_width, at_bit, cell_unknown, link_width, item_width}
 use Rattle.link_model.specs.Fits.{FitsCell}
 use Rattle.link_names.specs.FitItems.{FitsBit, FitsOperand, FitsConnected, FitsLink, FitsItem}
-use Rattle.link_names.proofs.Firsts.{first_in-append, or_none}
+use Rattle.link_names.proofs.Firsts.{first_in-append}
 use Rattle.link_names.proofs.NetCounts.{net_fits}
 
 -- no fault stands at these bits
@@ -45,7 +46,7 @@ pub record AreBits (names : List (List ℕ × Declared)) (bits : List Bit) : Typ
   pub wide : first_in (at_bit wrong_width names) bits ≡ None
 
 split_none : {X Y : Type 0} (test : X → Option Y) (xs ys : List X) → first_in test (xs ++ ys) ≡ None → (first_in test xs ≡ None) × (first_in test ys ≡ None)
-split_none test xs ys h = or_none (first_in test xs) (first_in test ys) (sym (first_in-append test xs ys) ∙ h)
+split_none test xs ys h = or_else-parts (first_in test xs) (first_in test ys) (sym (first_in-append test xs ys) ∙ h)
 
 front_bits : (names : List (List ℕ × Declared)) (xs ys : List Bit) → AreBits names (xs ++ ys) → AreBits names xs
 front_bits names xs ys h = record {
@@ -65,9 +66,9 @@ bit_fits : (nets : List NetDeclaration) (bound : ℕ) (bit : Bit) → bits_in ne
 bit_fits nets bound bit few h =
     let names : List (List ℕ × Declared) = names_from 0 nets in
     let f = net_fits nets bit
-    (or_none (at_bit name_unknown names bit) None h.named).0
-    (or_none (at_bit bit_outside names bit) None h.within).0
-    (or_none (at_bit wrong_width names bit) None h.wide).0 in
+    (or_else-parts (at_bit name_unknown names bit) None h.named).0
+    (or_else-parts (at_bit bit_outside names bit) None h.within).0
+    (or_else-parts (at_bit wrong_width names bit) None h.wide).0 in
     omega (arith, f, few)
 
 operand_fits : (nets : List NetDeclaration) (bound : ℕ) (o : Operand) → bits_in nets ≤ bound → AreBits (names_from 0 nets) (operand_bits o) → FitsOperand bound (names_from 0 nets) o
@@ -111,7 +112,7 @@ connected_wide names i kind port (Some (operand.Const value)) h = refl
 links_wide : (names : List (List ℕ × Declared)) (i : Instance) (kind : Kind) (links : List Link) → first_in (link_width names i kind) links ≡ None → first_in (at_bit wrong_width names) (flat_map link_bits links) ≡ None
 links_wide names i kind [] h = refl
 links_wide names i kind (l ∷ links) h =
-    let two = or_none (link_width names i kind l) (first_in (link_width names i kind) links) h in
+    let two = or_else-parts (link_width names i kind l) (first_in (link_width names i kind) links) h in
     first_in-append (at_bit wrong_width names) (link_bits l) (flat_map link_bits links)
     ∙ both_none (first_in (at_bit wrong_width names) (link_bits l)) (first_in (at_bit wrong_width names) (flat_map link_bits links)) (connected_wide names i kind l.port l.operand two.0) (links_wide names i kind links two.1)
 

@@ -4,6 +4,7 @@ use Rattle.std.specs.Option.{option_map}
 use Rattle.std.specs.List.{filter_map, AllByRecursion}
 use Rattle.std.proofs.lemmas.List.{map-append}
 use Rattle.std.proofs.lemmas.List.Elements.{All-nil, All-cons, All-head, All-tail}
+use Rattle.list_laws.proofs.Options.{or_else-parts}
 use Rattle.verilog_tree.specs.declared.tree.Port.{Port}
 use Rattle.verilog_tree.specs.declared.tree.Wire.{Wire}
 use Rattle.verilog_tree.specs.declared.tree.Item.{Item}
@@ -22,7 +23,7 @@ use Rattle.link_names.specs.Tests.{instance_faults_in}
 use Rattle.link_names.specs.FitItems.{FitsItem}
 use Rattle.link_names.specs.Resolving.{head_fault, bit_fault, item_fault}
 use Rattle.link_names.proofs.Tables.{not_before}
-use Rattle.link_names.proofs.Firsts.{or_none, first_none}
+use Rattle.link_names.proofs.Firsts.{first_none}
 use Rattle.link_names.proofs.NetCounts.{length-nets_in}
 use Rattle.link_names.proofs.Fitting.{IsSound, item_fits, cell_fits, within_limit}
 
@@ -51,7 +52,7 @@ names_once m h =
     let same : net_names (declared_nets m) ≡ ports ++ wires =
     map-append (λ (n : NetDeclaration). n.name) (map port_nets m.ports) (map wire_nets m.wires) ∙ ap (λ l. l ++ net_names (map wire_nets m.wires)) (port_names m.ports)
     ∙ ap (λ l. ports ++ l) (wire_names m.wires) in
-    ap repeated same ∙ repeated_front [] (ports ++ wires) (filter_map item_name m.items) (unmapped (repeated (names_of m)) (or_none (too_many_in m) (name_twice m) h).1)
+    ap repeated same ∙ repeated_front [] (ports ++ wires) (filter_map item_name m.items) (unmapped (repeated (names_of m)) (or_else-parts (too_many_in m) (name_twice m) h).1)
 
 -- Counts.
 
@@ -64,22 +65,22 @@ is_within_limits m h =
     let ports : Option LinkFault = too_many Ports 4096 (bits_in (map port_nets m.ports)) in
     let gates : Option LinkFault = first_in (λ i. too_many Operands 256 (gate_operands i)) m.items in
     let nets : Option LinkFault = too_many Nets 524288 (bits_in (declared_nets m)) in
-    let a = (or_none (too_many Cells 262144 (length m.items)) (or_else nets (or_else ports gates)) h).1 in
-    let b = or_none nets (or_else ports gates) a in
+    let a = (or_else-parts (too_many Cells 262144 (length m.items)) (or_else nets (or_else ports gates)) h).1 in
+    let b = or_else-parts nets (or_else ports gates) a in
     record {
       nets = within_limit Nets 524288 (bits_in (declared_nets m)) b.0;
-      operands = first_none (λ i. too_many Operands 256 (gate_operands i)) m.items (or_none ports gates b.1).1;
+      operands = first_none (λ i. too_many Operands 256 (gate_operands i)) m.items (or_else-parts ports gates b.1).1;
     }
 
 pub few_nets : (m : Module) → head_fault m ≡ None → bits_in (declared_nets m) < 2 ^ 32
-few_nets m h = let w = (is_within_limits m (or_none (too_many_in m) (name_twice m) h).0).nets in omega (arith, w)
+few_nets m h = let w = (is_within_limits m (or_else-parts (too_many_in m) (name_twice m) h).0).nets in omega (arith, w)
 
 -- Halves.
 
 pub halves_none : (m : Module) → text_fault m ≡ None → (head_fault m ≡ None) × (item_fault (declared_names m) m.items ≡ None)
 halves_none m h =
-    let a = or_none (too_many_in m) (or_else (name_twice m) (item_fault (declared_names m) m.items)) h in
-    let b = or_none (name_twice m) (item_fault (declared_names m) m.items) a.1 in
+    let a = or_else-parts (too_many_in m) (or_else (name_twice m) (item_fault (declared_names m) m.items)) h in
+    let b = or_else-parts (name_twice m) (item_fault (declared_names m) m.items) a.1 in
     (ap (λ o. or_else o (name_twice m)) a.0 ∙ b.0, b.1)
 
 joined : {X : Type 0} (a b c : Option X) → or_else a b ≡ None → or_else a (or_else b c) ≡ c
@@ -110,11 +111,11 @@ are_sound : (names : List (List ℕ × Declared)) (items : List Item) → item_f
 are_sound names items h =
     let named : Item → Option LinkFault = λ i. first_in (at_bit name_unknown names) (item_bits i) in
     let within : Item → Option LinkFault = λ i. first_in (at_bit bit_outside names) (item_bits i) in
-    let a = or_none (bit_fault names items) (or_else (instance_faults_in items) (first_in (item_width names) items)) h in
-    let b = or_none (first_in named items) (first_in within items) a.0 in
-    let c = or_none (instance_faults_in items) (first_in (item_width names) items) a.1 in
+    let a = or_else-parts (bit_fault names items) (or_else (instance_faults_in items) (first_in (item_width names) items)) h in
+    let b = or_else-parts (first_in named items) (first_in within items) a.0 in
+    let c = or_else-parts (instance_faults_in items) (first_in (item_width names) items) a.1 in
     let ports : Option LinkFault = or_else (first_in (at_instance port_unknown) items) (or_else (first_in (at_instance port_missing) items) (first_in (at_instance port_twice) items)) in
-    let d = or_none (first_in cell_unknown items) ports c.0 in
+    let d = or_else-parts (first_in cell_unknown items) ports c.0 in
     let ns = first_none named items b.0 in
     let ws = first_none within items b.1 in
     let cs = first_none cell_unknown items d.0 in
@@ -142,7 +143,7 @@ pub cells_fit : (m : Module) → IsTree m → text_fault m ≡ None → FitCells
 cells_fit m tree h =
     let two = halves_none m h in
     let sound = are_sound (declared_names m) m.items two.1 in
-    let within = is_within_limits m (or_none (too_many_in m) (name_twice m) two.0).0 in
+    let within = is_within_limits m (or_else-parts (too_many_in m) (name_twice m) two.0).0 in
     let fits : All (FitsItem (bits_in (declared_nets m)) (declared_names m)) m.items =
     λ k x l. item_fits (declared_nets m) (bits_in (declared_nets m)) (get_or m.items k x) (omega arith) (sound.each k x l) in
     subst (λ (n : ℕ). FitCells n (cells_in m)) (sym (length-nets_in (declared_nets m)))

@@ -5,6 +5,7 @@ use Rattle.std.proofs.lemmas.List.{length-map}
 use Rattle.std.proofs.lemmas.List.Sums.{sum_by-cons}
 use Rattle.std.specs.Map.{lookup}
 use Rattle.std.specs.Str.{bytes_eq}
+use Rattle.list_laws.proofs.Lists.{length-counted_from}
 use Rattle.verilog_tree.specs.declared.tree.Range.{Range}
 use Rattle.verilog_tree.specs.declared.tree.Bit.{Bit}
 use Rattle.link_model.specs.declared.fault.LinkFault.TheVariants.{BitOutside}
@@ -17,10 +18,6 @@ counted_from-suc first (suc n) = ap (λ l. first ∷ l) (counted_from-suc (suc f
 
 pub counted_from-push : (n : ℕ) → counted_from 0 (n + 1) ≡ counted_from 0 n ++ n ∷ []
 counted_from-push n = let next : n + 1 ≡ suc n = omega arith in let last : 0 + n ≡ n = omega arith in ap (counted_from 0) next ∙ counted_from-suc 0 n ∙ ap (λ (k : ℕ). counted_from 0 n ++ k ∷ []) last
-
-length-counted_from : (first n : ℕ) → length (counted_from first n) ≡ n
-length-counted_from first zero = refl
-length-counted_from first (suc n) = let e = length-counted_from (suc first) n in omega (arith, e)
 
 -- there are as many nets as the declarations have bits
 pub length-nets_in : (nets : List NetDeclaration) → length (nets_in nets) ≡ bits_in nets

@@ -8,6 +8,7 @@ use Rattle.std.specs.Cmp.Lexicographic.{bytes_decides}
 use Rattle.std.proofs.lemmas.List.Folds.{list_any-append}
 use Rattle.std.proofs.lemmas.List.Quantifiers.{position-Some}
 use Rattle.std.proofs.lemmas.Option.{slice_get-map, slice_get-get_or, none-some, same_Some}
+use Rattle.list_laws.proofs.Options.{or_else-parts, first_in-at}
 use Rattle.cell_library.specs.declared.Kind.{Kind}
 use Rattle.cell_library.specs.declared.Kind.TheVariants as kind
 use Rattle.cell_library.specs.declared.PortPlace.{PortPlace}
@@ -32,15 +33,6 @@ use Rattle.link_model.specs.Late.{ControlLink, is_control_place, bit_links, flop
 use Rattle.link_order.specs.Links.{feed_net, operand_net, placed_net, is_found_net, found_net, found_link, found_item}
 
 -- Along lists.
-
-or_else-parts : {X : Type 0} (a b : Option X) → or_else a b ≡ None → (a ≡ None) × (b ≡ None)
-or_else-parts None b e = (refl, e)
-or_else-parts (Some x) b e = absurd (none-some x (sym e))
-
-first_in-clear : {X Y : Type 0} (test : X → Option Y) (xs : List X) (k : ℕ) (x : X) → first_in test xs ≡ None → slice_get xs k ≡ Some x → test x ≡ None
-first_in-clear test [] k x clear here = absurd (none-some x here)
-first_in-clear test (y ∷ ys) zero x clear here = ap test (sym (same_Some y x here)) ∙ (or_else-parts (test y) (first_in test ys) clear).0
-first_in-clear test (y ∷ ys) (suc k) x clear here = first_in-clear test ys k x (or_else-parts (test y) (first_in test ys) clear).1 here
 
 first_in-none : {X Y : Type 0} (test : X → Option Y) (xs : List X) → ((x : X) → test x ≡ None) → first_in test xs ≡ None
 first_in-none test [] bare = refl
@@ -259,7 +251,7 @@ linked_apart m clear k x here =
     let after_cells = or_else-parts (first_in cell_unknown m.items) unknown instances.0 in
     let after_unknown = or_else-parts (first_in (at_instance port_unknown) m.items) missing after_cells.1 in
     let after_missing = or_else-parts (first_in (at_instance port_missing) m.items) twice after_unknown.1 in
-    first_in-clear (at_instance port_twice) m.items k x after_missing.1 here
+    first_in-at (at_instance port_twice) m.items k x after_missing.1 here
 
 pub found_along : (m : Module) (drivers : List (Option ℕ)) (found : List Bool) → text_fault m ≡ None
     → first_in (found_item drivers found (declared_names m)) m.items ≡ option_map link_pair (find (is_found_link drivers found) (control_links m))

@@ -5,6 +5,7 @@ use Rattle.std.specs.Option.{option_map, option_map_or}
 use Rattle.std.proofs.lemmas.List.{length-map, get_or_past}
 use Rattle.std.proofs.lemmas.Bool.Decides.{leb_tells}
 use Rattle.std.proofs.lemmas.Option.{slice_get-map, slice_get_within, get_or_from_slice_get, none-some}
+use Rattle.std.proofs.lemmas.Bool.{or_left, or_right}
 use Rattle.cell_library.specs.Gates.{is_flop}
 use Rattle.netlist_model.specs.declared.NetId.{NetId}
 use Rattle.netlist_model.specs.declared.Dir.{Dir}
@@ -28,14 +29,6 @@ marked-map test cells number cell there = get_or_from_slice_get (map test cells)
 either : (a b : Bool) → a || b ≡ true → (a ≡ true) ⊎ (b ≡ true)
 either true b e = inl refl
 either false b e = inr e
-
-or-left : (a b : Bool) → a ≡ true → a || b ≡ true
-or-left true b e = refl
-or-left false b e = absurd (cc)
-
-or-right : (a b : Bool) → b ≡ true → a || b ≡ true
-or-right true b e = refl
-or-right false b e = e
 
 inout-is : (dir : Option Dir) → is_inout dir ≡ true → dir ≡ Some Inout
 inout-is None e = absurd (cc)
@@ -91,7 +84,7 @@ state-driver nets cells net driven s = elim s [
     number = k.number;
     cell = k.cell;
     drives = record { there = k.there; output = k.drives };
-    marked = marked-map (is_state_cell nets) cells k.number k.cell k.there ∙ or-left (is_flop k.cell.kind) (drives_inout nets k.cell) k.flop;
+    marked = marked-map (is_state_cell nets) cells k.number k.cell k.there ∙ or_left (is_flop k.cell.kind) (drives_inout nets k.cell) k.flop;
   }
   | inr i ↦
       let dir : dir_at nets net ≡ Some Inout = ap (option_and_then (λ (n : NamedNet). n.dir)) i.there ∙ i.inout in
@@ -100,7 +93,7 @@ state-driver nets cells net driven s = elim s [
         number = d.number;
         cell = d.cell;
         drives = d.drives;
-        marked = marked-map (is_state_cell nets) cells d.number d.cell d.drives.there ∙ or-right (is_flop d.cell.kind) (drives_inout nets d.cell) (inout-to nets d.cell net d.drives.output i);
+        marked = marked-map (is_state_cell nets) cells d.number d.cell d.drives.there ∙ or_right (is_flop d.cell.kind) (drives_inout nets d.cell) (inout-to nets d.cell net d.drives.output i);
       }
 ]
 

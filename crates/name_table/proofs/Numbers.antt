@@ -1,16 +1,15 @@
 -- The numbers of names in a list, and in the list of their texts.
-use Rattle.std.proofs.Common.{◌≡◌, ℕ, suc, zero, ◌+◌, ◌<◌, ◌≤◌, List, [], ◌∷◌, ◌++◌, length, refl, sym, ◌∙◌, ap, arith, Some, None, Bool, true, false, ◌||◌, not, cond}
-use Rattle.std.specs.Prelude.{nat_lt, slice_get, if◌then◌else◌}
-use Rattle.std.specs.List.{position, position_or_len, list_any, IsDistinct, AllByRecursion}
+use Rattle.std.proofs.Common.{◌≡◌, ℕ, suc, zero, ◌+◌, ◌<◌, ◌≤◌, List, [], ◌∷◌, ◌++◌, length, refl, sym, ◌∙◌, ap, arith, Some, None, Bool, true, false, not, cond}
+use Rattle.std.specs.Prelude.{nat_lt, slice_get}
+use Rattle.std.specs.List.{position_or_len, list_any, IsDistinct, AllByRecursion}
 use Rattle.std.specs.Str.{bytes_eq}
 use Rattle.std.proofs.Common.{length-append}
 use Rattle.std.proofs.lemmas.Bool.{lt-ltb, le-ltb}
 use borrow.Author.Tests.{ltb-true}
 use Rattle.std.proofs.lemmas.Slice.Eq.{bytes_eq-Decides}
+use Rattle.list_laws.proofs.Bytes.{bytes_eq-same}
+use Rattle.list_laws.proofs.Lists.{position_none}
 use Rattle.name_table.specs.Names.{number_of, with_name, IsOnce}
-
-bytes_eq-same : (name : List ℕ) → bytes_eq name name ≡ true
-bytes_eq-same name = (bytes_eq-Decides name name).1 refl
 
 -- a name is there where its place is inside the list
 inside : {X : Type 0} (p : X → Bool) (xs : List X) → list_any p xs ≡ true → position_or_len p xs < length xs
@@ -41,13 +40,6 @@ with_name-known name names number h = by (list_any (bytes_eq name) names) refl
     by : (b : Bool) → list_any (bytes_eq name) names ≡ b → with_name name names ≡ names
     by true e = rw e refl
     by false e = let none : Some number ≡ None = sym h ∙ at-outside (position_or_len (bytes_eq name) names) (length names) (let there = outside (bytes_eq name) names e in omega (arith, there)) in absurd (cc)
-
-pub absent : (name : List ℕ) (names : List (List ℕ)) → number_of name names ≡ None → list_any (bytes_eq name) names ≡ false
-absent name names h = by (list_any (bytes_eq name) names) refl
-  where
-    by : (b : Bool) → list_any (bytes_eq name) names ≡ b → list_any (bytes_eq name) names ≡ false
-    by true e = let some = sym h ∙ at-inside (position_or_len (bytes_eq name) names) (length names) (inside (bytes_eq name) names e) in absurd (cc)
-    by false e = e
 
 -- a new name has the next number
 place-push : (name : List ℕ) (names : List (List ℕ)) → list_any (bytes_eq name) names ≡ false → position_or_len (bytes_eq name) (names ++ name ∷ []) ≡ length names
@@ -105,6 +97,6 @@ number_of-at name names number h = by (nat_lt (position_or_len (bytes_eq name) n
 pub pushed : (name : List ℕ) (names new : List (List ℕ)) → number_of name names ≡ None → new ≡ with_name name names
     → number_of name new ≡ Some (length names)
 pushed name names new none grown =
-    let gone = absent name names none in
+    let gone = position_none (bytes_eq name) names none in
     let longer : new ≡ names ++ name ∷ [] = grown ∙ rw gone refl in
     ap (number_of name) longer ∙ number_of-new name names gone

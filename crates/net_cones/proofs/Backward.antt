@@ -1,51 +1,12 @@
 -- Going back over the order marks the cones of the roots.
-use Rattle.std.proofs.Common.{◌≡◌, ◌≢◌, ℕ, ◌+◌, ◌<◌, ◌≤◌, ◌⊎◌, inl, inr, ◌↔◌, length-set, Bool, true, false, List, [], ◌∷◌, length, slice_index, set, Contains, arith, refl, sym, subst, ◌∙◌, zero, suc}
-use Rattle.std.specs.Prelude.{slice_index_or}
-use Rattle.std.proofs.lemmas.List.{get_or_default, get_or-set_other, get_or-set_same, get_or_past}
-use Rattle.std.proofs.lemmas.Bool.Decides.{eqb_tells, leb_tells}
+use Rattle.std.proofs.Common.{◌≡◌, ◌≢◌, ℕ, ◌+◌, ◌<◌, ◌≤◌, inl, inr, ◌↔◌, Bool, List, length, slice_index, Contains, arith, sym, subst, ◌∙◌}
+use Rattle.std.proofs.lemmas.List.{get_or_default}
+use Rattle.std.proofs.lemmas.Bool.Decides.{eqb_tells}
+use Rattle.list_laws.proofs.Marks.{length-mark_all, mark_all-keeps, mark_all-marks, mark_all-only, marked_inside}
 use Rattle.gate_order.specs.Graph.{reads_of, IsGraph, IsOrder}
-use Rattle.gate_order.proofs.Acyclic.{reads_earlier}
+use Rattle.gate_order.specs.Laws.{ReadsStandEarlier}
 use Rattle.net_cones.specs.Cone.{InCone, top, back, Marked, InConeOf}
 use Rattle.net_cones.specs.Marks.{mark_all}
-
-pub marked_inside : (marks : List Bool) (v : ℕ) → Marked marks v → v < length marks
-marked_inside marks v q = elim (leb_tells (length marks) v) [
-  | inl e ↦ absurd (let none = get_or_past marks v false e.1 in let no : false ≡ true = sym none ∙ q in cc)
-  | inr e ↦ e.1
-]
-
--- a mark stays when another is set
-marked-set : (marks : List Bool) (u v : ℕ) → Marked marks v → Marked (set marks u true) v
-marked-set marks u v q = elim (eqb_tells v u) [
-  | inl e ↦ subst (λ y. Marked (set marks y true) v) e.1 (get_or-set_same marks v true false (marked_inside marks v q))
-  | inr e ↦ get_or-set_other marks u v true false e.1 ∙ q
-]
-
-pub length-mark_all : (vertices : List ℕ) (marks : List Bool) → length (mark_all vertices marks) ≡ length marks
-length-mark_all [] marks = refl
-length-mark_all (u ∷ vertices) marks = length-mark_all vertices (set marks u true) ∙ length-set marks u true
-
-pub mark_all-keeps : (vertices : List ℕ) (marks : List Bool) (v : ℕ) → Marked marks v → Marked (mark_all vertices marks) v
-mark_all-keeps [] marks v q = q
-mark_all-keeps (u ∷ vertices) marks v q = mark_all-keeps vertices (set marks u true) v (marked-set marks u v q)
-
-mark_all-marks_at : (vertices : List ℕ) (marks : List Bool) (v k : ℕ) → v < length marks → k < length vertices → slice_index_or vertices k v ≡ v → Marked (mark_all vertices marks) v
-mark_all-marks_at [] marks v k inside h e = absurd (omega (arith, h))
-mark_all-marks_at (u ∷ vertices) marks v zero inside h e = mark_all-keeps vertices (set marks u true) v (subst (λ y. Marked (set marks y true) v) (sym e) (get_or-set_same marks v true false inside))
-mark_all-marks_at (u ∷ vertices) marks v (suc k) inside h e = mark_all-marks_at vertices (set marks u true) v k (rw (length-set marks u true) inside) (omega (arith, h)) e
-
-pub mark_all-marks : (vertices : List ℕ) (marks : List Bool) (v : ℕ) → v < length marks → Contains vertices v → Marked (mark_all vertices marks) v
-mark_all-marks vertices marks v inside c = mark_all-marks_at vertices marks v c.0 inside c.1 c.2
-
-pub mark_all-only : (vertices : List ℕ) (marks : List Bool) (v : ℕ) → Marked (mark_all vertices marks) v → Marked marks v ⊎ Contains vertices v
-mark_all-only [] marks v q = inl q
-mark_all-only (u ∷ vertices) marks v q = elim (mark_all-only vertices (set marks u true) v q) [
-  | inl old ↦ elim (eqb_tells v u) [
-    | inl e ↦ inr (zero, omega arith, sym e.1)
-    | inr e ↦ inl (sym (get_or-set_other marks u v true false e.1) ∙ old)
-  ]
-  | inr c ↦ inr (suc c.0, omega (arith, c.1), c.2)
-]
 
 -- of the vertices that stand in the order from i on, what they read is marked where they are
 pub record IsSpread (graph : List (List ℕ)) (order : List ℕ) (roots inside : List Bool) (i : ℕ) : Type 0 where
@@ -76,9 +37,9 @@ spread_past graph order roots inside i s bare = record {
 }
 
 -- what a marked vertex reads is marked
-pub spread_more : (graph : List (List ℕ)) (order : List ℕ) (roots inside : List Bool) (i : ℕ) → IsGraph graph → IsOrder graph order → i < length order → IsSpread graph order roots inside (i + 1)
+pub spread_more : ReadsStandEarlier → (graph : List (List ℕ)) (order : List ℕ) (roots inside : List Bool) (i : ℕ) → IsGraph graph → IsOrder graph order → i < length order → IsSpread graph order roots inside (i + 1)
     → Marked inside (slice_index order i) → IsSpread graph order roots (mark_all (reads_of graph (slice_index order i)) inside) i
-spread_more graph order roots inside i is ordered h s here =
+spread_more earlier_read graph order roots inside i is ordered h s here =
     let cone = s.sound (slice_index order i) here in
     record {
       len = length-mark_all (reads_of graph (slice_index order i)) inside ∙ s.len;
@@ -104,7 +65,7 @@ spread_more graph order roots inside i is ordered h s here =
     was : (j : ℕ) → i ≤ j → j ≢ i → j < length order → Marked (mark_all (reads_of graph (slice_index order i)) inside) (slice_index order j) → Marked inside (slice_index order j)
     was j low other high q = elim (mark_all-only (reads_of graph (slice_index order i)) inside (slice_index order j) q) [
       | inl old ↦ old
-      | inr c ↦ absurd (let earlier = reads_earlier graph order i j ordered h high c in omega (arith, earlier, low))
+      | inr c ↦ absurd (let earlier = earlier_read graph order i j ordered h high c in omega (arith, earlier, low))
     ]
 
 -- where the whole order is passed, a cone of a marked root is marked

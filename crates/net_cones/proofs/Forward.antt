@@ -3,8 +3,8 @@ use Rattle.std.proofs.Common.{◌≡◌, ◌≢◌, ℕ, ◌+◌, ◌<◌, ◌�
 use Rattle.std.proofs.lemmas.List.{get_or_default, get_or-take, get_or-set_other, get_or-set_same, length-take, get_or_past, get_or-replicate, length-replicate}
 use Rattle.std.proofs.lemmas.Bool.Decides.{eqb_tells, leb_tells}
 use Rattle.std.specs.Bool.{MatchBool}
+use Rattle.list_laws.proofs.Lists.{at_set}
 use Rattle.gate_order.specs.Graph.{reads_of, IsGraph, IsOrder}
-use Rattle.gate_order.proofs.WalkSteps.{at_set}
 use Rattle.net_cones.specs.Cone.{InCone, top, back, Marked, ConeHolds}
 use Rattle.net_cones.specs.Marks.{SomeMarked}
 

@@ -4,7 +4,7 @@ ghost use Rattle.net_cones.specs.Cone.{InConeOf, Marked};
 ghost use Rattle.net_cones.specs.Marks.{mark_all};
 
 use edge_io::{OutOfMemory, Row};
-use gate_order::Graph;
+use gate_order::{Graph, reads_stand_earlier};
 use std::alloc::Global;
 
 /// Of each vertex, whether it stands in the cone of a marked root: a backward pass over an order of the graph,
@@ -21,6 +21,8 @@ pub fn in_cones_of(
     ensures length { IfOk result (λ inside. length inside ≡ length graph.now) }
     ensures cones { IfOk result (λ inside. (v : ℕ) → v < length graph.now → Marked inside v ↔ InConeOf graph.now roots.now v) }
 {
+    // A law that the proof uses.
+    reads_stand_earlier();
     let mut inside = Vec::from_slice(alloc, roots)?;
     for passed in 0..order.len() {
         let vertex = order[order.len() - 1 - passed];

@@ -2,13 +2,14 @@
 use Rattle.std.proofs.Common.{◌≡◌, ◌≢◌, ℕ, zero, suc, ◌+◌, ◌<◌, ◌||◌, ◌==◌, Bool, true, false, List, [], ◌∷◌, ◌++◌, length, take, drop, set, refl, sym, ◌∙◌, ap, arith, Option, Some, None, cond, get_or-set_other, get_or-set_same, length-set, add-one, inl, inr}
 use Rattle.std.specs.List.{slice_get}
 use Rattle.std.proofs.lemmas.Bool.Decides.{eqb_tells}
+use Rattle.list_laws.proofs.Tests.{or_false}
+use Rattle.list_laws.proofs.Lists.{taken_more, left_at}
 use Rattle.netlist_model.specs.declared.NetId.{NetId}
 use Rattle.netlist_model.specs.declared.Dir.{Dir}
 use Rattle.netlist_model.specs.Lists.{PortView, NetlistView, direction, is_among}
 use Rattle.netlist_model.specs.Formed.{IsLaidOut}
 use Rattle.netlist_settling.specs.Values.{side_at, AreSides}
 use Rattle.netlist_meaning.specs.Tables.{AreSidesOf, ArePortsBelow}
-use Rattle.netlist_meaning.proofs.Lists.{taken_more, left_at}
 
 -- the nets of the list have this direction, and the others what they had
 pub record AreGiven (nets : List NetId) (dir : Option Dir) (old new : List (Option Dir)) : Type 0 where
@@ -17,10 +18,6 @@ pub record AreGiven (nets : List NetId) (dir : Option Dir) (old new : List (Opti
 
 pub none_given : (dir : Option Dir) (old : List (Option Dir)) → AreGiven [] dir old old
 none_given dir old = record { long = refl; each = λ net. refl }
-
-or_false : (b : Bool) → (b || false) ≡ b
-or_false true = refl
-or_false false = refl
 
 or_true : (b : Bool) → (b || true) ≡ true
 or_true true = refl

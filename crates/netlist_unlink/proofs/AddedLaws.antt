@@ -2,10 +2,10 @@
 use Rattle.std.proofs.Common.{◌≡◌, ℕ, suc, ◌+◌, List, ◌++◌, drop, refl, ap, sym, ◌∙◌, subst, arith, add-one, append_assoc, Option, Some, None}
 use Rattle.std.specs.Prelude.{slice_get}
 use Rattle.std.specs.Option.{option_map}
+use Rattle.list_laws.proofs.Lists.{left_at}
 use Rattle.verilog_tree.specs.declared.tree.Wire.{Wire}
 use Rattle.netlist_model.specs.Lists.{NetView}
 use Rattle.netlist_unlink.specs.Trees.{added_from, added_wire}
-use Rattle.netlist_unlink.proofs.Lists.{left_at}
 
 pub added_more : (prefix : List ℕ) (nets : List NetView) (n : ℕ) (front now all : List Wire)
     → option_map (λ (view : NetView). front ++ added_wire prefix n view.name) (slice_get nets n) ≡ Some now

@@ -4,6 +4,8 @@ use Rattle.std.specs.Prelude.{nat_lt, IsSome}
 use Rattle.std.proofs.lemmas.Bool.Decides.{nat_tests}
 use Rattle.std.proofs.lemmas.List.{length-map}
 use Rattle.std.proofs.lemmas.List.Sums.{sum_by-cons}
+use Rattle.list_laws.proofs.Lists.{AreAll-length, length-counted_from}
+use Rattle.list_laws.proofs.Options.{or_else-parts}
 use Rattle.verilog_tree.specs.declared.tree.Item.{Item}
 use Rattle.verilog_tree.specs.declared.tree.Module.{Module}
 use Rattle.verilog_tree.specs.declared.tree.Port.{Port}
@@ -19,8 +21,6 @@ use Rattle.link_model.specs.Denoted.{IsNamed, IsNet, NamedNetlist, denoted}
 use Rattle.link_model.specs.Faults.{bit_faults, cells_in, counted, driver_fault, early_fault, gate_operands, instance_faults, item_width, name_twice, text_fault, too_many, too_many_in}
 use Rattle.link_names.proofs.NetCounts.{length-nets_in}
 use Rattle.netlist_link.specs.Linked.{LinkedView}
-use Rattle.netlist_link.proofs.LibraryKinds.{or_else_none}
-use Rattle.netlist_link.proofs.Lists.{AreAll-length, length-counted_from}
 use Rattle.netlist_unlink.specs.Trees.{naming_of, tree_of}
 use Rattle.netlist_unlink.specs.Prefixes.{IsFreePrefix}
 use Rattle.netlist_unlink.specs.Renumbered.{DenotesSame, passed_limit, port_numbers}
@@ -47,11 +47,11 @@ is_few : (m : Module) → early_fault m ≡ None → IsFew m
 is_few m early =
     let operands : Option LinkFault = first_in (λ (i : Item). too_many what.Operands 256 (gate_operands i)) m.items in
     let widths : Option LinkFault = first_in (item_width (declared_names m)) m.items in
-    let text = or_else_none (text_fault m) (driver_fault (nets_in (declared_nets m)) (cells_in m)) early in
-    let many = or_else_none (too_many_in m) (or_else (name_twice m) (or_else (bit_faults m) (or_else (instance_faults m) widths))) text.0 in
-    let one = or_else_none (too_many what.Cells 262144 (length m.items)) (or_else (too_many what.Nets 524288 (bits_in (declared_nets m))) (or_else (too_many what.Ports 4096 (bits_in (map port_nets m.ports))) operands)) many.0 in
-    let two = or_else_none (too_many what.Nets 524288 (bits_in (declared_nets m))) (or_else (too_many what.Ports 4096 (bits_in (map port_nets m.ports))) operands) one.1 in
-    let three = or_else_none (too_many what.Ports 4096 (bits_in (map port_nets m.ports))) operands two.1 in
+    let text = or_else-parts (text_fault m) (driver_fault (nets_in (declared_nets m)) (cells_in m)) early in
+    let many = or_else-parts (too_many_in m) (or_else (name_twice m) (or_else (bit_faults m) (or_else (instance_faults m) widths))) text.0 in
+    let one = or_else-parts (too_many what.Cells 262144 (length m.items)) (or_else (too_many what.Nets 524288 (bits_in (declared_nets m))) (or_else (too_many what.Ports 4096 (bits_in (map port_nets m.ports))) operands)) many.0 in
+    let two = or_else-parts (too_many what.Nets 524288 (bits_in (declared_nets m))) (or_else (too_many what.Ports 4096 (bits_in (map port_nets m.ports))) operands) one.1 in
+    let three = or_else-parts (too_many what.Ports 4096 (bits_in (map port_nets m.ports))) operands two.1 in
     record { cells = one.0; nets = two.0; ports = three.0 }
 
 port_bits_in : (ports : List Port) → bits_in (map port_nets ports) ≡ port_count ports

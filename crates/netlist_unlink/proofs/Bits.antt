@@ -8,6 +8,7 @@ use Rattle.std.proofs.lemmas.Bool.Decides.{eqb_tells}
 use Rattle.std.proofs.lemmas.List.{map-append}
 use Rattle.std.proofs.lemmas.Map.Steps.{le-length_from_below, length-le_from_distinct_below}
 use Rattle.std.proofs.lemmas.Option.{slice_get-map}
+use Rattle.list_laws.proofs.Lists.{slice_get_there}
 use Rattle.verilog_tree.specs.declared.tree.Module.{Module}
 use Rattle.verilog_tree.specs.declared.tree.Port.{Port}
 use Rattle.verilog_tree.specs.declared.tree.Wire.{Wire}
@@ -22,7 +23,6 @@ use Rattle.netlist_unlink.specs.Renumbered.{IsEachOnce, named_net, net_order, pl
 use Rattle.netlist_unlink.proofs.Apart.{Apart, NotIn}
 use Rattle.netlist_unlink.proofs.Declared.{IsFound, names, net_found}
 use Rattle.netlist_unlink.proofs.Keys.{CanName, names_apart}
-use Rattle.netlist_unlink.proofs.Lists as lists
 use Rattle.netlist_unlink.proofs.Members.{in_left, map_twice, place_found}
 use Rattle.netlist_unlink.proofs.Nets.{nets_are, some_passes}
 use Rattle.netlist_unlink.proofs.Ordering.{net_in_order, order_below}
@@ -57,7 +57,7 @@ found_at linked prefix k net w at =
 -- the net's own place
 place_at : (N : NetlistView) (net : ℕ) → net < length N.nets → slice_get (net_order N) (place_of (net_order N) net) ≡ Some net
 place_at N net less =
-    let x = lists.there N.nets net (omega arith) in
+    let x = slice_get_there N.nets net (omega arith) in
     let here = net_in_order N net x.0 x.1 in
     place_found (net_order N) here.0 net here.1
 

@@ -2,13 +2,13 @@
 use Rattle.std.proofs.Common.{◌≡◌, ◌≢◌, subst, ℕ, zero, suc, ◌+◌, ◌<◌, inl, inr, Bool, true, false, ◌||◌, ◌==◌, List, [], ◌∷◌, ◌++◌, length, take, refl, ap, sym, ◌∙◌, Option, Some, None, arith}
 use Rattle.std.specs.Prelude.{slice_get, slice_set}
 use Rattle.std.specs.Option.{option_map}
-use Rattle.std.proofs.lemmas.Bool.{cases_eq}
+use Rattle.std.proofs.lemmas.Bool.{cases_eq, or_right}
 use Rattle.std.proofs.lemmas.List.Folds.{list_any-append}
+use Rattle.list_laws.proofs.Lists.{taken_more}
 use Rattle.netlist_model.specs.declared.Name.TheVariants.{Original}
 use Rattle.netlist_model.specs.Lists.{PortView}
 use Rattle.netlist_unlink.specs.Rows.{has_port_name, is_original}
 use Rattle.netlist_unlink.specs.Flags.{ArePortFlags}
-use Rattle.netlist_unlink.proofs.Lists.{taken_more}
 
 slice_get-set_same : {X : Type 0} (xs : List X) (k : ℕ) (x : X) → k < length xs → slice_get (slice_set xs k x) k ≡ Some x
 slice_get-set_same [] k x h = absurd (omega arith)
@@ -32,10 +32,6 @@ has_port_name-more : (ports : List PortView) (port : PortView) (number other : �
 has_port_name-more ports port number other is =
     list_any-append (λ (p : PortView). is_original number p.name) ports (port ∷ []) ∙ rw is (grind arith)
 
-true_or : (a b : Bool) → b ≡ true → (a || b) ≡ true
-true_or true b e = refl
-true_or false b e = e
-
 false_or : (a b : Bool) → b ≡ false → (a || b) ≡ a
 false_or true b e = refl
 false_or false b e = e
@@ -56,7 +52,7 @@ flags_noted table ports flags p number less at are = go (slice_get ports p) refl
           count = length-slice_set flags number true ∙ count;
           each = λ k below. elim (cases_eq k number) [
             | inl same ↦ ap (slice_get (slice_set flags number true)) same ∙ slice_get-set_same flags number true (omega arith)
-                ∙ ap Some (sym (has_port_name-more (take p ports) port k number name ∙ true_or (has_port_name (take p ports) k) (number == k) (grind arith)))
+                ∙ ap Some (sym (has_port_name-more (take p ports) port k number name ∙ or_right (has_port_name (take p ports) k) (number == k) (grind arith)))
             | inr apart ↦ slice_get-set_other flags number k true apart ∙ are.each k below
                 ∙ ap Some (sym (has_port_name-more (take p ports) port k number name ∙ false_or (has_port_name (take p ports) k) (number == k) (grind arith)))
           ];

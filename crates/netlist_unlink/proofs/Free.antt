@@ -5,6 +5,8 @@ use Rattle.std.specs.List.{list_all, starts_with}
 use Rattle.std.proofs.lemmas.Bool.Decides.{nat_tests}
 use Rattle.std.specs.Option.{option_map}
 use Rattle.std.proofs.lemmas.Option.{same_Some, slice_get-get_or}
+use Rattle.std.proofs.lemmas.Bool.{and_parts, and_from}
+use Rattle.list_laws.proofs.Lists.{slice_get_there, left_at}
 use Rattle.verilog_lexicon.specs.Bytes.{is_letter}
 use Rattle.netlist_model.specs.declared.CellId.{CellId}
 use Rattle.netlist_model.specs.declared.Name.{Name}
@@ -17,35 +19,27 @@ use Rattle.netlist_link.specs.WellNamed.{IsKnown}
 use Rattle.netlist_unlink.specs.Trees.{original}
 use Rattle.netlist_unlink.specs.Prefixes.{IsFreePrefix, IsPrefix, IsUsed, port as used_port, net as used_net, cell as used_cell}
 use Rattle.netlist_unlink.specs.FreeNames.{cells_are_free, has_free_name, is_free_cell, is_free_name, is_free_prefix, is_prefix, is_word_byte, nets_are_free, ports_are_free}
-use Rattle.netlist_unlink.proofs.Lists as lists
-
-both : (a b : Bool) → (a && b) ≡ true → (a ≡ true) × (b ≡ true)
-both true b h = (refl, h)
-both false b h = absurd (cc)
-
-joined : (a b : Bool) → a ≡ true → b ≡ true → (a && b) ≡ true
-joined a b one two = rw (one, two) refl
 
 all_at : {X : Type 0} (test : X → Bool) (xs : List X) (k : ℕ) (x : X) → list_all test xs ≡ true → slice_get xs k ≡ Some x → test x ≡ true
 all_at test [] k x all at = absurd (cc)
-all_at test (y ∷ xs) zero x all at = let same : y ≡ x = same_Some y x at in ap test (sym same) ∙ (both (test y) (list_all test xs) all).0
-all_at test (y ∷ xs) (suc k) x all at = all_at test xs k x (both (test y) (list_all test xs) all).1 at
+all_at test (y ∷ xs) zero x all at = let same : y ≡ x = same_Some y x at in ap test (sym same) ∙ (and_parts (test y) (list_all test xs) all).0
+all_at test (y ∷ xs) (suc k) x all at = all_at test xs k x (and_parts (test y) (list_all test xs) all).1 at
 
 all_from : {X : Type 0} (test : X → Bool) (xs : List X) → ((k : ℕ) (x : X) → slice_get xs k ≡ Some x → test x ≡ true) → list_all test xs ≡ true
 all_from test [] each = refl
-all_from test (x ∷ xs) each = joined (test x) (list_all test xs) (each 0 x refl) (all_from test xs (λ k y at. each (suc k) y at))
+all_from test (x ∷ xs) each = and_from (test x) (list_all test xs) (each 0 x refl) (all_from test xs (λ k y at. each (suc k) y at))
 
 -- what begins with the bytes
 
 begins_joined : (prefix rest : List ℕ) → starts_with nat_eq (prefix ++ rest) prefix ≡ true
 begins_joined [] rest = refl
-begins_joined (x ∷ prefix) rest = let here : nat_eq x x ≡ true = grind (arith, nat_tests) in joined (nat_eq x x) (starts_with nat_eq (prefix ++ rest) prefix) here (begins_joined prefix rest)
+begins_joined (x ∷ prefix) rest = let here : nat_eq x x ≡ true = grind (arith, nat_tests) in and_from (nat_eq x x) (starts_with nat_eq (prefix ++ rest) prefix) here (begins_joined prefix rest)
 
 joined_begins : (xs prefix : List ℕ) → starts_with nat_eq xs prefix ≡ true → xs ≡ prefix ++ drop (length prefix) xs
 joined_begins xs [] h = refl
 joined_begins [] (x ∷ prefix) h = absurd (cc)
 joined_begins (y ∷ xs) (x ∷ prefix) h =
-    let parts = both (nat_eq x y) (starts_with nat_eq xs prefix) h in
+    let parts = and_parts (nat_eq x y) (starts_with nat_eq xs prefix) h in
     let same : y ≡ x = grind (arith, nat_tests, parts.0) in
     ap (λ (z : ℕ). z ∷ xs) same ∙ ap (λ (zs : List ℕ). x ∷ zs) (joined_begins xs prefix parts.1)
 
@@ -54,15 +48,15 @@ joined_begins (y ∷ xs) (x ∷ prefix) h =
 prefix_word : (prefix : List ℕ) → is_prefix prefix ≡ true → IsPrefix prefix
 prefix_word [] h = absurd (cc)
 prefix_word (first ∷ rest) h =
-    let one = both (nat_le (length (first ∷ rest)) 32) (is_letter first && list_all is_word_byte rest) h in
-    let two = both (is_letter first) (list_all is_word_byte rest) one.1 in
+    let one = and_parts (nat_le (length (first ∷ rest)) 32) (is_letter first && list_all is_word_byte rest) h in
+    let two = and_parts (is_letter first) (list_all is_word_byte rest) one.1 in
     record { first = first; rest = rest; is = refl; letter = two.0; word = two.1; short = grind (arith, nat_tests, one.0) }
 
 word_prefix : (prefix : List ℕ) → IsPrefix prefix → is_prefix prefix ≡ true
 word_prefix prefix p =
     let whole : prefix ≡ p.first ∷ p.rest = p.is in
     let short : length (p.first ∷ p.rest) ≤ 32 = let s = p.short in let same : length prefix ≡ length (p.first ∷ p.rest) = ap (λ (xs : List ℕ). length xs) whole in omega arith in
-    ap is_prefix whole ∙ joined (nat_le (length (p.first ∷ p.rest)) 32) (is_letter p.first && list_all is_word_byte p.rest) (grind (arith, nat_tests, short)) (joined (is_letter p.first) (list_all is_word_byte p.rest) p.letter p.word)
+    ap is_prefix whole ∙ and_from (nat_le (length (p.first ∷ p.rest)) 32) (is_letter p.first && list_all is_word_byte p.rest) (grind (arith, nat_tests, short)) (and_from (is_letter p.first) (list_all is_word_byte p.rest) p.letter p.word)
 
 -- a name
 
@@ -85,7 +79,7 @@ free_name linked prefix (Original other) known free = go (starts_with nat_eq (or
     go : (b : Bool) → starts_with nat_eq (original linked.names other) prefix ≡ b → not (starts_with nat_eq (original linked.names other) prefix) ≡ true
     go false e = ap not e
     go true e =
-        let x = lists.there linked.names other (omega arith) in
+        let x = slice_get_there linked.names other (omega arith) in
         let text : original linked.names other ≡ x.0 = ap (λ (o : Option (List ℕ)). unwrap_or o []) x.1 in
         let whole = joined_begins (original linked.names other) prefix e in
         absurd (free other (drop (length prefix) (original linked.names other)) refl (x.1 ∙ ap Some (sym text ∙ whole)))
@@ -102,9 +96,9 @@ cell_free linked prefix i cell name order all at named =
 free_all : (linked : LinkedView) (prefix : List ℕ) → IsLinked linked.arena.lists linked.names linked.order → is_free_prefix linked prefix ≡ true → IsFreePrefix linked prefix
 free_all linked prefix is h =
     let N : NetlistView = linked.arena.lists in
-    let one = both (is_prefix prefix) (ports_are_free linked.names prefix N.ports && (nets_are_free linked.names prefix N.nets && cells_are_free linked prefix linked.order)) h in
-    let two = both (ports_are_free linked.names prefix N.ports) (nets_are_free linked.names prefix N.nets && cells_are_free linked prefix linked.order) one.1 in
-    let three = both (nets_are_free linked.names prefix N.nets) (cells_are_free linked prefix linked.order) two.1 in
+    let one = and_parts (is_prefix prefix) (ports_are_free linked.names prefix N.ports && (nets_are_free linked.names prefix N.nets && cells_are_free linked prefix linked.order)) h in
+    let two = and_parts (ports_are_free linked.names prefix N.ports) (nets_are_free linked.names prefix N.nets && cells_are_free linked prefix linked.order) one.1 in
+    let three = and_parts (nets_are_free linked.names prefix N.nets) (cells_are_free linked prefix linked.order) two.1 in
     record { word = prefix_word prefix one.0; free = λ number rest used at. go (Original number) used two.0 three.0 three.1 number rest refl at }
   where
     go : (name : Name) → IsUsed linked.arena.lists name → ports_are_free linked.names prefix linked.arena.lists.ports ≡ true → nets_are_free linked.names prefix linked.arena.lists.nets ≡ true
@@ -125,9 +119,9 @@ all_free linked prefix is free =
     one view.name (subst K (sym has.1) has.2) (used_port p view at)) in
     let nets = all_from (λ (x : NetView). is_free_name linked.names prefix x.name) N.nets (λ n view at. one view.name (is.named.net_names n view at) (used_net n view at)) in
     let cells = all_from (λ (c : CellId). is_free_cell linked.names prefix (cell_at N c.0)) linked.order (λ place c at. by_cell c.0 (cell_at N c.0) refl one) in
-    joined (is_prefix prefix) (ports_are_free linked.names prefix N.ports && (nets_are_free linked.names prefix N.nets && cells_are_free linked prefix linked.order)) (word_prefix prefix free.word)
-    (joined (ports_are_free linked.names prefix N.ports) (nets_are_free linked.names prefix N.nets && cells_are_free linked prefix linked.order) ports
-    (joined (nets_are_free linked.names prefix N.nets) (cells_are_free linked prefix linked.order) nets cells))
+    and_from (is_prefix prefix) (ports_are_free linked.names prefix N.ports && (nets_are_free linked.names prefix N.nets && cells_are_free linked prefix linked.order)) (word_prefix prefix free.word)
+    (and_from (ports_are_free linked.names prefix N.ports) (nets_are_free linked.names prefix N.nets && cells_are_free linked prefix linked.order) ports
+    (and_from (nets_are_free linked.names prefix N.nets) (cells_are_free linked prefix linked.order) nets cells))
   where
     by_cell : (i : ℕ) (o : Option CellView) → cell_at linked.arena.lists i ≡ o
         → ((name : Name) → IsKnown linked.names name → IsUsed linked.arena.lists name → is_free_name linked.names prefix name ≡ true) → is_free_cell linked.names prefix o ≡ true
@@ -145,13 +139,13 @@ free_iff linked prefix is = (free_all linked prefix is, all_free linked prefix i
 
 left_passes : {X : Type 0} (test : X → Bool) (xs : List X) (i : ℕ) (x : X) → slice_get xs i ≡ Some x → test x ≡ true → list_all test (drop i xs) ≡ list_all test xs → list_all test (drop (i + 1) xs) ≡ list_all test xs
 left_passes test xs i x at passes so_far =
-    let split = lists.left_at xs i x at in
+    let split = left_at xs i x at in
     let next : i + 1 ≡ suc i = omega arith in
     ap (λ (k : ℕ). list_all test (drop k xs)) next ∙ sym (ap (λ (b : Bool). b && list_all test (drop (suc i) xs)) passes) ∙ sym (ap (list_all test) split) ∙ so_far
 
 left_fails : {X : Type 0} (test : X → Bool) (xs : List X) (i : ℕ) (x : X) → slice_get xs i ≡ Some x → test x ≡ false → list_all test (drop i xs) ≡ list_all test xs → false ≡ list_all test xs
 left_fails test xs i x at fails so_far =
-    let split = lists.left_at xs i x at in
+    let split = left_at xs i x at in
     sym (ap (λ (b : Bool). b && list_all test (drop (suc i) xs)) fails) ∙ sym (ap (list_all test) split) ∙ so_far
 
 pub port_passes : (table : List (List ℕ)) (prefix : List ℕ) (ports : List PortView) (i : ℕ) (name : Name) (free : Bool) → option_map (λ (found : PortView). found.name) (slice_get ports i) ≡ Some name

@@ -7,6 +7,7 @@ use Rattle.std.specs.List.{filter_map}
 use Rattle.std.proofs.lemmas.Fmt.{decimal_injective}
 use Rattle.std.proofs.lemmas.List.{append_cancel_left, map-append}
 use Rattle.std.proofs.lemmas.Option.{same_Some, slice_get_within}
+use Rattle.list_laws.proofs.Lists.{slice_get_there}
 use Rattle.verilog_tree.specs.declared.tree.Item.{Item}
 use Rattle.verilog_tree.specs.declared.tree.Item.TheVariants as item
 use Rattle.verilog_tree.specs.declared.tree.Port.{Port}
@@ -25,7 +26,6 @@ use Rattle.netlist_unlink.specs.Prefixes.{IsFreePrefix, IsUsed, port as used_por
 use Rattle.netlist_unlink.specs.Renumbered.{added_test, numbers_from}
 use Rattle.netlist_unlink.proofs.Apart.{Apart, Disjoint, NotIn, all_of_joined, apart_joined, apart_mapped, disjoint_joined, mapped_apart, not_in_joined}
 use Rattle.netlist_unlink.proofs.Kept.{are_kept}
-use Rattle.netlist_unlink.proofs.Lists as lists
 use Rattle.netlist_unlink.proofs.Members.{joined_source, map_same, map_twice, mapped_source, number_source, numbers_apart}
 use Rattle.netlist_unlink.proofs.Nets.{AreNamed, rows_from}
 use Rattle.netlist_unlink.proofs.WireRows.{HasNet, row_name}
@@ -58,7 +58,7 @@ pub record CanName (linked : LinkedView) (prefix : List ℕ) : Type 0 where
 -- the bytes of an original name
 original_at : (table : List (List ℕ)) (number : ℕ) → number < length table → slice_get table number ≡ Some (original table number)
 original_at table number less =
-    let x = lists.there table number (omega arith) in
+    let x = slice_get_there table number (omega arith) in
     let name : original table number ≡ x.0 = ap (λ (o : Option (List ℕ)). unwrap_or o []) x.1 in
     x.1 ∙ ap Some (sym name)
 

@@ -5,35 +5,13 @@ use Rattle.std.specs.Option.{option_map}
 use Rattle.std.specs.List.{AllByRecursion, list_any}
 use Rattle.std.proofs.lemmas.List.{take_more, take-map}
 use Rattle.std.proofs.lemmas.Option.{slice_get_within, get_or_from_slice_get, slice_get-map}
-
--- the front of a list, and the next element
-pub taken_more : {X : Type 0} (xs : List X) (i : ℕ) (x : X) (front new : List X) → slice_get xs i ≡ Some x → front ≡ take i xs → new ≡ front ++ x ∷ [] → new ≡ take (i + 1) xs
-taken_more xs i x front new at so_far grown =
-    let within = slice_get_within xs i x at in
-    let here = get_or_from_slice_get xs i x x at in
-    rw (grown, so_far, take_more xs i x within, here) refl
+use Rattle.list_laws.proofs.Lists.{taken_more}
 
 -- the same of what a function gives
 pub mapped_more : {X Y : Type 0} (f : X → Y) (xs : List X) (i : ℕ) (y : Y) (front new : List Y) → option_map f (slice_get xs i) ≡ Some y
     → front ≡ map f (take i xs) → new ≡ front ++ y ∷ [] → new ≡ map f (take (i + 1) xs)
 mapped_more f xs i y front new at so_far grown =
     taken_more (map f xs) i y front new (slice_get-map f xs i ∙ at) (so_far ∙ sym (take-map f i xs)) grown ∙ take-map f (i + 1) xs
-
--- what is left, by its first element
-pub left_at : {X : Type 0} (xs : List X) (i : ℕ) (x : X) → slice_get xs i ≡ Some x → drop i xs ≡ x ∷ drop (suc i) xs
-left_at [] i x at = absurd (cc)
-left_at (y ∷ xs) zero x at = let same : y ≡ x = grind arith in rw same refl
-left_at (y ∷ xs) (suc i) x at = left_at xs i x at
-
--- what stands at a place within a list
-pub there : {X : Type 0} (xs : List X) (k : ℕ) → suc k ≤ length xs → (x : X) × (slice_get xs k ≡ Some x)
-there [] k h = absurd (omega arith)
-there (x ∷ xs) zero h = (x, refl)
-there (x ∷ xs) (suc k) h = there xs k (omega arith)
-
-pub all_joined : {X : Type 0} (P : X → Type 0) (xs ys : List X) → AllByRecursion P xs → AllByRecursion P ys → AllByRecursion P (xs ++ ys)
-all_joined P [] ys all also = also
-all_joined P (x ∷ xs) ys all also = (all.0, all_joined P xs ys all.1 also)
 
 -- all of a list, from each by its place
 pub all_at : {X : Type 0} (P : X → Type 0) (xs : List X) → ((k : ℕ) (x : X) → slice_get xs k ≡ Some x → P x) → AllByRecursion P xs

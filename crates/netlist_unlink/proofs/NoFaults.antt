@@ -5,6 +5,7 @@ use Rattle.std.specs.Option.{option_map}
 use Rattle.std.specs.List.{AllByRecursion, flat_map}
 use Rattle.std.proofs.lemmas.Bool.Decides.{nat_tests}
 use Rattle.std.proofs.lemmas.List.{length-map}
+use Rattle.list_laws.proofs.Lists.{all_append}
 use Rattle.verilog_tree.specs.declared.tree.Bit.{Bit}
 use Rattle.verilog_tree.specs.declared.tree.GateKind.{GateKind}
 use Rattle.verilog_tree.specs.declared.tree.Instance.{Instance}
@@ -30,7 +31,6 @@ use Rattle.link_model.specs.Faults.{at_bit, at_instance, cell_unknown, gate_oper
 use Rattle.netlist_unlink.specs.Trees.{Naming, bit_of, cell_text, first_operand, gate_of, item_of, items_from, operand_links, operand_of, output_bit, output_links, written}
 use Rattle.netlist_unlink.proofs.Facts.{gate_no_flop, gate_no_mux, library_count}
 use Rattle.netlist_unlink.proofs.Kept.{library_back}
-use Rattle.netlist_unlink.proofs.Lists.{all_joined}
 use Rattle.netlist_unlink.proofs.Nets.{AreNamed}
 use Rattle.netlist_unlink.proofs.NewCells.{AreBelow, IsBelow, feeds_below, links_of, output_below}
 use Rattle.netlist_unlink.proofs.Written.{assign_kind}
@@ -71,7 +71,7 @@ feed_bits N naming P (Const value) all below = tt
 feeds_bits : (N : NetlistView) (naming : Naming) (P : Bit → Type 0) (feeds : List Feed) → OfNets N naming P → AreBelow N feeds → AllByRecursion P (flat_map operand_bits (map (operand_of naming) feeds))
 feeds_bits N naming P [] all below = tt
 feeds_bits N naming P (feed ∷ feeds) all below =
-    all_joined P (operand_bits (operand_of naming feed)) (flat_map operand_bits (map (operand_of naming) feeds)) (feed_bits N naming P feed all (below 0 feed refl))
+    all_append P (operand_bits (operand_of naming feed)) (flat_map operand_bits (map (operand_of naming) feeds)) (feed_bits N naming P feed all (below 0 feed refl))
     (feeds_bits N naming P feeds all (λ place f at. below (suc place) f at))
 
 links_bits : (N : NetlistView) (naming : Naming) (P : Bit → Type 0) (ports : List (List ℕ)) (feeds : List Feed) (rest : List Link) → OfNets N naming P → AreBelow N feeds → AllByRecursion P (flat_map link_bits rest)
@@ -79,7 +79,7 @@ links_bits : (N : NetlistView) (naming : Naming) (P : Bit → Type 0) (ports : L
 links_bits N naming P [] feeds rest all below more = more
 links_bits N naming P (port ∷ ports) [] rest all below more = more
 links_bits N naming P (port ∷ ports) (feed ∷ feeds) rest all below more =
-    all_joined P (operand_bits (operand_of naming feed)) (flat_map link_bits (operand_links naming ports feeds ++ rest)) (feed_bits N naming P feed all (below 0 feed refl))
+    all_append P (operand_bits (operand_of naming feed)) (flat_map link_bits (operand_links naming ports feeds ++ rest)) (feed_bits N naming P feed all (below 0 feed refl))
     (links_bits N naming P ports feeds rest all (λ place f at. below (suc place) f at) more)
 
 -- the net that a cell drives is one of the netlist's

@@ -2,11 +2,11 @@
 use Rattle.std.proofs.Common.{◌≡◌, ℕ, suc, ◌+◌, Bool, true, false, ◌==◌, List, [], ◌∷◌, ◌++◌, drop, refl, ap, sym, ◌∙◌, arith, add-one, Option, Some, None}
 use Rattle.std.specs.Prelude.{slice_get}
 use Rattle.std.specs.Option.{option_map}
+use Rattle.list_laws.proofs.Lists.{left_at}
 use Rattle.verilog_tree.specs.declared.tree.Range.{Range}
 use Rattle.netlist_model.specs.Lists.{PortView, NetView}
 use Rattle.netlist_unlink.specs.declared.rows.NetRow.{NetRow}
 use Rattle.netlist_unlink.specs.Rows.{before, joined_range, row_of, rows, with_row}
-use Rattle.netlist_unlink.proofs.Lists.{left_at}
 
 joined_range-assoc : (a b c : Option Range) → joined_range a (joined_range b c) ≡ joined_range (joined_range a b) c
 joined_range-assoc None b c = refl

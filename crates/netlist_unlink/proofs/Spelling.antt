@@ -4,6 +4,8 @@ use Rattle.std.specs.Prelude.{slice_get}
 use Rattle.std.specs.List.{AllByRecursion, list_all}
 use Rattle.std.specs.Fmt.{decimal}
 use Rattle.std.proofs.lemmas.Fmt.{decimal_by_steps, length-decimal-le}
+use Rattle.std.proofs.lemmas.Bool.{and_parts}
+use Rattle.list_laws.proofs.Lists.{all_append, slice_get_there}
 use Rattle.verilog_lexicon.specs.Bytes.{is_letter, is_digit}
 use Rattle.verilog_tree.specs.IsTree.{IsTreeName, IsVisible}
 use Rattle.netlist_model.specs.declared.Name.{Name}
@@ -11,16 +13,10 @@ use Rattle.netlist_model.specs.declared.Name.TheVariants.{Original, Added}
 use Rattle.netlist_link.specs.WellNamed.{IsKnown}
 use Rattle.netlist_unlink.specs.Trees.{Naming, added, original, spelled}
 use Rattle.netlist_unlink.specs.Prefixes.{IsPrefix}
-use Rattle.netlist_unlink.proofs.Lists.{all_joined, there}
 
 -- each name of the table can be written
 abbrev pub AreSpelled : List (List ℕ) → Type 0
 AreSpelled table = (number : ℕ) (name : List ℕ) → slice_get table number ≡ Some name → IsTreeName name
-
-both : (a b : Bool) → IsTrue (a && b) → IsTrue a × IsTrue b
-both true true h = (h, h)
-both true false h = absurd (cc)
-both false b h = absurd (cc)
 
 visible_word : (byte : ℕ) → IsTrue (is_letter byte || is_digit byte) → IsVisible byte
 visible_word byte h = record { low = grind arith; high = grind arith }
@@ -31,7 +27,7 @@ visible_letter byte h = record { low = grind arith; high = grind arith }
 all_visible : (bytes : List ℕ) → IsTrue (list_all (λ byte. is_letter byte || is_digit byte) bytes) → AllByRecursion IsVisible bytes
 all_visible [] h = tt
 all_visible (byte ∷ bytes) h =
-    let parts = both (is_letter byte || is_digit byte) (list_all (λ (b : ℕ). is_letter b || is_digit b) bytes) h in
+    let parts = and_parts (is_letter byte || is_digit byte) (list_all (λ (b : ℕ). is_letter b || is_digit b) bytes) h in
     (visible_word byte parts.0, all_visible bytes parts.1)
 
 prefix_visible : (prefix : List ℕ) → IsPrefix prefix → AllByRecursion IsVisible prefix
@@ -43,7 +39,7 @@ visible_digit digit low = record { low = omega arith; high = omega arith }
 decimal_visible : (n : ℕ) → n < 2 ^ 64 → AllByRecursion IsVisible (decimal n)
 decimal_visible n low =
     decimal_by_steps (λ (number : ℕ) (digits : List ℕ). AllByRecursion IsVisible digits) (λ number small. (visible_digit number small, tt))
-    (λ number digits large before. all_joined IsVisible digits ((48 + number % 10) ∷ []) before (visible_digit (number % 10) (omega arith), tt)) n low
+    (λ number digits large before. all_append IsVisible digits ((48 + number % 10) ∷ []) before (visible_digit (number % 10) (omega arith), tt)) n low
 
 -- the name of an added net or cell
 pub added_name : (prefix : List ℕ) (letter number : ℕ) → IsPrefix prefix → IsVisible letter → number < 2 ^ 32 → IsTreeName (added prefix letter number)
@@ -55,11 +51,11 @@ added_name prefix letter number p visible low =
     record {
       filled = omega arith;
       short = omega arith;
-      visible = all_joined IsVisible prefix (letter ∷ decimal number) (prefix_visible prefix p) (visible, decimal_visible number wide);
+      visible = all_append IsVisible prefix (letter ∷ decimal number) (prefix_visible prefix p) (visible, decimal_visible number wide);
     }
 
 pub original_name : (table : List (List ℕ)) (number : ℕ) → AreSpelled table → number < length table → IsTreeName (original table number)
-original_name table number are known = let x = there table number (omega arith) in rw x.1 (are number x.0 x.1)
+original_name table number are known = let x = slice_get_there table number (omega arith) in rw x.1 (are number x.0 x.1)
 
 pub spelled_name : (naming : Naming) (letter number : ℕ) (name : Name) → AreSpelled naming.table → IsPrefix naming.prefix → IsVisible letter → number < 2 ^ 32 → IsKnown naming.table name
     → IsTreeName (spelled naming letter number name)

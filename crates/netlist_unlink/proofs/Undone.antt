@@ -4,6 +4,7 @@ use Rattle.std.specs.Prelude.{slice_get, unwrap_or, option_and_then, IsSome}
 use Rattle.std.specs.Option.{option_map}
 use Rattle.std.proofs.lemmas.Bool.{cases_lt}
 use Rattle.std.proofs.lemmas.Option.{same_Some, slice_get_within}
+use Rattle.list_laws.proofs.Lists.{AreAll-left, AreAll-length, AreAll-right, slice_get-counted_from, length-counted_from}
 use Rattle.verilog_tree.specs.declared.tree.Module.{Module}
 use Rattle.verilog_tree.specs.declared.tree.Port.{Port}
 use Rattle.netlist_model.specs.declared.Dir.{Dir}
@@ -19,7 +20,6 @@ use Rattle.link_model.specs.Denoted.{AreAll, IsCell, IsLive, IsName, IsNamed, Is
 use Rattle.netlist_model.specs.Formed.{IsLaidOut}
 use Rattle.netlist_laws.proofs.Ports.{bit_has_direction, direction_has_bit}
 use Rattle.netlist_link.proofs.Formed.{direction_is}
-use Rattle.netlist_link.proofs.Lists.{AreAll-left, AreAll-length, AreAll-right, slice_get-counted_from, length-counted_from}
 use Rattle.netlist_unlink.specs.Trees.{Naming, cell_text, original, port_text, spelled}
 use Rattle.netlist_unlink.specs.Renumbered.{added_test, cells_from, is_added, named_net, net_order, new_cell, new_feed, new_net, new_port, numbers_from, place_of, port_numbers, renumbered, wire_test}
 use Rattle.netlist_unlink.proofs.Denotes.{same_netlist, same_port}

@@ -30,12 +30,13 @@ use Rattle.netlist_model.specs.Lists.{PortView, NetView, CellView, NetlistView, 
 use Rattle.netlist_model.specs.Formed.{IsLaidOut, IsWellFormed}
 use Rattle.netlist_link.specs.WellNamed.{IsShortRange, IsWellNamed}
 use Rattle.std.specs.Fmt.{decimal}
+use Rattle.list_laws.proofs.Lists.{all_append, slice_get_there}
 use Rattle.netlist_link.specs.Linked.{IsLinked, LinkedView}
 use Rattle.netlist_unlink.specs.declared.rows.NetRow.{NetRow}
 use Rattle.netlist_unlink.specs.Rows.{is_original, rows}
 use Rattle.netlist_unlink.specs.Trees.{Naming, added, added_from, added_wire, bit_of, cell_text, first_operand, gate_of, item_of, items_from, naming_of, operand_links, operand_of, original, output_bit, output_links, port_of, port_text, range_of, tree_of, wire_of, written}
 use Rattle.netlist_unlink.specs.Prefixes.{IsFreePrefix, IsPrefix, IsUsed, port}
-use Rattle.netlist_unlink.proofs.Lists.{all_joined, all_mapped, none_at, there}
+use Rattle.netlist_unlink.proofs.Lists.{all_mapped, none_at}
 use Rattle.netlist_unlink.proofs.Spelling.{AreSpelled, added_name, original_name, spelled_name}
 use Rattle.netlist_unlink.proofs.Indexes.{index_short}
 use Rattle.netlist_unlink.proofs.RowFacts.{RowFits}
@@ -62,7 +63,7 @@ letter_c = record { low = omega arith; high = omega arith }
 
 tree_bit : (N : NetlistView) (naming : Naming) (net : NetId) → CanWrite N naming → net.0 < length N.nets → IsTreeBit (bit_of naming net)
 tree_bit N naming net w less =
-    let x = there N.nets net.0 (omega arith) in
+    let x = slice_get_there N.nets net.0 (omega arith) in
     let view : NetView = x.0 in
     let at : slice_get naming.nets net.0 ≡ Some view = ap (λ (nets : List NetView). slice_get nets net.0) w.nets_are ∙ x.1 in
     let nets = w.nets in
@@ -278,7 +279,7 @@ tree_instance N naming i cell library w at is =
     record {
       cell = let P : Option (List ℕ) → Type 0 = λ o. IfSome o IsTreeName in subst P is (library_named cell.kind);
       name = instance_text N naming i cell.name (w.named.library_named i cell at (rw is refl)) (tree_name N naming i cell w at);
-      links = all_joined IsTreeLink (operand_links naming (operand_ports cell.kind) cell.feeds) (output_links naming (output_port cell.kind) cell.output)
+      links = all_append IsTreeLink (operand_links naming (operand_ports cell.kind) cell.feeds) (output_links naming (output_port cell.kind) cell.output)
           (tree_links N naming (operand_ports cell.kind) cell.feeds w (ports_named cell.kind) (λ place feed read. feed_below N naming i cell place feed w at read))
           (tree_output_links N naming (output_port cell.kind) cell.output w (output_named cell.kind) (λ net out. driven_below N naming i cell net w at out));
     }
@@ -362,7 +363,7 @@ added_fits : (P : Wire → Type 0) (prefix : List ℕ) (number : ℕ) (nets : Li
     → AllByRecursion P (added_from prefix number nets)
 added_fits P prefix number [] each = tt
 added_fits P prefix number (view ∷ nets) each =
-    all_joined P (added_wire prefix number view.name) (added_from prefix (number + 1) nets) (one view.name) (added_fits P prefix (number + 1) nets (λ k less. each k (omega arith)))
+    all_append P (added_wire prefix number view.name) (added_from prefix (number + 1) nets) (one view.name) (added_fits P prefix (number + 1) nets (λ k less. each k (omega arith)))
   where
     one : (name : Name) → AllByRecursion P (added_wire prefix number name)
     one (Original place) = tt
@@ -390,8 +391,8 @@ row_apart table N row p view named fits at same =
     let has = named.port_names p view at in
     let number : ℕ = has.0 in
     let is : view.name ≡ Original number = has.1 in
-    let mine = there table number has.2 in
-    let other = there table row.name fits.known in
+    let mine = slice_get_there table number has.2 in
+    let other = slice_get_there table row.name fits.known in
     let left : original table number ≡ mine.0 = ap (λ (o : Option (List ℕ)). unwrap_or o []) mine.1 in
     let right : original table row.name ≡ other.0 = ap (λ (o : Option (List ℕ)). unwrap_or o []) other.1 in
     let texts : mine.0 ≡ other.0 = sym left ∙ ap (port_text table) (sym is) ∙ same ∙ right in
@@ -414,7 +415,7 @@ added_apart linked prefix number p view named free at same =
     let has = named.port_names p view at in
     let place : ℕ = has.0 in
     let is : view.name ≡ Original place = has.1 in
-    let mine = there linked.names place has.2 in
+    let mine = slice_get_there linked.names place has.2 in
     let left : original linked.names place ≡ mine.0 = ap (λ (o : Option (List ℕ)). unwrap_or o []) mine.1 in
     let text : mine.0 ≡ prefix ++ 110 ∷ decimal number = sym left ∙ ap (port_text linked.names) (sym is) ∙ same in
     let U : Name → Type 0 = IsUsed linked.arena.lists in
@@ -433,12 +434,12 @@ is_tree linked prefix is laid few title free numbers =
     record {
       name = title;
       ports = tree_ports table N named;
-      wires = all_joined IsTreeWire (map (wire_of table) (rows N.ports N.nets)) (added_from prefix 0 N.nets) (all_wires table N.ports (rows N.ports N.nets) named.spelled fits)
+      wires = all_append IsTreeWire (map (wire_of table) (rows N.ports N.nets)) (added_from prefix 0 N.nets) (all_wires table N.ports (rows N.ports N.nets) named.spelled fits)
           (added_fits IsTreeWire prefix 0 N.nets (λ k less. record { name = added_name prefix 110 k free.word letter_n (omega arith); range = tt }));
       items = all_items (naming_of linked prefix) 0 N.cells (λ k cell at.
           let P : ℕ → Type 0 = λ n. IsTreeItem (item_of (naming_of linked prefix) n cell) in
           let same : k ≡ 0 + k = omega arith in
           subst P same (tree_item N (naming_of linked prefix) k cell w at));
-      own_nets = all_joined Apart (map (wire_of table) (rows N.ports N.nets)) (added_from prefix 0 N.nets) (rows_apart table N (rows N.ports N.nets) named fits)
+      own_nets = all_append Apart (map (wire_of table) (rows N.ports N.nets)) (added_from prefix 0 N.nets) (rows_apart table N (rows N.ports N.nets) named fits)
           (added_fits Apart prefix 0 N.nets (λ k less. none_is_port table N.ports (record { name = added prefix 110 k; range = None }) (λ p view at. added_apart linked prefix k p view named free at)));
     }

@@ -1,5 +1,5 @@
 -- What a put gives, from its parts.
-use Rattle.std.proofs.Common.{◌≡◌, ℕ, ◌≤◌, List, take, Option, Result, Ok, Err, arith}
+use Rattle.std.proofs.Common.{◌≡◌, ℕ, ◌≤◌, List, take, Option, Ok, Err, arith}
 use Rattle.edge_io.specs.Shelf.{Rose, appended}
 use Rattle.output_lines.specs.Puts.{Puts}
 

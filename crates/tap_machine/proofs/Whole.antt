@@ -1,4 +1,4 @@
--- In a device whose opcodes and captured pattern have one length, reset latches an opcode of that length.
+-- In a device that some text spells, reset latches an opcode of the length of the instruction register.
 use Rattle.std.proofs.Common.{◌≡◌, ◌==◌, ◌||◌, ℕ, zero, suc, Bool, true, false, not, List, [], ◌∷◌, length, Option, refl, ap, sym, ◌∙◌, inl, inr, if◌then◌else◌}
 use Rattle.std.specs.Prelude.{Some, None, IsSome, find, ◌/◌}
 use Rattle.std.specs.List.{list_any}
@@ -7,11 +7,13 @@ use Rattle.std.proofs.lemmas.Bool.Decides.{eqb_tells}
 use Rattle.cell_library.specs.declared.codes.Bits.{Bits}
 use Rattle.cell_library.specs.declared.codes.Opcode.{Opcode}
 use Rattle.cell_library.specs.declared.codes.Instr.{Instr}
-use Rattle.cell_library.specs.declared.codes.Instr.TheVariants.{Idcode, Bypass}
-use Rattle.bsdl_device.specs.Instructions.{is_instruction}
-use Rattle.bsdl_device.specs.Checks.{has_other_length}
+use Rattle.cell_library.specs.declared.codes.Instr.TheVariants.{Idcode, Bypass, Extest, Sample, Preload}
+use Rattle.bsdl_device.specs.declared.values.Device.{Device}
+use Rattle.bsdl_device.specs.Instructions.{is_instruction, instruction_word, names_instruction}
+use Rattle.bsdl_device.specs.Checks.{has_other_length, has_instruction}
+use Rattle.bsdl_device.specs.IsDevice.{opcode_entries, IsDevice}
 use Rattle.test_logic.specs.Instructions.{bits_of, pattern, opcode_of}
-use Rattle.tap_machine.specs.Laws.{OpcodesAreWhole}
+use Rattle.tap_machine.specs.Views.{LatchesWhole}
 
 length_bits_of : (count value : ℕ) → length (bits_of count value) ≡ count
 unfolding bits_of
@@ -59,9 +61,30 @@ latched_length : (wanted : ℕ) (o p : Option Bits) → ((bits : Bits) → o ≡
 latched_length wanted (Some bits) p each other some = length_bits_of bits.len bits.value ∙ each bits refl
 latched_length wanted None p each other some = pattern_length wanted p other some
 
-pub opcodes_are_whole : OpcodesAreWhole
-opcodes_are_whole B lengths capture some = record {
-  length_of_reset = latched_length B.length (opcode_of B.opcodes Idcode) (opcode_of B.opcodes Bypass) (λ bits e. found B.length Idcode B.opcodes bits lengths e)
-      (λ bits e. found B.length Bypass B.opcodes bits lengths e) some
-      ∙ sym (length_bits_of B.capture.len B.capture.value ∙ right_length B.length B.capture capture);
-}
+-- BYPASS is among the instructions
+is_there : (i : Instr) (bits : Bits) (opcodes : List Opcode) → (names_instruction Bypass (instruction_word i) || has_instruction (opcode_entries opcodes) Bypass) ≡ true
+    → (has_instruction (opcode_entries opcodes) Bypass ≡ true → IsSome (opcode_of opcodes Bypass)) → IsSome (opcode_of (record { instr = i; bits = bits } ∷ opcodes) Bypass)
+is_there Bypass bits opcodes h later = refl
+is_there i bits opcodes h later = later h
+
+has_opcode_of : (opcodes : List Opcode) → has_instruction (opcode_entries opcodes) Bypass ≡ true → IsSome (opcode_of opcodes Bypass)
+has_opcode_of [] h = absurd (let clash : false ≡ true = h in cc)
+has_opcode_of (o ∷ opcodes) h = is_there o.instr o.bits opcodes h (has_opcode_of opcodes)
+
+bypass_is_there : (d : Device) → IsDevice d → IsSome (opcode_of d.opcodes Bypass)
+bypass_is_there d is =
+    let entries = opcode_entries d.opcodes in
+    let extest = neither (not (has_instruction entries Extest)) _ is.instructions.all in
+    let sample = neither (not (has_instruction entries Sample)) _ extest.1 in
+    let preload = neither (not (has_instruction entries Preload)) _ sample.1 in
+    let bypass = neither (not (has_instruction entries Bypass)) _ preload.1 in
+    has_opcode_of d.opcodes (not_false (has_instruction entries Bypass) bypass.0)
+
+pub device_latches_whole : (d : Device) → IsDevice d → LatchesWhole d
+device_latches_whole d is =
+    let lengths = is.instructions.lengths in
+    record {
+      length_of_reset = latched_length d.length (opcode_of d.opcodes Idcode) (opcode_of d.opcodes Bypass) (λ bits e. found d.length Idcode d.opcodes bits lengths e)
+          (λ bits e. found d.length Bypass d.opcodes bits lengths e) (bypass_is_there d is)
+          ∙ sym (length_bits_of d.capture.len d.capture.value ∙ right_length d.length d.capture is.instructions.capture_length);
+    }

@@ -3,7 +3,7 @@
 ghost use Rattle.std.specs.Prelude.{◌≡◌, ◌<◌, length, slice_get, Some, IfOk};
 ghost use Rattle.test_logic.specs.Instructions.{mode_of};
 ghost use Rattle.test_logic.specs.Machine as definition;
-ghost use Rattle.tap_machine.specs.Views.{LatchesWhole};
+ghost use Rattle.bsdl_device.specs.IsDevice.{IsDevice};
 
 use crate::held::Held;
 use crate::logic::Logic;
@@ -36,7 +36,7 @@ impl Model for Machine {
 impl Machine {
     /// The test logic in reset.
     pub fn new(alloc: Global, device: &Device) -> Result<Machine, OutOfMemory>
-        requires { LatchesWhole device.now }
+        requires { IsDevice device.now }
         ensures logic { IfOk result (λ m. m.logic ≡ definition.test_logic_of device.now) }
         ensures holds { IfOk result (λ m. m.holds ≡ definition.reset m.logic) }
     {

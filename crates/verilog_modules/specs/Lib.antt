@@ -5,3 +5,4 @@ pub mod Items
 pub mod Nets
 pub mod Modules
 pub mod Faults
+pub mod Laws

@@ -13,4 +13,4 @@ mod parse;
 mod parts;
 
 pub use fault::SyntaxFault;
-pub use parse::parse_module;
+pub use parse::{parse_module, words_spell_one_module};

@@ -8,6 +8,7 @@ ghost use Rattle.verilog_modules.specs.Parsing.{Gives, GivesSeen};
 ghost use Rattle.verilog_modules.specs.Headers.{texts};
 ghost use Rattle.verilog_modules.specs.Modules.{GivesModuleBody, ports_in};
 ghost use Rattle.verilog_modules.specs.Faults.{Refuses};
+ghost use Rattle.verilog_modules.specs.Laws.{WordsSpellOneModule};
 ghost use Rattle.verilog_modules.specs.declared.fault.SyntaxFault.TheVariants as fault;
 
 use crate::declarations::Declarations;
@@ -21,6 +22,9 @@ use std::alloc::Global;
 use verilog_lexicon::reader::WordReader;
 use verilog_lexicon::symbol::Symbol;
 use verilog_lexicon::words::Words;
+use verilog_reading::{
+    faults_at_fault_word, faults_spell_nothing, reads_only_sources, spells_one_source,
+};
 use verilog_tree::{Module, Port};
 
 // No word may follow the module.
@@ -116,10 +120,22 @@ pub fn parse_module(alloc: Global, words: &Words) -> Result<Module, SyntaxFault>
     ensures only { IfOk result (λ tree. (other : ModuleTree) → SpellsModule words.now.list other → other ≡ tree) }
     ensures refused { Refuses words.now result }
 {
+    // Laws of reading that the proof uses.
+    reads_only_sources();
+    spells_one_source();
+    faults_spell_nothing();
+    faults_at_fault_word();
     let mut reader = WordReader::new(words);
     match module_tree(alloc, &mut reader) {
         Ok(tree) => Ok(tree),
         Err(ParseFault::Syntax) => Err(fault_at(words, &reader)),
         Err(ParseFault::OutOfMemory) => Err(SyntaxFault::OutOfMemory),
     }
+}
+
+/// A law: words spell at most one module.
+pub fn words_spell_one_module()
+    ensures { WordsSpellOneModule }
+{
+    spells_one_source();
 }

@@ -1,10 +1,12 @@
 -- Names, numbers, reserved words and symbols of the canonical text, cut into pieces.
 use Rattle.std.proofs.Common.{◌≡◌, ℕ, ◌+◌, ◌-◌, ◌*◌, ◌/◌, ◌%◌, ◌^◌, ◌<◌, ◌≤◌, List, [], ◌∷◌, ◌++◌, length, Bool, true, false, Option, Some, None, refl, ap, ◌∙◌, arith, lit≤, lit<}
-use Rattle.std.specs.Prelude.{◌||◌, ◌&&◌, ◌==◌, IsTrue, if◌then◌else◌, codes, is_none}
+use Rattle.std.specs.Prelude.{◌||◌, ◌==◌, IsTrue, if◌then◌else◌, codes, is_none}
 use Rattle.std.specs.Bool.{IsFalse}
 use Rattle.std.specs.List.{AllByRecursion, list_all}
 use Rattle.std.specs.Fmt.{decimal}
 use Rattle.std.proofs.lemmas.Fmt.{decimal_by_steps, length-decimal-le, decimal_nonempty}
+use Rattle.list_laws.proofs.Tests.{and_left, and_right}
+use Rattle.list_laws.proofs.Lists.{all_from_list_all}
 use Rattle.verilog_lexicon.specs.declared.word.Word.{Word}
 use Rattle.verilog_lexicon.specs.declared.word.Word.TheVariants as word
 use Rattle.verilog_lexicon.specs.declared.reserved.Reserved.{Reserved}
@@ -20,14 +22,6 @@ use Rattle.verilog_tree.specs.Spelling.{key_of_dir, key_of_gate}
 use Rattle.verilog_tree.specs.IsTree.{IsVisible, IsTreeName, IsTreeNumber}
 use Rattle.verilog_tree.specs.Canonical.{is_plain, name_text}
 use Rattle.verilog_printing.proofs.Cuts.{Cut, Apart, NoStar, one_piece, with_words}
-
-pub and_left : (a b : Bool) → (a && b) ≡ true → a ≡ true
-and_left true b h = refl
-and_left false b h = h
-
-pub and_right : (a b : Bool) → (a && b) ≡ true → b ≡ true
-and_right true b h = h
-and_right false b h = cc
 
 or_left : (a b : Bool) → IsFalse (a || b) → IsFalse a
 or_left true b h = h
@@ -50,10 +44,6 @@ apart_star [] h = tt
 apart_star (b ∷ rest) h = or_right (clings b) (b == 42) h
 
 -- Names.
-
-pub all_from_list_all : (p : ℕ → Bool) (bs : List ℕ) → list_all p bs ≡ true → AllByRecursion (λ c. IsTrue (p c)) bs
-all_from_list_all p [] h = tt
-all_from_list_all p (b ∷ bs) h = (and_left (p b) (list_all p bs) h, all_from_list_all p bs (and_right (p b) (list_all p bs) h))
 
 is_name : (name : List ℕ) → is_simple_name name ≡ true → length name ≤ 255 → IsName name
 is_name [] simple short = cc

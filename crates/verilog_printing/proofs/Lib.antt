@@ -3,5 +3,3 @@ pub mod Atoms
 pub mod Parts
 pub mod Written
 pub mod Lines
-pub mod SpelledWords
-pub mod SpelledTrees

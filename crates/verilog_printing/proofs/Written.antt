@@ -1,10 +1,11 @@
 -- The written module that the canonical text spells: an ansi header, and each wire and item of its own.
 use Rattle.std.proofs.Common.{◌≡◌, ◌<◌, List, [], ◌∷◌, ◌++◌, length, map, filter, Bool, true, false, Some, refl, sym, ap, ◌∙◌, arith}
-use Rattle.std.specs.Prelude.{not, ◌&&◌}
+use Rattle.std.specs.Prelude.{not}
 use Rattle.std.specs.Bool.{IsFalse}
 use Rattle.std.specs.List.{flat_map, list_all, AllByRecursion}
 use Rattle.std.proofs.lemmas.List.{append-nil}
 use Rattle.std.proofs.lemmas.List.Concat.{flat_map-append}
+use Rattle.std.proofs.lemmas.Bool.{and_from}
 use Rattle.verilog_tree.specs.declared.tree.Operand.{Operand}
 use Rattle.verilog_tree.specs.declared.tree.Operand.TheVariants as operand
 use Rattle.verilog_tree.specs.declared.tree.Port.{Port}
@@ -141,18 +142,15 @@ declared_by_sources (w ∷ ws) is = declared_by_sources ws is
 
 -- Each item fits.
 
-both_true : (a b : Bool) → a ≡ true → b ≡ true → (a && b) ≡ true
-both_true a b h k = rw h k
-
 item_fits-item_source : (i : Item) → IsTreeItem i → item_fits (item_source i) ≡ true
 item_fits-item_source (item.Gate gate) is =
-    both_true (takes_inputs gate.kind (length (gate_inputs (gate_source gate)))) true (ap (λ (inputs : List Operand). takes_inputs gate.kind (length inputs)) (first_and_others gate.inputs is.reads) ∙ is.takes) refl
+    and_from (takes_inputs gate.kind (length (gate_inputs (gate_source gate)))) true (ap (λ (inputs : List Operand). takes_inputs gate.kind (length inputs)) (first_and_others gate.inputs is.reads) ∙ is.takes) refl
 item_fits-item_source (item.Instance instance) is = refl
 item_fits-item_source (item.Assign output input) is = refl
 
 items_fit : (ws : List Wire) (is : List Item) → AllByRecursion IsTreeItem is → list_all item_fits (item_sources ws is) ≡ true
 items_fit [] [] all = refl
-items_fit [] (i ∷ is) all = both_true (item_fits (item_source i)) (list_all item_fits (map item_source is)) (item_fits-item_source i all.0) (items_fit [] is all.1)
+items_fit [] (i ∷ is) all = and_from (item_fits (item_source i)) (list_all item_fits (map item_source is)) (item_fits-item_source i all.0) (items_fit [] is all.1)
 items_fit (w ∷ ws) is all = items_fit ws is all
 
 pub written_keeps_rules : (tree : Module) → IsTree tree → IsSource (written tree)

@@ -8,8 +8,3 @@ ghost use Rattle.verilog_tree.specs.Texts.{SpellsText};
 pub fn canonical_texts_spell_their_trees()
     ensures { (tree : Module) → IsTree tree → SpellsText (canonical tree) tree }
 {}
-
-/// A law: each tree that some text spells keeps the conditions.
-pub fn spelled_trees_keep_the_conditions()
-    ensures { (bytes : List ℕ) (tree : Module) → SpellsText bytes tree → IsTree tree }
-{}

@@ -9,5 +9,5 @@ mod names;
 mod ports;
 mod print;
 
-pub use laws::{canonical_texts_spell_their_trees, spelled_trees_keep_the_conditions};
+pub use laws::canonical_texts_spell_their_trees;
 pub use print::print_module;

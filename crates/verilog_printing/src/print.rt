@@ -8,6 +8,7 @@ use crate::names::put_name;
 use crate::ports::{put_ports, put_wires};
 use edge_io::{OutOfMemory, Text};
 use std::alloc::Global;
+use verilog_conditions::spelled_trees_keep_the_conditions;
 use verilog_tree::Module;
 
 fn put_module(text: &mut Text, tree: &Module) -> Result<(), OutOfMemory>
@@ -30,6 +31,8 @@ pub fn print_module(alloc: Global, tree: &Module) -> Result<Text, OutOfMemory>
     // Just the trees that keep the conditions are spelled by a text.
     ensures spelled { (bytes : List ℕ) → SpellsText bytes tree.now → IsTree tree.now }
 {
+    // A law that the proof uses.
+    spelled_trees_keep_the_conditions();
     let mut text = Text::new(alloc);
     put_module(&mut text, tree)?;
     Ok(text)

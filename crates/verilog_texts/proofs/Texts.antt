@@ -1,33 +1,29 @@
 -- From the faults of words and modules to those of a text.
 use Rattle.std.proofs.Common.{◌≡◌, ℕ, List, [], ◌∷◌, ◌++◌, Some, Err, refl, sym, ap, subst, ◌∙◌}
+use Rattle.std.proofs.lemmas.List.{append-nil}
 use Rattle.verilog_lexicon.specs.declared.word.Spanned.{Spanned}
 use Rattle.verilog_lexicon.specs.Pieces.{words_of, Begins}
 use Rattle.verilog_lexicon.specs.Words.{WordText}
 use Rattle.verilog_tree.specs.declared.tree.Module.{Module}
 use Rattle.verilog_tree.specs.Texts.{SpellsModule, SpellsText}
-use Rattle.verilog_words.specs.Machine.{between}
-use Rattle.verilog_words.proofs.Outcome.{outcome}
-use Rattle.verilog_words.proofs.Complete.{complete}
-use Rattle.verilog_modules.proofs.Spelled.{spells-one}
-use Rattle.verilog_printing.proofs.SpelledTrees.{spelled_is_tree}
 use Rattle.verilog_words.specs.declared.fault.WordFault.{WordFault}
 use Rattle.verilog_words.specs.declared.fault.WordFault.TheVariants as word
+use Rattle.verilog_words.specs.Laws.{BytesHaveOneList}
 use Rattle.verilog_words.specs.Fed.{IsFault, IsEndFault}
 use Rattle.verilog_modules.specs.declared.fault.SyntaxFault.{SyntaxFault}
 use Rattle.verilog_modules.specs.declared.fault.SyntaxFault.TheVariants as syntax
 use Rattle.verilog_modules.specs.Faults.{Refuses}
 use Rattle.verilog_texts.specs.declared.fault.TextFault.{TextFault}
 use Rattle.verilog_texts.specs.declared.fault.TextFault.TheVariants.{BadWord, BadSyntax, OutOfMemory}
+use Rattle.verilog_conditions.specs.Laws.{SpelledTreesKeepConditions}
+use Rattle.verilog_modules.specs.Laws.{WordsSpellOneModule}
+use Rattle.verilog_texts.specs.Laws.{BytesSpellOneTree}
 use Rattle.verilog_texts.specs.Reading.{HasWords, Spelled, IsReadAs}
 use Rattle.verilog_texts.specs.TextFaults.{word_fault, syntax_fault, IsTextFault, IsModuleFault}
 
-append_nil : (xs : List ℕ) → xs ++ [] ≡ xs
-append_nil [] = refl
-append_nil (x ∷ xs) = ap (λ (t : List ℕ). x ∷ t) (append_nil xs)
-
 -- a text that has words begins one
 pub begins : (bytes : List ℕ) (words : List Spanned) → words_of bytes words → Begins bytes
-begins bytes words cut = ([], words, subst (λ (x : List ℕ). words_of x words) (sym (append_nil bytes)) cut)
+begins bytes words cut = ([], words, subst (λ (x : List ℕ). words_of x words) (sym (append-nil bytes)) cut)
 
 pub fed_fault : (e : WordFault) (bytes : List ℕ) → IsFault e bytes → IsTextFault bytes (word_fault e)
 fed_fault word.OutOfMemory bytes fault = tt
@@ -47,24 +43,16 @@ text_fault OutOfMemory bytes text has fault = tt
 text_fault (BadWord place) bytes text has fault = absurd fault
 text_fault (BadSyntax place number) bytes text has fault = record { text = text; has = has; syntax = fault }
 
-as_outcome : (bytes : List ℕ) (words : List Spanned) → words_of bytes words → outcome 0 (between []) bytes ≡ Some words
-as_outcome bytes words cut = ap (outcome 0 (between [])) cut.text ∙ complete cut.pieces 0 [] cut.are ∙ ap (λ (ws : List Spanned). Some ws) (sym cut.words_are)
-
--- bytes have one list of words at most
-pub words_once : (bytes : List ℕ) (words others : List Spanned) → words_of bytes words → words_of bytes others → others ≡ words
-words_once bytes words others cut other =
-    let same : Some others ≡ Some words = sym (as_outcome bytes others other) ∙ as_outcome bytes words cut in cc
-
--- and spell one tree at most
-pub spells_once : (bytes : List ℕ) (tree other : Module) → SpellsText bytes tree → SpellsText bytes other → other ≡ tree
-spells_once bytes tree other a b =
-    spells-one a.words tree other a.spells (subst (λ (ws : List Spanned). SpellsModule ws other) (words_once bytes a.words b.words a.cut b.cut) b.spells)
+-- bytes spell one tree at most, since they have one list of words, and words spell one module
+pub spells_once : BytesHaveOneList → WordsSpellOneModule → BytesSpellOneTree
+spells_once one_list one_module bytes one other a b =
+    one_module b.words one other (subst (λ (ws : List Spanned). SpellsModule ws one) (one_list bytes a.words b.words a.cut b.cut) a.spells) b.spells
 
 -- the tree that the words of a text spell
-pub read : (bytes : List ℕ) (text : WordText) (tree : Module) → HasWords bytes text → Spelled text tree → IsReadAs bytes tree
-read bytes text tree has spelled =
+pub read : BytesSpellOneTree → SpelledTreesKeepConditions → (bytes : List ℕ) (text : WordText) (tree : Module) → HasWords bytes text → Spelled text tree → IsReadAs bytes tree
+read once keep bytes text tree has spelled =
     let here : SpellsText bytes tree = record { words = text.list; cut = has.cut; spells = spelled.spells } in record {
       spells = here;
-      only = λ other s. spells_once bytes tree other here s;
-      is = spelled_is_tree bytes tree here;
+      only = λ other s. once bytes other tree s here;
+      is = keep bytes tree here;
     }

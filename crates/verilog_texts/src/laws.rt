@@ -1,8 +1,12 @@
-ghost use Rattle.std.specs.Prelude.{◌≡◌, ℕ, List};
-ghost use Rattle.verilog_tree.specs.declared.tree.Module.{Module};
-ghost use Rattle.verilog_tree.specs.Texts.{SpellsText};
+ghost use Rattle.verilog_texts.specs.Laws.{BytesSpellOneTree};
+
+use verilog_modules::words_spell_one_module;
+use verilog_words::bytes_have_one_list_of_words;
 
 /// A law: bytes spell at most one tree.
 pub fn bytes_spell_one_tree()
-    ensures { (bytes : List ℕ) (one other : Module) → SpellsText bytes one → SpellsText bytes other → one ≡ other }
-{}
+    ensures { BytesSpellOneTree }
+{
+    bytes_have_one_list_of_words();
+    words_spell_one_module();
+}

@@ -3,8 +3,10 @@ ghost use Rattle.verilog_texts.specs.Reading.{HasWords, IsReadAs, Spelled};
 ghost use Rattle.verilog_texts.specs.TextFaults.{IsTextFault, IsModuleFault};
 
 use crate::fault::TextFault;
+use crate::laws::bytes_spell_one_tree;
 use edge_io::Text;
 use std::alloc::Global;
+use verilog_conditions::spelled_trees_keep_the_conditions;
 use verilog_lexicon::Words;
 use verilog_modules::parse_module;
 use verilog_tree::Module;
@@ -33,6 +35,9 @@ pub fn read_module(alloc: Global, text: Text) -> Result<Module, TextFault>
     ensures read { IfOk result (IsReadAs text) }
     ensures fault { IfErr result (IsTextFault text) }
 {
+    // Laws that the proof uses.
+    bytes_spell_one_tree();
+    spelled_trees_keep_the_conditions();
     let words = cut(alloc, text)?;
     let tree = parse(alloc, words)?;
     Ok(tree)

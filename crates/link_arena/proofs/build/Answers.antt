@@ -1,9 +1,9 @@
 use Rattle.std.proofs.Common.{◌≡◌, List, ℕ, length, sym, ◌∙◌, ap, arith, subst}
+use Rattle.list_laws.proofs.Lists.{AreAll-length}
 use Rattle.verilog_tree.specs.declared.tree.Port.{Port}
 use Rattle.link_model.specs.Nets.{declared_nets}
 use Rattle.link_model.specs.Fits.{FitCells}
 use Rattle.link_model.specs.Denoted.{IsNet, IsPort, AreAll, ports_from}
-use Rattle.link_arena.proofs.Rows.{AreAll-length}
 use Rattle.link_arena.proofs.Entering.{nets_in_table, ports_in_table, cells_in_table}
 use Rattle.link_arena.proofs.Parts.{few_nets, length-nets_in, port-bits-few, drive_apart, bits-of}
 use Rattle.link_arena.proofs.build.Goals as goal
@@ -38,5 +38,5 @@ add_cells-requires-clause-fits c =
 pub add_cells-requires-clause-apart : goal.add_cells-requires-clause-apart
 add_cells-requires-clause-apart c =
     let P : List Port → Type 0 = λ ps. AreAll (IsPort c.in_ok-names.names) c.add_ports.new.netlist.lists.ports (ports_from 0 ps) in
-    drive_apart c.in_ok-names.names c.add_ports.new.netlist.lists c.args.tree.now c.args.nets.items c.args.cells.now c.requires.nets c.requires.fits c.requires.driven
+    drive_apart c.nets_have_their_drivers.ensures c.in_ok-names.names c.add_ports.new.netlist.lists c.args.tree.now c.args.nets.items c.args.cells.now c.requires.nets c.requires.fits c.requires.driven
     (subst P c.as_slice.ensures c.in_ok-add_ports.ensures.ports)

@@ -1,5 +1,4 @@
-use Rattle.std.proofs.Common.{List, ℕ, Err, inr, refl, ap}
-use Rattle.insert_cli.specs.Seen.{SinkSeen, sink_seen}
+use Rattle.std.proofs.Common.{Err, inr, refl, ap}
 use Rattle.insert_cli.specs.Simulations.{IsSimulation}
 use Rattle.insert_cli.proofs.Simulated.{simulation_made, linkable_of, events_of, front_made}
 use Rattle.insert_cli.proofs.simulate.play_texts.Goals as goal

@@ -28,6 +28,9 @@ returns-clause-fault g c = λ not_end.
           c.put_fault.ensures.ok c.put_fault.ensures.fault c.put_fault.ensures.cause;
     }
 
+pub returns-clause-cut_short : goal.returns-clause-cut_short
+returns-clause-cut_short g c = λ failed. c.in-Err.ensures.cut_short (sym c.status-status.ensures ∙ failed)
+
 pub returns-clause-complete : goal.returns-clause-complete
 returns-clause-complete g c = λ k input output bytes runs told ok calm still.
     let shelf : ShelfSeen = shelf_seen g.S.Shelf.tells g.S.Shelf.held g.S.Shelf.written g.S.Shelf.faults c.args.shelf.now c.run.new.shelf in

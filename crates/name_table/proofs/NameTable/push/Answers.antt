@@ -1,4 +1,4 @@
-use Rattle.std.proofs.Common.{sym, ◌∙◌, ◌≡◌, ap, ℕ, Some, arith}
+use Rattle.std.proofs.Common.{◌∙◌, ◌≡◌, ap, ℕ, Some, arith}
 use Rattle.name_table.proofs.Numbers.{pushed, number_of-at}
 use Rattle.name_table.specs.Names.{with_name}
 use Rattle.name_table.proofs.NameTable.push.Goals as goal

@@ -30,7 +30,7 @@ loop-passed-preserved c =
           ∙ ap (λ vertices. mark_all vertices w.as_mut_slice.result.now) (w.reads.ensures ∙ ap (reads_of c.args.graph.now) at_vertex)
           ∙ ap (mark_all (reads_of c.args.graph.now (slice_index c.args.order.now i))) w.as_mut_slice.ensures.value in
           subst (λ marks. IsSpread c.args.graph.now c.args.order.now c.args.roots.now marks i) (sym items)
-          (spread_more c.args.graph.now c.args.order.now c.args.roots.now c.loop-passed.inside.items i c.requires.graph c.requires.order (omega (arith, c.loop-passed-test.true)) s (sym read ∙ w.if-index.true))
+          (spread_more c.reads_stand_earlier.ensures c.args.graph.now c.args.order.now c.args.roots.now c.loop-passed.inside.items i c.requires.graph c.requires.order (omega (arith, c.loop-passed-test.true)) s (sym read ∙ w.if-index.true))
       | else-index w ↦
           let items : c.if-index.inside.items ≡ c.loop-passed.inside.items = ap (λ v. v.items) w.inside-is in
           subst (λ marks. IsSpread c.args.graph.now c.args.order.now c.args.roots.now marks i) (sym items)

@@ -1,11 +1,11 @@
 use Rattle.std.proofs.Common.{◌≡◌, ◌∙◌, ap, sym, Some, arith}
 use Rattle.verilog_tree.specs.declared.tree.Link.{Link}
 use Rattle.std.specs.Prelude.{slice_get}
+use Rattle.list_laws.proofs.Lists.{taken_more}
 use Rattle.cell_library.specs.Library.{operand_ports}
 use Rattle.netlist_model.specs.Lists.{cell_at}
 use Rattle.netlist_unlink.specs.Parts.{feeds_of}
 use Rattle.netlist_unlink.specs.Trees.{naming_of, operand_links, operand_of}
-use Rattle.netlist_unlink.proofs.Lists.{taken_more}
 use Rattle.netlist_unlink.proofs.Facts.{count_there, feed_there, links_all, links_at}
 use Rattle.netlist_unlink.proofs.links.links_to_operands.Goals as goal
 

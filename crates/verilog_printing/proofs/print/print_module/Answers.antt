@@ -2,7 +2,6 @@ use Rattle.std.proofs.Common.{◌≡◌, ℕ, List, sym, subst, rules}
 use Rattle.verilog_tree.specs.Canonical.{canonical}
 use Rattle.verilog_tree.specs.Texts.{SpellsText}
 use Rattle.verilog_printing.proofs.Lines.{canonical_spells}
-use Rattle.verilog_printing.proofs.SpelledTrees.{spelled_is_tree}
 use Rattle.verilog_printing.proofs.print.print_module.Goals as goal
 
 pub returns-clause-spells : goal.returns-clause-spells
@@ -11,7 +10,7 @@ returns-clause-spells c =
     λ is. subst (λ (text : List ℕ). SpellsText text c.args.tree.now) (sym same) (canonical_spells c.args.tree.now is)
 
 pub returns-clause-spelled : goal.returns-clause-spelled
-returns-clause-spelled c = λ bytes spells. spelled_is_tree bytes c.args.tree.now spells
+returns-clause-spelled c = λ bytes spells. c.spelled_trees_keep_the_conditions.ensures bytes c.args.tree.now spells
 
 pub returns-in_err-put_module-clause-spelled : goal.returns-in_err-put_module-clause-spelled
-returns-in_err-put_module-clause-spelled c = λ bytes spells. spelled_is_tree bytes c.args.tree.now spells
+returns-in_err-put_module-clause-spelled c = λ bytes spells. c.spelled_trees_keep_the_conditions.ensures bytes c.args.tree.now spells

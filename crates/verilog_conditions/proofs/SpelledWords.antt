@@ -1,18 +1,19 @@
 -- The words of a text: which names and numbers it can have.
-use Rattle.std.proofs.Common.{ℕ, ◌+◌, ◌-◌, ◌*◌, ◌^◌, ◌<◌, ◌≤◌, List, [], ◌∷◌, ◌++◌, length, Some, None, sym, ap, subst, ◌∙◌, arith, lit<}
+use Rattle.std.proofs.Common.{ℕ, ◌+◌, ◌-◌, ◌*◌, ◌^◌, ◌<◌, ◌≤◌, List, [], ◌∷◌, length, Some, None, sym, subst, arith, lit<}
 use Rattle.std.specs.Prelude.{IsTrue}
 use Rattle.std.specs.Option.{option_map_or}
-use Rattle.std.specs.List.{flat_map, AllByRecursion}
+use Rattle.std.specs.List.{AllByRecursion}
+use Rattle.std.proofs.lemmas.List.{map-append}
 use Rattle.std.proofs.Math.Nat.{mul-le-mul_right, pow-suc, pow-le-pow_right}
+use Rattle.list_laws.proofs.Lists.{all_append}
 use Rattle.verilog_lexicon.specs.declared.word.Word.{Word}
 use Rattle.verilog_lexicon.specs.declared.word.Word.TheVariants as word
 use Rattle.verilog_lexicon.specs.Bytes.{is_letter, is_digit, is_name_byte, is_escaped_byte}
 use Rattle.verilog_lexicon.specs.Keywords.{reserved_of, name_word}
 use Rattle.verilog_lexicon.specs.Words.{plain}
-use Rattle.verilog_lexicon.specs.Pieces.{Piece, blank, line_comment, block_comment, attribute, line_directive, bare_directive, simple_name, escaped_name, number, constant, symbol, IsName, IsEscapedName, IsPiece, ArePieces, value_from, words_of}
+use Rattle.verilog_lexicon.specs.Pieces.{Piece, blank, line_comment, block_comment, attribute, line_directive, bare_directive, simple_name, escaped_name, number, constant, symbol, IsName, IsEscapedName, IsPiece, ArePieces, spelling, value_from, word_at, words_from, words_of}
 use Rattle.verilog_lexicon.specs.declared.word.Spanned.{Spanned}
 use Rattle.verilog_tree.specs.IsTree.{IsVisible, IsTreeName, IsTreeNumber}
-use Rattle.verilog_printing.proofs.Cuts.{piece_words, plain-words_from}
 
 -- a name or a number that a tree can have
 abbrev pub IsSpelled : Word → Type 0
@@ -26,18 +27,6 @@ abbrev pub AreSpelled : List Word → Type 0
 AreSpelled ws = AllByRecursion IsSpelled ws
 
 -- Lists.
-
-pub all_append : {A : Type 0} (P : A → Type 0) (xs ys : List A) → AllByRecursion P xs → AllByRecursion P ys → AllByRecursion P (xs ++ ys)
-all_append P [] ys front back = back
-all_append P (x ∷ xs) ys front back = (front.0, all_append P xs ys front.1 back)
-
-pub all_front : {A : Type 0} (P : A → Type 0) (xs ys : List A) → AllByRecursion P (xs ++ ys) → AllByRecursion P xs
-all_front P [] ys all = tt
-all_front P (x ∷ xs) ys all = (all.0, all_front P xs ys all.1)
-
-pub all_back : {A : Type 0} (P : A → Type 0) (xs ys : List A) → AllByRecursion P (xs ++ ys) → AllByRecursion P ys
-all_back P [] ys all = all
-all_back P (x ∷ xs) ys all = all_back P xs ys all.1
 
 pub all_more : {A : Type 0} (P Q : A → Type 0) → ((x : A) → P x → Q x) → (xs : List A) → AllByRecursion P xs → AllByRecursion Q xs
 all_more P Q more [] all = tt
@@ -90,23 +79,25 @@ number_is_low ds short all =
 
 -- Pieces.
 
-piece_is_spelled : (p : Piece) → IsPiece p → AreSpelled (piece_words p)
-piece_is_spelled (blank b) is = tt
-piece_is_spelled (line_comment bytes) is = tt
-piece_is_spelled (block_comment bytes) is = tt
-piece_is_spelled (attribute bytes) is = tt
-piece_is_spelled (line_directive name text) is = tt
-piece_is_spelled (bare_directive name) is = tt
-piece_is_spelled (simple_name bytes) is = (name_word_is_spelled bytes (simple_is_tree_name bytes is), tt)
-piece_is_spelled (escaped_name bytes b) is = (escaped_is_tree_name bytes is.0, tt)
-piece_is_spelled (number digits) is = (number_is_low digits is.1 is.2, tt)
-piece_is_spelled (constant base value) is = (tt, tt)
-piece_is_spelled (symbol s) is = (tt, tt)
+piece_is_spelled : (at : ℕ) (p : Piece) → IsPiece p → AreSpelled (plain (word_at at p))
+piece_is_spelled at (blank b) is = tt
+piece_is_spelled at (line_comment bytes) is = tt
+piece_is_spelled at (block_comment bytes) is = tt
+piece_is_spelled at (attribute bytes) is = tt
+piece_is_spelled at (line_directive name text) is = tt
+piece_is_spelled at (bare_directive name) is = tt
+piece_is_spelled at (simple_name bytes) is = (name_word_is_spelled bytes (simple_is_tree_name bytes is), tt)
+piece_is_spelled at (escaped_name bytes b) is = (escaped_is_tree_name bytes is.0, tt)
+piece_is_spelled at (number digits) is = (number_is_low digits is.1 is.2, tt)
+piece_is_spelled at (constant base value) is = (tt, tt)
+piece_is_spelled at (symbol s) is = (tt, tt)
 
-pieces_are_spelled : (ps : List Piece) → ArePieces ps → AreSpelled (flat_map piece_words ps)
-pieces_are_spelled [] are = tt
-pieces_are_spelled (p ∷ ps) are = all_append IsSpelled (piece_words p) (flat_map piece_words ps) (piece_is_spelled p are.0) (pieces_are_spelled ps are.2)
+pieces_are_spelled : (at : ℕ) (ps : List Piece) → ArePieces ps → AreSpelled (plain (words_from at ps))
+pieces_are_spelled at [] are = tt
+pieces_are_spelled at (p ∷ ps) are =
+    let next : ℕ = at + length (spelling p) in
+    subst (λ (ws : List Word). AreSpelled ws) (sym (map-append (λ (s : Spanned). s.word) (word_at at p) (words_from next ps)))
+    (all_append IsSpelled (plain (word_at at p)) (plain (words_from next ps)) (piece_is_spelled at p are.0) (pieces_are_spelled next ps are.2))
 
 pub words_are_spelled : (bytes : List ℕ) (words : List Spanned) → words_of bytes words → AreSpelled (plain words)
-words_are_spelled bytes words cut =
-    subst (λ (ws : List Word). AreSpelled ws) (sym (ap (λ (list : List Spanned). plain list) cut.words_are ∙ plain-words_from 0 cut.pieces)) (pieces_are_spelled cut.pieces cut.are)
+words_are_spelled bytes words cut = subst (λ (list : List Spanned). AreSpelled (plain list)) (sym cut.words_are) (pieces_are_spelled 0 cut.pieces cut.are)

@@ -3,6 +3,8 @@ use Rattle.std.proofs.Common.{◌≡◌, ℕ, List, [], ◌∷◌, ◌++◌, len
 use Rattle.std.specs.Prelude.{not, find, IfSome, unwrap_or}
 use Rattle.std.specs.Bool.{IsFalse}
 use Rattle.std.specs.List.{flat_map, list_all, AllByRecursion}
+use Rattle.list_laws.proofs.Tests.{and_left, and_right}
+use Rattle.list_laws.proofs.Lists.{all_append, all_front, all_back, all_from_list_all}
 use Rattle.verilog_lexicon.specs.declared.word.Word.{Word}
 use Rattle.verilog_lexicon.specs.declared.word.Word.TheVariants as word
 use Rattle.verilog_lexicon.specs.declared.reserved.Reserved.TheVariants as key
@@ -20,8 +22,7 @@ use Rattle.verilog_tree.specs.Spelling.{key_of_gate, each_after_comma, optional_
 use Rattle.verilog_tree.specs.Trees.{port_of, ports_after, declared_by, declarations, has_name, declared_port, header_ports, takes_inputs, gate_inputs, item_fits, IsSource, is_port_net, wire_of, item_wires, gate_of, instance_of, assign_of, item_items, ports_of, tree_of}
 use Rattle.verilog_tree.specs.IsTree.{IsTreeName, IsTreeNumber, IsTreeRange, IsTreeBit, IsTreeOperand, IsTreePort, IsTreeWire, IsTreeLink, IsTreeItem, IsTree}
 use Rattle.verilog_tree.specs.Texts.{SpellsText}
-use Rattle.verilog_printing.proofs.Atoms.{and_left, and_right}
-use Rattle.verilog_printing.proofs.SpelledWords.{IsSpelled, AreSpelled, all_append, all_front, all_back, all_more, words_are_spelled}
+use Rattle.verilog_conditions.proofs.SpelledWords.{IsSpelled, AreSpelled, all_more, words_are_spelled}
 
 -- Lists.
 
@@ -48,10 +49,6 @@ all_filtered q (x ∷ xs) = filtered_at q x (filter (λ y. not (q y)) xs) (q x) 
 found_or : {A : Type 0} (P : A → Type 0) (p : A → Bool) (xs : List A) (d : A) → AllByRecursion P xs → P d → P (unwrap_or (find p xs) d)
 found_or P p [] d all is = is
 found_or P p (x ∷ xs) d all is = elim (p x) as (λ b. P (unwrap_or (cond b (Some x) (find p xs)) d)) [ true ↦ all.0 | false ↦ found_or P p xs d all.1 is ]
-
-all_from_list_all : {A : Type 0} (p : A → Bool) (xs : List A) → list_all p xs ≡ true → AllByRecursion (λ x. p x ≡ true) xs
-all_from_list_all p [] is = tt
-all_from_list_all p (x ∷ xs) is = (and_left (p x) (list_all p xs) is, all_from_list_all p xs (and_right (p x) (list_all p xs) is))
 
 -- what the words of each part say, where each stands after a comma
 each_is : {A : Type 0} (P : A → Type 0) (words : A → List Word) → ((x : A) → AreSpelled (words x) → P x) → (xs : List A) → AreSpelled (each_after_comma words xs) → AllByRecursion P xs

@@ -1,0 +1,2 @@
+pub mod SpelledWords
+pub mod SpelledTrees
