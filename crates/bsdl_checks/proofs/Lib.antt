@@ -1,5 +1,14 @@
+pub mod BitCounts
+pub mod Bits
 pub mod CellRows
+pub mod ControlSets
+pub mod Disagreeing
+pub mod Entries
 pub mod Few
 pub mod Finding
+pub mod KeyLists
 pub mod Ordered
+pub mod Repeats
+pub mod Sets
+pub mod Tables
 pub mod Words

@@ -124,6 +124,28 @@ fits-pin_map f = omega (arith, word-tap f, fits-tap f)
 
 pub ruleset section_words = (word-pin_map, word-tap, word-length, word-opcode, word-capture, word-idcode, word-access, word-boundary_length, word-boundary, word-all, fits-boundary_length, fits-access, fits-idcode, fits-capture, fits-opcode, fits-length, fits-tap, fits-pin_map, names-length)
 
+-- The first strings of sections.
+
+pub fits-pin_map_string : (f : File) → first_word f 7 + 5 ≤ all_words f
+fits-pin_map_string f = omega (arith, word-tap f, fits-tap f)
+
+pub fits-opcode_string : (f : File) → first_word f 11 + 7 ≤ all_words f
+fits-opcode_string f = omega (arith, word-capture f, fits-capture f)
+
+pub fits-capture_string : (f : File) → first_word f 12 + 7 ≤ all_words f
+fits-capture_string f = omega (arith, word-idcode f, word-access f, fits-access f)
+
+pub fits-idcode_string : (f : File) → first_word f 13 + 7 ≤ all_words f
+fits-idcode_string f = omega (arith, word-access f, word-boundary_length f, fits-boundary_length f)
+
+pub fits-access_string : (f : File) → first_word f 14 + 7 ≤ all_words f
+fits-access_string f = omega (arith, word-boundary_length f, fits-boundary_length f)
+
+pub fits-rows_string : (f : File) → first_word f 16 + 7 ≤ all_words f
+fits-rows_string f = omega (arith, word-all f)
+
+pub ruleset string_words = (fits-pin_map_string, fits-opcode_string, fits-capture_string, fits-idcode_string, fits-access_string, fits-rows_string)
+
 -- the words of a declaration, by its type
 pub declaration_words_count : (d : PortDeclaration) → length (declaration_words d) ≡ strings_count d.names + 2 + option_map_or (λ (r : WrittenRange). 6) d.range 1
 declaration_words_count d = length-append (names_words d.names) (Mark Colon ∷ KeyWord (mode_word d.mode) ∷ type_words d.range) ∙ ap (λ n. n + length (Mark Colon ∷ KeyWord (mode_word d.mode) ∷ type_words d.range)) (names-length d.names) ∙ by d.range

@@ -7,13 +7,13 @@ ghost use Rattle.bsdl_device.specs.Denoted as denoted;
 ghost use Rattle.bsdl_device.specs.Meanings.{first_meaning_fault};
 
 use crate::cells::{cells_of, place_of};
+use crate::instructions::instruction_named;
 use crate::pin_table::PinTable;
+use crate::port_table::PortTable;
+use crate::ports::declared_ports;
 use bsdl_device::{
     Contents, DeclaredPort, DevPort, Device, File, MappedPins, OpcodeEntry, PinEntry,
 };
-use bsdl_instructions::instructions::instruction_named;
-use bsdl_ports::port_table::PortTable;
-use bsdl_ports::ports::declared_ports;
 use cell_library::Opcode;
 use edge_io::{OutOfMemory, Row, Text};
 use std::alloc::Global;

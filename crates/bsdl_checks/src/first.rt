@@ -7,16 +7,16 @@ ghost use Rattle.bsdl_device.specs.Ports as declared;
 ghost use Rattle.bsdl_checks.specs.Counts.{all_words, first_word};
 ghost use Rattle.bsdl_checks.specs.Ordered as first;
 
+use crate::access::register_fails;
+use crate::boundary::boundary_fails;
+use crate::instructions::{capture_fails, idcode_fails, length_fails, opcode_fails};
+use crate::pin_map::pin_map_fails;
+use crate::port_table::PortTable;
+use crate::ports::{declared_ports, name_fails};
+use crate::rows::row_fails;
 use crate::sections;
+use crate::tap::tap_fails;
 use bsdl_device::{Contents, File, MeaningKind};
-use bsdl_instructions::access::register_fails;
-use bsdl_instructions::instructions::{capture_fails, idcode_fails, length_fails, opcode_fails};
-use bsdl_ports::pin_map::pin_map_fails;
-use bsdl_ports::port_table::PortTable;
-use bsdl_ports::ports::{declared_ports, name_fails};
-use bsdl_ports::tap::tap_fails;
-use bsdl_row_checks::boundary::boundary_fails;
-use bsdl_row_checks::rows::row_fails;
 use edge_io::OutOfMemory;
 use std::alloc::Global;
 

@@ -3,10 +3,10 @@ ghost use Rattle.std.specs.Prelude.{◌≡◌, IfOk, find, position};
 ghost use Rattle.std.specs.Option.{option_copied};
 ghost use Rattle.bsdl_lexicon.specs.Names.{is_same_name};
 
+use crate::keys::first_places;
+use crate::name_key::NameKey;
+use crate::pin_map::mapped_ports;
 use bsdl_device::PinEntry;
-use bsdl_ports::keys::first_places;
-use bsdl_ports::name_key::NameKey;
-use bsdl_ports::pin_map::mapped_ports;
 use edge_io::OutOfMemory;
 use indexmap::IndexMap;
 use std::alloc::Global;

@@ -3,9 +3,9 @@ ghost use Rattle.std.specs.Prelude.{◌≡◌, IfOk, find, position};
 ghost use Rattle.std.specs.Option.{option_copied};
 ghost use Rattle.bsdl_device.specs.Checks as rule;
 
+use crate::boundary::row_numbers;
+use crate::keys::first_places;
 use bsdl_device::RowEntry;
-use bsdl_ports::keys::first_places;
-use bsdl_row_checks::boundary::row_numbers;
 use edge_io::OutOfMemory;
 use indexmap::IndexMap;
 use std::alloc::Global;

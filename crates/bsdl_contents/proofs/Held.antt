@@ -1,5 +1,5 @@
 -- What is read of a file's sections is what their strings hold.
-use Rattle.std.proofs.Common.{◌≡◌, ℕ, Bool, true, false, List, [], ◌∷◌, ◌++◌, Option, Some, None, Ok, Err, refl, sym, subst, ap, ◌∙◌}
+use Rattle.std.proofs.Common.{◌≡◌, ℕ, Bool, true, false, List, [], ◌∷◌, ◌++◌, Option, Some, None, Result, Ok, Err, refl, sym, subst, ap, ◌∙◌}
 use Rattle.std.specs.Prelude.{◌&&◌}
 use Rattle.std.specs.List.{list_all, AllByRecursion}
 use Rattle.std.specs.Option.{option_map}
@@ -24,6 +24,7 @@ use Rattle.bsdl_reading.proofs.Exact.{Exact}
 use Rattle.bsdl_reading.proofs.Matched.{Spelled}
 use Rattle.bsdl_reading.proofs.Listed.{AreSome}
 use Rattle.bsdl_reading.proofs.Views.{Free}
+use Rattle.bsdl_contents.specs.Laws.{HoldOneContents}
 use Rattle.bsdl_contents.specs.Reading as reading
 use Rattle.bsdl_contents.specs.Reading.{section_at, whole_at, contents_from, contents_at}
 use Rattle.bsdl_contents.proofs.Chosen.{whole_sound, whole_complete}
@@ -168,6 +169,10 @@ contents_complete f c h =
     (rw ((reads_idcode f.idcode).complete c.idcode h.idcode)
     (rw ((reads_access f.access.strings).complete c.access h.access)
     (rw ((reads_rows f.boundary.strings).complete c.rows h.rows) refl)))))
+
+pub one_contents : HoldOneContents
+one_contents f c other h k =
+    let same : ◌≡◌ {A = Result Contents faults.StringSection} (Ok other) (Ok c) = sym (contents_complete f other k) ∙ contents_complete f c h in cc
 
 -- the sections before one are right, and it isn't
 record FirstWrong (f : File) (s : faults.StringSection) : Type 0 where

@@ -1,4 +1,5 @@
 pub mod Cutting
 pub mod Reading
 pub mod Outcomes
+pub mod Laws
 pub mod Digits

@@ -5,6 +5,7 @@
 
 mod cut;
 mod fault;
+mod laws;
 mod lists;
 mod numbers;
 mod parts;
@@ -15,4 +16,5 @@ mod runs;
 mod sections;
 
 pub use fault::{ContentsFault, HeldSection};
+pub use laws::strings_hold_one_contents;
 pub use read::read_contents;

@@ -4,8 +4,7 @@ use Rattle.std.specs.Option.{option_map_or}
 use Rattle.bsdl_lexicon.specs.declared.token.BsdlToken.{BsdlToken}
 use Rattle.bsdl_lexicon.specs.Words.{front, rest_if}
 use Rattle.bsdl_reading.specs.Readers as readers
-use Rattle.bsdl_reading.specs.Readers.{Read, done, after, either, more_of, some_of}
-use Rattle.bsdl_reading.proofs.Exact.{Sound}
+use Rattle.bsdl_reading.specs.Readers.{Read, done, after, take_at, either, more_of, some_of}
 use Rattle.bsdl_files.proofs.Fronts.{front_same, there, absent}
 
 -- Behind a mark less is left.
@@ -16,9 +15,16 @@ shorter_behind mark (w ∷ ws) behind h moved =
     omega (arith, ap (λ (l : List BsdlToken). length l) e)
 
 -- Behind what was read no more is left than before it.
-pub no_longer : {X : Type 0} (one : List BsdlToken → Read BsdlToken X) (S : X → List BsdlToken → Type 0) → Sound BsdlToken X one S → (ws left : List BsdlToken) (x : X) → one ws ≡ (Some x, left) → length left ≤ length ws
-no_longer one S sound ws left x h =
-    let s = sound ws x left h in omega (arith, ap (λ (l : List BsdlToken). length l) s.1, length-append s.0 left)
+abbrev pub LeavesNoMore : {X : Type 0} → (List BsdlToken → Read BsdlToken X) → Type 0
+LeavesNoMore {X} one = (ws : List BsdlToken) (x : X) (left : List BsdlToken) → one ws ≡ (Some x, left) → length left ≤ length ws
+
+pub take_leaves : {X : Type 0} (view : BsdlToken → Option X) → LeavesNoMore (λ ws. take_at view ws)
+take_leaves {X} view [] x left h = let same : ◌≡◌ {A = List BsdlToken} [] left = ap (λ (r : Read BsdlToken X). r.1) h in omega (arith, ap (λ (l : List BsdlToken). length l) same)
+take_leaves {X} view (w ∷ ws) x left h = by (view w) (ap (λ (r : Read BsdlToken X). r.1) h)
+  where
+    by : (o : Option X) → readers.rest_if o (w ∷ ws) ≡ left → length left ≤ length (w ∷ ws)
+    by None is = omega (arith, ap (λ (l : List BsdlToken). length l) is)
+    by (Some y) is = omega (arith, ap (λ (l : List BsdlToken). length l) is)
 
 -- where a mark stands, and where none stands
 either_there : {Y : Type 0} (mark : BsdlToken → Option (Unit {0})) (ws behind : List BsdlToken) (next : Unit {0} → List BsdlToken → Read BsdlToken Y) (other : List BsdlToken → Read BsdlToken Y) → is_some (front mark ws) ≡ true → behind ≡ rest_if (front mark ws) ws → either mark ws next other ≡ next tt behind
@@ -65,8 +71,8 @@ more_behind {X = X} mark one fuel ws behind read h moved is =
     ∙ ap (λ (r : Read BsdlToken X). after r (λ x more. after (more_of mark one fuel more) (λ xs end. done (x ∷ xs) end))) is
 
 -- A mark stands there, and what follows it was read.
-pub goes_on : {X : Type 0} (mark : BsdlToken → Option (Unit {0})) (one : List BsdlToken → Read BsdlToken X) (S : X → List BsdlToken → Type 0) → Sound BsdlToken X one S → (now new : List X) (ws behind left : List BsdlToken) (all : Read BsdlToken (List X)) (x : X) → Continues mark one now ws all → is_some (front mark ws) ≡ true → behind ≡ rest_if (front mark ws) ws → one behind ≡ (Some x, left) → new ≡ now ++ x ∷ [] → Continues mark one new left all
-goes_on {X = X} mark one S sound now new ws behind left all x k h moved read push = by k.fuel k.enough (shorter_behind mark ws behind h moved) (no_longer one S sound behind left x read) k.complete k.faulty
+pub goes_on : {X : Type 0} (mark : BsdlToken → Option (Unit {0})) (one : List BsdlToken → Read BsdlToken X) → LeavesNoMore one → (now new : List X) (ws behind left : List BsdlToken) (all : Read BsdlToken (List X)) (x : X) → Continues mark one now ws all → is_some (front mark ws) ≡ true → behind ≡ rest_if (front mark ws) ws → one behind ≡ (Some x, left) → new ≡ now ++ x ∷ [] → Continues mark one new left all
+goes_on {X = X} mark one shorter now new ws behind left all x k h moved read push = by k.fuel k.enough (shorter_behind mark ws behind h moved) (shorter behind x left read) k.complete k.faulty
   where
     by : (fuel : ℕ) → length ws ≤ fuel → length behind < length ws → length left ≤ length behind → ((xs : List X) (end : List BsdlToken) → more_of mark one fuel ws ≡ (Some xs, end) → all ≡ (Some (now ++ xs), end)) → ((end : List BsdlToken) → more_of mark one fuel ws ≡ (None, end) → all ≡ (None, end)) → Continues mark one new left all
     by zero enough less within complete faulty = absurd (omega arith)

@@ -12,6 +12,7 @@ use crate::fault::{FileFault, ParseFault};
 use crate::sections::file;
 use bsdl_device::File;
 use bsdl_lexicon::{BsdlReader, BsdlWords};
+use bsdl_reading::{faults_at_fault_word, reads_only_files, spells_one_file};
 use std::alloc::Global;
 
 // No word may follow the file.
@@ -52,6 +53,9 @@ pub fn read_file(alloc: Global, words: &BsdlWords) -> Result<File, FileFault>
     ensures only { IfOk result (λ f. (other : WrittenFile) → SpellsFile (plain words.now.list) other → other ≡ f) }
     ensures refused { Refuses words.now result }
 {
+    reads_only_files();
+    spells_one_file();
+    faults_at_fault_word();
     let mut reader = BsdlReader::new(words);
     match whole_file(alloc, &mut reader) {
         Ok(file) => Ok(file),

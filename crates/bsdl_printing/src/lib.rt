@@ -1,5 +1,5 @@
 // The canonical text of a device.
-// Contracts cite `canonical_device` of bsdl_device's specs/.
+// Contracts cite `canonical_device`, `IsDevice` and `SpellsText` of bsdl_device's specs/.
 // IEEE Std 1149.1-2001: the annex on BSDL; the layout is own.
 #![tactic(auto)]
 

@@ -1,15 +1,14 @@
 -- The words before a fault begin a file's words.
 use Rattle.std.proofs.Common.{◌≡◌, ℕ, ◌-◌, ◌==◌, Bool, true, false, cond, List, [], ◌∷◌, ◌++◌, length, take, Option, Some, None, refl, sym, ap, subst, ◌∙◌, arith, append-nil, length-append}
-use Rattle.std.specs.Prelude.{codes}
+use Rattle.std.specs.Prelude.{codes, map}
 use Rattle.std.specs.List.{AllByRecursion}
 use Rattle.std.proofs.Math.Seq.{take-append_seam}
 use Rattle.bsdl_lexicon.specs.declared.token.BsdlToken.{BsdlToken}
 use Rattle.bsdl_lexicon.specs.declared.token.BsdlToken.TheVariants as word
 use Rattle.bsdl_lexicon.specs.declared.symbol.BsdlSymbol.{BsdlSymbol}
 use Rattle.bsdl_lexicon.specs.declared.symbol.BsdlSymbol.TheVariants.{LeftParenthesis, RightParenthesis, Colon, Semicolon, Comma, Ampersand, Dot}
-use Rattle.bsdl_lexicon.specs.Names.{is_same_name}
+use Rattle.bsdl_lexicon.specs.Names.{lower, is_same_name}
 use Rattle.bsdl_lexicon.specs.Reserved.{is_reserved}
-use Rattle.bsdl_lexicon.proofs.SameNames.{is_same_name-true}
 use Rattle.std.proofs.lemmas.Slice.Eq.{bytes_eq-Decides}
 use Rattle.std.proofs.lemmas.Bool.{le-leb}
 use Rattle.bsdl_lexicon.specs.Words.{name_in, key_in, integer_in, real_in, quoted_in, symbol_in, symbol_byte}
@@ -69,7 +68,7 @@ symbol_itself Dot = refl
 
 mark_itself : (q : Pattern) → is_mark q ≡ true → mark_in q (word_of q) ≡ Some tt
 unfolding word_of
-mark_itself (KeyWord k) h = ap (λ (b : Bool). let o : Option (Unit {0}) = cond b (Some tt) None in o) (is_same_name-true k k refl)
+mark_itself (KeyWord k) h = ap (λ (b : Bool). let o : Option (Unit {0}) = cond b (Some tt) None in o) ((bytes_eq-Decides (map lower k) (map lower k)).1 refl)
 mark_itself (NameOf name) h = absurd (cc)
 mark_itself (IntegerOf value) h = absurd (cc)
 mark_itself (RealOf real) h = absurd (cc)

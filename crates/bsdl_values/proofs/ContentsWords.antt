@@ -1,10 +1,10 @@
 -- The words at which wrong contents are told, by the first words of their sections.
-use Rattle.std.proofs.Common.{◌≡◌, ℕ, ◌+◌, ◌≤◌, refl, arith}
+use Rattle.std.proofs.Common.{◌≡◌, ℕ, ◌+◌, length, refl}
 use Rattle.bsdl_device.specs.declared.written.File.{File}
 use Rattle.bsdl_contents.specs.declared.fault.HeldSection.{HeldSection}
 use Rattle.bsdl_contents.specs.declared.fault.HeldSection.TheVariants as section
+use Rattle.bsdl_device.specs.Shape.{file_words}
 use Rattle.bsdl_checks.specs.Counts.{first_word, all_words}
-use Rattle.bsdl_checks.proofs.Words.{word-tap, word-opcode, word-capture, word-idcode, word-access, word-boundary_length, word-boundary, word-all, fits-boundary_length, fits-access, fits-capture, fits-opcode, fits-length, fits-tap, fits-pin_map}
 use Rattle.bsdl_values.specs.Places.{contents_word}
 
 pub contents_word-pin_map : (f : File) → contents_word f section.PinMap ≡ first_word f 7 + 5
@@ -31,19 +31,8 @@ pub contents_word-rows : (f : File) → contents_word f section.Rows ≡ first_w
 unfolding contents_word first_word
 contents_word-rows f = refl
 
-pub fits-pin_map_string : (f : File) → first_word f 7 + 5 ≤ all_words f
-fits-pin_map_string f = omega (arith, word-tap f, fits-tap f)
+pub ruleset contents_words = (contents_word-pin_map, contents_word-opcodes, contents_word-capture, contents_word-idcode, contents_word-access, contents_word-rows)
 
-pub fits-opcode_string : (f : File) → first_word f 11 + 7 ≤ all_words f
-fits-opcode_string f = omega (arith, word-capture f, fits-capture f)
-
-pub fits-capture_string : (f : File) → first_word f 12 + 7 ≤ all_words f
-fits-capture_string f = omega (arith, word-idcode f, word-access f, fits-access f)
-
-pub fits-idcode_string : (f : File) → first_word f 13 + 7 ≤ all_words f
-fits-idcode_string f = omega (arith, word-access f, word-boundary_length f, fits-boundary_length f)
-
-pub fits-access_string : (f : File) → first_word f 14 + 7 ≤ all_words f
-fits-access_string f = omega (arith, word-boundary_length f, fits-boundary_length f)
-
-pub ruleset string_words = (contents_word-pin_map, contents_word-opcodes, contents_word-capture, contents_word-idcode, contents_word-access, contents_word-rows, fits-pin_map_string, fits-opcode_string, fits-capture_string, fits-idcode_string, fits-access_string, word-all)
+pub all_words_are : (f : File) → all_words f ≡ length (file_words f)
+unfolding all_words
+all_words_are f = refl

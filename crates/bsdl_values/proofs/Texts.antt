@@ -8,20 +8,18 @@ use Rattle.bsdl_device.specs.Canonical.{canonical_device}
 use Rattle.bsdl_device.specs.Spelled.{SpellsDevice, SpellsText}
 use Rattle.bsdl_words.specs.declared.fault.BsdlWordFault.{BsdlWordFault}
 use Rattle.bsdl_words.specs.declared.fault.BsdlWordFault.TheVariants as word
-use Rattle.bsdl_words.specs.Machine.{between}
 use Rattle.bsdl_words.specs.Fed.{IsEndFault}
-use Rattle.bsdl_words.proofs.Outcome.{outcome}
-use Rattle.bsdl_words.proofs.Complete.{complete}
-use Rattle.bsdl_round_trip.proofs.ReadBack.{canonical_reads_back}
-use Rattle.bsdl_values.specs.declared.fault.DeviceFault.{DeviceFault}
-use Rattle.bsdl_values.specs.declared.fault.DeviceFault.TheVariants as device
-use Rattle.bsdl_values.specs.declared.fault.DeviceTextFault.{DeviceTextFault}
-use Rattle.bsdl_values.specs.declared.fault.DeviceTextFault.TheVariants.{BsdlWord, BsdlSyntax, BsdlMeaning, OutOfMemory}
+use Rattle.bsdl_words.specs.Laws.{AreOneList}
+use Rattle.bsdl_device.specs.declared.fault.DeviceFault.{DeviceFault}
+use Rattle.bsdl_device.specs.declared.fault.DeviceFault.TheVariants as device
+use Rattle.bsdl_device.specs.declared.fault.DeviceTextFault.{DeviceTextFault}
+use Rattle.bsdl_device.specs.declared.fault.DeviceTextFault.TheVariants.{BsdlWord, BsdlSyntax, BsdlMeaning, OutOfMemory}
 use Rattle.bsdl_values.specs.DeviceFaults.{IsDeviceFault}
-use Rattle.bsdl_values.specs.FaultKinds.{word_fault, device_fault}
+use Rattle.bsdl_device.specs.FaultKinds.{device_fault}
+use Rattle.bsdl_values.specs.FaultKinds.{word_fault}
 use Rattle.bsdl_values.specs.Reading.{HasBsdlWords, SpelledDevice, IsDeviceReadAs}
 use Rattle.bsdl_values.specs.TextFaults.{IsDeviceTextFault, IsWordsFault}
-use Rattle.bsdl_values.proofs.Faults.{one_device}
+use Rattle.bsdl_values.proofs.Faults.{AreOne, one_device}
 
 pub end_fault : (e : BsdlWordFault) (bytes : List ℕ) → IsEndFault e bytes → IsDeviceTextFault bytes (word_fault e)
 end_fault word.OutOfMemory bytes fault = tt
@@ -39,26 +37,20 @@ text_fault (BsdlWord place) bytes words has fault = absurd fault
 text_fault (BsdlSyntax place number) bytes words has fault = record { words = words; has = has; syntax = fault }
 text_fault (BsdlMeaning kind place) bytes words has fault = record { words = words; has = has; meaning = fault }
 
-as_outcome : (bytes : List ℕ) (words : List BsdlSpanned) → words_of bytes words → outcome 0 (between []) bytes ≡ Some words
-as_outcome bytes words cut = ap (outcome 0 (between [])) cut.text ∙ complete cut.pieces 0 [] cut.are ∙ ap (λ (ws : List BsdlSpanned). Some ws) (sym cut.words_are)
+-- bytes spell one device at most
+pub spells_once : AreOne → AreOneList → (bytes : List ℕ) (made other : Device) → SpellsText bytes made → SpellsText bytes other → other ≡ made
+spells_once one cut bytes made other a b =
+    one_device one a.words made other a.spells (subst (λ (ws : List BsdlSpanned). SpellsDevice ws other) (cut bytes a.words b.words a.cut b.cut) b.spells)
 
--- bytes have one list of words at most
-words_once : (bytes : List ℕ) (words others : List BsdlSpanned) → words_of bytes words → words_of bytes others → others ≡ words
-words_once bytes words others cut other =
-    let same : Some others ≡ Some words = sym (as_outcome bytes others other) ∙ as_outcome bytes words cut in cc
+-- a device that bytes spell, where its canonical text spells it too
+pub read_as : AreOne → AreOneList → (bytes : List ℕ) (made : Device) → SpellsText bytes made → SpellsText (canonical_device made) made → IsDeviceReadAs bytes made
+read_as one cut bytes made here back = record {
+  spells = here;
+  only = λ other s. spells_once one cut bytes made other here s;
+  again = back;
+  again_only = λ other s. spells_once one cut (canonical_device made) made other back s;
+}
 
--- and spell one device at most
-pub spells_once : (bytes : List ℕ) (made other : Device) → SpellsText bytes made → SpellsText bytes other → other ≡ made
-spells_once bytes made other a b =
-    one_device a.words made other a.spells (subst (λ (ws : List BsdlSpanned). SpellsDevice ws other) (words_once bytes a.words b.words a.cut b.cut) b.spells)
-
--- the device that the words of a text spell
-pub read : (bytes : List ℕ) (words : BsdlWords) (made : Device) → HasBsdlWords bytes words → SpelledDevice words made → IsDeviceReadAs bytes made
-read bytes words made has spelled =
-    let here : SpellsText bytes made = record { words = words.list; cut = has.cut; spells = spelled.spells } in
-    let back : SpellsText (canonical_device made) made = canonical_reads_back bytes made here in record {
-      spells = here;
-      only = λ other s. spells_once bytes made other here s;
-      again = back;
-      again_only = λ other s. spells_once (canonical_device made) made other back s;
-    }
+-- the text whose words spell the device
+pub text_spelled : (bytes : List ℕ) (words : BsdlWords) (made : Device) → HasBsdlWords bytes words → SpelledDevice words made → SpellsText bytes made
+text_spelled bytes words made has spelled = record { words = words.list; cut = has.cut; spells = spelled.spells }

@@ -7,8 +7,8 @@ use Rattle.bsdl_device.specs.declared.meaning.MeaningKind.{MeaningKind}
 use Rattle.bsdl_device.specs.declared.values.Device.{Device}
 use Rattle.bsdl_device.specs.Spelled.{SpellsDevice}
 use Rattle.bsdl_device.specs.Faults.{IsSyntaxFault, IsMeaningFault}
-use Rattle.bsdl_values.specs.declared.fault.DeviceFault.{DeviceFault}
-use Rattle.bsdl_values.specs.declared.fault.DeviceFault.TheVariants.{BsdlSyntax, BsdlMeaning, OutOfMemory}
+use Rattle.bsdl_device.specs.declared.fault.DeviceFault.{DeviceFault}
+use Rattle.bsdl_device.specs.declared.fault.DeviceFault.TheVariants.{BsdlSyntax, BsdlMeaning, OutOfMemory}
 
 -- The words spell no device: they are no file's, or strings hold what they can't, and this is the word, at its place in the text.
 pub record IsBsdlSyntax (words : BsdlWords) (place word : ℕ) : Type 0 where

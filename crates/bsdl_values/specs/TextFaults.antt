@@ -1,8 +1,8 @@
 -- When a text spells no device. Own.
 use Rattle.std.specs.Prelude.{ℕ, List}
 use Rattle.bsdl_lexicon.specs.declared.words.BsdlWords.{BsdlWords}
-use Rattle.bsdl_values.specs.declared.fault.DeviceTextFault.{DeviceTextFault}
-use Rattle.bsdl_values.specs.declared.fault.DeviceTextFault.TheVariants.{BsdlWord, BsdlSyntax, BsdlMeaning, OutOfMemory}
+use Rattle.bsdl_device.specs.declared.fault.DeviceTextFault.{DeviceTextFault}
+use Rattle.bsdl_device.specs.declared.fault.DeviceTextFault.TheVariants.{BsdlWord, BsdlSyntax, BsdlMeaning, OutOfMemory}
 use Rattle.bsdl_values.specs.DeviceFaults.{IsBsdlSyntax, IsBsdlMeaning}
 use Rattle.bsdl_values.specs.Reading.{IsBsdlWord, HasBsdlSyntax, HasBsdlMeaning}
 

@@ -3,13 +3,11 @@
 // IEEE Std 1149.1-2001: the annex on BSDL. Which fault comes first is own.
 #![tactic(auto)]
 
-mod fault;
 mod laws;
 mod parse;
 mod places;
 mod reading;
 
-pub use fault::{DeviceFault, DeviceTextFault};
-pub use laws::spells_one_device;
+pub use laws::{devices_are_read_back, spells_one_device};
 pub use parse::parse_device;
 pub use reading::read_device;

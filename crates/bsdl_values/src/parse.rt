@@ -5,15 +5,26 @@ ghost use Rattle.bsdl_device.specs.declared.values.Device.{Device as DeviceOf};
 ghost use Rattle.bsdl_device.specs.Meanings.{first_meaning_fault};
 ghost use Rattle.bsdl_device.specs.Spelled.{HasContents, SpellsDevice, SpellsFile};
 ghost use Rattle.bsdl_values.specs.DeviceFaults.{IsDeviceFault};
+ghost use Rattle.bsdl_values.specs.FaultKinds as kinds;
 
-use crate::fault::DeviceFault;
 use crate::places::string_word;
 use bsdl_checks::{device, first_fault};
-use bsdl_contents::{ContentsFault, read_contents};
-use bsdl_device::{Contents, Device, File};
-use bsdl_files::read_file;
+use bsdl_contents::{ContentsFault, read_contents, strings_hold_one_contents};
+use bsdl_device::{Contents, Device, DeviceFault, File};
+use bsdl_files::{FileFault, read_file};
 use bsdl_lexicon::BsdlWords;
+use bsdl_reading::spells_one_file;
 use std::alloc::Global;
+
+// A fault of the file as one of the device.
+fn file_fault(fault: FileFault) -> DeviceFault
+    ensures { result ≡ kinds.file_fault fault }
+{
+    match fault {
+        FileFault::BsdlSyntax { place, word } => DeviceFault::BsdlSyntax { place, word },
+        FileFault::OutOfMemory => DeviceFault::OutOfMemory,
+    }
+}
 
 // The file of the words. It has as many words as they are, which a slice holds.
 fn file_of(alloc: Global, words: &BsdlWords) -> Result<File, DeviceFault>
@@ -23,7 +34,10 @@ fn file_of(alloc: Global, words: &BsdlWords) -> Result<File, DeviceFault>
 {
     let count = words.len();
     prove!(count <= usize::MAX);
-    Ok(read_file(alloc, words)?)
+    match read_file(alloc, words) {
+        Ok(file) => Ok(file),
+        Err(fault) => Err(file_fault(fault)),
+    }
 }
 
 // What the file's strings hold.
@@ -33,6 +47,8 @@ fn contents_of(alloc: Global, words: &BsdlWords, file: &File) -> Result<Contents
     ensures held { IfOk result (HasContents file.now) }
     ensures fault { IfErr result (IsDeviceFault words.now) }
 {
+    spells_one_file();
+    strings_hold_one_contents();
     match read_contents(alloc, file) {
         Ok(contents) => Ok(contents),
         Err(ContentsFault::Section(section)) => {
@@ -57,6 +73,8 @@ fn check_meaning(
     ensures kept { OnOk result (first_meaning_fault file.now contents.now ≡ None) }
     ensures fault { IfErr result (IsDeviceFault words.now) }
 {
+    spells_one_file();
+    strings_hold_one_contents();
     match first_fault(alloc, file, contents)? {
         None => Ok(()),
         Some(rule) => Err(DeviceFault::BsdlMeaning {
@@ -100,6 +118,8 @@ pub fn parse_device(alloc: Global, words: &BsdlWords) -> Result<Device, DeviceFa
     ensures only { IfOk result (λ made. (other : DeviceOf) → SpellsDevice words.now.list other → other ≡ made) }
     ensures fault { IfErr result (IsDeviceFault words.now) }
 {
+    spells_one_file();
+    strings_hold_one_contents();
     let file = file_of(alloc, words)?;
     described(alloc, words, &file)
 }

@@ -1,6 +1,7 @@
 pub mod Values
 pub mod Outcome
 pub mod Complete
+pub mod Once
 pub mod Begun
 pub mod Sound
 pub mod Feeding

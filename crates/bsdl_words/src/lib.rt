@@ -7,10 +7,12 @@ mod classes;
 mod cutter;
 mod fault;
 mod integers;
+mod laws;
 mod mode;
 mod whole;
 
 pub use bsdl_lexicon::{BsdlReader, BsdlSpanned, BsdlSymbol, BsdlToken, BsdlWords};
 pub use cutter::BsdlCutter;
 pub use fault::BsdlWordFault;
+pub use laws::texts_are_one_list_of_words;
 pub use whole::cut;

@@ -10,8 +10,8 @@ use Rattle.scan_vectors.specs.declared.fault.EventFault.{EventFault}
 use Rattle.scan_vectors.specs.declared.fault.EventFault.TheVariants as event
 use Rattle.event_scripts.specs.declared.fault.ScriptFault.{ScriptFault}
 use Rattle.event_scripts.specs.declared.fault.ScriptFault.TheVariants as script
-use Rattle.bsdl_values.specs.declared.fault.DeviceTextFault.{DeviceTextFault}
-use Rattle.bsdl_values.specs.declared.fault.DeviceTextFault.TheVariants as device
+use Rattle.bsdl_device.specs.declared.fault.DeviceTextFault.{DeviceTextFault}
+use Rattle.bsdl_device.specs.declared.fault.DeviceTextFault.TheVariants as device
 use Rattle.output_lines.specs.Lines.{bit_text, words_line}
 use Rattle.command_faults.specs.declared.fault.Fault.{Fault}
 use Rattle.command_faults.specs.declared.fault.Fault.TheVariants as fault

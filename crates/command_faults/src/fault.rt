@@ -3,7 +3,7 @@ ghost use Rattle.command_faults.specs.Statuses as statuses;
 ghost use Rattle.command_faults.specs.declared.fault.Fault.TheVariants as made;
 
 use crate::status::Status;
-use bsdl_values::DeviceTextFault;
+use bsdl_device::DeviceTextFault;
 use event_scripts::ScriptFault;
 use link_model::LinkFault;
 use scan_vectors::EventFault;

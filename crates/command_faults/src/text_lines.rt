@@ -1,13 +1,13 @@
 ghost use Rattle.std.specs.Prelude.{◌≡◌};
 ghost use Rattle.output_lines.specs.Puts.{Puts};
-ghost use Rattle.bsdl_values.specs.declared.fault.DeviceTextFault.TheVariants as fault;
+ghost use Rattle.bsdl_device.specs.declared.fault.DeviceTextFault.TheVariants as fault;
 ghost use Rattle.command_faults.specs.Lines as lines;
 ghost use Rattle.command_faults.specs.Words as words;
 
 // Lines of the faults of texts.
 
 use bsdl_device::MeaningKind;
-use bsdl_values::DeviceTextFault;
+use bsdl_device::DeviceTextFault;
 use edge_io::sink::Sink;
 use edge_io::whole::WriteFault;
 use event_scripts::ScriptFault;

@@ -9,8 +9,8 @@ use Rattle.command_faults.specs.declared.status.Status.TheVariants as status
 use Rattle.command_faults.specs.Statuses.{status_of, text_status, device_status}
 use Rattle.verilog_texts.specs.declared.fault.TextFault.{TextFault}
 use Rattle.verilog_texts.specs.declared.fault.TextFault.TheVariants as text
-use Rattle.bsdl_values.specs.declared.fault.DeviceTextFault.{DeviceTextFault}
-use Rattle.bsdl_values.specs.declared.fault.DeviceTextFault.TheVariants as device
+use Rattle.bsdl_device.specs.declared.fault.DeviceTextFault.{DeviceTextFault}
+use Rattle.bsdl_device.specs.declared.fault.DeviceTextFault.TheVariants as device
 use Rattle.bsdl_lexicon.specs.declared.token.BsdlSpanned.{BsdlSpanned}
 use Rattle.bsdl_device.specs.Spelled.{SpellsDevice}
 use Rattle.insert_cli.specs.declared.command.Conversion.{Conversion}

@@ -12,8 +12,8 @@ use Rattle.scan_vectors.specs.declared.fault.EventFault.{EventFault}
 use Rattle.scan_vectors.specs.declared.fault.EventFault.TheVariants as event
 use Rattle.event_scripts.specs.declared.fault.ScriptFault.{ScriptFault}
 use Rattle.event_scripts.specs.declared.fault.ScriptFault.TheVariants as script
-use Rattle.bsdl_values.specs.declared.fault.DeviceTextFault.{DeviceTextFault}
-use Rattle.bsdl_values.specs.declared.fault.DeviceTextFault.TheVariants as device
+use Rattle.bsdl_device.specs.declared.fault.DeviceTextFault.{DeviceTextFault}
+use Rattle.bsdl_device.specs.declared.fault.DeviceTextFault.TheVariants as device
 use Rattle.insert_cli.specs.Simulations.{IsEnd}
 
 memory_apart : IsEnd status.Memory → ⊥

@@ -10,8 +10,9 @@ ghost use Rattle.insert_cli.specs.Seen.{shelf_seen};
 
 use crate::command::Conversion;
 use crate::reading::read_text;
+use bsdl_device::DeviceTextFault;
 use bsdl_printing::print_device;
-use bsdl_values::{DeviceTextFault, read_device};
+use bsdl_values::read_device;
 use command_faults::Fault;
 use edge_io::shelf::Shelf;
 use edge_io::text::Text;

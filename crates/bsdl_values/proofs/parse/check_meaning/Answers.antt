@@ -1,5 +1,5 @@
 use Rattle.std.proofs.Common.{ℕ, ◌<◌, ◌^◌, subst}
-use Rattle.bsdl_checks.proofs.Ordered.{all_words_are}
+use Rattle.bsdl_values.proofs.ContentsWords.{all_words_are}
 use Rattle.bsdl_values.proofs.Faults.{rule_refused}
 use Rattle.bsdl_values.proofs.parse.check_meaning.Goals as goal
 
@@ -7,4 +7,4 @@ pub first_fault-requires : goal.first_fault-requires
 first_fault-requires c = subst (λ (n : ℕ). n < 2 ^ 64) (all_words_are c.args.file.now) c.requires.few
 
 pub returns-in-Some-clause-fault : goal.returns-in-Some-clause-fault
-returns-in-Some-clause-fault c = rule_refused c.args.words.now c.args.file.now c.args.contents.now c.in_ok-first_fault.field-0 c.in-Some.rule c.place_of.result c.requires.spells c.requires.holds c.in_ok-first_fault.ensures c.in-Some.is c.place_of.ensures
+returns-in-Some-clause-fault c = rule_refused (record { file = c.spells_one_file.ensures; contents = c.strings_hold_one_contents.ensures }) c.args.words.now c.args.file.now c.args.contents.now c.in_ok-first_fault.field-0 c.in-Some.rule c.place_of.result c.requires.spells c.requires.holds c.in_ok-first_fault.ensures c.in-Some.is c.place_of.ensures

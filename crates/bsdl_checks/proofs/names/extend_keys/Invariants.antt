@@ -1,0 +1,6 @@
+use Rattle.std.proofs.Common.{◌≡◌, ◌++◌, take}
+use Rattle.bsdl_checks.specs.NameTables.{names_in}
+use Rattle.bsdl_checks.proofs.names.extend_keys.Given as goal
+
+abbrev pub invariant-loop-name : goal.invariant-loop-name
+invariant-loop-name l = names_in l.keys.items ≡ names_in l.initial.keys.items ++ take l.name-index l.names

@@ -1,0 +1,210 @@
+// Rules on the instruction register: its length, opcodes, the captured bits and the identification code.
+ghost use Rattle.std.specs.Prelude.{◌≡◌, ◌==◌, ◌-◌, ◌^◌, IfOk, map};
+ghost use Rattle.std.specs.List.{list_any};
+ghost use Rattle.bsdl_device.specs.Instructions as profile;
+ghost use Rattle.bsdl_device.specs.Checks as rule;
+ghost use Rattle.bsdl_checks.specs.NameTables.{names_in};
+
+use crate::name_key::NameKey;
+use crate::names::is_repeated;
+use bsdl_device::{Contents, File, OpcodeEntry};
+use bsdl_lexicon::names::same_name;
+use cell_library::{Bits, Instr};
+use edge_io::OutOfMemory;
+use std::alloc::Global;
+
+fn word_of(instruction: Instr) -> &'static [u8]
+    ensures { result.now ≡ profile.instruction_word instruction }
+{
+    match instruction {
+        Instr::Bypass => b"BYPASS",
+        Instr::Extest => b"EXTEST",
+        Instr::Sample => b"SAMPLE",
+        Instr::Preload => b"PRELOAD",
+        Instr::Idcode => b"IDCODE",
+        Instr::Highz => b"HIGHZ",
+        Instr::Clamp => b"CLAMP",
+    }
+}
+
+fn names_instruction(instruction: Instr, name: &[u8]) -> bool
+    ensures { result ≡ profile.names_instruction instruction name.now }
+{
+    same_name(name, word_of(instruction))
+}
+
+/// The instruction of a name.
+pub fn instruction_named(name: &[u8]) -> Option<Instr>
+    ensures { result ≡ profile.instruction_named name.now }
+{
+    if names_instruction(Instr::Bypass, name) {
+        Some(Instr::Bypass)
+    } else if names_instruction(Instr::Extest, name) {
+        Some(Instr::Extest)
+    } else if names_instruction(Instr::Sample, name) {
+        Some(Instr::Sample)
+    } else if names_instruction(Instr::Preload, name) {
+        Some(Instr::Preload)
+    } else if names_instruction(Instr::Idcode, name) {
+        Some(Instr::Idcode)
+    } else if names_instruction(Instr::Highz, name) {
+        Some(Instr::Highz)
+    } else if names_instruction(Instr::Clamp, name) {
+        Some(Instr::Clamp)
+    } else {
+        None
+    }
+}
+
+/// The instruction register has fewer than 2 bits, or more than 32.
+pub fn length_fails(file: &File) -> bool
+    ensures { result ≡ rule.length_fails file.now }
+{
+    file.length.value < 2 || 32 < file.length.value
+}
+
+/// The instruction has an opcode.
+pub fn has_instruction(opcodes: &[OpcodeEntry], instruction: Instr) -> bool
+    ensures { result ≡ rule.has_instruction opcodes.now instruction }
+{
+    opcodes.iter().any(|opcode| names_instruction(instruction, opcode.name.as_bytes()))
+}
+
+fn has_unknown(opcodes: &[OpcodeEntry]) -> bool
+    ensures { result ≡ list_any rule.opcode_is_unknown opcodes.now }
+{
+    opcodes.iter().any(|opcode| instruction_named(opcode.name.as_bytes()).is_none())
+}
+
+fn gather_names<'a>(
+    alloc: Global,
+    opcodes: &'a [OpcodeEntry],
+) -> Result<Vec<NameKey<'a>>, OutOfMemory>
+    ensures { IfOk result (λ names. names_in names.items ≡ map (λ o. o.name) opcodes.now) }
+{
+    let mut names = Vec::new(alloc);
+    for opcode in opcodes {
+        names.push(NameKey(opcode.name.as_bytes()))?;
+    }
+    Ok(names)
+}
+
+fn named_twice(alloc: Global, opcodes: &[OpcodeEntry]) -> Result<bool, OutOfMemory>
+    ensures { IfOk result (λ twice. twice ≡ rule.opcode_named_twice opcodes.now) }
+{
+    let names = gather_names(alloc, opcodes)?;
+    is_repeated(alloc, &names)
+}
+
+fn lacks_instruction(opcodes: &[OpcodeEntry]) -> bool
+    ensures { result ≡ rule.lacks_instruction opcodes.now }
+{
+    !has_instruction(opcodes, Instr::Extest)
+        || !has_instruction(opcodes, Instr::Sample)
+        || !has_instruction(opcodes, Instr::Preload)
+        || !has_instruction(opcodes, Instr::Bypass)
+}
+
+fn has_other_length(wanted: u32, bits: Bits) -> bool
+    ensures { result ≡ rule.has_other_length wanted bits }
+{
+    bits.len != wanted
+}
+
+fn has_misfit(wanted: u32, opcodes: &[OpcodeEntry]) -> bool
+    ensures { result ≡ list_any (λ o. rule.has_other_length wanted o.bits) opcodes.now }
+{
+    opcodes
+        .iter()
+        .any(|opcode| has_other_length(wanted, opcode.bits))
+}
+
+// Each bit is 1.
+fn is_ones(bits: Bits) -> bool
+    ensures { result ≡ (bits.value == 2 ^ bits.len - 1) }
+{
+    bits.len <= 32 && bits.value as u64 == (1u64 << bits.len) - 1
+}
+
+fn bypass_is_not_ones(opcodes: &[OpcodeEntry]) -> bool
+    ensures { result ≡ list_any rule.bypass_is_not_ones opcodes.now }
+{
+    opcodes.iter().any(|opcode| {
+        names_instruction(Instr::Bypass, opcode.name.as_bytes()) && !is_ones(opcode.bits)
+    })
+}
+
+fn are_sample_and_preload(first: &OpcodeEntry, second: &OpcodeEntry) -> bool
+    ensures { result ≡ rule.are_sample_and_preload first.now second.now }
+{
+    let one = first.name.as_bytes();
+    let other = second.name.as_bytes();
+    names_instruction(Instr::Sample, one) && names_instruction(Instr::Preload, other)
+        || names_instruction(Instr::Preload, one) && names_instruction(Instr::Sample, other)
+}
+
+fn clash(first: &OpcodeEntry, second: &OpcodeEntry) -> bool
+    ensures { result ≡ rule.opcodes_clash first.now second.now }
+{
+    first.bits.len == second.bits.len
+        && first.bits.value == second.bits.value
+        && !are_sample_and_preload(first, second)
+}
+
+fn clashes_with(first: &OpcodeEntry, others: &[OpcodeEntry]) -> bool
+    ensures { result ≡ list_any (rule.opcodes_clash first.now) others.now }
+{
+    others.iter().any(|second| clash(first, second))
+}
+
+// Two opcodes clash; where each is of a known instruction, there are seven at most.
+fn some_clash(opcodes: &[OpcodeEntry]) -> bool
+    ensures { result ≡ rule.any_pair rule.opcodes_clash opcodes.now }
+{
+    for i in 0..opcodes.len() {
+        if clashes_with(&opcodes[i], &opcodes[i + 1..]) {
+            return true;
+        }
+    }
+    false
+}
+
+/// An instruction is unknown, comes twice or is missing, or an opcode can't be its own.
+pub fn opcode_fails(alloc: Global, file: &File, contents: &Contents) -> Result<bool, OutOfMemory>
+    ensures { IfOk result (λ fails. fails ≡ rule.opcode_fails file.now contents.now) }
+{
+    let opcodes = contents.opcodes.as_slice();
+    let twice = named_twice(alloc, opcodes)?;
+    Ok(
+        has_unknown(opcodes)
+            || twice
+            || lacks_instruction(opcodes)
+            || has_misfit(file.length.value, opcodes)
+            || bypass_is_not_ones(opcodes)
+            || some_clash(opcodes),
+    )
+}
+
+/// The captured bits have another length than the register, or don't end in 01.
+pub fn capture_fails(file: &File, contents: &Contents) -> bool
+    ensures { result ≡ rule.capture_fails file.now contents.now }
+{
+    has_other_length(file.length.value, contents.capture) || contents.capture.value % 4 != 1
+}
+
+fn code_is_barred(code: u32) -> bool
+    ensures { result ≡ rule.code_is_barred code }
+{
+    code % 2 == 0 || code / 2 % 2048 == 127
+}
+
+/// There is a code without the instruction, the instruction without a code, or a code that is barred.
+pub fn idcode_fails(contents: &Contents) -> bool
+    ensures { result ≡ rule.idcode_fails contents.now }
+{
+    let reads = has_instruction(contents.opcodes.as_slice(), Instr::Idcode);
+    match contents.idcode {
+        None => reads,
+        Some(code) => !reads || code_is_barred(code),
+    }
+}
