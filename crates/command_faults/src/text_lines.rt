@@ -6,8 +6,7 @@ ghost use Rattle.command_faults.specs.Words as words;
 
 // Lines of the faults of texts.
 
-use bsdl_device::MeaningKind;
-use bsdl_device::DeviceTextFault;
+use bsdl_device::{DeviceTextFault, MeaningKind};
 use edge_io::sink::Sink;
 use edge_io::whole::WriteFault;
 use event_scripts::ScriptFault;
