@@ -1,0 +1,3 @@
+pub mod DigitValues
+pub mod Underscores
+pub mod Bits

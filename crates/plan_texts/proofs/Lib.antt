@@ -1,0 +1,9 @@
+pub mod Parts
+pub mod Many
+pub mod Views
+pub mod Complete
+pub mod Sound
+pub mod Exact
+pub mod Printed
+pub mod Digits
+pub mod Again
