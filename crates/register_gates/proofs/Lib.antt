@@ -1,0 +1,6 @@
+pub mod ConstantBits
+pub mod Added
+pub mod Steps
+pub mod Selection
+pub mod Bypass
+pub mod Ident

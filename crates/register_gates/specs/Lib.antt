@@ -1,0 +1,4 @@
+pub mod Constants
+pub mod Registers
+pub mod Steps
+pub mod Laws

@@ -1,0 +1,45 @@
+ghost use Rattle.register_gates.specs.Laws.{BypassFollows, IdentFollows};
+ghost use Rattle.register_gates.specs.Constants.{ConstantsAreBits};
+ghost use Rattle.register_gates.specs.Steps.{AddedInTurn, StepsByRegister};
+
+use gate_parts::{appended_count, appended_more, contained_part_meets};
+use netlist_laws::{contained_parts, moments_of_a_run};
+use register_bits::{chains_follow, shift_bits_follow};
+
+/// In every well-formed netlist that contains its cells, the bypass register is that of the test logic.
+pub fn bypass_follows()
+    ensures { BypassFollows }
+{
+    contained_parts();
+    contained_part_meets();
+    shift_bits_follow();
+    moments_of_a_run();
+}
+
+/// And so is the identification register.
+pub fn ident_follows()
+    ensures { IdentFollows }
+{
+    contained_parts();
+    contained_part_meets();
+    chains_follow();
+    moments_of_a_run();
+}
+
+/// Constants have the values of their bits, and are as many.
+pub fn constants_are_bits()
+    ensures { ConstantsAreBits }
+{}
+
+/// What each register of the test logic holds after a step.
+pub fn steps_by_register()
+    ensures { StepsByRegister }
+{}
+
+/// Two parts, the second on the nets and numbers behind the first, are added as one.
+pub fn added_in_turn()
+    ensures { AddedInTurn }
+{
+    appended_count();
+    appended_more();
+}

@@ -1,0 +1,118 @@
+// The bypass register, the identification register and TDO as gates.
+// Contracts cite specs/Registers.antt for the cells and specs/Laws.antt for what they do in every netlist that contains them.
+// IEEE Std 1149.1-2001: test data registers, bypass register, device identification register, test access port.
+#![tactic(auto)]
+
+ghost use Rattle.std.specs.Prelude.{◌≡◌, ◌+◌, ◌<◌, ◌≤◌, length};
+ghost use Rattle.netlist_model.specs.Lists.{cell_count};
+ghost use Rattle.netlist_model.specs.Contained.{IsDense};
+ghost use Rattle.gate_parts.specs.Appended.{Appended};
+ghost use Rattle.register_bits.specs.Bits.{AreNetsBelow};
+ghost use Rattle.register_bits.specs.Chains.{chain_last};
+ghost use Rattle.register_gates.specs.Constants.{constant_bits};
+ghost use Rattle.register_gates.specs.Registers.{selected_cells, selected_steering, bypass_cells, ident_cells};
+
+mod constants;
+mod laws;
+
+use cell_library::Kind;
+pub use constants::constants_of;
+use gate_parts::{Gate, Pin, Pins, add_part, appended_count, appended_more};
+pub use laws::{
+    added_in_turn, bypass_follows, constants_are_bits, ident_follows, steps_by_register,
+};
+use netlist_arena::Netlist;
+use netlist_model::{Feed, NetId};
+use register_bits::{Steering, add_shift_bit, add_shift_chain};
+use test_logic::{InstrNets, TapNets};
+
+/// What steers a test data register. Handed in are Capture-DR, Shift-DR, and whether the register is selected.
+pub const SELECTED: [Gate; 2] = [
+    Gate {
+        kind: Kind::And,
+        pins: Pins::Two(Pin::Given(0), Pin::Given(2)),
+    }, // 0: it captures
+    Gate {
+        kind: Kind::And,
+        pins: Pins::Two(Pin::Given(1), Pin::Given(2)),
+    }, // 1: it shifts
+];
+
+// Adds what steers a test data register, which captures and shifts only while this net is 1.
+fn add_selection(netlist: &mut Netlist, tap: &TapNets, on: NetId) -> Steering
+    requires dense { IsDense netlist.old.lists }
+    requires nets { 2 ≤ netlist.old.spare.nets }
+    requires cells { 2 ≤ netlist.old.spare.cells }
+    requires steps { AreNetsBelow (length netlist.old.lists.nets) tap.now.capture_dr tap.now.shift_dr }
+    requires on { on.0 < length netlist.old.lists.nets }
+    ensures steering { result ≡ selected_steering (length netlist.old.lists.nets) tap.now }
+    ensures added { Appended netlist.old netlist.new 2
+        (selected_cells (length netlist.old.lists.nets) (cell_count netlist.old.lists) tap.now on) }
+    ensures dense { IsDense netlist.new.lists }
+{
+    let given = [
+        Feed::Net(tap.capture_dr),
+        Feed::Net(tap.shift_dr),
+        Feed::Net(on),
+    ];
+    let NetId(first) = add_part(netlist, &SELECTED, &given);
+    Steering {
+        tck: tap.tck,
+        trst: tap.trst,
+        capture: NetId(first),
+        shift: NetId(first + 1),
+    }
+}
+
+/// Adds the bypass register to a dense netlist, and answers the net of its bit. It takes 5 cells and nets of the room that is there.
+pub fn add_bypass(
+    netlist: &mut Netlist,
+    tap: &TapNets,
+    instruction: &InstrNets,
+    tdi: NetId,
+) -> NetId
+    requires dense { IsDense netlist.old.lists }
+    requires nets { 5 ≤ netlist.old.spare.nets }
+    requires cells { 5 ≤ netlist.old.spare.cells }
+    requires clock { AreNetsBelow (length netlist.old.lists.nets) tap.now.tck tap.now.trst }
+    requires steps { AreNetsBelow (length netlist.old.lists.nets) tap.now.capture_dr tap.now.shift_dr }
+    requires on { instruction.now.bypass_on.0 < length netlist.old.lists.nets }
+    requires tdi { tdi.0 < length netlist.old.lists.nets }
+    ensures bit { result.0 ≡ length netlist.old.lists.nets + 2 }
+    ensures added { Appended netlist.old netlist.new 5 (bypass_cells (length netlist.old.lists.nets)
+        (cell_count netlist.old.lists) tap.now instruction.now.bypass_on tdi) }
+    ensures dense { IsDense netlist.new.lists }
+{
+    appended_count();
+    appended_more();
+    let steering = add_selection(netlist, tap, instruction.bypass_on);
+    add_shift_bit(netlist, &steering, Feed::Const(false), tdi)
+}
+
+/// Adds the identification register with this code to a dense netlist, and answers the net of bit 0, which is nearest TDO. It takes
+/// 98 cells and nets of the room that is there.
+pub fn add_ident(
+    netlist: &mut Netlist,
+    tap: &TapNets,
+    instruction: &InstrNets,
+    tdi: NetId,
+    code: u32,
+) -> NetId
+    requires dense { IsDense netlist.old.lists }
+    requires nets { 98 ≤ netlist.old.spare.nets }
+    requires cells { 98 ≤ netlist.old.spare.cells }
+    requires clock { AreNetsBelow (length netlist.old.lists.nets) tap.now.tck tap.now.trst }
+    requires steps { AreNetsBelow (length netlist.old.lists.nets) tap.now.capture_dr tap.now.shift_dr }
+    requires on { instruction.now.ident_on.0 < length netlist.old.lists.nets }
+    requires tdi { tdi.0 < length netlist.old.lists.nets }
+    ensures last { result ≡ chain_last (length netlist.old.lists.nets + 2) tdi (constant_bits 32 code) }
+    ensures added { Appended netlist.old netlist.new 98 (ident_cells (length netlist.old.lists.nets)
+        (cell_count netlist.old.lists) tap.now instruction.now.ident_on tdi code) }
+    ensures dense { IsDense netlist.new.lists }
+{
+    appended_count();
+    appended_more();
+    let captured = constants_of(code);
+    let steering = add_selection(netlist, tap, instruction.ident_on);
+    add_shift_chain(netlist, &steering, tdi, &captured)
+}
