@@ -4,3 +4,5 @@ pub mod Steps
 pub mod Selection
 pub mod Bypass
 pub mod Ident
+pub mod TdoAdded
+pub mod TdoFollows

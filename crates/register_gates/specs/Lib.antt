@@ -2,3 +2,4 @@ pub mod Constants
 pub mod Registers
 pub mod Steps
 pub mod Laws
+pub mod Tdo

@@ -1,9 +1,13 @@
 ghost use Rattle.register_gates.specs.Laws.{BypassFollows, IdentFollows};
+ghost use Rattle.register_gates.specs.Tdo.{TdoFollows};
 ghost use Rattle.register_gates.specs.Constants.{ConstantsAreBits};
 ghost use Rattle.register_gates.specs.Steps.{AddedInTurn, StepsByRegister};
 
-use gate_parts::{appended_count, appended_more, contained_part_meets};
-use netlist_laws::{contained_parts, moments_of_a_run};
+use gate_parts::{
+    appended_count, appended_more, contained_part_has_flops, contained_part_meets, flop_starts,
+    flop_steps,
+};
+use netlist_laws::{contained_parts, driver_is_found, moments_of_a_run};
 use register_bits::{chains_follow, shift_bits_follow};
 
 /// In every well-formed netlist that contains its cells, the bypass register is that of the test logic.
@@ -23,6 +27,19 @@ pub fn ident_follows()
     contained_parts();
     contained_part_meets();
     chains_follow();
+    moments_of_a_run();
+}
+
+/// And so is TDO.
+pub fn tdo_follows()
+    ensures { TdoFollows }
+{
+    contained_parts();
+    contained_part_meets();
+    contained_part_has_flops();
+    flop_starts();
+    flop_steps();
+    driver_is_found();
     moments_of_a_run();
 }
 

@@ -14,16 +14,19 @@ ghost use Rattle.register_gates.specs.Registers.{selected_cells, selected_steeri
 
 mod constants;
 mod laws;
+mod tdo;
 
 use cell_library::Kind;
 pub use constants::constants_of;
 use gate_parts::{Gate, Pin, Pins, add_part, appended_count, appended_more};
 pub use laws::{
     added_in_turn, bypass_follows, constants_are_bits, ident_follows, steps_by_register,
+    tdo_follows,
 };
 use netlist_arena::Netlist;
 use netlist_model::{Feed, NetId};
 use register_bits::{Steering, add_shift_bit, add_shift_chain};
+pub use tdo::{TDO, add_tdo};
 use test_logic::{InstrNets, TapNets};
 
 /// What steers a test data register. Handed in are Capture-DR, Shift-DR, and whether the register is selected.
