@@ -3,6 +3,9 @@ use Rattle.std.proofs.Common.{◌≡◌, ℕ, suc, ◌+◌, Bool, false, List, [
 use Rattle.std.specs.Prelude.{if◌then◌else◌}
 use Rattle.signal_values.specs.declared.Sig.{Sig}
 use Rattle.signal_values.specs.Values.{bit, see, sig_mux}
+use Rattle.std.proofs.Common.{◌≡◌, ℕ, ◌+◌, false, List, [], ◌∷◌, length, refl, sym}
+use Rattle.signal_values.specs.declared.Sig.{Sig}
+use Rattle.signal_values.specs.Values.{see, sig_mux}
 use Rattle.cell_library.specs.declared.codes.Instr.{Instr}
 use Rattle.cell_library.specs.declared.codes.BoundaryKind.{BoundaryKind}
 use Rattle.cell_library.specs.declared.codes.BoundaryKind.TheVariants.{Bc1, Bc2, Bc4, Bc7}
@@ -11,6 +14,7 @@ use Rattle.netlist_model.specs.declared.NetId.{NetId}
 use Rattle.netlist_model.specs.declared.Feed.{Feed}
 use Rattle.netlist_model.specs.declared.Feed.TheVariants.{Net}
 use Rattle.netlist_model.specs.Lists.{CellView, NetlistView}
+use Rattle.netlist_model.specs.Lists.{NetlistView}
 use Rattle.netlist_model.specs.Settled.{feed_value, Meets}
 use Rattle.netlist_model.specs.Formed.{IsWellFormed}
 use Rattle.netlist_model.specs.Contained.{Has, HasCells}
@@ -36,11 +40,21 @@ part_of : ContainedParts → (N : NetlistView) (gates : List Gate) (choice : Cho
 part_of parts N gates choice given first number into has = ((parts N (part_cells gates given first number) (choice_cell first given (number + length gates) into choice ∷ [])).parts has).0
 
 choice_of : ContainedParts → (N : NetlistView) (gates : List Gate) (choice : Choice) (given : List Feed) (first number : ℕ) (into : NetId)
+use Rattle.boundary_cells.specs.Laws.{CarriesMode, StandsAtPin, StandsAtInput, StandsAtOutput, ObserveCellsFollow, InputCellsFollow, OutputCellsFollow}
+use Rattle.boundary_cells.proofs.Stages.{chosen, held_has, choice_value, shift_laws, update_laws}
+
+-- what is contained of a table and a choice
+pub part_of : ContainedParts → (N : NetlistView) (gates : List Gate) (choice : Choice) (given : List Feed) (first number : ℕ) (into : NetId)
+    → HasCells N (cells_onto gates choice given first number into) → HasCells N (part_cells gates given first number)
+part_of parts N gates choice given first number into has = ((parts N (part_cells gates given first number) (choice_cell first given (number + length gates) into choice ∷ [])).parts has).0
+
+pub choice_of : ContainedParts → (N : NetlistView) (gates : List Gate) (choice : Choice) (given : List Feed) (first number : ℕ) (into : NetId)
     → HasCells N (cells_onto gates choice given first number into) → Has N (choice_cell first given (number + length gates) into choice)
 choice_of parts N gates choice given first number into has = ((parts N (part_cells gates given first number) (choice_cell first given (number + length gates) into choice ∷ [])).parts has).1.0
 
 -- the two bits of each table
 abbrev captured_operand : BoundaryKind → ℕ → Feed → Feed
+abbrev pub captured_operand : BoundaryKind → ℕ → Feed → Feed
 captured_operand Bc2 first operand = Net (record { 0 = first + 5 })
 captured_operand _ first operand = operand
 

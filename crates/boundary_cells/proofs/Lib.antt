@@ -1,3 +1,4 @@
 pub mod Adding
 pub mod Stages
 pub mod Cells
+pub mod ThreeStates

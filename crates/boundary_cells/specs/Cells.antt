@@ -4,6 +4,10 @@ use Rattle.std.specs.Prelude.{ℕ, ◌+◌, ◌<◌, false, List, [], ◌∷◌,
 use Rattle.cell_library.specs.declared.Kind.TheVariants.{Mux2}
 use Rattle.cell_library.specs.declared.codes.BoundaryKind.{BoundaryKind}
 use Rattle.cell_library.specs.declared.codes.BoundaryKind.TheVariants.{Bc1, Bc2}
+use Rattle.std.specs.Prelude.{ℕ, ◌+◌, ◌<◌, List, [], ◌∷◌, ◌++◌, length, Some, IsTrue}
+use Rattle.cell_library.specs.declared.Kind.TheVariants.{Mux2}
+use Rattle.cell_library.specs.declared.codes.BoundaryKind.{BoundaryKind}
+use Rattle.cell_library.specs.declared.codes.BoundaryKind.TheVariants.{Bc2}
 use Rattle.netlist_model.specs.declared.Name.TheVariants.{Added}
 use Rattle.netlist_model.specs.declared.NetId.{NetId}
 use Rattle.netlist_model.specs.declared.Feed.{Feed}

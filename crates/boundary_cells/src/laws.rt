@@ -1,4 +1,5 @@
 ghost use Rattle.boundary_cells.specs.Laws.{ObserveCellsFollow, InputCellsFollow, OutputCellsFollow};
+ghost use Rattle.boundary_cells.specs.ThreeState.{ControlCellsFollow, BidirCellsFollow};
 
 use gate_parts::contained_part_meets;
 use netlist_laws::{contained_parts, driven_net_follows_no_pin};
@@ -24,6 +25,28 @@ pub fn input_cells_follow()
 /// A BC_1 or BC_2 cell of an output captures, shifts and updates, and gives the pin's driver what its mode says.
 pub fn output_cells_follow()
     ensures { OutputCellsFollow }
+{
+    shift_bits_follow();
+    held_bits_follow();
+    contained_parts();
+    contained_part_meets();
+    driven_net_follows_no_pin();
+}
+
+/// A control cell captures, shifts and updates, and gives its drivers' control what its mode says.
+pub fn control_cells_follow()
+    ensures { ControlCellsFollow }
+{
+    shift_bits_follow();
+    held_bits_follow();
+    contained_parts();
+    contained_part_meets();
+    driven_net_follows_no_pin();
+}
+
+/// A BC_7 cell captures the pin or the core, shifts and updates, and gives its driver the data that its mode says.
+pub fn bidir_cells_follow()
+    ensures { BidirCellsFollow }
 {
     shift_bits_follow();
     held_bits_follow();

@@ -1,6 +1,7 @@
 // Boundary cells as gates: a shift bit, the update bit behind it, and the multiplexer that gives the core or the pin its value.
 // Contracts cite specs/Cells.antt for the cells, and specs/Laws.antt for what they do in every netlist that contains them.
 // IEEE Std 1149.1-2001: boundary-scan register, the annex on BSDL (the cells BC_1, BC_2 and BC_4).
+// IEEE Std 1149.1-2001: boundary-scan register, the annex on BSDL (the cells BC_1, BC_2, BC_4 and BC_7).
 #![tactic(auto)]
 
 ghost use Rattle.std.specs.Prelude.{◌≡◌, ◌≢◌, ℕ, ◌+◌, ◌<◌, ◌≤◌, ◌^◌, length, IsTrue};
@@ -15,6 +16,7 @@ ghost use Rattle.boundary_cells.specs.Cells.{stage_count, observe_cells, input_c
 
 mod laws;
 mod tables;
+mod three_state;
 
 use cell_library::{BoundaryKind, Kind};
 use gate_parts::{
@@ -26,6 +28,19 @@ use netlist_model::{Feed, NetId};
 use register_bits::{Steering, add_shift_bit};
 pub use tables::{BC_1, BC_2, Choice, UPDATES};
 use test_logic::ScanNets;
+pub use laws::{
+    bidir_cells_follow, control_cells_follow, input_cells_follow, observe_cells_follow,
+    output_cells_follow,
+};
+use netlist_arena::Netlist;
+use netlist_model::{Feed, NetId};
+use register_bits::{Steering, add_shift_bit};
+pub use tables::{
+    BC_1, BC_1_CONTROL, BC_1_LEVEL, BC_2, BC_2_CONTROL, BC_2_LEVEL, BC_7_HIGH, BC_7_LOW, Choice,
+    UPDATES,
+};
+use test_logic::ScanNets;
+pub use three_state::{add_bidir_cell, add_control_cell};
 
 /// Adds a BC_4 cell to a dense netlist, which observes the pin, and answers the net of its shift bit.
 pub fn add_observe_cell(netlist: &mut Netlist, scan: &ScanNets, pin: NetId, scan_in: NetId) -> NetId
@@ -131,6 +146,7 @@ pub fn add_output_cell(
 
 // Adds the gates of a table, and the multiplexer that gives `into` its value, and answers the net of the first gate.
 fn add_cell_onto(
+pub(crate) fn add_cell_onto(
     netlist: &mut Netlist,
     gates: &[Gate],
     choice: Choice,

@@ -1,4 +1,5 @@
 use Rattle.std.proofs.Common.{◌≡◌, ℕ, ◌+◌, [], ◌∷◌, length, arith, ap, ◌∙◌}
+use Rattle.std.proofs.Common.{ℕ, [], ◌∷◌, length, arith}
 use Rattle.netlist_model.specs.Lists.{CellView, cell_count}
 use Rattle.gate_parts.specs.Appended.{Appended}
 use Rattle.boundary_cells.specs.Cells.{choice_cell}
