@@ -1,8 +1,4 @@
 -- Each kind of cell does as its laws say.
-use Rattle.std.proofs.Common.{◌≡◌, ℕ, suc, ◌+◌, Bool, false, List, [], ◌∷◌, ◌++◌, length, refl, sym, ◌∙◌, arith}
-use Rattle.std.specs.Prelude.{if◌then◌else◌}
-use Rattle.signal_values.specs.declared.Sig.{Sig}
-use Rattle.signal_values.specs.Values.{bit, see, sig_mux}
 use Rattle.std.proofs.Common.{◌≡◌, ℕ, ◌+◌, false, List, [], ◌∷◌, length, refl, sym}
 use Rattle.signal_values.specs.declared.Sig.{Sig}
 use Rattle.signal_values.specs.Values.{see, sig_mux}
@@ -13,7 +9,6 @@ use Rattle.cell_library.specs.declared.codes.Function.TheVariants.{Input, Output
 use Rattle.netlist_model.specs.declared.NetId.{NetId}
 use Rattle.netlist_model.specs.declared.Feed.{Feed}
 use Rattle.netlist_model.specs.declared.Feed.TheVariants.{Net}
-use Rattle.netlist_model.specs.Lists.{CellView, NetlistView}
 use Rattle.netlist_model.specs.Lists.{NetlistView}
 use Rattle.netlist_model.specs.Settled.{feed_value, Meets}
 use Rattle.netlist_model.specs.Formed.{IsWellFormed}
@@ -31,15 +26,6 @@ use Rattle.register_bits.specs.Laws.{ShiftBitsFollow, HeldBitsFollow}
 use Rattle.boundary_cells.specs.declared.tables.Choice.{Choice}
 use Rattle.boundary_cells.specs.declared.tables.TheConstants.{BC_1, BC_2, UPDATES}
 use Rattle.boundary_cells.specs.Cells.{steering_of, holding_of, choice_cell, cells_onto, stage_table, cell_given, observe_cells, input_cells, output_cells}
-use Rattle.boundary_cells.specs.Laws.{CarriesMode, StandsAtPin, StandsAtInput, StandsAtOutput, ObserveCellsFollow, InputLaws, InputCellsFollow, OutputLaws, OutputCellsFollow}
-use Rattle.boundary_cells.proofs.Stages.{chosen, held_has, choice_value, shift_laws, update_laws}
-
--- what is contained of a table and a choice
-part_of : ContainedParts → (N : NetlistView) (gates : List Gate) (choice : Choice) (given : List Feed) (first number : ℕ) (into : NetId)
-    → HasCells N (cells_onto gates choice given first number into) → HasCells N (part_cells gates given first number)
-part_of parts N gates choice given first number into has = ((parts N (part_cells gates given first number) (choice_cell first given (number + length gates) into choice ∷ [])).parts has).0
-
-choice_of : ContainedParts → (N : NetlistView) (gates : List Gate) (choice : Choice) (given : List Feed) (first number : ℕ) (into : NetId)
 use Rattle.boundary_cells.specs.Laws.{CarriesMode, StandsAtPin, StandsAtInput, StandsAtOutput, ObserveCellsFollow, InputCellsFollow, OutputCellsFollow}
 use Rattle.boundary_cells.proofs.Stages.{chosen, held_has, choice_value, shift_laws, update_laws}
 
@@ -53,7 +39,6 @@ pub choice_of : ContainedParts → (N : NetlistView) (gates : List Gate) (choice
 choice_of parts N gates choice given first number into has = ((parts N (part_cells gates given first number) (choice_cell first given (number + length gates) into choice ∷ [])).parts has).1.0
 
 -- the two bits of each table
-abbrev captured_operand : BoundaryKind → ℕ → Feed → Feed
 abbrev pub captured_operand : BoundaryKind → ℕ → Feed → Feed
 captured_operand Bc2 first operand = Net (record { 0 = first + 5 })
 captured_operand _ first operand = operand

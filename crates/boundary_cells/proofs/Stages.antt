@@ -1,9 +1,4 @@
 -- A shift bit and an update bit among the cells of a netlist.
-use Rattle.std.proofs.Common.{◌≡◌, ℕ, suc, ◌+◌, Bool, true, false, List, [], ◌∷◌, refl, ap, ◌∙◌, sym, arith, Some}
-use Rattle.std.specs.Prelude.{if◌then◌else◌}
-use Rattle.signal_values.specs.declared.Sig.{Sig}
-use Rattle.signal_values.specs.declared.Sig.TheVariants.{Zero, One, Unknown}
-use Rattle.signal_values.specs.Values.{bit, sig_mux, sig_and, sig_or, sig_not}
 use Rattle.std.proofs.Common.{◌≡◌, ℕ, suc, ◌+◌, Bool, true, false, List, [], ◌∷◌, refl, ap, ◌∙◌, arith, Some}
 use Rattle.std.specs.Prelude.{if◌then◌else◌}
 use Rattle.signal_values.specs.declared.Sig.{Sig}
@@ -17,14 +12,6 @@ use Rattle.netlist_model.specs.declared.NetId.{NetId}
 use Rattle.netlist_model.specs.declared.Feed.{Feed}
 use Rattle.netlist_model.specs.declared.Feed.TheVariants.{Net}
 use Rattle.netlist_model.specs.Lists.{CellView, NetlistView}
-use Rattle.netlist_model.specs.Settled.{feed_value, Meets, IsSettled}
-use Rattle.netlist_model.specs.Formed.{IsWellFormed}
-use Rattle.netlist_model.specs.Contained.{Has, HasCells}
-use Rattle.netlist_model.specs.Runs.{Moment, PinEvent, IsStart, IsStep}
-use Rattle.netlist_laws.specs.Drivers.{DrivenIsInside}
-use Rattle.gate_parts.specs.Parts.{feed_of}
-use Rattle.test_logic.specs.declared.Levels.{Levels}
-use Rattle.test_logic.specs.declared.Action.{Action}
 use Rattle.netlist_model.specs.Settled.{feed_value, Meets}
 use Rattle.netlist_model.specs.Formed.{IsWellFormed}
 use Rattle.netlist_model.specs.Contained.{Has, HasCells}
@@ -34,7 +21,6 @@ use Rattle.test_logic.specs.declared.ScanNets.{ScanNets}
 use Rattle.test_logic.specs.Controller.{act}
 use Rattle.test_logic.specs.Rows.{CellAt}
 use Rattle.register_bits.specs.Bits.{shift_bit_cells, held_bit_cells}
-use Rattle.register_bits.specs.Laws.{Carries, Steers, bit_after, ShiftBitsFollow, HeldBitsFollow}
 use Rattle.register_bits.specs.Laws.{bit_after, ShiftBitsFollow, HeldBitsFollow}
 use Rattle.boundary_cells.specs.declared.tables.Choice.{Choice}
 use Rattle.boundary_cells.specs.Cells.{steering_of, holding_of, choice_cell}

@@ -1,9 +1,5 @@
 -- The gates of a boundary cell. Its shift bit is on its first net, and its update bit on the third net after it.
 -- IEEE Std 1149.1-2001: boundary-scan register; the gates are own.
-use Rattle.std.specs.Prelude.{ℕ, ◌+◌, ◌<◌, false, List, [], ◌∷◌, ◌++◌, length, Some, IsTrue}
-use Rattle.cell_library.specs.declared.Kind.TheVariants.{Mux2}
-use Rattle.cell_library.specs.declared.codes.BoundaryKind.{BoundaryKind}
-use Rattle.cell_library.specs.declared.codes.BoundaryKind.TheVariants.{Bc1, Bc2}
 use Rattle.std.specs.Prelude.{ℕ, ◌+◌, ◌<◌, List, [], ◌∷◌, ◌++◌, length, Some, IsTrue}
 use Rattle.cell_library.specs.declared.Kind.TheVariants.{Mux2}
 use Rattle.cell_library.specs.declared.codes.BoundaryKind.{BoundaryKind}

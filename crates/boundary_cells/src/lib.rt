@@ -1,6 +1,5 @@
 // Boundary cells as gates: a shift bit, the update bit behind it, and the multiplexer that gives the core or the pin its value.
 // Contracts cite specs/Cells.antt for the cells, and specs/Laws.antt for what they do in every netlist that contains them.
-// IEEE Std 1149.1-2001: boundary-scan register, the annex on BSDL (the cells BC_1, BC_2 and BC_4).
 // IEEE Std 1149.1-2001: boundary-scan register, the annex on BSDL (the cells BC_1, BC_2, BC_4 and BC_7).
 #![tactic(auto)]
 
@@ -22,12 +21,6 @@ use cell_library::{BoundaryKind, Kind};
 use gate_parts::{
     Gate, Pin, add_driver, add_part, appended_count, appended_more, part_leaves_free_nets,
 };
-pub use laws::{input_cells_follow, observe_cells_follow, output_cells_follow};
-use netlist_arena::Netlist;
-use netlist_model::{Feed, NetId};
-use register_bits::{Steering, add_shift_bit};
-pub use tables::{BC_1, BC_2, Choice, UPDATES};
-use test_logic::ScanNets;
 pub use laws::{
     bidir_cells_follow, control_cells_follow, input_cells_follow, observe_cells_follow,
     output_cells_follow,
@@ -145,7 +138,6 @@ pub fn add_output_cell(
 }
 
 // Adds the gates of a table, and the multiplexer that gives `into` its value, and answers the net of the first gate.
-fn add_cell_onto(
 pub(crate) fn add_cell_onto(
     netlist: &mut Netlist,
     gates: &[Gate],

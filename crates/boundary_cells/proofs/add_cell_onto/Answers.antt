@@ -1,4 +1,3 @@
-use Rattle.std.proofs.Common.{◌≡◌, ℕ, ◌+◌, [], ◌∷◌, length, arith, ap, ◌∙◌}
 use Rattle.std.proofs.Common.{ℕ, [], ◌∷◌, length, arith}
 use Rattle.netlist_model.specs.Lists.{CellView, cell_count}
 use Rattle.gate_parts.specs.Appended.{Appended}
