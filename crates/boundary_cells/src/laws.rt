@@ -1,5 +1,6 @@
 ghost use Rattle.boundary_cells.specs.Laws.{ObserveCellsFollow, InputCellsFollow, OutputCellsFollow};
 ghost use Rattle.boundary_cells.specs.ThreeState.{ControlCellsFollow, BidirCellsFollow};
+ghost use Rattle.boundary_cells.specs.MachineRows.{RowsStep};
 
 use gate_parts::contained_part_meets;
 use netlist_laws::{contained_parts, driven_net_follows_no_pin};
@@ -54,3 +55,8 @@ pub fn bidir_cells_follow()
     contained_part_meets();
     driven_net_follows_no_pin();
 }
+
+/// Each place of the test logic's boundary register steps as the bits of a cell do.
+pub fn rows_step_as_bits()
+    ensures { RowsStep }
+{}

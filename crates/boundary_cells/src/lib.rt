@@ -23,7 +23,7 @@ use gate_parts::{
 };
 pub use laws::{
     bidir_cells_follow, control_cells_follow, input_cells_follow, observe_cells_follow,
-    output_cells_follow,
+    output_cells_follow, rows_step_as_bits,
 };
 use netlist_arena::Netlist;
 use netlist_model::{Feed, NetId};
