@@ -1,0 +1,5 @@
+pub mod RowSteps
+pub mod LatchAdded
+pub mod LatchedBits
+pub mod MatchedBits
+pub mod MatchRows
