@@ -3,3 +3,5 @@ pub mod LatchAdded
 pub mod LatchedBits
 pub mod MatchedBits
 pub mod MatchRows
+pub mod Decoded
+pub mod SelectionsTold

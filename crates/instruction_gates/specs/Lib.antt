@@ -1,3 +1,4 @@
 pub mod Rows
 pub mod Latches
 pub mod Matches
+pub mod Selections

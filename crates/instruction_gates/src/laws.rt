@@ -1,5 +1,6 @@
 ghost use Rattle.instruction_gates.specs.Latches.{LatchesFollow};
 ghost use Rattle.instruction_gates.specs.Matches.{MatchesTell};
+ghost use Rattle.instruction_gates.specs.Selections.{SelectionsTell};
 
 use gate_parts::contained_part_meets;
 use netlist_laws::contained_parts;
@@ -19,5 +20,12 @@ pub fn matches_tell()
     ensures { MatchesTell }
 {
     contained_parts();
+    contained_part_meets();
+}
+
+/// What is selected is what the instruction in effect selects, where no two instructions have one opcode but SAMPLE and PRELOAD.
+pub fn selections_tell()
+    ensures { SelectionsTell }
+{
     contained_part_meets();
 }

@@ -1,5 +1,5 @@
-// The instruction register as gates: the opcode that is latched, and whether it is the one of an instruction.
-// Contracts cite specs/Latches.antt and specs/Matches.antt for the cells and for what they do in every netlist that contains them.
+// The instruction register as gates: the opcode that is latched, whether it is an instruction's, and what is selected.
+// Contracts cite specs/: Latches, Matches and Selections have the cells, and what they do in every netlist that contains them.
 // IEEE Std 1149.1-2001: instruction register.
 #![tactic(auto)]
 
@@ -9,11 +9,13 @@ ghost use Rattle.instruction_gates.specs.Rows.{is_one};
 mod latches;
 mod laws;
 mod matches;
+mod selections;
 
 pub use latches::{LOADED, Latching, add_latches};
-pub use laws::{latches_follow, matches_tell};
+pub use laws::{latches_follow, matches_tell, selections_tell};
 pub use matches::{EQUAL_BIT, add_match};
 use netlist_model::Feed;
+pub use selections::{Matched, SELECTIONS, add_selections};
 
 // Whether a constant is 1.
 fn is_one(constant: Feed) -> bool
