@@ -5,3 +5,5 @@ pub mod MatchedBits
 pub mod MatchRows
 pub mod Decoded
 pub mod SelectionsTold
+pub mod StagesAdded
+pub mod StagesFollow

@@ -2,3 +2,4 @@ pub mod Rows
 pub mod Latches
 pub mod Matches
 pub mod Selections
+pub mod Stages

@@ -1,10 +1,12 @@
 ghost use Rattle.instruction_gates.specs.Latches.{LatchesFollow};
 ghost use Rattle.instruction_gates.specs.Matches.{MatchesTell};
 ghost use Rattle.instruction_gates.specs.Selections.{SelectionsTell};
+ghost use Rattle.instruction_gates.specs.Stages.{StagesFollow};
 
 use gate_parts::contained_part_meets;
-use netlist_laws::contained_parts;
-use register_bits::held_bits_follow;
+use netlist_laws::{contained_parts, moments_of_a_run};
+use register_bits::{chains_follow, held_bits_follow};
+use register_gates::steps_by_register;
 
 /// In every well-formed netlist that contains their cells, the latched bits are those of the test logic.
 pub fn latches_follow()
@@ -28,4 +30,16 @@ pub fn selections_tell()
     ensures { SelectionsTell }
 {
     contained_part_meets();
+}
+
+/// The instruction register is that of the test logic.
+pub fn stages_follow()
+    ensures { StagesFollow }
+{
+    contained_parts();
+    contained_part_meets();
+    chains_follow();
+    latches_follow();
+    steps_by_register();
+    moments_of_a_run();
 }

@@ -10,12 +10,14 @@ mod latches;
 mod laws;
 mod matches;
 mod selections;
+mod stages;
 
 pub use latches::{LOADED, Latching, add_latches};
-pub use laws::{latches_follow, matches_tell, selections_tell};
+pub use laws::{latches_follow, matches_tell, selections_tell, stages_follow};
 pub use matches::{EQUAL_BIT, add_match};
 use netlist_model::Feed;
 pub use selections::{Matched, SELECTIONS, add_selections};
+pub use stages::{LOADS, Stages, add_stages};
 
 // Whether a constant is 1.
 fn is_one(constant: Feed) -> bool
