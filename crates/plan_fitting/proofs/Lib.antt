@@ -1,3 +1,4 @@
+pub mod Seen
 pub mod Computed
 pub mod Codes
 pub mod Opcodes

@@ -33,8 +33,8 @@ use Rattle.plan_fitting.specs.declared.fault.FitFault.TheVariants as fault
 use Rattle.plan_fitting.specs.declared.fitted.FitRow.{FitRow}
 use Rattle.plan_fitting.specs.Pins.{PinSeen}
 use Rattle.plan_fitting.specs.Rows.{rows}
-use Rattle.plan_fitting.specs.Fits.{fault_with, IsFault}
-use Rattle.plan_fitting.specs.Devices.{device_of}
+use Rattle.plan_fitting.specs.Fits.{IsFault}
+use Rattle.plan_fitting.specs.Devices.{device_of, fitted_of, IsFitted}
 
 -- Netlists.
 
@@ -226,10 +226,15 @@ RowsOfClock =
     rows (plan_c Bc4) seen_c
     ≡ at_port Bc4 function.Clock 0 None None ∷ at_port Bc1 function.Input 1 None None ∷ at_port Bc1 function.Output2 2 (Some (of_net 2)) None ∷ []
 
--- Faults.
+-- Plans that fit.
 
-abbrev pub NoFault : Type 0
-NoFault = fault_with linked_c (plan_c Bc4) seen_c ≡ None
+abbrev pub BothPolaritiesFit : Type 0
+BothPolaritiesFit = IsFitted linked_d plan_d (fitted_of linked_d plan_d seen_d)
+
+abbrev pub ClockFits : Type 0
+ClockFits = IsFitted linked_c (plan_c Bc4) (fitted_of linked_c (plan_c Bc4) seen_c)
+
+-- Faults.
 
 -- a module without ports
 abbrev pub nothing_linked : LinkedView
@@ -239,11 +244,11 @@ abbrev pub NamesNoBit : Type 0
 NamesNoBit = IsFault nothing_linked (plan_c Bc4) (fault.PlanPort (codes "ck"))
 
 abbrev pub NoPortThere : Type 0
-NoPortThere = fault_with nothing_linked (plan_of []) [] ≡ Some (fault.PlanPortMissing (codes "pin"))
+NoPortThere = IsFault nothing_linked (plan_of []) (fault.PlanPortMissing (codes "pin"))
 
 -- the first bit without a line
 abbrev pub BitWithoutLine : Type 0
-BitWithoutLine = fault_with linked_c (plan_of []) [] ≡ Some (fault.PlanPortMissing (codes "ck"))
+BitWithoutLine = IsFault linked_c (plan_of []) (fault.PlanPortMissing (codes "ck"))
 
 abbrev pub with_line : Plan → PinLine → Plan
 with_line p line = record p { pins = p.pins ++ line ∷ [] }
@@ -259,24 +264,30 @@ with_prefix p begin = record p { prefix = begin }
 
 -- another line for q, and another for its pin
 abbrev pub BitTwice : Type 0
-BitTwice = fault_with linked_c (with_line (plan_c Bc4) (pin_line (codes "q") (codes "4") Bc1)) (seen_c ++ seen_at netlist_c 2 Output ∷ []) ≡ Some (fault.PlanTwice (codes "q"))
+BitTwice = IsFault linked_c (with_line (plan_c Bc4) (pin_line (codes "q") (codes "4") Bc1)) (fault.PlanTwice (codes "q"))
 
 abbrev pub PinTwice : Type 0
-PinTwice = fault_with linked_c (with_linkage (plan_c Bc4) (tap_line (codes "VCC") (codes "3"))) seen_c ≡ Some (fault.PlanTwice (codes "3"))
+PinTwice = IsFault linked_c (with_linkage (plan_c Bc4) (tap_line (codes "VCC") (codes "3"))) (fault.PlanTwice (codes "3"))
 
 abbrev pub ClockTakesOneKind : Type 0
-ClockTakesOneKind = fault_with linked_c (plan_c Bc1) seen_c ≡ Some (fault.PlanCell (codes "ck"))
+ClockTakesOneKind = IsFault linked_c (plan_c Bc1) (fault.PlanCell (codes "ck"))
 
 -- a name is one without regard to case
 abbrev pub TapNamedAsPort : Type 0
-TapNamedAsPort = fault_with linked_c (with_tdi (plan_c Bc4) (codes "D")) seen_c ≡ Some (fault.PlanName (codes "D"))
+TapNamedAsPort = IsFault linked_c (with_tdi (plan_c Bc4) (codes "D")) (fault.PlanName (codes "D"))
 
 -- but beside an instance's byte for byte
 abbrev pub TapNamedAsInstance : Type 0
-TapNamedAsInstance = fault_with linked_c (with_tdi (plan_c Bc4) (codes "f")) seen_c ≡ Some (fault.PlanName (codes "f"))
+TapNamedAsInstance = IsFault linked_c (with_tdi (plan_c Bc4) (codes "f")) (fault.PlanName (codes "f"))
+
+-- `buf(y, \a+b );`
+abbrev pub netlist_n : NetlistView
+netlist_n = record { ports = scalar 0 Input ∷ scalar 1 Output ∷ []; nets = net_named 0 ∷ net_named 1 ∷ []; cells = gate Buf 1 (of_net 0 ∷ []) ∷ [] }
 
 abbrev pub PortIsNoName : Type 0
-PortIsNoName = fault_with (linked (codes "ck" ∷ codes "a+b" ∷ codes "q" ∷ codes "f" ∷ []) netlist_c) (plan_c Bc4) seen_c ≡ Some (fault.PlanName (codes "a+b"))
+PortIsNoName =
+    IsFault (linked (codes "a+b" ∷ codes "y" ∷ []) netlist_n) (plan_of (pin_line (codes "a+b") (codes "1") Bc1 ∷ pin_line (codes "y") (codes "2") Bc1 ∷ []))
+    (fault.PlanName (codes "a+b"))
 
 abbrev pub InstanceHasPrefix : Type 0
-InstanceHasPrefix = fault_with linked_c (with_prefix (plan_c Bc4) (codes "f")) seen_c ≡ Some (fault.PrefixTaken (codes "f"))
+InstanceHasPrefix = IsFault linked_c (with_prefix (plan_c Bc4) (codes "f")) (fault.PrefixTaken (codes "f"))

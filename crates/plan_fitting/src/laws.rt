@@ -1,6 +1,6 @@
 ghost use Rattle.plan_fitting.specs.Laws.{CodesAreTheDevices, OpcodesKeepTheRules};
 ghost use Rattle.plan_fitting.specs.Examples.{RowsOfBothPolarities, DeviceOfBothPolarities, RowsOfTwoStates, RowsUnderHighz, RowsOfInout, RowsOfClock};
-ghost use Rattle.plan_fitting.specs.Examples.{NoFault, NamesNoBit, NoPortThere, BitWithoutLine, BitTwice, PinTwice, ClockTakesOneKind, TapNamedAsPort, TapNamedAsInstance, PortIsNoName, InstanceHasPrefix};
+ghost use Rattle.plan_fitting.specs.Examples.{BothPolaritiesFit, ClockFits, NamesNoBit, NoPortThere, BitWithoutLine, BitTwice, PinTwice, ClockTakesOneKind, TapNamedAsPort, TapNamedAsInstance, PortIsNoName, InstanceHasPrefix};
 
 /// A law: what is fitted has the codes of its device's test logic.
 pub fn codes_are_the_devices()
@@ -22,9 +22,10 @@ pub fn boundary_cells_of_examples()
     ensures clock { RowsOfClock }
 {}
 
-/// A plan that fits, and one for each fault of fitting.
+/// Two plans that fit, and one for each fault of fitting.
 pub fn faults_of_examples()
-    ensures none { NoFault }
+    ensures both_polarities { BothPolaritiesFit }
+    ensures clock { ClockFits }
     ensures port { NamesNoBit }
     ensures port_missing { NoPortThere }
     ensures bit_missing { BitWithoutLine }
