@@ -1,13 +1,13 @@
 -- Laws of plans that fit.
--- IEEE Std 1149.1-2001: instruction register.
-use Rattle.std.specs.Prelude.{◌≡◌, ◌%◌, List, Some, IsFalse}
-use Rattle.std.specs.List.{list_any}
+-- IEEE Std 1149.1-2001: instruction register, boundary-scan register.
+use Rattle.std.specs.Prelude.{◌≡◌, ◌%◌, List, Some, IsFalse, IsTrue}
+use Rattle.std.specs.List.{list_any, list_all}
 use Rattle.cell_library.specs.declared.codes.Bits.{Bits}
 use Rattle.cell_library.specs.declared.codes.Instr.TheVariants as instr
 use Rattle.cell_library.specs.declared.codes.Opcode.{Opcode}
 use Rattle.bsdl_device.specs.declared.values.Device.{Device}
 use Rattle.bsdl_device.specs.Checks.{any_pair, lacks_instruction, has_other_length, bypass_is_not_ones, opcodes_clash}
-use Rattle.bsdl_device.specs.IsDevice.{opcode_entries}
+use Rattle.bsdl_device.specs.IsDevice.{opcode_entries, disable_right}
 use Rattle.netlist_link.specs.Linked.{LinkedView}
 use Rattle.test_logic.specs.Instructions.{opcode_of}
 use Rattle.test_logic.specs.Machine.{AreCodes, test_logic_of}
@@ -34,3 +34,7 @@ pub record KeepsOpcodeRules (d : Device) : Type 0 where
 -- so does the device of each plan that some text spells
 abbrev pub OpcodesKeepTheRules : Type 0
 OpcodesKeepTheRules = (L : LinkedView) (p : Plan) (seen : List PinSeen) → IsPlan p → KeepsOpcodeRules (device_of L p seen)
+
+-- in the device each driver names a control cell by its number, and no other cell names one
+abbrev pub ControlCellsAreThere : Type 0
+ControlCellsAreThere = (L : LinkedView) (p : Plan) (seen : List PinSeen) → IsTrue (list_all (disable_right (device_of L p seen).cells) (device_of L p seen).cells)

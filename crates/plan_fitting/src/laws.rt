@@ -1,4 +1,4 @@
-ghost use Rattle.plan_fitting.specs.Laws.{CodesAreTheDevices, OpcodesKeepTheRules};
+ghost use Rattle.plan_fitting.specs.Laws.{CodesAreTheDevices, OpcodesKeepTheRules, ControlCellsAreThere};
 ghost use Rattle.plan_fitting.specs.Examples.{RowsOfBothPolarities, DeviceOfBothPolarities, RowsOfTwoStates, RowsUnderHighz, RowsOfInout, RowsOfClock};
 ghost use Rattle.plan_fitting.specs.Examples.{BothPolaritiesFit, ClockFits, NamesNoBit, NoPortThere, BitWithoutLine, BitTwice, PinTwice, ClockTakesOneKind, TapNamedAsPort, TapNamedAsInstance, PortIsNoName, InstanceHasPrefix};
 
@@ -12,6 +12,11 @@ pub fn opcodes_keep_the_rules()
     ensures { OpcodesKeepTheRules }
 {}
 
+/// A law: in the device of a plan each driver names a control cell, and no other cell names one.
+pub fn control_cells_are_there()
+    ensures { ControlCellsAreThere }
+{}
+
 /// The boundary cells of small modules, and what they are in the device.
 pub fn boundary_cells_of_examples()
     ensures both_polarities { RowsOfBothPolarities }
@@ -22,10 +27,14 @@ pub fn boundary_cells_of_examples()
     ensures clock { RowsOfClock }
 {}
 
-/// Two plans that fit, and one for each fault of fitting.
-pub fn faults_of_examples()
+/// Two of these modules' plans fit.
+pub fn examples_fit()
     ensures both_polarities { BothPolaritiesFit }
     ensures clock { ClockFits }
+{}
+
+/// A plan for each fault of fitting.
+pub fn faults_of_examples()
     ensures port { NamesNoBit }
     ensures port_missing { NoPortThere }
     ensures bit_missing { BitWithoutLine }
