@@ -16,7 +16,7 @@ use Rattle.plan_texts.specs.declared.plan.PinLine.{PinLine}
 use Rattle.plan_fitting.specs.declared.fitted.FitRow.{FitRow}
 use Rattle.plan_fitting.specs.declared.fitted.Fitted.{Fitted}
 use Rattle.plan_fitting.specs.Pins.{PinSeen}
-use Rattle.plan_fitting.specs.Rows.{Driver, controls, input_row, controlled_by, controlled_rows, data_row, control_row, output_rows, inout_rows, rows_at, rows_after, rows, output_driver, three_state, has_highz}
+use Rattle.plan_fitting.specs.Rows.{Driver, controls, controlled_by, data_row, control_row, output_rows, inout_rows, rows_at, rows_after, rows, output_driver, three_state, has_highz}
 use Rattle.plan_fitting.specs.Devices.{disable_by, cell_row, fitted_of}
 use Rattle.plan_fitting.specs.Laws.{ControlCellsAreThere}
 

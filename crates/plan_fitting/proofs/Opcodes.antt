@@ -33,7 +33,7 @@ or_second : (a b : Bool) → (a || b) ≡ false → b ≡ false
 or_second true b h = absurd (cc)
 or_second false b h = h
 
-or_both : (a b : Bool) → a ≡ false → b ≡ false → (a || b) ≡ false
+pub or_both : (a b : Bool) → a ≡ false → b ≡ false → (a || b) ≡ false
 or_both true b h k = h
 or_both false b h k = k
 

@@ -130,7 +130,9 @@ abbrev pub seen_d : List PinSeen
 seen_d = seen_at netlist_d 0 Input ∷ seen_at netlist_d 1 Input ∷ seen_at netlist_d 2 Output ∷ seen_at netlist_d 3 Output ∷ []
 
 abbrev pub plan_d : Plan
-plan_d = plan_of (pin_line (codes "e") (codes "1") Bc4 ∷ pin_line (codes "p") (codes "2") Bc4 ∷ pin_line (codes "s") (codes "3") Bc1 ∷ pin_line (codes "t") (codes "4") Bc1 ∷ [])
+plan_d =
+    plan_of (pin_line (codes "e") (codes "1") Bc4 ∷ pin_line (codes "p") (codes "2") Bc4
+    ∷ pin_line (codes "s") (codes "3") Bc1 ∷ pin_line (codes "t") (codes "4") Bc1 ∷ [])
 
 -- a control cell for each polarity
 abbrev pub RowsOfBothPolarities : Type 0
@@ -161,7 +163,9 @@ abbrev pub seen_k : List PinSeen
 seen_k = seen_at netlist_k 0 Input ∷ seen_at netlist_k 1 Input ∷ seen_at netlist_k 2 Output ∷ seen_at netlist_k 3 Output ∷ []
 
 abbrev pub plan_k : Plan
-plan_k = plan_of (pin_line (codes "a") (codes "1") Bc1 ∷ pin_line (codes "b") (codes "2") Bc4 ∷ pin_line (codes "y") (codes "3") Bc1 ∷ pin_line (codes "z") (codes "4") Bc1 ∷ [])
+plan_k =
+    plan_of (pin_line (codes "a") (codes "1") Bc1 ∷ pin_line (codes "b") (codes "2") Bc4
+    ∷ pin_line (codes "y") (codes "3") Bc1 ∷ pin_line (codes "z") (codes "4") Bc1 ∷ [])
 
 abbrev pub RowsOfTwoStates : Type 0
 RowsOfTwoStates =
@@ -190,7 +194,9 @@ abbrev pub seen_b : List PinSeen
 seen_b = seen_at netlist_b 0 Input ∷ seen_at netlist_b 1 Input ∷ seen_at netlist_b 2 Inout ∷ seen_at netlist_b 3 Output ∷ []
 
 abbrev pub plan_b : Plan
-plan_b = with_highz (plan_of (pin_line (codes "p") (codes "1") Bc1 ∷ pin_line (codes "e") (codes "2") Bc1 ∷ pin_line (codes "io") (codes "3") Bc7 ∷ pin_line (codes "r") (codes "4") Bc1 ∷ []))
+plan_b =
+    with_highz (plan_of (pin_line (codes "p") (codes "1") Bc1 ∷ pin_line (codes "e") (codes "2") Bc1
+    ∷ pin_line (codes "io") (codes "3") Bc7 ∷ pin_line (codes "r") (codes "4") Bc1 ∷ []))
 
 abbrev pub RowsOfInout : Type 0
 RowsOfInout =
@@ -219,12 +225,14 @@ seen_c = as_clock (seen_at netlist_c 0 Input) ∷ seen_at netlist_c 1 Input ∷ 
 
 -- by the kind of the clock's cell
 abbrev pub plan_c : BoundaryKind → Plan
-plan_c cell = plan_of (pin_line (codes "ck") (codes "1") cell ∷ pin_line (codes "d") (codes "2") Bc1 ∷ pin_line (codes "q") (codes "3") Bc1 ∷ [])
+plan_c cell =
+    plan_of (pin_line (codes "ck") (codes "1") cell ∷ pin_line (codes "d") (codes "2") Bc1 ∷ pin_line (codes "q") (codes "3") Bc1 ∷ [])
 
 abbrev pub RowsOfClock : Type 0
 RowsOfClock =
     rows (plan_c Bc4) seen_c
-    ≡ at_port Bc4 function.Clock 0 None None ∷ at_port Bc1 function.Input 1 None None ∷ at_port Bc1 function.Output2 2 (Some (of_net 2)) None ∷ []
+    ≡ at_port Bc4 function.Clock 0 None None ∷ at_port Bc1 function.Input 1 None None
+    ∷ at_port Bc1 function.Output2 2 (Some (of_net 2)) None ∷ []
 
 -- Plans that fit.
 

@@ -10,6 +10,6 @@ mod laws;
 pub use fault::FitFault;
 pub use fitted::{FitPort, FitRow, Fitted};
 pub use laws::{
-    boundary_cells_of_examples, codes_are_the_devices, control_cells_are_there, examples_fit,
-    faults_of_examples, opcodes_keep_the_rules,
+    boundary_cells_of_examples, codes_are_the_devices, control_cells_are_there, drivers_agree,
+    examples_fit, faults_of_examples, highz_disables_all, opcodes_keep_the_rules,
 };
