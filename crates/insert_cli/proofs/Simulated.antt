@@ -1,5 +1,5 @@
 -- What is known of `sim` from its parts.
-use Rattle.std.proofs.Common.{◌≡◌, ℕ, Result, Ok, Err, OnOk, OnErr, IfOk, IfErr, ◌⊎◌, List, take, Option, Some, None, inl, inr, refl, subst}
+use Rattle.std.proofs.Common.{◌≡◌, ℕ, Result, Ok, Err, OnOk, OnErr, IfOk, IfErr, ◌⊎◌, List, take, Option, Some, None, inl, inr, refl, sym, subst}
 use Rattle.edge_io.specs.Shelf.{WhereTold, appended}
 use Rattle.command_faults.specs.declared.fault.Fault.{Fault}
 use Rattle.command_faults.specs.declared.fault.Fault.TheVariants as fault
@@ -13,12 +13,17 @@ use Rattle.scan_vectors.specs.declared.lines.Lines.{Lines}
 use Rattle.scan_vectors.specs.Faults.{IsFault}
 use Rattle.scan_vectors.specs.Grammar.{SpellsLines}
 use Rattle.event_scripts.specs.declared.script.ScriptLine.{ScriptLine}
-use Rattle.event_scripts.specs.Scripts.{IsResolved}
+use Rattle.event_scripts.specs.Scripts.{IsResolved, IsScriptFault}
+use Rattle.event_scripts.specs.declared.fault.ScriptFault.{ScriptFault}
 use Rattle.sim_runs.specs.Outputs.{IsOutput}
-use Rattle.insert_cli.specs.Commands.{IsShort, SimForm}
+use Rattle.insert_cli.specs.declared.command.Conversion.{Conversion}
+use Rattle.insert_cli.specs.Commands.{IsShort, ConvertForm, SimForm}
+use Rattle.insert_cli.specs.ConvertFaults.{IsCutShort}
+use Rattle.insert_cli.proofs.FormLaws.{input_once, output_once, conversion_once}
+use Rattle.std.specs.Result.{IsErrAnd}
 use Rattle.insert_cli.specs.Seen.{ShelfSeen, SinkSeen, SinkRose, WhereBothTold}
 use Rattle.insert_cli.specs.EdgeFaults.{AreShort}
-use Rattle.insert_cli.specs.Causes.{Finishes, Stands, Gave}
+use Rattle.insert_cli.specs.Causes.{Finishes, Stands, Gave, CutsShort}
 use Rattle.insert_cli.specs.Simulations.{IsSimulation, HasLinkFault, SpellsLinkable, SpellsEvents, HasScriptFault, run_status}
 use Rattle.insert_cli.specs.SimFaults.{HasRun, StandsInNetlist, StandsInPlay, StandsInSim, IsPlayed, IsFrontOfRun, GaveFront, GaveInPlay}
 use Rattle.insert_cli.proofs.Told.{IsTold, told_as}
@@ -124,6 +129,30 @@ linkable_of net events text missed s = record { tree = s.tree; spells = s.spells
 
 pub events_of : (net events text : List ℕ) (missed : ℕ) → IsSimulation net events text missed → SpellsEvents events
 events_of net events text missed s = (s.lines, s.spells_lines)
+
+-- what a call answers of the fault that it hands on
+pub err_is : {A : Type 0} (r : Result A Fault) (f : Fault) (P : Fault → Type 0) → IsErrAnd r (λ made. made ≡ f) → P f → IfErr r P
+err_is (Ok x) f P is holds = tt
+err_is (Err made) f P is holds = subst P (sym is) holds
+
+-- what a conversion leaves is what the command leaves, since the words have one form
+pub cuts_short : (words : List (List ℕ)) (shelf : ShelfSeen) (c : Conversion) (input output : List ℕ) → ConvertForm words c input output → IsCutShort c input output shelf → CutsShort words shelf
+cuts_short words shelf c input output form cut = λ d other more runs.
+    let first : other ≡ input = input_once words c d input output other more form runs.form in
+    let second : more ≡ output = output_once words c d input output other more form runs.form in
+    let same : d ≡ c = conversion_once words c d input output other more form runs.form in
+    subst (λ (k : Conversion). IsCutShort k other more shelf) (sym same)
+    (subst (λ (x : List ℕ). IsCutShort c x more shelf) (sym first) (subst (λ (y : List ℕ). IsCutShort c input y shelf) (sym second) cut))
+
+-- a script's fault stands where the netlist can be linked and the events are lines
+pub script_fault_made : (net events bytes : List ℕ) (sink : SinkSeen) (f : ScriptFault) (tree : Module) (linked : LinkedView) (lines : Lines) → IsReadAs net tree → IsLinkOf tree linked
+    → bytes ≡ events → SpellsLines bytes lines → IsScriptFault linked lines f → StandsInPlay (Some net) (Some events) sink (fault.Script f)
+script_fault_made net events bytes sink f tree linked lines read links same spells stands =
+    let spelled : SpellsLines events lines = subst (λ (b : List ℕ). SpellsLines b lines) same spells in (
+      record { tree = tree; spells = read.spells; linkable = links.linkable },
+      (lines, spelled),
+      record { tree = tree; spells = read.spells; only = read.only; linked = linked; links = links; lines = lines; spells_lines = spelled; fault = stands },
+    )
 
 -- the whole text of a run was given
 pub played_made : (net events text : List ℕ) (missed : ℕ) (sink : SinkSeen) (end : Status) → IsSimulation net events text missed → sink.given_after ≡ appended text sink.given

@@ -1,8 +1,11 @@
-use Rattle.std.proofs.Common.{Some, subst}
+use Rattle.std.proofs.Common.{◌≡◌, Some, subst}
+use Rattle.command_faults.specs.Statuses.{status_of}
+use Rattle.command_faults.specs.declared.status.Status.TheVariants as status
+use Rattle.insert_cli.specs.Causes.{CutsShort}
 use Rattle.insert_cli.specs.declared.command.Command.{Command}
 use Rattle.insert_cli.specs.Commands.{IsCommandOf}
 use Rattle.insert_cli.specs.Seen.{ShelfSeen, SinkSeen, shelf_seen, sink_seen}
-use Rattle.insert_cli.proofs.Simulated.{run_done, run_fault, run_gives}
+use Rattle.insert_cli.proofs.Simulated.{run_done, run_fault, run_gives, err_is, cuts_short}
 use Rattle.insert_cli.proofs.tool.run.Goals as goal
 
 pub returns-in-Sim-clause-done : goal.returns-in-Sim-clause-done
@@ -24,3 +27,10 @@ returns-in-Sim-clause-gave g c =
     let form = subst (λ (k : Command). IsCommandOf c.args.words.now (Some k)) c.in-Sim.is c.in-Some.ensures in
     let shelf : ShelfSeen = shelf_seen g.S.Shelf.tells g.S.Shelf.held g.S.Shelf.written g.S.Shelf.faults c.args.shelf.now c.simulate.new.shelf in
     run_gives c.simulate.result c.args.words.now shelf (g.O.Sink.given c.args.out.now) (g.O.Sink.given c.simulate.new.out) c.in-Sim.netlist.now c.in-Sim.events.now form c.simulate.ensures.gave
+
+pub returns-in_err-convert-in-Convert-clause-cut_short : goal.returns-in_err-convert-in-Convert-clause-cut_short
+returns-in_err-convert-in-Convert-clause-cut_short g c =
+    let form = subst (λ (k : Command). IsCommandOf c.args.words.now (Some k)) c.in-Convert.is c.in-Some.ensures in
+    let shelf : ShelfSeen = shelf_seen g.S.Shelf.tells g.S.Shelf.held g.S.Shelf.written g.S.Shelf.faults c.args.shelf.now c.convert.new.shelf in
+    err_is c.from_residual.result c.in_err-convert-in-Convert.field-0.0 (λ f. status_of f ≡ status.WriteFault → CutsShort c.args.words.now shelf) c.from_residual.ensures.1
+    (λ failed. cuts_short c.args.words.now shelf c.in-Convert.conversion c.in-Convert.input.now c.in-Convert.output.now form (c.in_err-convert-in-Convert.ensures.cut_short failed))
