@@ -1,0 +1,96 @@
+-- The parts are added one after the other.
+use Rattle.std.proofs.Common.{◌≡◌, ℕ, ◌+◌, ◌*◌, ◌≤◌, List, [], ◌∷◌, ◌++◌, length, take, refl, sym, ◌∙◌, ap, subst, arith}
+use Rattle.cell_library.specs.declared.codes.Instr.{Instr}
+use Rattle.cell_library.specs.declared.codes.Instr.TheVariants.{Extest, Sample, Preload, Idcode, Highz, Clamp}
+use Rattle.netlist_model.specs.declared.NetId.{NetId}
+use Rattle.netlist_model.specs.declared.Feed.{Feed}
+use Rattle.netlist_model.specs.Below.{AreFeedsBelow}
+use Rattle.netlist_model.specs.Contained.{IsDense}
+use Rattle.netlist_model.specs.Lists.{CellView, cell_count}
+use Rattle.netlist_arena.specs.Arena.{ArenaView}
+use Rattle.gate_parts.specs.Appended.{Appended}
+use Rattle.gate_parts.specs.Laws.{AppendedNone}
+use Rattle.test_logic.specs.declared.Codes.{Codes}
+use Rattle.test_logic.specs.declared.TapNets.{TapNets}
+use Rattle.register_gates.specs.Constants.{constant_bits, ConstantsAreBits}
+use Rattle.register_gates.specs.Steps.{AddedInTurn}
+use Rattle.instruction_gates.specs.declared.selections.Matched.{Matched}
+use Rattle.instruction_gates.specs.Selections.{selections_cells}
+use Rattle.instruction_gates.specs.Stages.{stages_cells}
+use Rattle.instruction_register.specs.Register.{pattern_bits, stages_size, latches_from, opcode_size, opcode_cells, matched_instructions, opcodes_size, opcodes_cells, opcodes_told, instruction_size, instruction_cells}
+use Rattle.instruction_register.proofs.Sizes.{stages_length, opcode_length, opcodes_length}
+
+-- the first bits of a number's constants
+pub first_bits : ConstantsAreBits → (count value : ℕ) (written : List Feed) → written ≡ constant_bits 32 value → count ≤ 32 → take count written ≡ constant_bits count value
+first_bits constants count value written e below = ap (λ (bits : List Feed). take count bits) e ∙ (constants count value).fewer 32 below
+
+pub first_counted : ConstantsAreBits → (count value : ℕ) (written : List Feed) → written ≡ constant_bits 32 value → count ≤ 32 → length (take count written) ≡ count
+first_counted constants count value written e below = ap (λ (bits : List Feed). length bits) (first_bits constants count value written e below) ∙ (constants count value).counted
+
+pub first_below : ConstantsAreBits → (count value : ℕ) (written : List Feed) → written ≡ constant_bits 32 value → count ≤ 32 → (nets : ℕ) → AreFeedsBelow nets (take count written)
+first_below constants count value written e below nets =
+    let P : List Feed → Type 0 = λ bits. AreFeedsBelow nets bits in
+    subst P (sym (first_bits constants count value written e below)) ((constants count value).below nets)
+
+-- the room that the stages leave
+pub stages_room : (old new : ArenaView) (tap : TapNets) (tdi : NetId) (captured presets : List Feed) (count : ℕ) → length captured ≡ count → length presets ≡ count
+    → Appended old new (1 + 3 * length captured + 3 * length presets) (stages_cells (length old.lists.nets) (cell_count old.lists) tap tdi captured presets)
+    → new.spare.cells + (1 + 6 * count) ≡ old.spare.cells
+stages_room old new tap tdi captured presets count e f added =
+    let room = added.cell_room in
+    let whole = stages_length (length old.lists.nets) (cell_count old.lists) tap tdi captured presets in
+    omega arith
+
+pub stages_counted : ConstantsAreBits → (first number : ℕ) (tap : TapNets) (tdi : NetId) (codes : Codes)
+    → length (stages_cells first number tap tdi (pattern_bits codes codes.capture) (pattern_bits codes codes.reset)) ≡ stages_size codes
+stages_counted constants first number tap tdi codes =
+    let a = (constants codes.length codes.capture.value).counted in
+    let b = (constants codes.length codes.reset.value).counted in
+    let whole = stages_length first number tap tdi (pattern_bits codes codes.capture) (pattern_bits codes codes.reset) in
+    omega arith
+
+-- one more opcode before those that follow
+pub opcode_before : AddedInTurn → ConstantsAreBits → (old middle new : ArenaView) (latches : ℕ) (codes : Codes) (i : Instr) (rest : List Instr)
+    → Appended old middle (opcode_size codes i) (opcode_cells (length old.lists.nets) (cell_count old.lists) latches codes i)
+    → Appended middle new (opcodes_size codes rest) (opcodes_cells (length middle.lists.nets) (cell_count middle.lists) latches codes rest)
+    → Appended old new (opcodes_size codes (i ∷ rest)) (opcodes_cells (length old.lists.nets) (cell_count old.lists) latches codes (i ∷ rest))
+opcode_before in_turn constants old middle new latches codes i rest a b =
+    in_turn old middle new (opcode_size codes i) (opcodes_size codes rest) (opcodes_size codes (i ∷ rest)) (opcode_cells (length old.lists.nets) (cell_count old.lists) latches codes i)
+    (λ at cell. opcodes_cells at cell latches codes rest) a (opcode_length constants (length old.lists.nets) (cell_count old.lists) latches codes i) b refl
+
+pub opcodes_added : AddedInTurn → ConstantsAreBits → AppendedNone → (old a b c d e new : ArenaView) (latches : ℕ) (codes : Codes) → IsDense new.lists
+    → Appended old a (opcode_size codes Extest) (opcode_cells (length old.lists.nets) (cell_count old.lists) latches codes Extest)
+    → Appended a b (opcode_size codes Sample) (opcode_cells (length a.lists.nets) (cell_count a.lists) latches codes Sample)
+    → Appended b c (opcode_size codes Preload) (opcode_cells (length b.lists.nets) (cell_count b.lists) latches codes Preload)
+    → Appended c d (opcode_size codes Idcode) (opcode_cells (length c.lists.nets) (cell_count c.lists) latches codes Idcode)
+    → Appended d e (opcode_size codes Highz) (opcode_cells (length d.lists.nets) (cell_count d.lists) latches codes Highz)
+    → Appended e new (opcode_size codes Clamp) (opcode_cells (length e.lists.nets) (cell_count e.lists) latches codes Clamp)
+    → Appended old new (opcodes_size codes matched_instructions) (opcodes_cells (length old.lists.nets) (cell_count old.lists) latches codes matched_instructions)
+opcodes_added in_turn constants none old a b c d e new latches codes dense extest sample preload idcode highz clamp =
+    let six = opcode_before in_turn constants e new new latches codes Clamp [] clamp (none new dense) in
+    let five = opcode_before in_turn constants d e new latches codes Highz (Clamp ∷ []) highz six in
+    let four = opcode_before in_turn constants c d new latches codes Idcode (Highz ∷ Clamp ∷ []) idcode five in
+    let three = opcode_before in_turn constants b c new latches codes Preload (Idcode ∷ Highz ∷ Clamp ∷ []) preload four in
+    let two = opcode_before in_turn constants a b new latches codes Sample (Preload ∷ Idcode ∷ Highz ∷ Clamp ∷ []) sample three in
+    opcode_before in_turn constants old a new latches codes Extest (Sample ∷ Preload ∷ Idcode ∷ Highz ∷ Clamp ∷ []) extest two
+
+pub instruction_added : AddedInTurn → ConstantsAreBits → (old a b new : ArenaView) (tap : TapNets) (tdi : NetId) (codes : Codes) (latches : NetId) (matched : Matched)
+    → latches.0 ≡ latches_from (length old.lists.nets) codes → matched ≡ opcodes_told (length a.lists.nets) codes
+    → Appended old a (stages_size codes) (stages_cells (length old.lists.nets) (cell_count old.lists) tap tdi (pattern_bits codes codes.capture) (pattern_bits codes codes.reset))
+    → Appended a b (opcodes_size codes matched_instructions) (opcodes_cells (length a.lists.nets) (cell_count a.lists) latches.0 codes matched_instructions)
+    → Appended b new 9 (selections_cells (length b.lists.nets) (cell_count b.lists) tap matched)
+    → Appended old new (instruction_size codes) (instruction_cells (length old.lists.nets) (cell_count old.lists) tap tdi codes)
+instruction_added in_turn constants old a b new tap tdi codes latches matched e f x y z =
+    let count : ℕ = opcodes_size codes matched_instructions in
+    let at_latches : ℕ = latches_from (length old.lists.nets) codes in
+    let P : ℕ → Type 0 = λ n. Appended a b count (opcodes_cells (length a.lists.nets) (cell_count a.lists) n codes matched_instructions) in
+    let Q : Matched → Type 0 = λ m. Appended b new 9 (selections_cells (length b.lists.nets) (cell_count b.lists) tap m) in
+    let rest : ℕ → ℕ → List CellView
+    = λ at cell. opcodes_cells at cell at_latches codes matched_instructions ++ selections_cells (at + count) (cell + count) tap (opcodes_told at codes) in
+    let behind : Appended a new (count + 9) (rest (length a.lists.nets) (cell_count a.lists))
+    = in_turn a b new count 9 (count + 9) (opcodes_cells (length a.lists.nets) (cell_count a.lists) at_latches codes matched_instructions)
+    (λ at cell. selections_cells at cell tap (opcodes_told (length a.lists.nets) codes)) (subst P e y)
+    (opcodes_length constants (length a.lists.nets) (cell_count a.lists) at_latches codes matched_instructions) (subst Q f z) refl in
+    in_turn old a new (stages_size codes) (count + 9) (instruction_size codes)
+    (stages_cells (length old.lists.nets) (cell_count old.lists) tap tdi (pattern_bits codes codes.capture) (pattern_bits codes codes.reset)) rest x
+    (stages_counted constants (length old.lists.nets) (cell_count old.lists) tap tdi codes) behind refl

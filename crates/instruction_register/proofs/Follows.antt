@@ -1,0 +1,153 @@
+-- The instruction register is that of the test logic, part by part.
+use Rattle.std.proofs.Common.{◌≡◌, ℕ, ◌+◌, ◌≤◌, List, [], ◌∷◌, ◌++◌, length, refl, sym, ap, ◌∙◌, subst, Some, None, arith}
+use Rattle.std.specs.Prelude.{Option}
+use Rattle.signal_values.specs.declared.Sig.{Sig}
+use Rattle.signal_values.specs.Values.{bit}
+use Rattle.cell_library.specs.declared.codes.Bits.{Bits}
+use Rattle.cell_library.specs.declared.codes.Instr.{Instr}
+use Rattle.cell_library.specs.declared.codes.Instr.TheVariants.{Extest, Sample, Preload, Idcode, Highz, Clamp}
+use Rattle.cell_library.specs.declared.codes.Opcode.{Opcode}
+use Rattle.netlist_model.specs.declared.NetId.{NetId}
+use Rattle.netlist_model.specs.declared.Feed.{Feed}
+use Rattle.netlist_model.specs.Lists.{CellView, NetlistView}
+use Rattle.netlist_model.specs.Settled.{feed_value, IsSettled}
+use Rattle.netlist_model.specs.Formed.{IsWellFormed}
+use Rattle.netlist_model.specs.Contained.{HasCells}
+use Rattle.netlist_model.specs.Runs.{Moment}
+use Rattle.netlist_laws.specs.Contained.{ContainedParts}
+use Rattle.netlist_laws.specs.Runs.{RunHasMoments}
+use Rattle.test_logic.specs.declared.Codes.{Codes}
+use Rattle.test_logic.specs.declared.TapNets.{TapNets}
+use Rattle.test_logic.specs.Instructions.{is_pattern, opcode_of, is_opcode, instruction_of, reset_opcode}
+use Rattle.test_logic.specs.Registers.{first_bit}
+use Rattle.register_gates.specs.Constants.{ConstantsAreBits}
+use Rattle.register_gates.specs.Steps.{StepsByRegister}
+use Rattle.instruction_gates.specs.Rows.{bits_in}
+use Rattle.instruction_gates.specs.Latches.{latch_values}
+use Rattle.instruction_gates.specs.Matches.{match_before, AreKnown, MatchesTell}
+use Rattle.instruction_gates.specs.Selections.{selections_cells, Selected, Tells, SelectionsTell}
+use Rattle.instruction_gates.specs.Stages.{stages_cells, Feeds, StagesFollow}
+use Rattle.instruction_register.specs.Register.{pattern_bits, latches_from, opcodes_from, selections_from, cells_with, told_with, opcode_size, opcode_cells, opcode_told, matched_instructions, opcodes_cells, opcodes_told, instruction_cells, instruction_nets, held_opcode}
+use Rattle.instruction_register.specs.Laws.{FitTheRegister, InstructionFollows}
+use Rattle.instruction_register.proofs.Patterns.{bits_in_pattern, pattern_valued, latched_as, last_of}
+use Rattle.instruction_register.proofs.Known.{known_bits, known_stages}
+
+-- the laws of what it is made of
+pub record PartLaws : Type 0 where
+  pub parts : ContainedParts
+  pub stages : StagesFollow
+  pub matches : MatchesTell
+  pub selections : SelectionsTell
+  pub constants : ConstantsAreBits
+  pub steps : StepsByRegister
+  pub moments : RunHasMoments
+
+-- what is told of an opcode, where the bits that are latched are known
+told_of : PartLaws → (codes : Codes) (first at cell : ℕ) (N : NetlistView) (m : Moment) → IsWellFormed N → IsSettled N m.pins m.state m.value
+    → AreKnown (held_opcode m.value first codes) → (found : Option Bits) → ((opcode : Bits) → found ≡ Some opcode → opcode.len ≡ codes.length)
+    → HasCells N (cells_with at cell (latches_from first codes) codes found)
+    → feed_value m.value (told_with at codes found) ≡ bit (is_opcode (held_opcode m.value first codes) found)
+told_of laws codes first at cell N m formed settled known None long has = refl
+told_of laws codes first at cell N m formed settled known (Some opcode) long has =
+    let wanted : List Feed = pattern_bits codes opcode in
+    let latches : ℕ = latches_from first codes in
+    let same : latch_values m.value latches wanted ≡ held_opcode m.value first codes = latched_as laws.constants m.value first codes opcode in
+    let e : feed_value m.value (match_before at (length wanted)) ≡ bit (is_pattern (latch_values m.value latches wanted) (bits_in wanted))
+    = laws.matches at cell latches wanted N m formed has settled (subst AreKnown (sym same) known) in
+    ap (λ (n : ℕ). feed_value m.value (match_before at n)) (sym (laws.constants codes.length opcode.value).counted) ∙ e
+    ∙ ap (λ (xs : List Sig). bit (is_pattern xs (bits_in wanted))) same
+    ∙ ap (λ (ys : List Sig). bit (is_pattern (held_opcode m.value first codes) ys)) (bits_in_pattern codes opcode (long opcode refl))
+
+told_one : PartLaws → (codes : Codes) → FitTheRegister codes → (first at cell : ℕ) (N : NetlistView) (m : Moment) → IsWellFormed N → IsSettled N m.pins m.state m.value
+    → AreKnown (held_opcode m.value first codes) → (i : Instr) → HasCells N (opcode_cells at cell (latches_from first codes) codes i)
+    → feed_value m.value (opcode_told at codes i) ≡ bit (is_opcode (held_opcode m.value first codes) (opcode_of codes.opcodes i))
+told_one laws codes fit first at cell N m formed settled known i has =
+    told_of laws codes first at cell N m formed settled known (opcode_of codes.opcodes i) (λ opcode e. fit.each i opcode e) has
+
+-- the first of these opcodes, and the others
+split : ContainedParts → (N : NetlistView) (at cell latches : ℕ) (codes : Codes) (i : Instr) (rest : List Instr) → HasCells N (opcodes_cells at cell latches codes (i ∷ rest))
+    → HasCells N (opcode_cells at cell latches codes i) × HasCells N (opcodes_cells (at + opcode_size codes i) (cell + opcode_size codes i) latches codes rest)
+split parts N at cell latches codes i rest has =
+    (parts N (opcode_cells at cell latches codes i) (opcodes_cells (at + opcode_size codes i) (cell + opcode_size codes i) latches codes rest)).parts has
+
+all_told : PartLaws → (codes : Codes) → FitTheRegister codes → (first at cell : ℕ) (N : NetlistView) (m : Moment) → IsWellFormed N → IsSettled N m.pins m.state m.value
+    → AreKnown (held_opcode m.value first codes) → HasCells N (opcodes_cells at cell (latches_from first codes) codes matched_instructions)
+    → Tells (opcodes_told at codes) (λ i. is_opcode (held_opcode m.value first codes) (opcode_of codes.opcodes i)) m
+all_told laws codes fit first at cell N m formed settled known has =
+    let latches : ℕ = latches_from first codes in
+    let size : Instr → ℕ = λ i. opcode_size codes i in
+    let extest = split laws.parts N at cell latches codes Extest (Sample ∷ Preload ∷ Idcode ∷ Highz ∷ Clamp ∷ []) has in
+    let at1 : ℕ = at + size Extest in
+    let cell1 : ℕ = cell + size Extest in
+    let sample = split laws.parts N at1 cell1 latches codes Sample (Preload ∷ Idcode ∷ Highz ∷ Clamp ∷ []) extest.1 in
+    let at2 : ℕ = at1 + size Sample in
+    let cell2 : ℕ = cell1 + size Sample in
+    let preload = split laws.parts N at2 cell2 latches codes Preload (Idcode ∷ Highz ∷ Clamp ∷ []) sample.1 in
+    let at3 : ℕ = at2 + size Preload in
+    let cell3 : ℕ = cell2 + size Preload in
+    let idcode = split laws.parts N at3 cell3 latches codes Idcode (Highz ∷ Clamp ∷ []) preload.1 in
+    let at4 : ℕ = at3 + size Idcode in
+    let cell4 : ℕ = cell3 + size Idcode in
+    let highz = split laws.parts N at4 cell4 latches codes Highz (Clamp ∷ []) idcode.1 in
+    let at5 : ℕ = at4 + size Highz in
+    let cell5 : ℕ = cell4 + size Highz in
+    let clamp = split laws.parts N at5 cell5 latches codes Clamp [] highz.1 in
+    record {
+      extest = told_one laws codes fit first at cell N m formed settled known Extest extest.0;
+      sample = told_one laws codes fit first at1 cell1 N m formed settled known Sample sample.0;
+      preload = told_one laws codes fit first at2 cell2 N m formed settled known Preload preload.0;
+      idcode = told_one laws codes fit first at3 cell3 N m formed settled known Idcode idcode.0;
+      highz = told_one laws codes fit first at4 cell4 N m formed settled known Highz highz.0;
+      clamp = told_one laws codes fit first at5 cell5 N m formed settled known Clamp clamp.0;
+    }
+
+record Apart (N : NetlistView) (first number : ℕ) (tap : TapNets) (tdi : NetId) (codes : Codes) : Type 0 where
+  stages : HasCells N (stages_cells first number tap tdi (pattern_bits codes codes.capture) (pattern_bits codes codes.reset))
+  opcodes : HasCells N (opcodes_cells (opcodes_from first codes) (opcodes_from number codes) (latches_from first codes) codes matched_instructions)
+  selections : HasCells N (selections_cells (selections_from first codes) (selections_from number codes) tap (opcodes_told (opcodes_from first codes) codes))
+
+apart : ContainedParts → (N : NetlistView) (first number : ℕ) (tap : TapNets) (tdi : NetId) (codes : Codes) → HasCells N (instruction_cells first number tap tdi codes)
+    → Apart N first number tap tdi codes
+apart parts N first number tap tdi codes has =
+    let stages : List CellView = stages_cells first number tap tdi (pattern_bits codes codes.capture) (pattern_bits codes codes.reset) in
+    let opcodes : List CellView = opcodes_cells (opcodes_from first codes) (opcodes_from number codes) (latches_from first codes) codes matched_instructions in
+    let selections : List CellView = selections_cells (selections_from first codes) (selections_from number codes) tap (opcodes_told (opcodes_from first codes) codes) in
+    let one = (parts N stages (opcodes ++ selections)).parts has in
+    let two = (parts N opcodes selections).parts one.1 in
+    record { stages = one.0; opcodes = two.0; selections = two.1 }
+
+pub follow : PartLaws → InstructionFollows
+follow laws = λ first number tap tdi codes N given events moment formed has run L levels caught machine history are fit fed t below.
+    let cells = apart laws.parts N first number tap tdi codes has in
+    let captured : List Feed = pattern_bits codes codes.capture in
+    let presets : List Feed = pattern_bits codes codes.reset in
+    let many = (laws.constants codes.length codes.capture.value).counted in
+    let others = (laws.constants codes.length codes.reset.value).counted in
+    let as_many : length presets ≡ length captured = omega arith in
+    let some : 1 ≤ length captured = omega (arith, fit.some) in
+    let fed_stages : (u : ℕ) → u ≤ length events → Feeds tap tdi captured L (levels u) (machine u) (moment u) = λ u h. record {
+      carries = (fed u h).carries;
+      shows = (fed u h).shows;
+      data_in = (fed u h).data_in;
+      pattern = pattern_valued laws.constants (moment u).value codes codes.capture fit.capture ∙ sym are.capture;
+    } in
+    let opcode : reset_opcode L.opcodes ≡ bits_in presets = are.reset ∙ sym (bits_in_pattern codes codes.reset fit.reset) in
+    let held = laws.stages first number tap tdi captured presets N given events moment as_many formed cells.stages run L levels caught machine history opcode fed_stages t below in
+    let m : Moment = moment t in
+    let known = known_stages laws.steps L levels caught (length events) machine history (subst AreKnown (sym are.capture) (known_bits codes.capture.len codes.capture.value))
+    (subst AreKnown (sym are.reset) (known_bits codes.reset.len codes.reset.value)) t below in
+    let settled = (laws.moments N given events moment run t below).settled in
+    let latched : List Sig = held_opcode m.value first codes in
+    let tells = all_told laws codes fit first (opcodes_from first codes) (opcodes_from number codes) N m formed settled (subst AreKnown (sym held.1) known.1) cells.opcodes in
+    let nets = instruction_nets first tap tdi codes in
+    let selected : Selected nets (instruction_of codes.opcodes latched) (machine t).state m
+    = laws.selections (selections_from first codes) (selections_from number codes) tap (opcodes_told (opcodes_from first codes) codes) nets.last N m (machine t).state codes.opcodes latched
+    formed cells.selections settled tells fit.apart (fed t below).shows in
+    let P : List Sig → Type 0 = λ bits. Selected nets (instruction_of codes.opcodes bits) (machine t).state m in
+    let Q : List Opcode → Type 0 = λ opcodes. Selected nets (instruction_of opcodes (machine t).latched) (machine t).state m in
+    record {
+      shift = held.0;
+      latched = held.1;
+      last = last_of m.value (first + 1) tdi captured some ∙ ap first_bit held.0;
+      selected = subst Q (sym are.opcodes) (subst P held.1 selected);
+    }

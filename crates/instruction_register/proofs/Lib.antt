@@ -1,0 +1,7 @@
+pub mod Sizes
+pub mod Added
+pub mod OpcodeAdded
+pub mod Patterns
+pub mod Known
+pub mod Follows
+pub mod Rules
