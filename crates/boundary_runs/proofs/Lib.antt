@@ -1,0 +1,6 @@
+pub mod Lengths
+pub mod Bits
+pub mod Rows
+pub mod Runs
+pub mod Selections
+pub mod ChipRows

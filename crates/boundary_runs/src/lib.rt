@@ -1,0 +1,49 @@
+// Rows of the boundary register as gates, over whole runs: at every moment they carry what the test logic has in their places.
+// Laws only, of the cells of boundary_cells. specs/Rows.antt has what a row is handed and gives, specs/Laws.antt what it does.
+// IEEE Std 1149.1-2001: boundary-scan register, the annex on BSDL (the cells BC_1, BC_2, BC_4 and BC_7).
+#![tactic(auto)]
+
+ghost use Rattle.boundary_runs.specs.ChipRows.{ChipRows};
+ghost use Rattle.boundary_runs.specs.Laws.{RowsFollow};
+ghost use Rattle.boundary_runs.specs.Lengths.{BitsByPlace, LengthsStay};
+ghost use Rattle.boundary_runs.specs.Selections.{SelectedSteers};
+
+use boundary_cells::{
+    bidir_cells_follow, control_cells_follow, input_cells_follow, observe_cells_follow,
+    output_cells_follow, rows_step_as_bits,
+};
+use netlist_laws::moments_of_a_run;
+
+/// In every well-formed netlist that contains a row's cells, at every moment of every run, they carry the test logic's bits of that
+/// row, and give the core or the pin's driver the row's value.
+pub fn rows_follow()
+    ensures { RowsFollow }
+{
+    observe_cells_follow();
+    input_cells_follow();
+    output_cells_follow();
+    control_cells_follow();
+    bidir_cells_follow();
+    rows_step_as_bits();
+    moments_of_a_run();
+}
+
+/// The boundary register's lists stay as long as there are cells.
+pub fn lengths_stay()
+    ensures { LengthsStay }
+{}
+
+/// Nets that tell what the instruction in effect selects steer a row.
+pub fn selected_steers()
+    ensures { SelectedSteers }
+{}
+
+/// A bit by its place, as the wrapped chip looks it up.
+pub fn bits_by_place()
+    ensures { BitsByPlace }
+{}
+
+/// The rows of a wrapped chip, by their places in the test logic's lists.
+pub fn chip_rows()
+    ensures { ChipRows }
+{}
