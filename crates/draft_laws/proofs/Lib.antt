@@ -1,0 +1,7 @@
+mod Lists
+mod Growing
+mod Ports
+mod Ranks
+mod Parts
+mod Named
+mod Sources
