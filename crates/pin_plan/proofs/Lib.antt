@@ -1,0 +1,14 @@
+mod Lists
+mod Gates
+mod Kept
+mod Plain
+mod Controls
+mod BitPlaces
+mod Collected
+mod PortBits
+mod Zips
+mod Barred
+mod Whole
+mod PortLists
+mod TakenKeys
+mod ControlKeys

@@ -1,0 +1,72 @@
+-- Lists of tests and places.
+use Rattle.std.proofs.Common.{◌≡◌, ℕ, suc, ◌+◌, Bool, true, false, cond, not, ◌||◌, List, [], ◌∷◌, ◌++◌, length, map, position, Option, Some, None, refl, ap, sym, ◌∙◌, arith}
+use Rattle.std.specs.Prelude.{nat_lt, is_some}
+use Rattle.std.specs.List.{list_any, position_or_len, position_from}
+use Rattle.std.proofs.lemmas.Iterator.Adapters.{position_from-zero}
+use Rattle.list_laws.specs.Options.{or_else, first_in}
+
+pub list_any-map : {A B : Type 0} (test : B → Bool) (f : A → B) (xs : List A) → list_any test (map f xs) ≡ list_any (λ x. test (f x)) xs
+list_any-map test f [] = refl
+list_any-map test f (x ∷ xs) = ap (λ b. test (f x) || b) (list_any-map test f xs)
+
+place-map : {A B : Type 0} (test : B → Bool) (f : A → B) (xs : List A) → position_or_len test (map f xs) ≡ position_or_len (λ x. test (f x)) xs
+place-map test f [] = refl
+place-map test f (x ∷ xs) = ap (λ (n : ℕ). cond (not (test (f x))) (1 + n) 0) (place-map test f xs)
+
+length-map : {A B : Type 0} (f : A → B) (xs : List A) → length (map f xs) ≡ length xs
+length-map f [] = refl
+length-map f (x ∷ xs) = ap (λ (n : ℕ). suc n) (length-map f xs)
+
+pub position-map : {A B : Type 0} (test : B → Bool) (f : A → B) (xs : List A) → position test (map f xs) ≡ position (λ x. test (f x)) xs
+position-map test f xs =
+    ap (λ (n : ℕ). cond (nat_lt n (length (map f xs))) (Some n) None) (place-map test f xs)
+    ∙ ap (λ (m : ℕ). cond (nat_lt (position_or_len (λ x. test (f x)) xs) m) (Some (position_or_len (λ x. test (f x)) xs)) None) (length-map f xs)
+
+pub position-alike : {A : Type 0} (p q : A → Bool) → ((x : A) → p x ≡ q x) → (xs : List A) → position p xs ≡ position q xs
+position-alike {A} p q same xs = ap (λ (t : A → Bool). position t xs) (λ i x. same x i)
+
+pub first_in-alike : {X Y : Type 0} (p q : X → Option Y) → ((x : X) → p x ≡ q x) → (xs : List X) → first_in p xs ≡ first_in q xs
+first_in-alike {X} {Y} p q same xs = ap (λ (t : X → Option Y). first_in t xs) (λ i x. same x i)
+
+or_else-assoc : {X : Type 0} (a b c : Option X) → or_else a (or_else b c) ≡ or_else (or_else a b) c
+or_else-assoc None b c = refl
+or_else-assoc (Some x) b c = refl
+
+pub first_in-append : {X Y : Type 0} (test : X → Option Y) (xs ys : List X) → first_in test (xs ++ ys) ≡ or_else (first_in test xs) (first_in test ys)
+first_in-append test [] ys = refl
+first_in-append test (x ∷ xs) ys = ap (or_else (test x)) (first_in-append test xs ys) ∙ or_else-assoc (test x) (first_in test xs) (first_in test ys)
+
+-- Places in a list with one element more.
+
+from_last_no : {K : Type 0} (test : K → Bool) (i : ℕ) (xs : List K) (x : K) → test x ≡ false → position_from test i (xs ++ x ∷ []) ≡ position_from test i xs
+from_last_no test i [] x fails = rw fails refl
+from_last_no test i (y ∷ xs) x fails = ap (λ (o : Option ℕ). cond (test y) (Some i) o) (from_last_no test (i + 1) xs x fails)
+
+from_last_yes : {K : Type 0} (test : K → Bool) (i : ℕ) (xs : List K) (x : K) → test x ≡ true → position_from test i xs ≡ None → position_from test i (xs ++ x ∷ []) ≡ Some (i + length xs)
+from_last_yes test i [] x passes none = rw passes (ap (λ (n : ℕ). Some n) (omega arith))
+from_last_yes test i (y ∷ xs) x passes none = by (test y) refl (from_last_yes test (i + 1) xs x passes)
+  where
+    by : (b : Bool) → test y ≡ b → (position_from test (i + 1) xs ≡ None → position_from test (i + 1) (xs ++ x ∷ []) ≡ Some (i + 1 + length xs))
+        → cond (test y) (Some i) (position_from test (i + 1) (xs ++ x ∷ [])) ≡ Some (i + suc (length xs))
+    by true e rest = let no : Some i ≡ None = rw e at none in absurd (cc)
+    by false e rest = let more : position_from test (i + 1) xs ≡ None = rw e at none in rw e (rest more ∙ ap (λ (n : ℕ). Some n) (omega arith))
+
+pub position-last_no : {K : Type 0} (test : K → Bool) (xs : List K) (x : K) → test x ≡ false → position test (xs ++ x ∷ []) ≡ position test xs
+position-last_no test xs x fails = position_from-zero test (xs ++ x ∷ []) ∙ from_last_no test 0 xs x fails ∙ sym (position_from-zero test xs)
+
+pub position-last_yes : {K : Type 0} (test : K → Bool) (xs : List K) (x : K) → test x ≡ true → position test xs ≡ None → position test (xs ++ x ∷ []) ≡ Some (length xs)
+position-last_yes test xs x passes none =
+    let all : 0 + length xs ≡ length xs = omega arith in
+    position_from-zero test (xs ++ x ∷ []) ∙ from_last_yes test 0 xs x passes (sym (position_from-zero test xs) ∙ none) ∙ ap (λ (n : ℕ). Some n) all
+
+-- an element passes where some place does
+any_from : {K : Type 0} (test : K → Bool) (i : ℕ) (xs : List K) → list_any test xs ≡ is_some (position_from test i xs)
+any_from test i [] = refl
+any_from test i (x ∷ xs) = by (test x) (any_from test (i + 1) xs)
+  where
+    by : (b : Bool) → list_any test xs ≡ is_some (position_from test (i + 1) xs) → (b || list_any test xs) ≡ is_some (cond b (Some i) (position_from test (i + 1) xs))
+    by true more = refl
+    by false more = more
+
+pub list_any-position : {K : Type 0} (test : K → Bool) (xs : List K) → list_any test xs ≡ is_some (position test xs)
+list_any-position test xs = any_from test 0 xs ∙ ap (λ (o : Option ℕ). is_some o) (sym (position_from-zero test xs))
