@@ -1,0 +1,66 @@
+-- The bits of a plan that some text spells: opcodes, and what the instruction register captures.
+use Rattle.std.proofs.Common.{◌≡◌, ℕ, ◌+◌, ◌-◌, ◌*◌, ◌^◌, ◌≤◌, List, [], ◌∷◌, true, length, map, Option, Some, None, option_map, filter_map, sym, ap, ◌∙◌, subst, arith, leb-true}
+use Rattle.std.specs.Prelude.{◌==◌, ◌||◌, ◌&&◌, nat_le}
+use Rattle.std.specs.List.{list_all, cons_option, AllByRecursion}
+use Rattle.std.proofs.Math.Nat.{mul-le-mul_right, pow-succ', mul_assoc}
+use Rattle.std.proofs.lemmas.List.Elements.{recursion_from_All}
+use Rattle.list_laws.proofs.Tests.{and_left, and_right}
+use Rattle.cell_library.specs.declared.codes.Instr.{Instr}
+use Rattle.cell_library.specs.declared.codes.Opcode.{Opcode}
+use Rattle.bsdl_device.specs.declared.entries.OpcodeEntry.{OpcodeEntry}
+use Rattle.bsdl_device.specs.Runs.{is_pattern, value_after}
+use Rattle.bsdl_device.specs.IsDevice.{IsBits}
+use Rattle.plan_texts.specs.declared.plan.Plan.{Plan}
+use Rattle.plan_texts.specs.Forms.{bits_of}
+use Rattle.plan_texts.specs.Rules.{instruction_of}
+use Rattle.plan_texts.specs.Meaning.{typed, plan_of}
+use Rattle.plan_texts.specs.Grammar.{PlanSource, IsSource, OpcodeWords, IsOpcode, entry_of, written_of}
+use Rattle.plan_texts.specs.Canonical.{IsPlan}
+
+digit : (b : ℕ) → (b == 48 || b == 49) ≡ true → b - 48 ≤ 1
+digit b k = grind arith
+
+value_below : (n : ℕ) (ds : List ℕ) → list_all (λ b. b == 48 || b == 49) ds ≡ true → value_after 2 n ds + 1 ≤ (n + 1) * 2 ^ length ds
+value_below n [] h = omega arith
+value_below n (d ∷ ds) h =
+    let low = digit d (and_left (d == 48 || d == 49) (list_all (λ b. b == 48 || b == 49) ds) h) in
+    let more : value_after 2 (2 * n + (d - 48)) ds + 1 ≤ (2 * n + (d - 48) + 1) * 2 ^ length ds = value_below (2 * n + (d - 48)) ds (and_right (d == 48 || d == 49) (list_all (λ b. b == 48 || b == 49) ds) h) in
+    let least : 2 * n + (d - 48) + 1 ≤ (n + 1) * 2 = omega arith in
+    let wider : (2 * n + (d - 48) + 1) * 2 ^ length ds ≤ ((n + 1) * 2) * 2 ^ length ds = mul-le-mul_right (2 ^ length ds) least in
+    let power : (n + 1) * 2 ^ length (d ∷ ds) ≡ ((n + 1) * 2) * 2 ^ length ds = ap (λ (k : ℕ). (n + 1) * k) (pow-succ' 2 (length ds)) ∙ sym (mul_assoc (n + 1) 2 (2 ^ length ds)) in
+    omega arith
+
+pattern_bits : (word : List ℕ) → is_pattern word ≡ true → IsBits (bits_of word)
+pattern_bits word h =
+    let within = and_left (nat_le 1 (length word) && nat_le (length word) 32) (list_all (λ b. b == 48 || b == 49) word) h in
+    let below : value_after 2 0 word + 1 ≤ (0 + 1) * 2 ^ length word = value_below 0 word (and_right (nat_le 1 (length word) && nat_le (length word) 32) (list_all (λ b. b == 48 || b == 49) word) h) in
+    record {
+      some = leb-true 1 (length word) (and_left (nat_le 1 (length word)) (nat_le (length word) 32) within);
+      few = leb-true (length word) 32 (and_right (nat_le 1 (length word)) (nat_le (length word) 32) within);
+      value = omega arith;
+    }
+
+abbrev AreBits : List Opcode → Type 0
+AreBits opcodes = AllByRecursion (λ (o : Opcode). IsBits o.bits) opcodes
+
+opcode_bits : (o : OpcodeEntry) (found : Option Instr) (opcodes : List Opcode) → IsBits o.bits → AreBits opcodes
+    → AreBits (cons_option (option_map (λ (i : Instr). let one : Opcode = record { instr = i; bits = o.bits } in one) found) opcodes)
+opcode_bits o None opcodes is more = more
+opcode_bits o (Some i) opcodes is more = (is, more)
+
+opcodes_bits : (list : List OpcodeWords) → AllByRecursion IsOpcode list → AreBits (filter_map typed (map entry_of list))
+opcodes_bits [] all = tt
+opcodes_bits (o ∷ list) all = opcode_bits (entry_of o) (instruction_of o.name) (filter_map typed (map entry_of list)) (pattern_bits o.bits all.0.bits) (opcodes_bits list all.1)
+
+pub record HasBits (p : Plan) : Type 0 where
+  pub values : AllByRecursion (λ (o : Opcode). IsBits o.bits) p.opcodes
+  pub captured : IsBits p.capture
+
+source_has_bits : (s : PlanSource) → IsSource s → HasBits (plan_of (written_of s))
+source_has_bits s is = record {
+  values = opcodes_bits s.opcodes (recursion_from_All IsOpcode s.opcodes is.opcodes);
+  captured = pattern_bits s.capture is.capture;
+}
+
+pub plans_have_bits : (p : Plan) → IsPlan p → HasBits p
+plans_have_bits p (bytes, spells) = subst HasBits (sym spells.plan_is) (source_has_bits spells.source spells.forms)
