@@ -1,0 +1,25 @@
+// Laws of the netlist with the test logic built in (stitch_model): what it keeps of the core, and where its parts stand.
+// Each function has nothing to do; specs/Laws.antt has the statements.
+// IEEE Std 1149.1-2001: test logic architecture, boundary-scan register; the laws are own.
+#![tactic(auto)]
+
+ghost use Rattle.stitch_laws.specs.Laws.{StitchedHoldsParts, StitchedHoldsTheCore, StitchedKeeps};
+
+use netlist_laws::contained_parts;
+
+/// The ports are there, and each cell of the core under its number, with its kind and its name.
+pub fn stitched_keeps()
+    ensures { StitchedKeeps }
+{}
+
+/// The cells of each part are there: of the controller, the registers, each row of the boundary register, and TDO.
+pub fn stitched_holds_its_parts()
+    ensures { StitchedHoldsParts }
+{
+    contained_parts();
+}
+
+/// The core stands inside, by the nets on the core's side of its boundary cells.
+pub fn stitched_holds_the_core()
+    ensures { StitchedHoldsTheCore }
+{}
