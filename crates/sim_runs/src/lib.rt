@@ -11,4 +11,5 @@ mod readings;
 mod shown;
 
 pub use fault::PlayFault;
+pub use moments::begin;
 pub use playing::play;

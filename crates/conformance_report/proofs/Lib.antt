@@ -1,0 +1,2 @@
+mod Expected
+mod Played
