@@ -1,0 +1,9 @@
+pub mod Scans
+pub mod Cells
+pub mod Pins
+pub mod Program
+pub mod Met
+pub mod Views
+pub mod Fits
+pub mod Tables
+pub mod Runs
