@@ -21,6 +21,7 @@ pub fn judge(alloc: Global, linked: &Linked, script: &Script) -> Result<Verdict,
     requires { IsPlayable linked.now.arena.lists script.now.list }
     ensures { IfOk result (IsVerdict linked.now.arena.lists script.now.list) }
 {
+    // (what stands of a netlist that was linked)
     let _netlist = linked.netlist();
     let mut sim = begin(alloc, linked, script.list.as_slice())?;
     judge_lines(alloc, linked, &mut sim, script.list.as_slice())
