@@ -22,17 +22,17 @@ front_at [] ys k cell e = absurd (cc)
 front_at (x ∷ xs) ys zero cell e = e
 front_at (x ∷ xs) ys (suc k) cell e = front_at xs ys k cell e
 
-mapped_at : (to : CellView → CellView) (xs : List CellView) (k : ℕ) (cell : CellView) → slice_get xs k ≡ Some cell → slice_get (map to xs) k ≡ Some (to cell)
+pub mapped_at : (to : CellView → CellView) (xs : List CellView) (k : ℕ) (cell : CellView) → slice_get xs k ≡ Some cell → slice_get (map to xs) k ≡ Some (to cell)
 mapped_at to [] k cell e = absurd (cc)
 mapped_at to (x ∷ xs) zero cell e = let same : x ≡ cell = cc in rw same refl
 mapped_at to (x ∷ xs) (suc k) cell e = mapped_at to xs k cell e
 
 -- The live cells of a netlist without gaps.
 
-counts_live : (c : CellView) (places : List (Option CellView)) → count_by is_some (Some c ∷ places) ≡ suc (count_by is_some places)
+pub counts_live : (c : CellView) (places : List (Option CellView)) → count_by is_some (Some c ∷ places) ≡ suc (count_by is_some places)
 counts_live c places = let e = sum_by-cons (λ (x : Option CellView). if is_some x then 1 else 0) (Some c) places in omega arith
 
-counts_empty : (places : List (Option CellView)) → count_by is_some (None ∷ places) ≡ count_by is_some places
+pub counts_empty : (places : List (Option CellView)) → count_by is_some (None ∷ places) ≡ count_by is_some places
 counts_empty places = let e = sum_by-cons (λ (x : Option CellView). if is_some x then 1 else 0) None places in omega arith
 
 -- behind the last live cell there is none
@@ -46,7 +46,7 @@ none_or_some : (n : ℕ) → (n ≡ 0) ⊎ (0 < n)
 none_or_some zero = inl refl
 none_or_some (suc n) = inr (omega arith)
 
-live_at : (places : List (Option CellView)) → ((i : ℕ) → i < count_by is_some places → IsSome (live_cell (slice_get places i)))
+pub live_at : (places : List (Option CellView)) → ((i : ℕ) → i < count_by is_some places → IsSome (live_cell (slice_get places i)))
     → (i : ℕ) (cell : CellView) → live_cell (slice_get places i) ≡ Some cell → slice_get (filter_map same_place places) i ≡ Some cell
 live_at [] dense i cell e = absurd (cc)
 live_at (Some c ∷ places) dense zero cell e = e

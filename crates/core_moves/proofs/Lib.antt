@@ -1,0 +1,6 @@
+mod Drivers
+mod Cells
+mod Sides
+mod Behind
+mod Next
+mod Turns

@@ -1,0 +1,8 @@
+// Puts the core behind its boundary cells: its nets move to the core's side of them, and its three-state drivers take their
+// operands from them. The contract cites stitch_model's specs/Sides.antt for a cell of the core, and specs/Ready.antt for what is needed.
+// IEEE Std 1149.1-2001: boundary-scan register.
+#![tactic(auto)]
+
+mod standing;
+
+pub use standing::stand_behind;

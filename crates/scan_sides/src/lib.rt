@@ -1,0 +1,10 @@
+// Where boundary cells stand, and the nets between the core and them.
+// Contracts cite stitch_model's specs/Sites.antt and specs/Sides.antt.
+// IEEE Std 1149.1-2001: boundary-scan register; the numbers of nets are own.
+#![tactic(auto)]
+
+mod sides;
+
+pub use sides::{
+    core_feed, core_side, is_moved, level_net, row_net, side_count, sides_of, site_of,
+};

@@ -1,0 +1,4 @@
+mod Few
+mod Driven
+mod Rows
+mod Ready
