@@ -1,0 +1,12 @@
+pub mod Sums
+pub mod Split
+pub mod Rows
+pub mod Cells
+pub mod Sizes
+pub mod Counts
+pub mod Tables
+pub mod Registers
+pub mod Instructions
+pub mod Parts
+pub mod RowGates
+pub mod Directions

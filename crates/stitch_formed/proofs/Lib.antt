@@ -1,0 +1,13 @@
+pub mod Context
+pub mod Ranges
+pub mod Outputs
+pub mod Places
+pub mod OneDriver
+pub mod Driven
+pub mod Operands
+pub mod LogicReads
+pub mod Bits
+pub mod Laid
+pub mod Bufifs
+pub mod Readers
+pub mod Formed

@@ -1,0 +1,39 @@
+// The netlist with the test logic built in (stitch_model) is well formed, where a plan fits a netlist without gaps. Laws only;
+// specs/Laws.antt has the statements.
+// IEEE Std 1149.1-2001: test logic architecture; the laws are own.
+#![tactic(auto)]
+
+ghost use Rattle.stitch_formed.specs.Laws.{StitchedHasDrivers, StitchedIsLaidOut, StitchedIsFormed};
+
+use netlist_laws::bit_of_a_direction;
+use stitch_ranks::{stitched_has_cones, stitched_is_ordered};
+use stitch_rows::{nets_have_rows, rows_stand_once, rows_stand_somewhere};
+
+/// Its ports, drivers and readers are those of a well-formed netlist.
+pub fn stitched_has_drivers()
+    ensures { StitchedHasDrivers }
+{
+    bit_of_a_direction();
+    rows_stand_somewhere();
+    rows_stand_once();
+    nets_have_rows();
+}
+
+/// Each of its ports has its width, and each net that is named is there.
+pub fn stitched_is_laid_out()
+    ensures { StitchedIsLaidOut }
+{
+    bit_of_a_direction();
+    rows_stand_somewhere();
+    rows_stand_once();
+    nets_have_rows();
+}
+
+/// It is well formed.
+pub fn stitched_is_formed()
+    ensures { StitchedIsFormed }
+{
+    stitched_has_drivers();
+    stitched_is_ordered();
+    stitched_has_cones();
+}

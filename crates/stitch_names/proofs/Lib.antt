@@ -1,0 +1,8 @@
+mod Table
+mod TapNames
+mod Extended
+mod Same
+mod Added
+mod Places
+mod Views
+mod Prefix

@@ -1,0 +1,70 @@
+-- No original name of the netlist with the test logic built in begins with the prefix.
+use Rattle.std.proofs.Common.{◌≡◌, ℕ, ◌++◌, List, refl, sym, ap, ◌∙◌, inl, inr, Some}
+use Rattle.std.specs.Prelude.{slice_get, All}
+use Rattle.std.proofs.lemmas.Option.{same_Some}
+use Rattle.std.proofs.lemmas.List.Elements.{recursion_from_All}
+use Rattle.list_laws.proofs.Lists.{slice_get_there}
+use Rattle.netlist_model.specs.declared.Name.{Name}
+use Rattle.netlist_model.specs.declared.Name.TheVariants.{Original, Added}
+use Rattle.netlist_model.specs.Formed.{IsLaidOut}
+use Rattle.netlist_model.specs.Contained.{IsDense}
+use Rattle.netlist_link.specs.Linked.{LinkedView}
+use Rattle.netlist_link.specs.WellNamed.{IsWellNamed}
+use Rattle.netlist_unlink.specs.Prefixes.{IsUsed}
+use Rattle.draft_laws.specs.Sources.{PartIsNamed}
+use Rattle.plan_texts.specs.declared.plan.Plan.{Plan}
+use Rattle.plan_texts.specs.declared.plan.TapLine.{TapLine}
+use Rattle.plan_fitting.specs.declared.fitted.Fitted.{Fitted}
+use Rattle.plan_fitting.specs.Pins.{PinSeen}
+use Rattle.plan_fitting.specs.Fits.{tap_lines}
+use Rattle.plan_fitting.specs.Devices.{fitted_of}
+use Rattle.plan_devices.specs.Laws.{HasFreePrefix, PrefixesAreFree}
+use Rattle.plan_devices.proofs.Lists.{all_at}
+use Rattle.stitch_model.specs.declared.TapNames.{TapNames}
+use Rattle.stitch_model.specs.Stitched.{stitched}
+use Rattle.stitch_laws.specs.Laws.{StitchedHoldsTheCore}
+use Rattle.stitch_cells.specs.Directions.{StitchedDirections}
+use Rattle.stitch_names.specs.Prepared.{with_tap_names, AreTapNames}
+use Rattle.stitch_names.specs.Laws.{StitchedHasFreePrefix}
+use Rattle.stitch_names.proofs.Table.{all_kept}
+use Rattle.stitch_names.proofs.TapNames.{tap_bytes, tap_list, line_at, has_bytes, used_low}
+use Rattle.stitch_names.proofs.Extended.{used_either}
+use Rattle.stitch_names.proofs.Same.{used_same}
+use Rattle.stitch_names.proofs.Views.{stitched_extends}
+
+original_same : (a b : ℕ) → Original a ≡ Original b → a ≡ b
+original_same a b e = ap (λ (n : Name). elim n [ Original k ↦ k | Added k ↦ k ]) e
+
+-- no line of the test access port has these bytes
+tap_free : (p : Plan) (prefix rest bytes : List ℕ) (place : ℕ) (line : TapLine) → All (λ (l : TapLine). (more : List ℕ) → l.name ≡ prefix ++ more → ⊥) (tap_lines p)
+    → slice_get (tap_lines p) place ≡ Some line → line.name ≡ bytes → bytes ≡ prefix ++ rest → ⊥
+tap_free p prefix rest bytes place line free at named is =
+    all_at (λ (l : TapLine). (more : List ℕ) → l.name ≡ prefix ++ more → ⊥) (tap_lines p) place line
+    (recursion_from_All (λ (l : TapLine). (more : List ℕ) → l.name ≡ prefix ++ more → ⊥) (tap_lines p) free) at rest (named ∙ is)
+
+stitched_free : StitchedHoldsTheCore → PartIsNamed → StitchedDirections → (L : LinkedView) (p : Plan) (seen : List PinSeen) (names : TapNames) → IsWellNamed L.names L.arena.lists
+    → HasFreePrefix L p → IsLaidOut L.arena.lists → IsDense L.arena.lists → AreTapNames (with_tap_names (fitted_of L p seen) L.names) (fitted_of L p seen) names
+    → (number : ℕ) (rest : List ℕ) → IsUsed (stitched L.arena.lists names (fitted_of L p seen)) (Original number)
+    → slice_get (with_tap_names (fitted_of L p seen) L.names) number ≡ Some (p.prefix ++ rest) → ⊥
+stitched_free core law directions L p seen names well free laid dense are number rest used at =
+    let f : Fitted = fitted_of L p seen in
+    let table : List (List ℕ) = with_tap_names f L.names in
+    elim (used_either L.arena.lists (stitched L.arena.lists names f) (tap_list names) (stitched_extends core law directions L.arena.lists names f laid dense) (Original number) number used refl) [
+      | inl before ↦ (let old = slice_get_there L.names number (used_low L.names L.arena.lists (Original number) well before) in
+          let same : old.0 ≡ p.prefix ++ rest = same_Some old.0 (p.prefix ++ rest) (sym (all_kept (tap_bytes f) L.names number old.0 old.1) ∙ at) in
+          free.netlist.free number rest before (old.1 ∙ ap (λ (b : List ℕ). Some b) same))
+      | inr tap ↦ (let bytes = has_bytes table f names are tap.0 (Original number) tap.1 in
+          let same : bytes.bytes ≡ p.prefix ++ rest =
+          same_Some bytes.bytes (p.prefix ++ rest) (sym bytes.there ∙ ap (slice_get table) (sym (original_same number bytes.number bytes.is)) ∙ at) in
+          let line = line_at (tap_lines p) tap.0 bytes.bytes bytes.at in
+          tap_free p p.prefix rest bytes.bytes tap.0 line.0 free.taps line.1 line.2 same)
+    ]
+
+pub stitched_has_free_prefix : PrefixesAreFree → StitchedHoldsTheCore → PartIsNamed → StitchedDirections → StitchedHasFreePrefix
+stitched_has_free_prefix prefixes core law directions L after p seen names fits laid dense are table lists =
+    let free = prefixes L p seen fits in
+    record {
+      word = free.netlist.word;
+      free = λ number rest used at. stitched_free core law directions L p seen names fits.named free laid dense are number rest
+          (used_same after.arena.lists (stitched L.arena.lists names (fitted_of L p seen)) lists (Original number) used) (ap (λ (names : List (List ℕ)). slice_get names number) (sym table) ∙ at);
+    }

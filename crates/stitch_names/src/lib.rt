@@ -1,0 +1,42 @@
+// The names of the netlist with the test logic built in: how many names and how much room they take, and laws on them. Each
+// function has nothing to do, and its contract cites a statement in specs/Laws.antt.
+// IEEE Std 1149.1-2001: test access port; IEEE Std 1364-2001: hierarchical names.
+#![tactic(auto)]
+
+ghost use Rattle.stitch_names.specs.Laws.{StitchedHasFreePrefix, StitchedIsNamed, TapNamesAreEntered};
+ghost use Rattle.stitch_names.specs.Same.{SameIsNamed};
+
+use draft_laws::part_is_named;
+use plan_devices::{prefixes_are_free, tap_names_are_new};
+use stitch_cells::stitched_directions;
+use stitch_laws::stitched_holds_the_core;
+
+/// Names keep their numbers where those of the test access port are entered, and none stands twice.
+pub fn tap_names_are_entered()
+    ensures { TapNamesAreEntered }
+{}
+
+/// The netlist with the test logic built in is well named.
+pub fn stitched_is_named()
+    ensures { StitchedIsNamed }
+{
+    tap_names_are_new();
+    stitched_holds_the_core();
+    part_is_named();
+    stitched_directions();
+}
+
+/// A netlist with the same ports, nets and live cells is well named too.
+pub fn same_is_named()
+    ensures { SameIsNamed }
+{}
+
+/// None of its original names begins with the prefix of what was added.
+pub fn stitched_has_free_prefix()
+    ensures { StitchedHasFreePrefix }
+{
+    prefixes_are_free();
+    stitched_holds_the_core();
+    part_is_named();
+    stitched_directions();
+}

@@ -1,0 +1,75 @@
+// What numbers the nets of the netlist with the test logic built in (stitch_model), and what clocks, clears and presets there.
+// Each function has nothing to do; specs/Laws.antt has the statements.
+// IEEE Std 1149.1-2001: test logic architecture, boundary-scan register; the laws are own.
+#![tactic(auto)]
+
+ghost use Rattle.stitch_ranks.specs.Laws.{StitchedIsOrdered, StitchedHasCones, StitchedHasControls, StitchedHasPins};
+
+use netlist_laws::{bit_of_a_direction, direction_of_a_bit, driver_is_found, found_driver_drives};
+use part_levels::{
+    bypass_stands_above, ident_stands_above, matches_stand_above, parts_stand_above,
+    rows_stand_above, selections_stand_above, stages_stand_above, stands_by_place,
+    tap_stands_above, tdo_stands_above,
+};
+use plan_devices::{plans_suit_netlists, rows_stand_at_bits, rows_take_the_core};
+use plan_fitting::control_cells_are_there;
+use stitch_cells::stitched_directions;
+use stitch_laws::stitched_holds_the_core;
+
+/// The nets can be numbered so that what a gate reads has smaller numbers than what it drives.
+pub fn stitched_is_ordered()
+    ensures { StitchedIsOrdered }
+{
+    direction_of_a_bit();
+    driver_is_found();
+    found_driver_drives();
+    control_cells_are_there();
+    tap_stands_above();
+    stages_stand_above();
+    matches_stand_above();
+    selections_stand_above();
+    bypass_stands_above();
+    ident_stands_above();
+    parts_stand_above();
+    rows_stand_above();
+    tdo_stands_above();
+    stands_by_place();
+}
+
+/// Nothing but input bits and gates clocks, clears or presets.
+pub fn stitched_has_cones()
+    ensures { StitchedHasCones }
+{
+    direction_of_a_bit();
+    driver_is_found();
+    found_driver_drives();
+    control_cells_are_there();
+    rows_take_the_core();
+    plans_suit_netlists();
+    rows_stand_at_bits();
+    stitched_holds_the_core();
+    stitched_directions();
+}
+
+/// The input bits that do are the core's, and TCK and TRST.
+pub fn stitched_has_controls()
+    ensures { StitchedHasControls }
+{
+    bit_of_a_direction();
+    direction_of_a_bit();
+    driver_is_found();
+    found_driver_drives();
+    control_cells_are_there();
+    rows_take_the_core();
+    plans_suit_netlists();
+    rows_stand_at_bits();
+    stitched_holds_the_core();
+    stitched_directions();
+}
+
+/// The pins of the core and the inputs of the test access port are there, each on one net and no two on the same.
+pub fn stitched_has_pins()
+    ensures { StitchedHasPins }
+{
+    bit_of_a_direction();
+}
