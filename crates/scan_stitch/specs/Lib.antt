@@ -1,3 +1,4 @@
 pub mod Ready
-pub mod Prepared
 pub mod Laws
+pub mod Stitching
+pub mod Stitch

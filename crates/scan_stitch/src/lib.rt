@@ -7,8 +7,11 @@ mod device;
 mod laws;
 mod names;
 mod preparing;
-mod sides;
+mod stitching;
+mod whole;
 
 pub use device::device_of_fit;
-pub use laws::fitted_bits_are_there;
+pub use laws::{fitted_bits_are_there, fitted_can_be_stitched};
 pub use preparing::{prepare, room};
+pub use stitching::stitch_netlist;
+pub use whole::stitch;

@@ -2,7 +2,7 @@
 
 ghost use Rattle.std.specs.Prelude.{◌≡◌, Some};
 ghost use Rattle.link_model.specs.Denoted.{name_bytes};
-ghost use Rattle.scan_stitch.specs.Prepared.{AreTapNames, HasEntered, IsEntered};
+ghost use Rattle.stitch_names.specs.Prepared.{AreTapNames, HasEntered, IsEntered};
 
 use edge_io::Text;
 use netlist_link::Linked;

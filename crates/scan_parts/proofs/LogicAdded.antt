@@ -1,0 +1,293 @@
+-- The controller and the registers are added one behind the other.
+use Rattle.std.proofs.Common.{◌≡◌, ℕ, ◌+◌, ◌*◌, ◌<◌, ◌≤◌, List, [], ◌∷◌, ◌++◌, length, length-append, refl, sym, ◌∙◌, ap, subst, arith, Option, Some, None}
+use Rattle.std.specs.Option.{option_map, option_map_or}
+use Rattle.netlist_model.specs.declared.NetId.{NetId}
+use Rattle.netlist_model.specs.declared.Feed.{Feed}
+use Rattle.netlist_model.specs.Contained.{IsDense}
+use Rattle.netlist_model.specs.Lists.{CellView, cell_count}
+use Rattle.netlist_arena.specs.Arena.{ArenaView}
+use Rattle.netlist_arena.specs.Adds.{IsFree}
+use Rattle.gate_parts.specs.Appended.{Appended}
+use Rattle.gate_parts.specs.Laws.{AppendedNone, AppendedCount, AppendedMore, FreeStays}
+use Rattle.test_logic.specs.declared.Codes.{Codes}
+use Rattle.test_logic.specs.declared.TapNets.{TapNets}
+use Rattle.test_logic.specs.declared.InstrNets.{InstrNets}
+use Rattle.tap_gates.specs.Controller.{tap_cells, tap_nets}
+use Rattle.register_bits.specs.declared.Steering.{Steering}
+use Rattle.register_bits.specs.Bits.{AreNetsBelow, shift_bit_cells}
+use Rattle.register_bits.specs.Chains.{chain_last, chain_cells}
+use Rattle.register_gates.specs.Constants.{ConstantsAreBits, constant_bits}
+use Rattle.register_gates.specs.Registers.{selected_cells, selected_steering, bypass_cells, ident_cells, ident_last}
+use Rattle.register_gates.specs.Tdo.{AreIdentBelow}
+use Rattle.boundary_cells.specs.Cells.{AreScanNetsBelow}
+use Rattle.instruction_register.specs.Register.{pattern_bits, selections_from, instruction_size, instruction_cells, instruction_nets}
+use Rattle.plan_fitting.specs.declared.fitted.Fitted.{Fitted}
+use Rattle.stitch_model.specs.declared.TapPort.{TapPort}
+use Rattle.stitch_model.specs.declared.Logic.{Logic}
+use Rattle.stitch_model.specs.Rows.{behind}
+use Rattle.stitch_model.specs.Logic.{instruction_from, bypass_from, ident_from, ident_size, logic_size, tap_at, instruction_at, bypass_at, ident_at, logic_at, controller_part, instruction_part, bypass_part, ident_part, logic_cells}
+use Rattle.scan_parts.specs.Logic.{IsPortBelow, IsLogicBelow}
+use Rattle.scan_parts.proofs.Outputs.{DrivesFrom, drives_none, drives_both, drives_later, controller_drives, instruction_drives, bypass_drives, ident_drives, free_before}
+use Rattle.scan_parts.proofs.Sizes.{instruction_length}
+
+-- What one part hands to the next is there.
+
+pub record TapBelow (n : ℕ) (tap : TapNets) : Type 0 where
+  pub clock : AreNetsBelow n tap.tck tap.trst
+  pub ir : AreNetsBelow n tap.capture_ir tap.shift_ir
+  pub loads : AreNetsBelow n tap.update_ir tap.in_reset
+  pub dr : AreNetsBelow n tap.capture_dr tap.shift_dr
+  pub shifts : AreNetsBelow n tap.shift_dr tap.shift_ir
+  pub update : tap.update_dr.0 < n
+
+nets_below : (first n : ℕ) (tck trst : NetId) → tck.0 < first → trst.0 < first → first + 44 ≤ n → TapBelow n (tap_nets first tck trst)
+nets_below first n tck trst a b more = record {
+  clock = (omega arith, omega arith);
+  ir = (omega arith, omega arith);
+  loads = (omega arith, omega arith);
+  dr = (omega arith, omega arith);
+  shifts = (omega arith, omega arith);
+  update = omega arith;
+}
+
+pub tap_below : (first n : ℕ) (port : TapPort) (tap : TapNets) → IsPortBelow first port → tap ≡ tap_nets first port.tck port.trst → first + 44 ≤ n → TapBelow n tap
+tap_below first n port tap below is more =
+    let P : TapNets → Type 0 = λ t. TapBelow n t in
+    subst P (sym is) (nets_below first n port.tck port.trst below.tck below.trst more)
+
+pub record InstructionBelow (n : ℕ) (instruction : InstrNets) : Type 0 where
+  pub bypass_on : instruction.bypass_on.0 < n
+  pub ident_on : instruction.ident_on.0 < n
+  pub last : instruction.last.0 < n
+  pub scan : AreScanNetsBelow n instruction.scan
+
+last_below : (first n : ℕ) (tdi : NetId) (captured : List Feed) → tdi.0 < n → first + 3 * length captured ≤ n → (chain_last first tdi captured).0 < n
+last_below first n tdi [] low more = low
+last_below first n tdi (c ∷ rest) low more = omega arith
+
+handed_below : ConstantsAreBits → (first n : ℕ) (tap : TapNets) (tdi : NetId) (codes : Codes) → TapBelow first tap → tdi.0 < first → first + instruction_size codes ≤ n
+    → InstructionBelow n (instruction_nets first tap tdi codes)
+handed_below constants first n tap tdi codes below low more =
+    let a = below.clock.0 in
+    let b = below.clock.1 in
+    let counted = (constants codes.length codes.capture.value).counted in
+    record {
+      bypass_on = omega arith;
+      ident_on = omega arith;
+      last = last_below (first + 1) n tdi (pattern_bits codes codes.capture) (omega arith) (omega arith);
+      scan = ((omega arith, omega arith), (omega arith, omega arith), (omega arith, omega arith), (omega arith, omega arith), omega arith);
+    }
+
+pub instruction_below : ConstantsAreBits → (first n : ℕ) (tap : TapNets) (tdi : NetId) (codes : Codes) (instruction : InstrNets) → TapBelow first tap → tdi.0 < first
+    → instruction ≡ instruction_nets first tap tdi codes → first + instruction_size codes ≤ n → InstructionBelow n instruction
+instruction_below constants first n tap tdi codes instruction below low is more =
+    let P : InstrNets → Type 0 = λ i. InstructionBelow n i in
+    subst P (sym is) (handed_below constants first n tap tdi codes below low more)
+
+scan_more : (n m : ℕ) (instruction : InstrNets) → n ≤ m → InstructionBelow n instruction → InstructionBelow m instruction
+scan_more n m instruction more below =
+    let a = below.scan.0.0 in
+    let b = below.scan.0.1 in
+    let c = below.scan.1.0 in
+    let d = below.scan.1.1 in
+    let e = below.scan.2.0 in
+    let f = below.scan.2.1 in
+    let g = below.scan.3.0 in
+    let h = below.scan.3.1 in
+    let i = below.scan.4 in
+    let j = below.bypass_on in
+    let k = below.ident_on in
+    let l = below.last in
+    record {
+      bypass_on = omega arith;
+      ident_on = omega arith;
+      last = omega arith;
+      scan = ((omega arith, omega arith), (omega arith, omega arith), (omega arith, omega arith), (omega arith, omega arith), omega arith);
+    }
+
+pub ident_below : ConstantsAreBits → (first n : ℕ) (tdi : NetId) (code : ℕ) (last : NetId) → tdi.0 < n → last ≡ ident_last first tdi code → first + 98 ≤ n → last.0 < n
+ident_below constants first n tdi code last low is more =
+    let counted = (constants 32 code).counted in
+    let there = last_below (first + 2) n tdi (constant_bits 32 code) low (omega arith) in
+    let same : last.0 ≡ (chain_last (first + 2) tdi (constant_bits 32 code)).0 = ap (λ (net : NetId). net.0) is in
+    omega arith
+
+-- The room that is left.
+
+pub tap_room : (old new : ArenaView) (tck tms trst : NetId) → Appended old new 44 (tap_cells (length old.lists.nets) (cell_count old.lists) tck tms trst) → new.spare.cells + 44 ≡ old.spare.cells
+tap_room old new tck tms trst added =
+    let long : length (tap_cells (length old.lists.nets) (cell_count old.lists) tck tms trst) ≡ 44 = refl in
+    let room = added.cell_room in
+    omega arith
+
+pub instruction_room : ConstantsAreBits → (old new : ArenaView) (tap : TapNets) (tdi : NetId) (codes : Codes)
+    → Appended old new (instruction_size codes) (instruction_cells (length old.lists.nets) (cell_count old.lists) tap tdi codes) → new.spare.cells + instruction_size codes ≡ old.spare.cells
+instruction_room constants old new tap tdi codes added =
+    let long = instruction_length constants (length old.lists.nets) (cell_count old.lists) tap tdi codes in
+    let room = added.cell_room in
+    ap (λ (n : ℕ). new.spare.cells + n) (sym long) ∙ room
+
+pub bypass_room : (old new : ArenaView) (tap : TapNets) (on tdi : NetId) → Appended old new 5 (bypass_cells (length old.lists.nets) (cell_count old.lists) tap on tdi)
+    → new.spare.cells + 5 ≡ old.spare.cells
+bypass_room old new tap on tdi added =
+    let long : length (bypass_cells (length old.lists.nets) (cell_count old.lists) tap on tdi) ≡ 5 = refl in
+    let room = added.cell_room in
+    omega arith
+
+chain_length : (first number : ℕ) (by : Steering) (tdi : NetId) (captured : List Feed) → length (chain_cells first number by tdi captured) ≡ 3 * length captured
+chain_length first number by tdi [] = refl
+chain_length first number by tdi (c ∷ rest) =
+    let xs = chain_cells first number by tdi rest in
+    let ys = shift_bit_cells (first + 3 * length rest) (number + 3 * length rest) by c (chain_last first tdi rest) in
+    let three : length ys ≡ 3 = refl in
+    let both = length-append xs ys in
+    let before = chain_length first number by tdi rest in
+    omega arith
+
+pub ident_room : ConstantsAreBits → (old new : ArenaView) (tap : TapNets) (on tdi : NetId) (code : ℕ)
+    → Appended old new 98 (ident_cells (length old.lists.nets) (cell_count old.lists) tap on tdi code) → old.spare.cells ≤ new.spare.cells + 98
+ident_room constants old new tap on tdi code added =
+    let first : ℕ = length old.lists.nets in
+    let number : ℕ = cell_count old.lists in
+    let xs : List CellView = selected_cells first number tap on in
+    let ys : List CellView = chain_cells (first + 2) (number + 2) (selected_steering first tap) tdi (constant_bits 32 code) in
+    let both = length-append xs ys in
+    let two : length xs ≡ 2 = refl in
+    let long = chain_length (first + 2) (number + 2) (selected_steering first tap) tdi (constant_bits 32 code) in
+    let counted = (constants 32 code).counted in
+    let room = added.cell_room in
+    omega arith
+
+-- One part behind another.
+
+pub behind_added : AppendedMore → (old middle new : ArenaView) (count more : ℕ) (part : List CellView) (rest : ℕ → List CellView) → Appended old middle count part
+    → Appended middle new more (rest (cell_count middle.lists)) → Appended old new (count + more) (behind (cell_count old.lists) part rest)
+behind_added join old middle new count more part rest first then =
+    let P : ℕ → Type 0 = λ n. Appended middle new more (rest n) in
+    join old middle new count more part (rest (cell_count old.lists + length part)) first (subst P first.counted then)
+
+-- so many nets are added where they are as many
+pub counted_as : (old new : ArenaView) (count count' : ℕ) (part : List CellView) → count ≡ count' → Appended old new count part → Appended old new count' part
+counted_as old new count count' part e h = let P : ℕ → Type 0 = λ n. Appended old new n part in subst P e h
+
+handed_is : AppendedCount → (old a : ArenaView) (port : TapPort) (f : Fitted) (tap : TapNets) (instruction : InstrNets) (part : List CellView)
+    → tap ≡ tap_nets (length old.lists.nets) port.tck port.trst → instruction ≡ instruction_nets (length a.lists.nets) tap port.tdi f.codes → Appended old a 44 part
+    → instruction ≡ instruction_at (length old.lists.nets) port f
+handed_is count old a port f tap instruction part tap_is instruction_is one =
+    let first : ℕ = length old.lists.nets in
+    let la : length a.lists.nets ≡ first + instruction_from = count old a 44 part one in
+    instruction_is ∙ ap (λ (t : TapNets). instruction_nets (length a.lists.nets) t port.tdi f.codes) tap_is
+    ∙ ap (λ (n : ℕ). instruction_nets n (tap_at first port) port.tdi f.codes) la
+
+numbered : ℕ → NetId
+numbered n = record { 0 = n }
+
+pub logic_is : AppendedCount → (old a b c : ArenaView) (port : TapPort) (f : Fitted) (tap : TapNets) (instruction : InstrNets) (bypass : NetId) (ident : Option NetId) (one two three : List CellView)
+    → tap ≡ tap_nets (length old.lists.nets) port.tck port.trst → instruction ≡ instruction_nets (length a.lists.nets) tap port.tdi f.codes
+    → bypass.0 ≡ length b.lists.nets + 2 → ident ≡ option_map (ident_last (length c.lists.nets) port.tdi) f.idcode
+    → Appended old a 44 one → Appended a b (instruction_size f.codes) two → Appended b c 5 three
+    → record { tap = tap; instruction = instruction; bypass = bypass; ident = ident } ≡ logic_at (length old.lists.nets) port f
+unfolding numbered
+logic_is count old a b c port f tap instruction bypass ident one two three tap_is instruction_is bypass_is ident_is x y z =
+    let first : ℕ = length old.lists.nets in
+    let la0 = count old a 44 one x in
+    let lb0 = count a b (instruction_size f.codes) two y in
+    let lc0 = count b c 5 three z in
+    let lc : length c.lists.nets ≡ first + ident_from f = omega arith in
+    let at : bypass.0 ≡ first + bypass_from f + 2 = omega arith in
+    let handed = handed_is count old a port f tap instruction one tap_is instruction_is x in
+    let bit : bypass ≡ bypass_at first f = ap numbered at in
+    let last : ident ≡ ident_at first port f = ident_is ∙ ap (λ (n : ℕ). option_map (ident_last n port.tdi) f.idcode) lc in
+    let P : TapNets → InstrNets → NetId → Option NetId → Logic = λ t i n d. record { tap = t; instruction = i; bypass = n; ident = d } in
+    ap (λ (t : TapNets). P t instruction bypass ident) tap_is ∙ ap (λ (i : InstrNets). P (tap_at first port) i bypass ident) handed
+    ∙ ap (λ (n : NetId). P (tap_at first port) (instruction_at first port f) n ident) bit
+    ∙ ap (λ (d : Option NetId). P (tap_at first port) (instruction_at first port f) (bypass_at first f) d) last
+
+pub logic_added : AppendedCount → AppendedMore → (old a b c new : ArenaView) (port : TapPort) (f : Fitted) (tap : TapNets) (instruction : InstrNets)
+    → tap ≡ tap_nets (length old.lists.nets) port.tck port.trst → instruction ≡ instruction_nets (length a.lists.nets) tap port.tdi f.codes
+    → Appended old a 44 (tap_cells (length old.lists.nets) (cell_count old.lists) port.tck port.tms port.trst)
+    → Appended a b (instruction_size f.codes) (instruction_cells (length a.lists.nets) (cell_count a.lists) tap port.tdi f.codes)
+    → Appended b c 5 (bypass_cells (length b.lists.nets) (cell_count b.lists) tap instruction.bypass_on port.tdi)
+    → Appended c new (ident_size f.idcode) (option_map_or (ident_cells (length c.lists.nets) (cell_count c.lists) tap instruction.ident_on port.tdi) f.idcode [])
+    → Appended old new (logic_size f) (logic_cells (length old.lists.nets) (cell_count old.lists) port f)
+logic_added count join old a b c new port f tap instruction tap_is instruction_is one two three four =
+    let first : ℕ = length old.lists.nets in
+    let size : ℕ = instruction_size f.codes in
+    let la : length a.lists.nets ≡ first + instruction_from = count old a 44 _ one in
+    let lb0 = count a b size _ two in
+    let lc0 = count b c 5 _ three in
+    let lb : length b.lists.nets ≡ first + bypass_from f = omega arith in
+    let lc : length c.lists.nets ≡ first + ident_from f = omega arith in
+    let handed : instruction ≡ instruction_at first port f = handed_is count old a port f tap instruction _ tap_is instruction_is one in
+    let P2 : TapNets → ℕ → Type 0 = λ t n. Appended a b size (instruction_cells n (cell_count a.lists) t port.tdi f.codes) in
+    let two' : Appended a b size (instruction_part first port f (cell_count a.lists))
+    = subst (λ (n : ℕ). P2 (tap_at first port) n) la (subst (λ (t : TapNets). P2 t (length a.lists.nets)) tap_is two) in
+    let P3 : TapNets → InstrNets → ℕ → Type 0 = λ t i n. Appended b c 5 (bypass_cells n (cell_count b.lists) t i.bypass_on port.tdi) in
+    let three' : Appended b c 5 (bypass_part first port f (cell_count b.lists))
+    = subst (λ (n : ℕ). P3 (tap_at first port) (instruction_at first port f) n) lb
+    (subst (λ (i : InstrNets). P3 (tap_at first port) i (length b.lists.nets)) handed (subst (λ (t : TapNets). P3 t instruction (length b.lists.nets)) tap_is three)) in
+    let P4 : TapNets → InstrNets → ℕ → Type 0
+    = λ t i n. Appended c new (ident_size f.idcode) (option_map_or (ident_cells n (cell_count c.lists) t i.ident_on port.tdi) f.idcode []) in
+    let four' : Appended c new (ident_size f.idcode) (ident_part first port f (cell_count c.lists))
+    = subst (λ (n : ℕ). P4 (tap_at first port) (instruction_at first port f) n) lc
+    (subst (λ (i : InstrNets). P4 (tap_at first port) i (length c.lists.nets)) handed (subst (λ (t : TapNets). P4 t instruction (length c.lists.nets)) tap_is four)) in
+    let to_b = behind_added join old a b 44 size (controller_part first port (cell_count old.lists)) (instruction_part first port f) one two' in
+    let to_c = behind_added join old b c (44 + size) 5 _ (bypass_part first port f) to_b three' in
+    behind_added join old c new (44 + size + 5) (ident_size f.idcode) _ (ident_part first port f) to_c four'
+
+-- Nets that were free stay so.
+
+code_drives : (first start number : ℕ) (tap : TapNets) (on tdi : NetId) (code : Option ℕ) → first ≤ start
+    → DrivesFrom first (option_map_or (ident_cells start number tap on tdi) code [])
+code_drives first start number tap on tdi None low = drives_none first
+code_drives first start number tap on tdi (Some code) low = ident_drives first start number tap on tdi code low
+
+behind_drives : (first number : ℕ) (part : List CellView) (rest : ℕ → List CellView) → DrivesFrom first part → ((n : ℕ) → DrivesFrom first (rest n))
+    → DrivesFrom first (behind number part rest)
+behind_drives first number part rest a b = drives_both first part (rest (number + length part)) a (b (number + length part))
+
+logic_drives : (first number : ℕ) (port : TapPort) (f : Fitted) → DrivesFrom first (logic_cells first number port f)
+logic_drives first number port f =
+    let one : List CellView = controller_part first port number in
+    let two : List CellView = behind number one (instruction_part first port f) in
+    let three : List CellView = behind number two (bypass_part first port f) in
+    behind_drives first number three (ident_part first port f)
+    (behind_drives first number two (bypass_part first port f)
+    (behind_drives first number one (instruction_part first port f) (controller_drives first first number port.tck port.tms port.trst (omega arith))
+    (λ n. instruction_drives first (first + instruction_from) n (tap_at first port) port.tdi f.codes (omega arith)))
+    (λ n. bypass_drives first (first + bypass_from f) n (tap_at first port) (instruction_at first port f).bypass_on port.tdi (omega arith)))
+    (λ n. code_drives first (first + ident_from f) n (tap_at first port) (instruction_at first port f).ident_on port.tdi f.idcode (omega arith))
+
+pub logic_leaves_free : FreeStays → (old new : ArenaView) (port : TapPort) (f : Fitted)
+    → Appended old new (logic_size f) (logic_cells (length old.lists.nets) (cell_count old.lists) port f)
+    → (net : ℕ) → net < length old.lists.nets → IsFree old.lists net → IsFree new.lists net
+logic_leaves_free stays old new port f added =
+    free_before stays old new (logic_size f) (length old.lists.nets) (logic_cells (length old.lists.nets) (cell_count old.lists) port f) added
+    (logic_drives (length old.lists.nets) (cell_count old.lists) port f)
+
+-- a device without a code gets no cells
+pub no_code : AppendedNone → (old : ArenaView) (tap : TapNets) (on tdi : NetId) (code : Option ℕ) → code ≡ None → IsDense old.lists
+    → Appended old old (ident_size code) (option_map_or (ident_cells (length old.lists.nets) (cell_count old.lists) tap on tdi) code [])
+no_code none old tap on tdi code is dense =
+    let P : Option ℕ → Type 0 = λ o. Appended old old (ident_size o) (option_map_or (ident_cells (length old.lists.nets) (cell_count old.lists) tap on tdi) o []) in
+    subst P (sym is) (none old dense)
+
+-- What is handed on.
+
+pub handed_on : (n m : ℕ) (tap : TapNets) (instruction : InstrNets) (bypass : NetId) (ident : Option NetId) → n ≤ m → TapBelow n tap → InstructionBelow n instruction
+    → bypass.0 < m → AreIdentBelow m ident → IsLogicBelow m (record { tap = tap; instruction = instruction; bypass = bypass; ident = ident })
+handed_on n m tap instruction bypass ident more t i low there =
+    let a = t.clock.0 in
+    let b = t.clock.1 in
+    let c = t.shifts.0 in
+    let d = t.shifts.1 in
+    let on = scan_more n m instruction more i in
+    record {
+      clock = (omega arith, omega arith);
+      shifts = (omega arith, omega arith);
+      scan = on.scan;
+      last = on.last;
+      selections = (on.bypass_on, on.ident_on);
+      bypass = low;
+      ident = there;
+    }

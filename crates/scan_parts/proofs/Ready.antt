@@ -1,0 +1,38 @@
+-- What a row reads stays there as nets are added, and what its cell gives a value.
+use Rattle.std.proofs.Common.{◌≡◌, ◌≢◌, ℕ, ◌+◌, ◌<◌, ◌≤◌, List, [], ◌∷◌, length, sym, subst, arith}
+use Rattle.netlist_model.specs.declared.Feed.{Feed}
+use Rattle.netlist_model.specs.declared.Feed.TheVariants.{Net, Const}
+use Rattle.netlist_model.specs.Below.{IsFeedBelow}
+use Rattle.netlist_model.specs.Lists.{NetlistView}
+use Rattle.netlist_arena.specs.Adds.{IsFree}
+use Rattle.plan_fitting.specs.declared.fitted.FitRow.{FitRow}
+use Rattle.stitch_model.specs.declared.Site.{Site}
+use Rattle.stitch_model.specs.declared.Site.TheVariants as site
+use Rattle.stitch_model.specs.Sites.{Boundary, site_of, side_count, row_sides}
+use Rattle.stitch_model.specs.Sides.{core_feed}
+use Rattle.stitch_model.specs.Rows.{net_at, enable_of}
+use Rattle.scan_parts.specs.Rows.{into_at, into_of, IsApart, AreApart, AreFree, IsReady}
+
+pub feed_more : (n m : ℕ) → n ≤ m → (feed : Feed) → IsFeedBelow n feed → IsFeedBelow m feed
+feed_more n m more (Net net) below = let b : net.0 < n = below in let r : net.0 < m = omega arith in r
+feed_more n m more (Const b) below = tt
+
+pub ready_more : (B : Boundary) (n m : ℕ) (row : FitRow) → n ≤ m → IsReady B n row → IsReady B m row
+ready_more B n m row more ready =
+    let a = ready.net in
+    record {
+      net = omega arith;
+      core = feed_more n m more (core_feed B row) ready.core;
+      enable = feed_more n m more (enable_of B row) ready.enable;
+      level = λ at. let b = ready.level at in omega arith;
+      control = ready.control;
+      inout = ready.inout;
+    }
+
+-- What a site's cell gives its value, by the site.
+
+pub at_site : (P : List ℕ → Type 0) (B : Boundary) (side : ℕ) (row : FitRow) (at : Site) → site_of B.ports row ≡ at → P (into_of B side row) → P (into_at B side row at)
+at_site P B side row at is h = let Q : Site → Type 0 = λ s. P (into_at B side row s) in subst Q is h
+
+pub of_site : (P : List ℕ → Type 0) (B : Boundary) (side : ℕ) (row : FitRow) (at : Site) → site_of B.ports row ≡ at → P (into_at B side row at) → P (into_of B side row)
+of_site P B side row at is h = let Q : Site → Type 0 = λ s. P (into_at B side row s) in subst Q (sym is) h

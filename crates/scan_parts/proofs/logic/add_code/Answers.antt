@@ -1,0 +1,18 @@
+use Rattle.std.proofs.Common.{length, arith}
+use Rattle.scan_parts.proofs.LogicAdded.{ident_below, ident_room, no_code}
+use Rattle.scan_parts.proofs.logic.add_code.Goals as goal
+
+pub returns-in-Some-clause-below : goal.returns-in-Some-clause-below
+returns-in-Some-clause-below c =
+    let more = c.appended_count.ensures c.args.netlist.now c.add_ident.new.netlist 98 _ c.add_ident.ensures.added in
+    let low = c.requires.tdi in
+    ident_below c.constants_are_bits.ensures (length c.args.netlist.now.lists.nets) (length c.add_ident.new.netlist.lists.nets) c.args.tdi _ c.add_ident.result
+    (omega arith) c.add_ident.ensures.last (omega arith)
+
+pub returns-in-None-clause-added : goal.returns-in-None-clause-added
+returns-in-None-clause-added c =
+    no_code c.appended_none.ensures c.args.netlist.now c.args.tap.now c.args.instruction.now.ident_on c.args.tdi c.args.code c.in-None.is c.requires.dense
+
+pub returns-in-Some-clause-cells_left : goal.returns-in-Some-clause-cells_left
+returns-in-Some-clause-cells_left c =
+    ident_room c.constants_are_bits.ensures c.args.netlist.now c.add_ident.new.netlist c.args.tap.now c.args.instruction.now.ident_on c.args.tdi _ c.add_ident.ensures.added

@@ -1,0 +1,4 @@
+pub mod Ports
+pub mod Logic
+pub mod Rows
+pub mod Whole

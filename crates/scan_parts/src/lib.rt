@@ -1,0 +1,15 @@
+// The parts of the test logic, one behind the other: the nets of the test access port and those between the core and its cells, the
+// controller and the registers, the boundary register, the ports.
+// Contracts cite stitch_model's specs/Stitched.antt, and specs/Whole.antt for what a netlist needs.
+// IEEE Std 1149.1-2001: test logic architecture, test access port, boundary-scan register.
+#![tactic(auto)]
+
+mod logic;
+mod port;
+mod rows;
+mod whole;
+
+pub use logic::add_logic;
+pub use port::{add_port_nets, add_ports, add_sides};
+pub use rows::add_rows;
+pub use whole::add_test_logic;

@@ -1,0 +1,64 @@
+// The test logic, part by part.
+
+ghost use Rattle.std.specs.Prelude.{◌≡◌, ◌+◌, ◌≤◌, length};
+ghost use Rattle.netlist_model.specs.Lists.{cell_count};
+ghost use Rattle.stitch_model.specs.Sites as sites;
+ghost use Rattle.stitch_model.specs.Stitched.{tap_port, stitched};
+ghost use Rattle.stitch_names.specs.Prepared.{room_of};
+ghost use Rattle.stitch_names.specs.Same.{IsSameNetlist};
+ghost use Rattle.scan_stitch.specs.Stitching.{surrounded, CanBeStitched, HasStitchRoom};
+
+use core_moves::stand_behind;
+use gate_parts::appended_count;
+use netlist_arena::Netlist;
+use netlist_model::NetId;
+use plan_fitting::Fitted;
+use scan_parts::{add_port_nets, add_ports, add_sides, add_test_logic};
+use scan_sides::sides_of;
+use stitch_laws::stitched_holds_the_core;
+use stitch_model::{TapNames, TapPort};
+
+// What stands round the core: the nets of the test access port, and the nets between, from `first` up to `end`.
+struct Surroundings {
+    port: TapPort,
+    first: NetId,
+    end: NetId,
+}
+
+// Adds these nets, and puts the core behind its boundary cells.
+fn surround(netlist: &mut Netlist, names: &TapNames, fitted: &Fitted) -> Surroundings
+    requires can { CanBeStitched netlist.old.lists names.now fitted.now }
+    requires room { HasStitchRoom netlist.old fitted.now }
+    ensures port { result.port ≡ tap_port (length netlist.old.lists.nets) }
+    ensures first { result.first.0 ≡ length netlist.old.lists.nets + 5 }
+    ensures end { result.end.0 ≡ result.first.0 + sites.sides_of netlist.old.lists.ports fitted.now.rows }
+    ensures lists { netlist.new.lists ≡ surrounded netlist.old.lists names.now fitted.now.rows }
+    ensures nets { netlist.new.spare.nets + (5 + sites.sides_of netlist.old.lists.ports fitted.now.rows) ≡ netlist.old.spare.nets }
+    ensures cells { netlist.new.spare.cells ≡ netlist.old.spare.cells }
+    ensures port_bits { netlist.new.spare.port_bits ≡ netlist.old.spare.port_bits }
+{
+    netlist.is_laid_out();
+    let rows = fitted.rows.as_slice();
+    let port = add_port_nets(netlist, names);
+    let count = sides_of(netlist, rows);
+    let first = add_sides(netlist, count);
+    stand_behind(netlist, rows, first);
+    let end = NetId(first.0 + count);
+    Surroundings { port, first, end }
+}
+
+/// Builds the test logic into a netlist without gaps that the plan was fitted to, and where there is room. It takes no memory.
+pub fn stitch_netlist(netlist: &mut Netlist, names: &TapNames, fitted: &Fitted)
+    requires can { CanBeStitched netlist.old.lists names.now fitted.now }
+    requires room { HasStitchRoom netlist.old fitted.now }
+    ensures stitched { IsSameNetlist netlist.new.lists (stitched netlist.old.lists names.now fitted.now) }
+    ensures nets { length netlist.new.lists.nets ≤ length netlist.old.lists.nets + room_of fitted.now }
+    ensures cells { cell_count netlist.new.lists ≤ cell_count netlist.old.lists + room_of fitted.now }
+{
+    netlist.is_laid_out();
+    appended_count();
+    stitched_holds_the_core();
+    let Surroundings { port, first, end } = surround(netlist, names, fitted);
+    add_test_logic(netlist, fitted, &port, first, end);
+    add_ports(netlist, names, &port);
+}
