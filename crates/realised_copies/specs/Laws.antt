@@ -1,0 +1,20 @@
+-- A netlist that behaves as a wrapped chip does so with its nets and cells numbered anew.
+-- Own. For IEEE Std 1149.1-2001 see wrapped_chip.
+use Rattle.std.specs.Prelude.{◌≡◌, ℕ, Some}
+use Rattle.netlist_model.specs.Lists.{CellView, NetlistView, cell_at}
+use Rattle.netlist_model.specs.Formed.{IsWellFormed}
+use Rattle.netlist_images.specs.Renumbering.{IsRenumbering}
+use Rattle.bsdl_device.specs.declared.values.Device.{Device}
+use Rattle.wrapped_chip.specs.Realises.{Realises, Alone}
+
+-- own: the numbers of the chip's cells stay
+abbrev pub KeepsNumbers : NetlistView → (ℕ → ℕ) → Type 0
+KeepsNumbers N at = (i : ℕ) (cell : CellView) → cell_at N i ≡ Some cell → at i ≡ i
+
+-- own: so it is of what it owes in the test logic
+abbrev pub RenumberedRealises : Type 0
+RenumberedRealises = (M M' N : NetlistView) (B : Device) (to at : ℕ → ℕ) → IsRenumbering M M' to at → IsWellFormed M → KeepsNumbers N at → Realises M B N → Realises M' B N
+
+-- own: and alone
+abbrev pub RenumberedAlone : Type 0
+RenumberedAlone = (M M' N : NetlistView) (B : Device) (to at : ℕ → ℕ) → IsRenumbering M M' to at → IsWellFormed M → KeepsNumbers N at → Alone M B N → Alone M' B N

@@ -1,0 +1,34 @@
+// A netlist with its nets and cells numbered anew behaves as the wrapped chip where the netlist itself does (wrapped_chip). Laws only.
+// Own. For IEEE Std 1149.1-2001 see wrapped_chip.
+#![tactic(auto)]
+
+ghost use Rattle.realised_copies.specs.Laws.{RenumberedRealises, RenumberedAlone};
+
+use netlist_images::{
+    renumbered_bits, renumbered_reads, renumbered_runs, renumbering_turns, runs_have_images,
+};
+use netlist_laws::direction_of_a_bit;
+
+/// In a device's test logic.
+pub fn renumbered_realises()
+    ensures { RenumberedRealises }
+{
+    direction_of_a_bit();
+    renumbering_turns();
+    renumbered_bits();
+    renumbered_reads();
+    renumbered_runs();
+    runs_have_images();
+}
+
+/// And alone.
+pub fn renumbered_is_alone()
+    ensures { RenumberedAlone }
+{
+    direction_of_a_bit();
+    renumbering_turns();
+    renumbered_bits();
+    renumbered_reads();
+    renumbered_runs();
+    runs_have_images();
+}

@@ -1,0 +1,29 @@
+-- The stitched netlist has the device's test logic around the core.
+-- Own.
+use Rattle.std.specs.Prelude.{List}
+use Rattle.netlist_model.specs.Formed.{IsLaidOut, IsWellFormed}
+use Rattle.netlist_model.specs.Contained.{IsDense}
+use Rattle.netlist_images.specs.Behind.{NestedBehind}
+use Rattle.netlist_link.specs.Linked.{LinkedView}
+use Rattle.wrapped_chip.specs.Beside.{HasPins}
+use Rattle.surrounded_core.specs.Surrounds.{Surrounds}
+use Rattle.plan_texts.specs.declared.plan.Plan.{Plan}
+use Rattle.plan_fitting.specs.Pins.{PinSeen}
+use Rattle.plan_fitting.specs.Devices.{fitted_of, device_of}
+use Rattle.plan_devices.specs.Fitting.{IsFitting}
+use Rattle.stitch_model.specs.declared.TapNames.{TapNames}
+use Rattle.stitch_model.specs.Stitched.{boundary_at, stitched}
+use Rattle.stitch_inside.specs.Inner.{inner_net}
+use Rattle.stitch_inside.specs.Places.{places_of}
+
+-- own: the core stands inside, with its drivers behind boundary cells
+abbrev pub StitchedNests : Type 0
+StitchedNests = (L : LinkedView) (p : Plan) (seen : List PinSeen) (names : TapNames) → IsFitting L p seen → IsLaidOut L.arena.lists → IsDense L.arena.lists
+    → NestedBehind L.arena.lists (stitched L.arena.lists names (fitted_of L p seen))
+    (inner_net L.arena.lists (stitched L.arena.lists names (fitted_of L p seen)) (boundary_at L.arena.lists (fitted_of L p seen))) (λ i. i)
+
+-- own: and the test logic stands around it
+abbrev pub StitchedSurrounds : Type 0
+StitchedSurrounds = (L : LinkedView) (p : Plan) (seen : List PinSeen) (names : TapNames) → IsFitting L p seen → IsLaidOut L.arena.lists → IsDense L.arena.lists
+    → IsWellFormed (stitched L.arena.lists names (fitted_of L p seen)) → HasPins (stitched L.arena.lists names (fitted_of L p seen)) L.arena.lists
+    → Surrounds (stitched L.arena.lists names (fitted_of L p seen)) L.arena.lists (device_of L p seen) (places_of L.arena.lists names (fitted_of L p seen))

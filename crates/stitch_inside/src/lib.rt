@@ -1,0 +1,53 @@
+// The stitched netlist inside: the core nests in it behind its boundary cells, and the device's test logic stands around the core.
+// specs/Inner.antt says which net stands for a net of the core, specs/Places.antt where the parts stand, specs/Laws.antt that they do.
+// IEEE Std 1149.1-2001: test logic architecture, boundary-scan register; the laws are own.
+#![tactic(auto)]
+
+ghost use Rattle.stitch_inside.specs.Laws.{StitchedNests, StitchedSurrounds};
+
+use instruction_register::registers_fit;
+use netlist_laws::{
+    bit_of_a_direction, contained_parts, direction_of_a_bit, driver_is_found, found_driver_drives,
+};
+use plan_devices::{
+    bits_have_rows, controls_follow_their_rows, controls_take_the_core, plans_suit_netlists,
+    rows_stand_at_bits, rows_take_the_core,
+};
+use plan_fitting::{codes_are_the_devices, control_cells_are_there, opcodes_keep_the_rules};
+use stitch_laws::{stitched_holds_its_parts, stitched_holds_the_core};
+
+/// The core nests in the stitched netlist, with its drivers behind boundary cells.
+pub fn stitched_nests()
+    ensures { StitchedNests }
+{
+    direction_of_a_bit();
+    bit_of_a_direction();
+    driver_is_found();
+    found_driver_drives();
+    control_cells_are_there();
+    stitched_holds_the_core();
+}
+
+/// The device's test logic stands around it: the controller, the registers, and a row at each bit.
+pub fn stitched_surrounds()
+    ensures { StitchedSurrounds }
+{
+    stitched_nests();
+    direction_of_a_bit();
+    bit_of_a_direction();
+    driver_is_found();
+    found_driver_drives();
+    contained_parts();
+    control_cells_are_there();
+    opcodes_keep_the_rules();
+    codes_are_the_devices();
+    registers_fit();
+    rows_take_the_core();
+    controls_take_the_core();
+    controls_follow_their_rows();
+    rows_stand_at_bits();
+    bits_have_rows();
+    plans_suit_netlists();
+    stitched_holds_the_core();
+    stitched_holds_its_parts();
+}

@@ -1,0 +1,39 @@
+-- The stitched netlist behaves as the wrapped chip of the plan's device, and as the netlist alone.
+-- Own. For IEEE Std 1149.1-2001 (normal operation of the system logic under BYPASS, IDCODE, SAMPLE and PRELOAD) see `Alone`.
+use Rattle.std.specs.Prelude.{List}
+use Rattle.netlist_model.specs.Formed.{IsLaidOut, IsWellFormed}
+use Rattle.netlist_model.specs.Contained.{IsDense}
+use Rattle.netlist_link.specs.Linked.{LinkedView}
+use Rattle.wrapped_chip.specs.Realises.{Realises, Alone}
+use Rattle.wrapped_chip.specs.Beside.{HasPins}
+use Rattle.wrapped_chip.specs.Legal.{HasControls}
+use Rattle.plan_texts.specs.declared.plan.Plan.{Plan}
+use Rattle.plan_fitting.specs.Pins.{PinSeen}
+use Rattle.plan_fitting.specs.Devices.{fitted_of, device_of}
+use Rattle.plan_devices.specs.Fitting.{IsFitting}
+use Rattle.stitch_model.specs.declared.TapNames.{TapNames}
+use Rattle.stitch_model.specs.Stitched.{stitched}
+
+-- of each plan that fits a netlist without gaps: through any events that are legal in the chip every pin reads as the chip's, and the
+-- core's flip-flops hold what the chip's hold
+abbrev pub StitchedRealises : Type 0
+StitchedRealises = (L : LinkedView) (p : Plan) (seen : List PinSeen) (names : TapNames) → IsFitting L p seen → IsLaidOut L.arena.lists → IsDense L.arena.lists
+    → IsWellFormed (stitched L.arena.lists names (fitted_of L p seen)) → HasPins (stitched L.arena.lists names (fitted_of L p seen)) L.arena.lists
+    → HasControls (stitched L.arena.lists names (fitted_of L p seen)) L.arena.lists
+    → Realises (stitched L.arena.lists names (fitted_of L p seen)) (device_of L p seen) L.arena.lists
+
+-- and while the instruction in effect is transparent every pin reads as the netlist's alone
+abbrev pub StitchedIsAlone : Type 0
+StitchedIsAlone = (L : LinkedView) (p : Plan) (seen : List PinSeen) (names : TapNames) → IsFitting L p seen → IsLaidOut L.arena.lists → IsDense L.arena.lists
+    → IsWellFormed (stitched L.arena.lists names (fitted_of L p seen)) → HasPins (stitched L.arena.lists names (fitted_of L p seen)) L.arena.lists
+    → HasControls (stitched L.arena.lists names (fitted_of L p seen)) L.arena.lists
+    → Alone (stitched L.arena.lists names (fitted_of L p seen)) (device_of L p seen) L.arena.lists
+
+-- and so for each plan that fits a netlist without gaps whose named nets are there, with no other premise
+abbrev pub FittingPlansRealise : Type 0
+FittingPlansRealise = (L : LinkedView) (p : Plan) (seen : List PinSeen) (names : TapNames) → IsFitting L p seen → IsLaidOut L.arena.lists → IsDense L.arena.lists
+    → Realises (stitched L.arena.lists names (fitted_of L p seen)) (device_of L p seen) L.arena.lists
+
+abbrev pub FittingPlansAreAlone : Type 0
+FittingPlansAreAlone = (L : LinkedView) (p : Plan) (seen : List PinSeen) (names : TapNames) → IsFitting L p seen → IsLaidOut L.arena.lists → IsDense L.arena.lists
+    → Alone (stitched L.arena.lists names (fitted_of L p seen)) (device_of L p seen) L.arena.lists

@@ -1,0 +1,50 @@
+// The law of the insertion: the stitched netlist behaves as the original wrapped in the plan's device, and as the original alone.
+// specs/Laws.antt has the statements, over the definitions of stitch_model and wrapped_chip.
+// IEEE Std 1149.1-2001: test logic architecture, instructions; the laws are own.
+#![tactic(auto)]
+
+ghost use Rattle.stitch_runs.specs.Laws.{StitchedRealises, StitchedIsAlone, FittingPlansRealise, FittingPlansAreAlone};
+
+use plan_devices::plans_suit_netlists;
+use stitch_formed::stitched_is_formed;
+use stitch_inside::stitched_surrounds;
+use stitch_ranks::{stitched_has_controls, stitched_has_pins};
+use surrounded_core::surrounded_core_realises;
+use wrapped_chip::realising_is_being_alone;
+
+/// Every pin of the stitched netlist reads as the chip that the plan's device makes of the netlist.
+pub fn stitched_realises()
+    ensures { StitchedRealises }
+{
+    stitched_surrounds();
+    surrounded_core_realises();
+}
+
+/// And as the netlist alone while the instruction in effect is transparent.
+pub fn stitched_is_alone()
+    ensures { StitchedIsAlone }
+{
+    stitched_realises();
+    plans_suit_netlists();
+    realising_is_being_alone();
+}
+
+/// So it is for each plan that fits a netlist without gaps whose named nets are there, with no other premise.
+pub fn fitting_plans_realise()
+    ensures { FittingPlansRealise }
+{
+    stitched_realises();
+    stitched_is_formed();
+    stitched_has_pins();
+    stitched_has_controls();
+}
+
+/// And while the instruction in effect is transparent the pins read as the netlist's alone.
+pub fn fitting_plans_are_alone()
+    ensures { FittingPlansAreAlone }
+{
+    stitched_is_alone();
+    stitched_is_formed();
+    stitched_has_pins();
+    stitched_has_controls();
+}

@@ -1,0 +1,55 @@
+// The netlist with the test logic built in, written as Verilog: laws that tie the text to the netlist. Each function has nothing
+// to do, and its contract cites a statement in specs/Laws.antt.
+// IEEE Std 1364-2001: modules and ports, hierarchical names.
+#![tactic(auto)]
+
+ghost use Rattle.stitch_texts.specs.Laws.{StitchedCanBeWritten, StitchedIsRenumbered, StitchedIsWritten, StitchedKeepsLimits};
+
+use netlist_link::{link_views_agree, some_link_view};
+use plan_devices::fitted_is_fitting;
+use stitch_cells::stitched_has_counts;
+use stitch_laws::stitched_keeps;
+use stitch_names::{stitched_has_free_prefix, tap_names_are_entered};
+use verilog_printing::canonical_texts_spell_their_trees;
+use verilog_texts::bytes_spell_one_tree;
+use written_images::{dense_keeps_places, written_is_renumbered};
+
+/// No original name begins with the plan's prefix.
+pub fn stitched_can_be_written()
+    ensures { StitchedCanBeWritten }
+{
+    fitted_is_fitting();
+    stitched_has_free_prefix();
+}
+
+/// There are no more cells, nets and port bits than a module may have.
+pub fn stitched_keeps_limits()
+    ensures { StitchedKeepsLimits }
+{
+    stitched_has_counts();
+}
+
+/// The text spells one module, the module tells one netlist, and that keeps the ports and cells of the netlist without the test logic.
+pub fn stitched_is_written()
+    ensures { StitchedIsWritten }
+{
+    fitted_is_fitting();
+    stitched_keeps_limits();
+    tap_names_are_entered();
+    stitched_keeps();
+    dense_keeps_places();
+    stitched_has_counts();
+    link_views_agree();
+    some_link_view();
+    canonical_texts_spell_their_trees();
+    bytes_spell_one_tree();
+}
+
+/// The netlist that the module tells is the one that was written, with its nets numbered anew.
+pub fn stitched_is_renumbered()
+    ensures { StitchedIsRenumbered }
+{
+    stitched_has_counts();
+    written_is_renumbered();
+    dense_keeps_places();
+}

@@ -1,0 +1,23 @@
+use Rattle.surrounded_core.proofs.Along.{reads_as_chip}
+use Rattle.surrounded_core.proofs.surrounded_core_reads.Goals as goal
+
+pub returns : goal.returns
+returns c =
+    reads_as_chip (record {
+      stands = c.surrounded_core_stands.ensures;
+      tap = c.tap_follows.ensures;
+      instruction = c.instruction_follows.ensures;
+      bypass = c.bypass_follows.ensures;
+      ident = c.ident_follows.ensures;
+      tdo = c.tdo_follows.ensures;
+      rows = c.rows_follow.ensures;
+      places = c.rows_step_as_bits.ensures;
+      chip = c.chip_rows.ensures;
+      lengths = c.lengths_stay.ensures;
+      steers = c.selected_steers.ensures;
+      starts = c.nested_behind_starts.ensures;
+      steps = c.nested_behind_steps.ensures;
+      moments = c.moments_of_a_run.ensures;
+      bits = c.bit_of_a_direction.ensures;
+      once = c.one_chip_run.ensures;
+    })

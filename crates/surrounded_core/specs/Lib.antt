@@ -1,0 +1,4 @@
+pub mod Places
+pub mod Sites
+pub mod Surrounds
+pub mod Laws

@@ -1,0 +1,61 @@
+// A core with a device's test logic around it: specs/Places.antt and specs/Surrounds.antt say where each part stands in the netlist,
+// specs/Sites.antt what each row of the boundary register takes and gives, and specs/Laws.antt that the whole behaves as the wrapped chip.
+// IEEE Std 1149.1-2001: test logic architecture, boundary-scan register; the laws are own.
+#![tactic(auto)]
+
+ghost use Rattle.surrounded_core.specs.Laws.{SurroundedStands, SurroundedReads, SurroundedRealises};
+
+use boundary_cells::{bidir_cells_follow, rows_step_as_bits};
+use boundary_runs::{bits_by_place, chip_rows, lengths_stay, rows_follow, selected_steers};
+use instruction_register::instruction_follows;
+use netlist_images::{
+    nested_behind_meets, nested_behind_starts, nested_behind_steps, operands_are_given,
+};
+use netlist_laws::{bit_of_a_direction, direction_of_a_bit, found_driver_drives, moments_of_a_run};
+use register_gates::{bypass_follows, ident_follows, tdo_follows};
+use tap_gates::tap_follows;
+use wrapped_chip::{one_chip_run, some_run_beside};
+
+/// At a moment at which the rows hold what the test logic has in their places, the core's values, the rows and the readings are the chip's.
+pub fn surrounded_core_stands()
+    ensures { SurroundedStands }
+{
+    rows_follow();
+    bidir_cells_follow();
+    chip_rows();
+    nested_behind_meets();
+    operands_are_given();
+    found_driver_drives();
+    bit_of_a_direction();
+    direction_of_a_bit();
+}
+
+/// Beside each run of the chip, each run of the netlist reads as the chip at every moment.
+pub fn surrounded_core_reads()
+    ensures { SurroundedReads }
+{
+    surrounded_core_stands();
+    rows_follow();
+    rows_step_as_bits();
+    chip_rows();
+    lengths_stay();
+    selected_steers();
+    tap_follows();
+    instruction_follows();
+    bypass_follows();
+    ident_follows();
+    tdo_follows();
+    nested_behind_starts();
+    nested_behind_steps();
+    moments_of_a_run();
+    bit_of_a_direction();
+    one_chip_run();
+}
+
+/// So it realises the chip.
+pub fn surrounded_core_realises()
+    ensures { SurroundedRealises }
+{
+    surrounded_core_reads();
+    some_run_beside();
+}

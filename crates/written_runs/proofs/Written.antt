@@ -1,0 +1,64 @@
+-- What the stitched netlist owes goes through the new numbers of the written one.
+use Rattle.std.proofs.Common.{◌≡◌, Option, Some, refl, sym, subst}
+use Rattle.std.specs.Prelude.{IsSome}
+use Rattle.verilog_tree.specs.declared.tree.Module.{Module}
+use Rattle.netlist_model.specs.Lists.{CellView, NetlistView, cell_at}
+use Rattle.netlist_model.specs.Formed.{IsLaidOut, IsWellFormed}
+use Rattle.netlist_link.specs.Linked.{LinkedView}
+use Rattle.netlist_link.specs.Links.{IsLinkOf}
+use Rattle.netlist_unlink.specs.Renumbered.{IsWrittenAs}
+use Rattle.wrapped_chip.specs.Realises.{Realises, Alone}
+use Rattle.realised_copies.specs.Laws.{KeepsNumbers, RenumberedRealises, RenumberedAlone}
+use Rattle.plan_texts.specs.declared.plan.Plan.{Plan}
+use Rattle.plan_fitting.specs.declared.fitted.Fitted.{Fitted}
+use Rattle.plan_fitting.specs.Devices.{fitted_of, device_of}
+use Rattle.plan_devices.specs.Fitting.{IsFitting}
+use Rattle.plan_devices.specs.Laws.{FittedIsFitting}
+use Rattle.stitch_model.specs.declared.TapNames.{TapNames}
+use Rattle.stitch_model.specs.Stitched.{stitched}
+use Rattle.stitch_laws.specs.Laws.{StitchedKeeps}
+use Rattle.stitch_formed.specs.Laws.{StitchedIsFormed}
+use Rattle.stitch_texts.specs.Laws.{IsStitching, StitchedIsRenumbered}
+use Rattle.stitch_texts.specs.Written.{IsNumberedAnew}
+use Rattle.stitch_runs.specs.Laws.{FittingPlansRealise, FittingPlansAreAlone}
+use Rattle.written_runs.specs.Laws.{WrittenRealises, WrittenIsAlone}
+
+-- what is known of it on the way
+record Steps (L : LinkedView) (p : Plan) (f : Fitted) (names : TapNames) (M : NetlistView) : Type 0 where
+  formed : IsWellFormed (stitched L.arena.lists names f)
+  anew : IsNumberedAnew (stitched L.arena.lists names f) M
+  stay : KeepsNumbers L.arena.lists anew.at
+
+some_there : {X : Type 0} (o : Option X) (x : X) → o ≡ Some x → IsSome o
+some_there {X} o x e = subst (λ (q : Option X). IsSome q) (sym e) refl
+
+steps : FittedIsFitting → StitchedIsFormed → StitchedIsRenumbered → StitchedKeeps → (m : Module) (L : LinkedView) (p : Plan) (f : Fitted) (after : LinkedView) (s : IsStitching m L p f after) → IsLaidOut after.arena.lists
+    → (tree : Module) → IsWrittenAs after p.prefix tree → (written : LinkedView) → IsLinkOf tree written → Steps L p f s.is.names written.arena.lists
+steps fitting formed renumbered keeps m L p f after s laid tree writes written link =
+    let fits : IsFitting L p s.fits.seen = fitting m L p f s.tree s.linked s.plan s.fits in
+    let names = s.is.names in
+    let kept = keeps L.arena.lists names f s.linked.dense in
+    let anew = renumbered L f after s.is p.prefix tree laid writes written link in
+    record {
+      formed = subst (λ (g : Fitted). IsWellFormed (stitched L.arena.lists names g)) (sym s.fits.is) (formed L p s.fits.seen names fits s.laid s.linked.dense);
+      anew = anew;
+      stay = λ i cell live. let k = kept.cells i cell live in anew.stay i (some_there (cell_at (stitched L.arena.lists names f) i) k.found k.there);
+    }
+
+pub written_realises : FittedIsFitting → StitchedIsFormed → StitchedIsRenumbered → StitchedKeeps → FittingPlansRealise → RenumberedRealises → WrittenRealises
+written_realises fitting formed renumbered keeps realises copies m L p f after s laid tree writes written link =
+    let fits : IsFitting L p s.fits.seen = fitting m L p f s.tree s.linked s.plan s.fits in
+    let names = s.is.names in
+    let t = steps fitting formed renumbered keeps m L p f after s laid tree writes written link in
+    copies (stitched L.arena.lists names f) written.arena.lists L.arena.lists (device_of L p s.fits.seen) t.anew.to t.anew.at t.anew.is t.formed t.stay
+    (subst (λ (g : Fitted). Realises (stitched L.arena.lists names g) (device_of L p s.fits.seen) L.arena.lists) (sym s.fits.is)
+    (realises L p s.fits.seen names fits s.laid s.linked.dense))
+
+pub written_is_alone : FittedIsFitting → StitchedIsFormed → StitchedIsRenumbered → StitchedKeeps → FittingPlansAreAlone → RenumberedAlone → WrittenIsAlone
+written_is_alone fitting formed renumbered keeps alone copies m L p f after s laid tree writes written link =
+    let fits : IsFitting L p s.fits.seen = fitting m L p f s.tree s.linked s.plan s.fits in
+    let names = s.is.names in
+    let t = steps fitting formed renumbered keeps m L p f after s laid tree writes written link in
+    copies (stitched L.arena.lists names f) written.arena.lists L.arena.lists (device_of L p s.fits.seen) t.anew.to t.anew.at t.anew.is t.formed t.stay
+    (subst (λ (g : Fitted). Alone (stitched L.arena.lists names g) (device_of L p s.fits.seen) L.arena.lists) (sym s.fits.is)
+    (alone L p s.fits.seen names fits s.laid s.linked.dense))

@@ -1,0 +1,24 @@
+-- The netlist that is written with its test logic behaves as the wrapped chip of the plan's device, and as the netlist alone.
+-- Own. For IEEE Std 1149.1-2001 (normal operation of the system logic under BYPASS, IDCODE, SAMPLE and PRELOAD) see `Alone`.
+use Rattle.verilog_tree.specs.declared.tree.Module.{Module}
+use Rattle.netlist_model.specs.Formed.{IsLaidOut}
+use Rattle.netlist_link.specs.Linked.{LinkedView}
+use Rattle.netlist_link.specs.Links.{IsLinkOf}
+use Rattle.netlist_unlink.specs.Renumbered.{IsWrittenAs}
+use Rattle.wrapped_chip.specs.Realises.{Realises, Alone}
+use Rattle.plan_texts.specs.declared.plan.Plan.{Plan}
+use Rattle.plan_fitting.specs.declared.fitted.Fitted.{Fitted}
+use Rattle.plan_fitting.specs.Devices.{device_of}
+use Rattle.stitch_texts.specs.Laws.{IsStitching}
+
+-- through any events that are legal in the chip every pin reads as the chip's, and the core's flip-flops hold what the chip's hold
+abbrev pub WrittenRealises : Type 0
+WrittenRealises = (m : Module) (L : LinkedView) (p : Plan) (f : Fitted) (after : LinkedView) (s : IsStitching m L p f after) → IsLaidOut after.arena.lists
+    → (tree : Module) → IsWrittenAs after p.prefix tree → (written : LinkedView) → IsLinkOf tree written
+    → Realises written.arena.lists (device_of L p s.fits.seen) L.arena.lists
+
+-- and while the instruction in effect is transparent every pin reads as the netlist's alone
+abbrev pub WrittenIsAlone : Type 0
+WrittenIsAlone = (m : Module) (L : LinkedView) (p : Plan) (f : Fitted) (after : LinkedView) (s : IsStitching m L p f after) → IsLaidOut after.arena.lists
+    → (tree : Module) → IsWrittenAs after p.prefix tree → (written : LinkedView) → IsLinkOf tree written
+    → Alone written.arena.lists (device_of L p s.fits.seen) L.arena.lists

@@ -1,0 +1,37 @@
+// How the netlist behaves that is written with its test logic: as the wrapped chip of the plan's device, and as the netlist alone.
+// Each function has nothing to do, and its contract cites a statement in specs/Laws.antt.
+// IEEE Std 1149.1-2001: test logic architecture.
+#![tactic(auto)]
+
+ghost use Rattle.written_runs.specs.Laws.{WrittenRealises, WrittenIsAlone};
+
+use plan_devices::fitted_is_fitting;
+use realised_copies::{renumbered_is_alone, renumbered_realises};
+use stitch_formed::stitched_is_formed;
+use stitch_laws::stitched_keeps;
+use stitch_runs::{fitting_plans_are_alone, fitting_plans_realise};
+use stitch_texts::stitched_is_renumbered;
+
+/// Every pin of the written netlist reads as the chip that the plan's device makes of the netlist.
+pub fn written_realises()
+    ensures { WrittenRealises }
+{
+    fitted_is_fitting();
+    fitting_plans_realise();
+    stitched_is_formed();
+    stitched_is_renumbered();
+    stitched_keeps();
+    renumbered_realises();
+}
+
+/// And as the netlist alone while the instruction in effect is transparent.
+pub fn written_is_alone()
+    ensures { WrittenIsAlone }
+{
+    fitted_is_fitting();
+    fitting_plans_are_alone();
+    stitched_is_formed();
+    stitched_is_renumbered();
+    stitched_keeps();
+    renumbered_is_alone();
+}
