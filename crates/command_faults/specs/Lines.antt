@@ -12,6 +12,10 @@ use Rattle.event_scripts.specs.declared.fault.ScriptFault.{ScriptFault}
 use Rattle.event_scripts.specs.declared.fault.ScriptFault.TheVariants as script
 use Rattle.bsdl_device.specs.declared.fault.DeviceTextFault.{DeviceTextFault}
 use Rattle.bsdl_device.specs.declared.fault.DeviceTextFault.TheVariants as device
+use Rattle.plan_texts.specs.declared.fault.PlanFault.{PlanFault}
+use Rattle.plan_texts.specs.declared.fault.PlanFault.TheVariants as plan
+use Rattle.plan_fitting.specs.declared.fault.FitFault.{FitFault}
+use Rattle.plan_fitting.specs.declared.fault.FitFault.TheVariants as fit
 use Rattle.output_lines.specs.Lines.{bit_text, words_line}
 use Rattle.command_faults.specs.declared.fault.Fault.{Fault}
 use Rattle.command_faults.specs.declared.fault.Fault.TheVariants as fault
@@ -84,6 +88,23 @@ device_line (device.BsdlSyntax place word) = word_line (codes "BsdlSyntax") plac
 device_line (device.BsdlMeaning kind place) = words_line (codes "BsdlMeaning") (kind_word kind ∷ decimal place ∷ [])
 device_line device.OutOfMemory = memory_line
 
+abbrev pub plan_line : PlanFault → List ℕ
+plan_line (plan.PlanLine line) = place_line (codes "PlanLine") line
+plan_line (plan.PlanTwice word) = named_line (codes "PlanTwice") word
+plan_line (plan.PlanOpcode word) = named_line (codes "PlanOpcode") word
+plan_line plan.PlanIdcode = words_line (codes "PlanIdcode") []
+plan_line (plan.PlanInstruction word) = named_line (codes "PlanInstruction") word
+plan_line plan.OutOfMemory = memory_line
+
+abbrev pub fit_line : FitFault → List ℕ
+fit_line (fit.PlanPort word) = named_line (codes "PlanPort") word
+fit_line (fit.PlanPortMissing word) = named_line (codes "PlanPortMissing") word
+fit_line (fit.PlanTwice word) = named_line (codes "PlanTwice") word
+fit_line (fit.PlanCell word) = named_line (codes "PlanCell") word
+fit_line (fit.PlanName word) = named_line (codes "PlanName") word
+fit_line (fit.PrefixTaken word) = named_line (codes "PrefixTaken") word
+fit_line fit.OutOfMemory = memory_line
+
 abbrev pub line_of : Fault → List ℕ
 line_of fault.Usage = words_line (codes "Usage") []
 line_of (fault.SameName name) = named_line (codes "SameName") name.now
@@ -94,5 +115,8 @@ line_of (fault.Link f) = link_line f
 line_of (fault.Events f) = event_line f
 line_of (fault.Script f) = script_line f
 line_of (fault.Device f) = device_line f
+line_of (fault.Plan f) = plan_line f
+line_of (fault.Fit f) = fit_line f
+line_of (fault.TooMany what count limit) = many_line (what_word what) count limit
 line_of fault.OutOfMemory = memory_line
 line_of (fault.WriteFault name) = named_line (codes "WriteFault") name.now

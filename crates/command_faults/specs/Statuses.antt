@@ -14,6 +14,10 @@ use Rattle.event_scripts.specs.declared.fault.ScriptFault.{ScriptFault}
 use Rattle.event_scripts.specs.declared.fault.ScriptFault.TheVariants as script
 use Rattle.bsdl_device.specs.declared.fault.DeviceTextFault.{DeviceTextFault}
 use Rattle.bsdl_device.specs.declared.fault.DeviceTextFault.TheVariants as device
+use Rattle.plan_texts.specs.declared.fault.PlanFault.{PlanFault}
+use Rattle.plan_texts.specs.declared.fault.PlanFault.TheVariants as plan
+use Rattle.plan_fitting.specs.declared.fault.FitFault.{FitFault}
+use Rattle.plan_fitting.specs.declared.fault.FitFault.TheVariants as fit
 
 abbrev pub text_status : TextFault → Status
 text_status text.OutOfMemory = status.Memory
@@ -35,6 +39,14 @@ abbrev pub device_status : DeviceTextFault → Status
 device_status device.OutOfMemory = status.Memory
 device_status f = status.Refused
 
+abbrev pub plan_status : PlanFault → Status
+plan_status plan.OutOfMemory = status.Memory
+plan_status f = status.Refused
+
+abbrev pub fit_status : FitFault → Status
+fit_status fit.OutOfMemory = status.Memory
+fit_status f = status.Refused
+
 abbrev pub status_of : Fault → Status
 status_of fault.Usage = status.Usage
 status_of (fault.SameName name) = status.Usage
@@ -45,6 +57,9 @@ status_of (fault.Link f) = link_status f
 status_of (fault.Events f) = event_status f
 status_of (fault.Script f) = script_status f
 status_of (fault.Device f) = device_status f
+status_of (fault.Plan f) = plan_status f
+status_of (fault.Fit f) = fit_status f
+status_of (fault.TooMany what count limit) = status.Refused
 status_of fault.OutOfMemory = status.Memory
 status_of (fault.WriteFault name) = status.WriteFault
 

@@ -6,6 +6,9 @@ use crate::status::Status;
 use bsdl_device::DeviceTextFault;
 use event_scripts::ScriptFault;
 use link_model::LinkFault;
+use netlist_model::What;
+use plan_fitting::FitFault;
+use plan_texts::PlanFault;
 use scan_vectors::EventFault;
 use thiserror::Error;
 use verilog_texts::TextFault;
@@ -36,6 +39,15 @@ pub enum Fault<'a> {
     /// A BSDL text is no device.
     #[error("{0}")]
     Device(DeviceTextFault),
+    /// A text is no plan.
+    #[error("{0}")]
+    Plan(PlanFault),
+    /// A plan doesn't fit a netlist.
+    #[error("{0}")]
+    Fit(FitFault),
+    /// With the test logic a netlist would have too many of something.
+    #[error("{count} where {limit} is the limit")]
+    TooMany { what: What, count: u64, limit: u64 },
     #[error("out of memory")]
     OutOfMemory,
     #[error("a file couldn't be written")]
@@ -96,12 +108,17 @@ impl Fault<'_> {
             | Fault::Events(EventFault::OutOfMemory)
             | Fault::Script(ScriptFault::OutOfMemory)
             | Fault::Device(DeviceTextFault::OutOfMemory)
+            | Fault::Plan(PlanFault::OutOfMemory)
+            | Fault::Fit(FitFault::OutOfMemory)
             | Fault::OutOfMemory => Status::Memory,
             Fault::Netlist(_)
             | Fault::Link(_)
             | Fault::Events(_)
             | Fault::Script(_)
-            | Fault::Device(_) => Status::Refused,
+            | Fault::Device(_)
+            | Fault::Plan(_)
+            | Fault::Fit(_)
+            | Fault::TooMany { .. } => Status::Refused,
             Fault::WriteFault { .. } => Status::WriteFault,
         }
     }

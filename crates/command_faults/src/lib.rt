@@ -6,6 +6,7 @@
 mod fault;
 mod lines;
 mod link_lines;
+mod plan_lines;
 mod status;
 mod text_lines;
 

@@ -15,13 +15,14 @@ use Rattle.bsdl_lexicon.specs.declared.token.BsdlSpanned.{BsdlSpanned}
 use Rattle.bsdl_device.specs.Spelled.{SpellsDevice}
 use Rattle.insert_cli.specs.declared.command.Conversion.{Conversion}
 use Rattle.insert_cli.specs.declared.command.Conversion.TheVariants.{Canon, ShowBsdl}
-use Rattle.insert_cli.specs.Commands.{IsShort, IsLong, RunsConvert}
+use Rattle.insert_cli.specs.Commands.{RunsConvert}
 use Rattle.insert_cli.specs.Conversions.{IsAccepted, IsSpelled}
-use Rattle.insert_cli.specs.Seen.{ShelfSeen, SinkSeen, NameRose}
-use Rattle.insert_cli.specs.EdgeFaults.{StandsInReading, StandsInWriting}
+use Rattle.command_edges.specs.Seen.{ShelfSeen, SinkSeen, NameRose}
+use Rattle.command_edges.specs.EdgeFaults.{StandsInReading, StandsInWriting}
 use Rattle.insert_cli.specs.ConvertFaults.{StandsInText, StandsInConvert}
 use Rattle.insert_cli.specs.Causes.{Stands, StandsInWords}
-use Rattle.insert_cli.proofs.FormLaws.{input_once, output_once, conversion_once, no_sim}
+use Rattle.command_edges.proofs.Told.{reading_memory, write_rose}
+use Rattle.insert_cli.proofs.FormLaws.{input_once, output_once, conversion_once, no_sim, no_insert}
 
 -- a text that spells a tree has no fault but want of memory
 pub module_memory : (c : Conversion) (bytes : List ℕ) (f : TextFault) → IsSpelled c bytes → StandsInText c (Some bytes) (fault.Netlist f) → text_status f ≡ status.Memory
@@ -41,25 +42,11 @@ device_memory ShowBsdl bytes (device.BsdlMeaning kind place) (d, spells) bad =
     absurd (bad.meaning.unspelled d (subst (λ (ws : List BsdlSpanned). SpellsDevice ws d) (bad.has.only spells.words spells.cut) spells.spells))
 device_memory ShowBsdl bytes device.OutOfMemory spelled bad = refl
 
--- a short text under a name whose count doesn't rise is read, if memory suffices
-pub reading_memory : (name bytes : List ℕ) (shelf : ShelfSeen) (f : Fault) → shelf.held name ≡ Some bytes → IsShort bytes → (NameRose shelf name → ⊥) → StandsInReading name shelf f
-    → status_of f ≡ status.Memory
-reading_memory name bytes shelf (fault.ReadFault n) told short calm stands = absurd (calm stands.1)
-reading_memory name bytes shelf (fault.TooLong n) told short calm stands =
-    let long : IsLong bytes = subst (λ (t : Option (List ℕ)). WhereTold t IsLong) told stands.1 in absurd (omega (arith, long, short))
-reading_memory name bytes shelf fault.OutOfMemory told short calm stands = refl
-reading_memory name bytes shelf f told short calm stands = absurd stands
-
 -- a text that is spelled has no fault but want of memory
 text_memory : (c : Conversion) (bytes : List ℕ) (f : Fault) → IsSpelled c bytes → StandsInText c (Some bytes) f → status_of f ≡ status.Memory
 text_memory Canon bytes (fault.Netlist f) spelled stands = module_memory Canon bytes f spelled stands
 text_memory ShowBsdl bytes (fault.Device f) spelled stands = device_memory ShowBsdl bytes f spelled stands
 text_memory c bytes f spelled stands = absurd stands
-
--- a write fails only where the count of its name rises
-write_rose : (name : List ℕ) (shelf : ShelfSeen) (f : Fault) → StandsInWriting name shelf f → NameRose shelf name
-write_rose name shelf (fault.WriteFault n) stands = stands.1
-write_rose name shelf f stands = absurd stands
 
 convert_memory : (shelf : ShelfSeen) (f : Fault) (c : Conversion) (input output bytes : List ℕ) → shelf.held input ≡ Some bytes → IsAccepted c bytes → (NameRose shelf input → ⊥)
     → (NameRose shelf output → ⊥) → StandsInConvert c input output shelf f → status_of f ≡ status.Memory
@@ -71,8 +58,9 @@ convert_memory shelf f c input output bytes told ok calm still (inr (inr (accept
 -- a conversion's words have no fault
 words_free : (words : List (List ℕ)) (f : Fault) (c : Conversion) (input output : List ℕ) → RunsConvert words c input output → StandsInWords words f → ⊥
 words_free words fault.Usage c input output runs stands = stands.convert c input output runs.form
-words_free words (fault.SameName name) c input output runs stands =
-    runs.differ (sym (input_once words c stands.0 input output name.now name.now runs.form stands.1) ∙ output_once words c stands.0 input output name.now name.now runs.form stands.1)
+words_free words (fault.SameName name) c input output runs (inl (d, form)) =
+    runs.differ (sym (input_once words c d input output name.now name.now runs.form form) ∙ output_once words c d input output name.now name.now runs.form form)
+words_free words (fault.SameName name) c input output runs (inr r) = no_insert words c input output r.netlist r.plan r.outnet r.outbsdl runs.form r.form
 words_free words f c input output runs stands = stands
 
 pub only_memory : (words : List (List ℕ)) (shelf : ShelfSeen) (sink : SinkSeen) (f : Fault) (c : Conversion) (input output bytes : List ℕ) → RunsConvert words c input output
@@ -86,5 +74,7 @@ only_memory words shelf sink f c input output bytes runs told ok calm still (inr
     (subst (λ (n : List ℕ). StandsInConvert c n output shelf f) first
     (subst (λ (n : List ℕ). StandsInConvert c i n shelf f) second
     (subst (λ (k : Conversion). StandsInConvert k i o shelf f) kind stands)))
-only_memory words shelf sink f c input output bytes runs told ok calm still (inr (inr (n, (e, (form, stands))))) =
+only_memory words shelf sink f c input output bytes runs told ok calm still (inr (inr (inl (n, (e, (form, stands)))))) =
     absurd (no_sim words c input output n e runs.form form)
+only_memory words shelf sink f c input output bytes runs told ok calm still (inr (inr (inr (n, (p, (v, (b, (other, stands)))))))) =
+    absurd (no_insert words c input output n p v b runs.form other.form)

@@ -20,13 +20,14 @@ use Rattle.command_faults.specs.declared.status.Status.TheVariants as status
 use Rattle.command_faults.specs.Statuses.{status_of, link_status, event_status, script_status}
 use Rattle.insert_cli.specs.declared.command.Conversion.TheVariants.{Canon}
 use Rattle.insert_cli.specs.Commands.{SimForm}
-use Rattle.insert_cli.specs.Seen.{ShelfSeen, SinkSeen, NameRose, SinkRose}
+use Rattle.command_edges.specs.Seen.{ShelfSeen, SinkSeen, NameRose, SinkRose}
 use Rattle.insert_cli.specs.Causes.{Stands, StandsInWords}
 use Rattle.insert_cli.specs.SimFaults.{StandsInPlay, StandsInSim}
 use Rattle.insert_cli.specs.Simulations.{IsSimulable, HasLinkFault, HasScriptFault}
-use Rattle.insert_cli.proofs.FormLaws.{no_sim, netlist_once, events_once}
+use Rattle.insert_cli.proofs.FormLaws.{no_sim, sim_no_insert, netlist_once, events_once}
 use Rattle.insert_cli.proofs.Forms.{no_some}
-use Rattle.insert_cli.proofs.Complete.{module_memory, reading_memory}
+use Rattle.command_edges.proofs.Told.{reading_memory}
+use Rattle.insert_cli.proofs.Complete.{module_memory}
 
 -- the laws that keep faults apart from what is free of them
 pub record Laws : Type 0 where
@@ -79,7 +80,8 @@ sim_memory laws shelf sink f netlist events net text told too ok calm calm_too s
 -- a simulation's words have no fault
 words_free : (words : List (List ℕ)) (f : Fault) (netlist events : List ℕ) → SimForm words netlist events → StandsInWords words f → ⊥
 words_free words fault.Usage netlist events form stands = stands.sim netlist events form
-words_free words (fault.SameName name) netlist events form stands = no_sim words stands.0 name.now name.now netlist events stands.1 form
+words_free words (fault.SameName name) netlist events form (inl (c, other)) = no_sim words c name.now name.now netlist events other form
+words_free words (fault.SameName name) netlist events form (inr r) = sim_no_insert words netlist events r.netlist r.plan r.outnet r.outbsdl form r.form
 words_free words f netlist events form stands = stands
 
 pub only_memory_sim : Laws → (words : List (List ℕ)) (shelf : ShelfSeen) (sink : SinkSeen) (f : Fault) (netlist events net text : List ℕ) → SimForm words netlist events
@@ -88,7 +90,9 @@ pub only_memory_sim : Laws → (words : List (List ℕ)) (shelf : ShelfSeen) (si
 only_memory_sim laws words shelf sink f netlist events net text form told too ok calm calm_too still (inl stands) = absurd (words_free words f netlist events form stands)
 only_memory_sim laws words shelf sink f netlist events net text form told too ok calm calm_too still (inr (inl (d, (i, (o, (other, stands)))))) =
     absurd (no_sim words d i o netlist events other.form form)
-only_memory_sim laws words shelf sink f netlist events net text form told too ok calm calm_too still (inr (inr (n, (e, (other, stands))))) =
+only_memory_sim laws words shelf sink f netlist events net text form told too ok calm calm_too still (inr (inr (inr (n, (p, (v, (b, (other, stands)))))))) =
+    absurd (sim_no_insert words netlist events n p v b form other.form)
+only_memory_sim laws words shelf sink f netlist events net text form told too ok calm calm_too still (inr (inr (inl (n, (e, (other, stands)))))) =
     let first : n ≡ netlist = netlist_once words netlist events n e form other in
     let second : e ≡ events = events_once words netlist events n e form other in
     sim_memory laws shelf sink f netlist events net text told too ok calm calm_too still

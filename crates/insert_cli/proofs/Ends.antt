@@ -3,7 +3,7 @@ use Rattle.std.proofs.Common.{inl, inr}
 use Rattle.command_faults.specs.declared.fault.Fault.{Fault}
 use Rattle.command_faults.specs.declared.fault.Fault.TheVariants as fault
 use Rattle.command_faults.specs.declared.status.Status.TheVariants as status
-use Rattle.command_faults.specs.Statuses.{status_of, text_status, link_status, event_status, script_status, device_status}
+use Rattle.command_faults.specs.Statuses.{status_of, text_status, link_status, event_status, script_status, device_status, plan_status, fit_status}
 use Rattle.verilog_texts.specs.declared.fault.TextFault.{TextFault}
 use Rattle.verilog_texts.specs.declared.fault.TextFault.TheVariants as text
 use Rattle.link_model.specs.declared.fault.LinkFault.{LinkFault}
@@ -14,6 +14,10 @@ use Rattle.event_scripts.specs.declared.fault.ScriptFault.{ScriptFault}
 use Rattle.event_scripts.specs.declared.fault.ScriptFault.TheVariants as script
 use Rattle.bsdl_device.specs.declared.fault.DeviceTextFault.{DeviceTextFault}
 use Rattle.bsdl_device.specs.declared.fault.DeviceTextFault.TheVariants as device
+use Rattle.plan_texts.specs.declared.fault.PlanFault.{PlanFault}
+use Rattle.plan_texts.specs.declared.fault.PlanFault.TheVariants as plan
+use Rattle.plan_fitting.specs.declared.fault.FitFault.{FitFault}
+use Rattle.plan_fitting.specs.declared.fault.FitFault.TheVariants as fit
 use Rattle.insert_cli.specs.Simulations.{IsEnd}
 
 memory_apart : IsEnd status.Memory → ⊥
@@ -56,6 +60,14 @@ device_apart : (f : DeviceTextFault) → IsEnd (device_status f) → ⊥
 device_apart device.OutOfMemory end = memory_apart end
 device_apart f end = refused_apart end
 
+plan_apart : (f : PlanFault) → IsEnd (plan_status f) → ⊥
+plan_apart plan.OutOfMemory end = memory_apart end
+plan_apart f end = refused_apart end
+
+fit_apart : (f : FitFault) → IsEnd (fit_status f) → ⊥
+fit_apart fit.OutOfMemory end = memory_apart end
+fit_apart f end = refused_apart end
+
 pub fault_apart : (f : Fault) → IsEnd (status_of f) → ⊥
 fault_apart fault.Usage end = usage_apart end
 fault_apart (fault.SameName name) end = usage_apart end
@@ -66,5 +78,8 @@ fault_apart (fault.Link f) end = link_apart f end
 fault_apart (fault.Events f) end = event_apart f end
 fault_apart (fault.Script f) end = script_apart f end
 fault_apart (fault.Device f) end = device_apart f end
+fault_apart (fault.Plan f) end = plan_apart f end
+fault_apart (fault.Fit f) end = fit_apart f end
+fault_apart (fault.TooMany what count limit) end = refused_apart end
 fault_apart fault.OutOfMemory end = memory_apart end
 fault_apart (fault.WriteFault name) end = write_apart end

@@ -5,4 +5,5 @@ pub mod Told
 pub mod Simulated
 pub mod Complete
 pub mod CompleteSim
+pub mod Inserts
 pub mod Ends

@@ -17,23 +17,18 @@ use Rattle.event_scripts.specs.Scripts.{IsResolved, IsScriptFault}
 use Rattle.event_scripts.specs.declared.fault.ScriptFault.{ScriptFault}
 use Rattle.sim_runs.specs.Outputs.{IsOutput}
 use Rattle.insert_cli.specs.declared.command.Conversion.{Conversion}
-use Rattle.insert_cli.specs.Commands.{IsShort, ConvertForm, SimForm}
+use Rattle.command_edges.specs.Lengths.{IsShort}
+use Rattle.insert_cli.specs.Commands.{ConvertForm, SimForm}
 use Rattle.insert_cli.specs.ConvertFaults.{IsCutShort}
 use Rattle.insert_cli.proofs.FormLaws.{input_once, output_once, conversion_once}
 use Rattle.std.specs.Result.{IsErrAnd}
-use Rattle.insert_cli.specs.Seen.{ShelfSeen, SinkSeen, SinkRose, WhereBothTold}
-use Rattle.insert_cli.specs.EdgeFaults.{AreShort}
+use Rattle.command_edges.specs.Seen.{ShelfSeen, SinkSeen, SinkRose, WhereBothTold}
+use Rattle.command_edges.specs.EdgeFaults.{AreShort}
 use Rattle.insert_cli.specs.Causes.{Finishes, Stands, Gave, CutsShort}
 use Rattle.insert_cli.specs.Simulations.{IsSimulation, HasLinkFault, SpellsLinkable, SpellsEvents, HasScriptFault, run_status}
 use Rattle.insert_cli.specs.SimFaults.{HasRun, StandsInNetlist, StandsInPlay, StandsInSim, IsPlayed, IsFrontOfRun, GaveFront, GaveInPlay}
-use Rattle.insert_cli.proofs.Told.{IsTold, told_as}
-
--- what holds of two texts holds of what is told of them
-pub both_told : (net_told events_told : Option (List ℕ)) (net events : List ℕ) (Q : List ℕ → List ℕ → Type 0) → WhereTold net_told (IsTold net) → WhereTold events_told (IsTold events)
-    → Q net events → WhereBothTold net_told events_told Q
-both_told None events_told net events Q is is_too holds = tt
-both_told (Some bytes) None net events Q is is_too holds = tt
-both_told (Some bytes) (Some more) net events Q is is_too holds = subst (λ (b : List ℕ). Q b more) is (subst (Q net) is_too holds)
+use Rattle.command_edges.proofs.Told.{IsTold, told_as, both_told}
+use Rattle.insert_command.proofs.Later.{insert_later}
 
 -- the netlist's fault is one of both texts
 pub netlist_plays : (net : List ℕ) (events : Option (List ℕ)) (sink : SinkSeen) (f : Fault) → StandsInNetlist net f → StandsInPlay (Some net) events sink f
@@ -184,26 +179,28 @@ play_later net events a b f later stands = stands
 pub stands_later : (words : List (List ℕ)) (shelf : ShelfSeen) (a b : SinkSeen) (f : Fault) → (SinkRose a → SinkRose b) → Stands words shelf a f → Stands words shelf b f
 stands_later words shelf a b f later (inl stands) = inl stands
 stands_later words shelf a b f later (inr (inl stands)) = inr (inl stands)
-stands_later words shelf a b f later (inr (inr (n, (e, (form, inl unread))))) = inr (inr (n, (e, (form, inl unread))))
-stands_later words shelf a b f later (inr (inr (n, (e, (form, inr (short, stands)))))) =
-    inr (inr (n, (e, (form, inr (short, play_later (shelf.held n) (shelf.held e) a b f later stands)))))
+stands_later words shelf a b f later (inr (inr (inl (n, (e, (form, inl unread)))))) = inr (inr (inl (n, (e, (form, inl unread)))))
+stands_later words shelf a b f later (inr (inr (inl (n, (e, (form, inr (short, stands))))))) =
+    inr (inr (inl (n, (e, (form, inr (short, play_later (shelf.held n) (shelf.held e) a b f later stands))))))
+stands_later words shelf a b f later (inr (inr (inr (n, (p, (v, (o, (runs, stands)))))))) =
+    inr (inr (inr (n, (p, (v, (o, (runs, insert_later n p v o shelf a b f later stands)))))))
 
 -- what `sim` gave is what the command gave
 sim_gave : (words : List (List ℕ)) (shelf : ShelfSeen) (f : Fault) (netlist events : List ℕ) (before after : Option (List ℕ)) → SimForm words netlist events
     → GaveInPlay (shelf.held netlist) (shelf.held events) f before after → Gave words shelf f before after
 sim_gave words shelf f netlist events before after form (inl same) = inl same
-sim_gave words shelf f netlist events before after form (inr (failed, part)) = inr (failed, (netlist, (events, (form, part))))
+sim_gave words shelf f netlist events before after form (inr (failed, part)) = inr (inl (failed, (netlist, (events, (form, part)))))
 
 -- a simulation's end, its fault and what it gave are the command's
 pub run_done : (r : Result Status Fault) (words : List (List ℕ)) (shelf : ShelfSeen) (sink : SinkSeen) (netlist events : List ℕ) → SimForm words netlist events
     → IfOk r (λ status. AreShort netlist events shelf × IsPlayed (shelf.held netlist) (shelf.held events) sink status) → IfOk r (Finishes words shelf sink)
-run_done (Ok status) words shelf sink netlist events form played = inr (netlist, (events, (form, played)))
+run_done (Ok status) words shelf sink netlist events form played = inr (inl (netlist, (events, (form, played))))
 run_done (Err f) words shelf sink netlist events form played = tt
 
 pub run_fault : (r : Result Status Fault) (words : List (List ℕ)) (shelf : ShelfSeen) (sink : SinkSeen) (netlist events : List ℕ) → SimForm words netlist events
     → IfErr r (StandsInSim netlist events shelf sink) → IfErr r (Stands words shelf sink)
 run_fault (Ok status) words shelf sink netlist events form stands = tt
-run_fault (Err f) words shelf sink netlist events form stands = inr (inr (netlist, (events, (form, stands))))
+run_fault (Err f) words shelf sink netlist events form stands = inr (inr (inl (netlist, (events, (form, stands)))))
 
 pub run_gives : (r : Result Status Fault) (words : List (List ℕ)) (shelf : ShelfSeen) (before after : Option (List ℕ)) (netlist events : List ℕ) → SimForm words netlist events
     → IfErr r (λ f. GaveInPlay (shelf.held netlist) (shelf.held events) f before after) → IfErr r (λ f. Gave words shelf f before after)

@@ -1,37 +1,15 @@
 -- What is told of a text that was read, converted and written.
-use Rattle.std.proofs.Common.{◌≡◌, ℕ, ◌≤◌, List, take, Option, Some, None, ◌⊎◌, inl, inr, ap, subst, ◌∙◌, arith}
-use Rattle.edge_io.specs.Shelf.{Rose, WhereTold, told_if}
+use Rattle.std.proofs.Common.{◌≡◌, ℕ, List, take, Option, Some, None, ◌⊎◌, inl, inr, ap, subst, ◌∙◌}
+use Rattle.edge_io.specs.Shelf.{WhereTold, told_if}
 use Rattle.command_faults.specs.declared.fault.Fault.{Fault}
 use Rattle.command_faults.specs.declared.fault.Fault.TheVariants as fault
 use Rattle.insert_cli.specs.declared.command.Conversion.{Conversion}
 use Rattle.insert_cli.specs.declared.command.Conversion.TheVariants.{Canon, ShowBsdl}
-use Rattle.insert_cli.specs.Commands.{IsShort, IsLong}
+use Rattle.command_edges.specs.Lengths.{IsShort}
 use Rattle.insert_cli.specs.Conversions.{IsConverted, IsAccepted, IsSpelled}
-use Rattle.insert_cli.specs.Seen.{ShelfSeen, NameRose}
-use Rattle.insert_cli.specs.EdgeFaults.{StandsInReading}
+use Rattle.command_edges.specs.Seen.{ShelfSeen}
+use Rattle.command_edges.proofs.Told.{IsTold, told_as}
 use Rattle.insert_cli.specs.ConvertFaults.{StandsInText, IsWritten, IsCutShort}
-
--- the text is the bytes that are told
-abbrev pub IsTold : List ℕ → List ℕ → Type 0
-IsTold text bytes = text ≡ bytes
-
-pub told_as : (told : Option (List ℕ)) (text : List ℕ) (Q : List ℕ → Type 0) → WhereTold told (IsTold text) → Q text → WhereTold told Q
-told_as None text Q is holds = tt
-told_as (Some bytes) text Q is holds = subst Q is holds
-
--- a count that rose from a later value rose from an earlier one
-pub rose_earlier : (a b c : ℕ) → a ≤ b → Rose b c → Rose a c
-rose_earlier a b c h k = grind arith
-
-pub rose_on : (a b c : ℕ) → Rose a b → b ≤ c → Rose a c
-rose_on a b c h k = grind arith
-
--- a fault in reading stands as well over a longer time
-pub reading_longer : (name : List ℕ) (short long : ShelfSeen) (f : Fault) → short.held name ≡ long.held name → (NameRose short name → NameRose long name)
-    → StandsInReading name short f → StandsInReading name long f
-reading_longer name short long (fault.ReadFault n) same longer stands = (stands.0, longer stands.1)
-reading_longer name short long (fault.TooLong n) same longer stands = (stands.0, subst (λ (t : Option (List ℕ)). WhereTold t IsLong) same stands.1)
-reading_longer name short long f same longer stands = stands
 
 -- a fault of the text that was read stands where the text is told
 pub text_told : (c : Conversion) (told : Option (List ℕ)) (text : List ℕ) (f : Fault) → WhereTold told (IsTold text) → StandsInText c (Some text) f → StandsInText c told f

@@ -8,37 +8,53 @@ use Rattle.command_faults.specs.declared.status.Status.TheVariants as status
 use Rattle.command_faults.specs.Lines.{line_of}
 use Rattle.command_faults.specs.Statuses.{status_of}
 use Rattle.insert_cli.specs.declared.command.Conversion.{Conversion}
-use Rattle.insert_cli.specs.Commands.{ConvertForm, SimForm, IsNoCommand, RunsConvert, OfConvert, OfSim}
-use Rattle.insert_cli.specs.Seen.{ShelfSeen, SinkSeen, NameRose, SinkRose}
-use Rattle.insert_cli.specs.EdgeFaults.{AreShort}
+use Rattle.insert_cli.specs.Commands.{ConvertForm, SimForm, InsertForm, IsNoCommand, IsSameName, RunsConvert, RunsInsert, OfConvert, OfSim, OfInsert}
+use Rattle.insert_command.specs.Runs.{IsInserted, StandsInInsert, IsSinkFault, GaveReport}
+use Rattle.insert_command.specs.Free.{IsInsertable}
+use Rattle.command_edges.specs.Seen.{ShelfSeen, SinkSeen, NameRose, SinkRose}
+use Rattle.command_edges.specs.EdgeFaults.{AreShort}
 use Rattle.insert_cli.specs.Conversions.{IsAccepted}
 use Rattle.insert_cli.specs.ConvertFaults.{StandsInConvert, IsWritten, IsCutShort}
 use Rattle.insert_cli.specs.Simulations.{IsSimulable, IsEnd}
 use Rattle.insert_cli.specs.SimFaults.{StandsInSim, IsPlayed, GaveFront}
 
--- The command came to its end: a conversion's output is written and nothing is put, or a run's text is put.
+-- The command came to its end: a conversion's output is written and nothing is put, or a run's text is put, or what comes of an
+-- insertion is written and its report is put.
 abbrev pub Finishes : List (List ℕ) → ShelfSeen → SinkSeen → Status → Type 0
 Finishes words shelf sink end = OfConvert words (λ c input output.
     (end ≡ status.Done) × (sink.given_after ≡ sink.given) × IsWritten c input output shelf)
-    ⊎ OfSim words (λ netlist events.
+    ⊎ (OfSim words (λ netlist events.
     AreShort netlist events shelf × IsPlayed (shelf.held netlist) (shelf.held events) sink end)
+    ⊎ OfInsert words (λ netlist plan outnet outbsdl.
+    (end ≡ status.Done) × IsInserted netlist plan outnet outbsdl shelf sink))
+
+-- an output of `insert` has the name of another of its files
+pub record RepeatsName (words : List (List ℕ)) (name : List ℕ) : Type 0 where
+  pub netlist : List ℕ
+  pub plan : List ℕ
+  pub outnet : List ℕ
+  pub outbsdl : List ℕ
+  pub form : InsertForm words netlist plan outnet outbsdl
+  pub same : IsSameName name netlist plan outnet outbsdl
 
 -- the fault stands in the words
 abbrev pub StandsInWords : List (List ℕ) → Fault → Type 0
 StandsInWords words fault.Usage = IsNoCommand words
-StandsInWords words (fault.SameName name) = (c : Conversion) × ConvertForm words c name.now name.now
+StandsInWords words (fault.SameName name) = ((c : Conversion) × ConvertForm words c name.now name.now) ⊎ RepeatsName words name.now
 StandsInWords words f = ⊥
 
 -- The fault stands in the words, or in the command that they are.
 abbrev pub Stands : List (List ℕ) → ShelfSeen → SinkSeen → Fault → Type 0
 Stands words shelf sink f = StandsInWords words f
     ⊎ (OfConvert words (λ c input output. StandsInConvert c input output shelf f)
-    ⊎ OfSim words (λ netlist events. StandsInSim netlist events shelf sink f))
+    ⊎ (OfSim words (λ netlist events. StandsInSim netlist events shelf sink f)
+    ⊎ OfInsert words (λ netlist plan outnet outbsdl. StandsInInsert netlist plan outnet outbsdl shelf sink f)))
 
--- What was given before the fault's line: nothing, or a front of the text of a run whose giving failed.
+-- What was given before the fault's line: nothing, or a front of the text of a run, or of an insertion's report, whose giving failed.
 abbrev pub Gave : List (List ℕ) → ShelfSeen → Fault → Option (List ℕ) → Option (List ℕ) → Type 0
-Gave words shelf f before after = (after ≡ before) ⊎ ((status_of f ≡ status.WriteFault)
-    × OfSim words (λ netlist events. GaveFront (shelf.held netlist) (shelf.held events) before after))
+Gave words shelf f before after = (after ≡ before)
+    ⊎ (((status_of f ≡ status.WriteFault) × OfSim words (λ netlist events. GaveFront (shelf.held netlist) (shelf.held events) before after))
+    ⊎ (IsSinkFault f × OfInsert words (λ netlist plan outnet outbsdl. GaveReport (shelf.held netlist) (shelf.held plan) before after)))
 
 -- What was given goes on with the line; or with its front, where the sink's count rose.
 abbrev pub PutsLine : List ℕ → Option (List ℕ) → SinkSeen → Type 0
@@ -72,3 +88,10 @@ CompletesSim words shelf sink end = (netlist events net text : List ℕ) → Sim
     → shelf.held netlist ≡ Some net → shelf.held events ≡ Some text → IsSimulable net text
     → (NameRose shelf netlist → ⊥) → (NameRose shelf events → ⊥) → (SinkRose sink → ⊥)
     → IsEnd end ⊎ (end ≡ status.Memory)
+
+-- An insertion of texts in which no fault stands, where no count of its names or of the sink rises, is done or wants memory.
+abbrev pub CompletesInsert : List (List ℕ) → ShelfSeen → SinkSeen → Status → Type 0
+CompletesInsert words shelf sink end = (netlist plan outnet outbsdl net text : List ℕ) → RunsInsert words netlist plan outnet outbsdl
+    → shelf.held netlist ≡ Some net → shelf.held plan ≡ Some text → IsInsertable net text
+    → (NameRose shelf netlist → ⊥) → (NameRose shelf plan → ⊥) → (NameRose shelf outnet → ⊥) → (NameRose shelf outbsdl → ⊥) → (SinkRose sink → ⊥)
+    → (end ≡ status.Done) ⊎ (end ≡ status.Memory)

@@ -8,7 +8,7 @@ use Rattle.bsdl_device.specs.Spelled.{SpellsText as SpellsDeviceText}
 use Rattle.bsdl_device.specs.Canonical.{canonical_device}
 use Rattle.insert_cli.specs.declared.command.Conversion.{Conversion}
 use Rattle.insert_cli.specs.declared.command.Conversion.TheVariants.{Canon, ShowBsdl}
-use Rattle.insert_cli.specs.Commands.{IsShort}
+use Rattle.command_edges.specs.Lengths.{IsShort}
 
 -- The bytes spell one tree; the text is its canonical text, which spells that tree and no other.
 pub record IsCanonicalModule (bytes text : List ℕ) : Type 0 where

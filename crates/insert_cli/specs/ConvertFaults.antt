@@ -7,9 +7,9 @@ use Rattle.verilog_texts.specs.TextFaults.{IsTextFault}
 use Rattle.bsdl_values.specs.TextFaults.{IsDeviceTextFault}
 use Rattle.insert_cli.specs.declared.command.Conversion.{Conversion}
 use Rattle.insert_cli.specs.declared.command.Conversion.TheVariants.{Canon, ShowBsdl}
-use Rattle.insert_cli.specs.Commands.{IsShort}
-use Rattle.insert_cli.specs.Seen.{ShelfSeen}
-use Rattle.insert_cli.specs.EdgeFaults.{StandsInReading, StandsInWriting}
+use Rattle.command_edges.specs.Lengths.{IsShort}
+use Rattle.command_edges.specs.Seen.{ShelfSeen}
+use Rattle.command_edges.specs.EdgeFaults.{StandsInReading, StandsInWriting}
 use Rattle.insert_cli.specs.Conversions.{IsConverted, IsAccepted}
 
 -- the fault stands in a text that is converted, where the text is told

@@ -8,8 +8,8 @@ use Rattle.command_faults.specs.declared.status.Status.TheVariants as status
 use Rattle.command_faults.specs.Statuses.{status_of}
 use Rattle.verilog_texts.specs.TextFaults.{IsTextFault}
 use Rattle.scan_vectors.specs.Faults.{IsFault}
-use Rattle.insert_cli.specs.Seen.{ShelfSeen, SinkSeen, WhereBothTold}
-use Rattle.insert_cli.specs.EdgeFaults.{StandsInReadingTwo, AreShort, StandsInPutting}
+use Rattle.command_edges.specs.Seen.{ShelfSeen, SinkSeen, WhereBothTold}
+use Rattle.command_edges.specs.EdgeFaults.{StandsInReadingTwo, AreShort, StandsInPutting}
 use Rattle.insert_cli.specs.Simulations.{IsSimulation, HasLinkFault, SpellsLinkable, SpellsEvents, HasScriptFault, run_status}
 
 -- some run's text

@@ -16,7 +16,7 @@ use Rattle.event_scripts.specs.Scripts.{IsResolved, IsScriptFault}
 use Rattle.sim_runs.specs.Outputs.{IsOutput}
 use Rattle.command_faults.specs.declared.status.Status.{Status}
 use Rattle.command_faults.specs.declared.status.Status.TheVariants as status
-use Rattle.insert_cli.specs.Commands.{IsShort}
+use Rattle.command_edges.specs.Lengths.{IsShort}
 
 -- The netlist's bytes spell one tree, which is linked to this netlist; the events' bytes spell lines that are legal for it; and
 -- the text is that of their run, in which so many expectations aren't met.

@@ -22,6 +22,13 @@ pub enum Command<'a> {
         input: &'a str,
         output: &'a str,
     },
+    /// Builds the test logic of a plan into a netlist, and writes the netlist and its BSDL file.
+    Insert {
+        netlist: &'a str,
+        plan: &'a str,
+        outnet: &'a str,
+        outbsdl: &'a str,
+    },
     /// Plays the events of one text on the netlist of another.
     Sim {
         netlist: &'a str,
@@ -60,14 +67,28 @@ fn conversion_named(word: &str) -> Option<Conversion>
     }
 }
 
-/// The command that the words are. None where they have the form of no command, or a word begins with `-`.
-pub fn command_of(words: &WordList) -> Option<Command<'_>>
-    ensures { forms.IsCommandOf words.now result }
+// `insert` with its names, where the words are that.
+fn insert_of(words: &[String]) -> Option<Command<'_>>
+    ensures { forms.IsInsertOf (map string_bytes words.now) result }
 {
-    let words = words.as_slice();
-    if has_option(words) {
+    let [command, netlist, plan, outnet, outbsdl] = words else {
         return None;
+    };
+    if command.as_str() == "insert" {
+        return Some(Command::Insert {
+            netlist: netlist.as_str(),
+            plan: plan.as_str(),
+            outnet: outnet.as_str(),
+            outbsdl: outbsdl.as_str(),
+        });
     }
+    None
+}
+
+// The command of three words.
+fn command_of_three(words: &[String]) -> Option<Command<'_>>
+    ensures { forms.IsThreeOf (map string_bytes words.now) result }
+{
     let [command, first, second] = words else {
         return None;
     };
@@ -85,4 +106,25 @@ pub fn command_of(words: &WordList) -> Option<Command<'_>>
         }),
         None => None,
     }
+}
+
+// The command that words are of which none begins with `-`.
+fn plain_command(words: &[String]) -> Option<Command<'_>>
+    ensures { forms.IsPlainOf (map string_bytes words.now) result }
+{
+    match insert_of(words) {
+        Some(command) => Some(command),
+        None => command_of_three(words),
+    }
+}
+
+/// The command that the words are. None where they have the form of no command, or a word begins with `-`.
+pub fn command_of(words: &WordList) -> Option<Command<'_>>
+    ensures { forms.IsCommandOf words.now result }
+{
+    let words = words.as_slice();
+    if has_option(words) {
+        return None;
+    }
+    plain_command(words)
 }

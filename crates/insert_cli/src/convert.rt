@@ -6,13 +6,13 @@ ghost use Rattle.verilog_texts.specs.TextFaults.{IsTextFault};
 ghost use Rattle.bsdl_values.specs.TextFaults.{IsDeviceTextFault};
 ghost use Rattle.insert_cli.specs.Conversions.{IsCanonicalDevice, IsCanonicalModule, IsConverted};
 ghost use Rattle.insert_cli.specs.ConvertFaults.{StandsInConvert, StandsInText, IsCutShort, IsWritten};
-ghost use Rattle.insert_cli.specs.Seen.{shelf_seen};
+ghost use Rattle.command_edges.specs.Seen.{shelf_seen};
 
 use crate::command::Conversion;
-use crate::reading::read_text;
 use bsdl_device::DeviceTextFault;
 use bsdl_printing::print_device;
 use bsdl_values::read_device;
+use command_edges::read_text;
 use command_faults::Fault;
 use edge_io::shelf::Shelf;
 use edge_io::text::Text;

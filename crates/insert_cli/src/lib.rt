@@ -5,7 +5,7 @@
 
 mod command;
 mod convert;
-mod reading;
+mod inserting;
 mod simulate;
 mod tool;
 mod words;

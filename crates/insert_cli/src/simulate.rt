@@ -6,12 +6,12 @@ ghost use Rattle.netlist_link.specs.Links.{IsLinkOf};
 ghost use Rattle.netlist_link.specs.Laws.{FaultsForbidLinks};
 ghost use Rattle.scan_vectors.specs.Exactly.{SpelledOnce, SpelledIsFaultless};
 ghost use Rattle.event_scripts.specs.Laws.{LegalIsNotIllegal};
-ghost use Rattle.insert_cli.specs.EdgeFaults.{AreShort};
-ghost use Rattle.insert_cli.specs.Seen.{shelf_seen, sink_seen};
+ghost use Rattle.command_edges.specs.EdgeFaults.{AreShort};
+ghost use Rattle.command_edges.specs.Seen.{shelf_seen, sink_seen};
 ghost use Rattle.insert_cli.specs.Simulations.{IsEnd, run_status};
 ghost use Rattle.insert_cli.specs.SimFaults.{StandsInNetlist, StandsInPlay, StandsInSim, GaveInPlay, IsPlayed};
 
-use crate::reading::read_text;
+use command_edges::read_text;
 use command_faults::{Fault, Status};
 use edge_io::shelf::Shelf;
 use edge_io::sink::Sink;

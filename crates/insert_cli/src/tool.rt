@@ -2,18 +2,20 @@ ghost use Rattle.std.specs.Prelude.{◌≡◌, ◌≢◌, ◌≤◌, ℕ, List, 
 ghost use Rattle.edge_io.specs.Shelf.{NoneFell, SameTold};
 ghost use Rattle.command_faults.specs.Statuses.{status_of};
 ghost use Rattle.command_faults.specs.declared.status.Status.{Status};
-ghost use Rattle.insert_cli.specs.Causes.{CompletesConvert, CompletesSim, CutsShort, Fails, Finishes, Gave, Stands};
+ghost use Rattle.insert_cli.specs.Causes.{CompletesConvert, CompletesInsert, CompletesSim, CutsShort, Fails, Finishes, Gave, Stands};
 ghost use Rattle.insert_cli.specs.Commands.{Writes};
-ghost use Rattle.insert_cli.specs.Seen.{shelf_seen, sink_seen};
+ghost use Rattle.command_edges.specs.Seen.{shelf_seen, sink_seen};
 ghost use Rattle.insert_cli.specs.Simulations.{IsEnd};
 
 use crate::command::{Command, command_of};
 use crate::convert::convert;
+use crate::inserting::insert_apart;
 use crate::simulate::{faults_stand_apart, simulate};
 use crate::words::WordList;
 use command_faults::{Fault, Status, put_fault};
 use edge_io::shelf::Shelf;
 use edge_io::sink::Sink;
+use insert_command::insertion_faults_stand_apart;
 use std::alloc::Global;
 
 // Runs the command that the words are, up to its fault.
@@ -58,6 +60,12 @@ fn run<'a, S: Shelf, O: Sink>(
             convert(alloc, conversion, shelf, input, output)?;
             Ok(Status::Done)
         }
+        Command::Insert {
+            netlist,
+            plan,
+            outnet,
+            outbsdl,
+        } => insert_apart(alloc, shelf, out, netlist, plan, outnet, outbsdl),
         Command::Sim { netlist, events } => simulate(alloc, shelf, out, netlist, events),
     }
 }
@@ -72,18 +80,19 @@ pub fn run_tool<S: Shelf, O: Sink>(
 ) -> Status
     // At status 0 a conversion's output is the canonical text of the one tree or device that the input spells,
     // and nothing is put. At status 0 or 6 a simulation put the text of the events' run, and the status is 6
-    // where an expectation isn't met.
+    // where an expectation isn't met. At status 0 an insertion wrote the netlist with the plan's test logic and
+    // the BSDL text of its device, and put its report.
     ensures done { IsEnd result → Finishes words.now
         (shelf_seen S.tells S.held S.written S.faults shelf.old shelf.new)
         (sink_seen O.given O.faults out.old out.new) result }
 
-    // Any other status has a fault that stands, and the sink got its line; before it only a simulation whose
-    // giving failed put a front of its text.
+    // Any other status has a fault that stands, and the sink got its line; before it only a simulation or an
+    // insertion whose giving failed put a front of its text.
     ensures fault { (IsEnd result → ⊥) → Fails words.now
         (shelf_seen S.tells S.held S.written S.faults shelf.old shelf.new)
         (sink_seen O.given O.faults out.old out.new) result }
 
-    // Only a write that failed leaves anything changed, and only under the output's name.
+    // Only a write that failed leaves anything changed, and only under the outputs' names.
     ensures unwritten { (IsEnd result → ⊥) → result ≢ Status.WriteFault
         → SameTold (S.written shelf.old) (S.written shelf.new) }
     ensures cut_short { result ≡ Status.WriteFault → CutsShort words.now
@@ -99,10 +108,14 @@ pub fn run_tool<S: Shelf, O: Sink>(
     ensures complete_sim { CompletesSim words.now
         (shelf_seen S.tells S.held S.written S.faults shelf.old shelf.new)
         (sink_seen O.given O.faults out.old out.new) result }
+    ensures complete_insert { CompletesInsert words.now
+        (shelf_seen S.tells S.held S.written S.faults shelf.old shelf.new)
+        (sink_seen O.given O.faults out.old out.new) result }
     ensures later { NoneFell (S.faults shelf.old) (S.faults shelf.new) }
     ensures puts_later { O.faults out.old ≤ O.faults out.new }
 {
     faults_stand_apart();
+    insertion_faults_stand_apart();
     let fault = match run(alloc, words, shelf, out) {
         Ok(status) => return status,
         Err(fault) => fault,

@@ -2,7 +2,7 @@ use Rattle.std.proofs.Common.{Some, Err, inr, refl, ap}
 use Rattle.command_faults.specs.declared.fault.Fault.TheVariants as fault
 use Rattle.insert_cli.specs.SimFaults.{StandsInPlay}
 use Rattle.insert_cli.specs.Simulations.{IsSimulation}
-use Rattle.insert_cli.specs.Seen.{SinkSeen, sink_seen}
+use Rattle.command_edges.specs.Seen.{SinkSeen, sink_seen}
 use Rattle.insert_cli.proofs.Simulated.{simulation_made, linkable_of, events_of, front_made, played_made, script_fault_made, err_is}
 use Rattle.insert_cli.proofs.simulate.play_texts.Goals as goal
 

@@ -1,7 +1,7 @@
 use Rattle.std.proofs.Common.{List, ℕ, Option, subst}
 use Rattle.edge_io.specs.Shelf.{WhereTold}
-use Rattle.insert_cli.specs.Seen.{ShelfSeen, SinkSeen, shelf_seen, sink_seen}
-use Rattle.insert_cli.proofs.Told.{IsTold}
+use Rattle.command_edges.specs.Seen.{ShelfSeen, SinkSeen, shelf_seen, sink_seen}
+use Rattle.command_edges.proofs.Told.{IsTold}
 use Rattle.insert_cli.proofs.Simulated.{AreRead, sim_done, sim_fault, sim_gives}
 use Rattle.insert_cli.proofs.simulate.simulate.Goals as goal
 

@@ -1,8 +1,8 @@
 ghost use Rattle.std.specs.Prelude.{◌≡◌, IfErr, IfOk};
 ghost use Rattle.edge_io.specs.Shelf.{NoneFell, SameTold, WhereTold};
-ghost use Rattle.insert_cli.specs.Commands.{IsShort};
-ghost use Rattle.insert_cli.specs.EdgeFaults.{StandsInReading};
-ghost use Rattle.insert_cli.specs.Seen.{shelf_seen};
+ghost use Rattle.command_edges.specs.Lengths.{IsShort};
+ghost use Rattle.command_edges.specs.EdgeFaults.{StandsInReading};
+ghost use Rattle.command_edges.specs.Seen.{shelf_seen};
 
 use command_faults::Fault;
 use edge_io::shelf::Shelf;

@@ -3,8 +3,8 @@ use Rattle.std.specs.Prelude.{◌≡◌, ℕ, ◌⊎◌, List, codes}
 use Rattle.edge_io.specs.Shelf.{WhereTold}
 use Rattle.command_faults.specs.declared.fault.Fault.{Fault}
 use Rattle.command_faults.specs.declared.fault.Fault.TheVariants as fault
-use Rattle.insert_cli.specs.Commands.{IsShort, IsLong}
-use Rattle.insert_cli.specs.Seen.{ShelfSeen, SinkSeen, NameRose, SinkRose}
+use Rattle.command_edges.specs.Lengths.{IsShort, IsLong}
+use Rattle.command_edges.specs.Seen.{ShelfSeen, SinkSeen, NameRose, SinkRose}
 
 -- the fault stands in reading what lies under a name
 abbrev pub StandsInReading : List ℕ → ShelfSeen → Fault → Type 0

@@ -1,0 +1,10 @@
+// How commands read, write and put whole texts, and their faults of it.
+// Contracts cite specs/EdgeFaults.antt, over specs/Seen.antt: what a command saw of its shelf and its sink.
+// Own: no chapter of a standard speaks of it.
+#![tactic(auto)]
+
+mod reading;
+mod writing;
+
+pub use reading::read_text;
+pub use writing::{put_text, write_text};

@@ -1,0 +1,105 @@
+-- What `insert` writes and puts, when each fault stands in it, and what it leaves. Own.
+use Rattle.std.specs.Prelude.{◌≡◌, ℕ, ◌⊎◌, List, take, Option}
+use Rattle.edge_io.specs.Shelf.{WhereTold, appended, told_if}
+use Rattle.command_faults.specs.declared.fault.Fault.{Fault}
+use Rattle.command_faults.specs.declared.fault.Fault.TheVariants as fault
+use Rattle.insertions.specs.Insertions.{IsInsertion}
+use Rattle.command_edges.specs.Seen.{ShelfSeen, SinkSeen, WhereBothTold}
+use Rattle.command_edges.specs.EdgeFaults.{StandsInReadingTwo, AreShort, StandsInWriting, StandsInPutting, standard_output}
+use Rattle.insert_command.specs.Faults.{SpellsNetlist, SpellsSomePlan, StandsInInputs}
+
+-- Writing.
+
+-- The texts of the netlist and of the device are written under their names, and the report was given.
+pub record IsWrittenOut (netlist_name device_name netlist device report : List ℕ) (shelf : ShelfSeen) (sink : SinkSeen) : Type 0 where
+  pub netlist_written : shelf.written_after netlist_name ≡ told_if shelf.tells netlist
+  pub device_written : shelf.written_after device_name ≡ told_if shelf.tells device
+  pub gives : sink.given_after ≡ appended report sink.given
+
+-- what is written under the name is as before, or a front of the text
+abbrev pub IsCutOff : List ℕ → List ℕ → ShelfSeen → Type 0
+IsCutOff name text shelf = (shelf.written_after name ≡ shelf.written name) ⊎ ((k : ℕ) × (shelf.written_after name ≡ told_if shelf.tells (take k text)))
+
+-- the netlist couldn't be written, and the device is as before
+pub record StandsInNetlistWrite (netlist_name device_name netlist : List ℕ) (shelf : ShelfSeen) (f : Fault) : Type 0 where
+  pub fault_is : StandsInWriting netlist_name shelf f
+  pub netlist_cut : IsCutOff netlist_name netlist shelf
+  pub device_kept : shelf.written_after device_name ≡ shelf.written device_name
+
+-- the device couldn't be written, and the netlist stands whole
+pub record StandsInDeviceWrite (netlist_name device_name netlist device : List ℕ) (shelf : ShelfSeen) (f : Fault) : Type 0 where
+  pub fault_is : StandsInWriting device_name shelf f
+  pub netlist_whole : shelf.written_after netlist_name ≡ told_if shelf.tells netlist
+  pub device_cut : IsCutOff device_name device shelf
+
+-- the report couldn't be given, and both stand whole
+pub record StandsInReport (netlist_name device_name netlist device : List ℕ) (shelf : ShelfSeen) (sink : SinkSeen) (f : Fault) : Type 0 where
+  pub fault_is : StandsInPutting sink f
+  pub netlist_whole : shelf.written_after netlist_name ≡ told_if shelf.tells netlist
+  pub device_whole : shelf.written_after device_name ≡ told_if shelf.tells device
+
+-- The fault stands in writing the netlist, then the device, then the report.
+abbrev pub StandsInWritings : List ℕ → List ℕ → List ℕ → List ℕ → ShelfSeen → SinkSeen → Fault → Type 0
+StandsInWritings netlist_name device_name netlist device shelf sink f =
+    StandsInNetlistWrite netlist_name device_name netlist shelf f
+    ⊎ (StandsInDeviceWrite netlist_name device_name netlist device shelf f
+    ⊎ StandsInReport netlist_name device_name netlist device shelf sink f)
+
+-- the fault is one of giving
+abbrev pub IsSinkFault : Fault → Type 0
+IsSinkFault (fault.WriteFault name) = name.now ≡ standard_output
+IsSinkFault f = ⊥
+
+-- nothing was given; or, where giving failed, a front of the report
+abbrev pub GavePart : List ℕ → Fault → Option (List ℕ) → Option (List ℕ) → Type 0
+GavePart report f before after = (after ≡ before) ⊎ (IsSinkFault f × ((k : ℕ) × (after ≡ appended (take k report) before)))
+
+-- The whole.
+
+-- the texts of a netlist and of a plan, where they are told, are short and spelled, and these three come of them
+pub record AreInserted (netlist plan : List ℕ) (shelf : ShelfSeen) (verilog bsdl report : List ℕ) : Type 0 where
+  pub short : AreShort netlist plan shelf
+  pub netlist_spelled : WhereTold (shelf.held netlist) SpellsNetlist
+  pub plan_spelled : WhereTold (shelf.held plan) SpellsSomePlan
+  pub insertion : WhereBothTold (shelf.held netlist) (shelf.held plan) (λ n p. IsInsertion n p verilog bsdl report)
+
+-- The netlist with the test logic is written under one name and its BSDL text under the other, and the report was given.
+pub record IsInserted (netlist plan outnet outbsdl : List ℕ) (shelf : ShelfSeen) (sink : SinkSeen) : Type 0 where
+  pub verilog : List ℕ
+  pub bsdl : List ℕ
+  pub report : List ℕ
+  pub made : AreInserted netlist plan shelf verilog bsdl report
+  pub written_out : IsWrittenOut outnet outbsdl verilog bsdl report shelf sink
+
+-- what comes of the texts couldn't be written
+pub record StandsInOutput (netlist plan outnet outbsdl : List ℕ) (shelf : ShelfSeen) (sink : SinkSeen) (f : Fault) : Type 0 where
+  pub verilog : List ℕ
+  pub bsdl : List ℕ
+  pub report : List ℕ
+  pub made : AreInserted netlist plan shelf verilog bsdl report
+  pub stands : StandsInWritings outnet outbsdl verilog bsdl shelf sink f
+
+-- The fault stands in `insert`: in reading one of its texts, in texts that were read, or in writing what comes of them.
+abbrev pub StandsInInsert : List ℕ → List ℕ → List ℕ → List ℕ → ShelfSeen → SinkSeen → Fault → Type 0
+StandsInInsert netlist plan outnet outbsdl shelf sink f = StandsInReadingTwo netlist plan shelf f
+    ⊎ ((AreShort netlist plan shelf × StandsInInputs (shelf.held netlist) (shelf.held plan) f)
+    ⊎ StandsInOutput netlist plan outnet outbsdl shelf sink f)
+
+-- the bytes are a front of the report on what comes of the texts
+pub record IsFrontOfReport (front net plan : List ℕ) : Type 0 where
+  pub verilog : List ℕ
+  pub bsdl : List ℕ
+  pub report : List ℕ
+  pub insertion : IsInsertion net plan verilog bsdl report
+  pub count : ℕ
+  pub front_is : front ≡ take count report
+
+-- a front of the report was given
+pub record GaveReport (net plan before after : Option (List ℕ)) : Type 0 where
+  pub front : List ℕ
+  pub gives : after ≡ appended front before
+  pub of_report : WhereBothTold net plan (IsFrontOfReport front)
+
+-- nothing was given before the fault; or, where giving failed, a front of the report
+abbrev pub GaveInInsert : Option (List ℕ) → Option (List ℕ) → Fault → Option (List ℕ) → Option (List ℕ) → Type 0
+GaveInInsert net plan f before after = (after ≡ before) ⊎ (IsSinkFault f × GaveReport net plan before after)

@@ -1,0 +1,15 @@
+ghost use Rattle.netlist_link.specs.Laws.{FaultsForbidLinks};
+ghost use Rattle.plan_texts.specs.Exactly.{SpelledOnce, SpelledIsFaultless};
+
+use netlist_link::faults_forbid_links;
+use plan_texts::texts_of_plans_are_spelled_or_at_fault;
+
+/// A law: no fault stands in texts that are free of faults.
+pub fn insertion_faults_stand_apart()
+    ensures links { FaultsForbidLinks }
+    ensures once { SpelledOnce }
+    ensures faultless { SpelledIsFaultless }
+{
+    faults_forbid_links();
+    texts_of_plans_are_spelled_or_at_fault();
+}

@@ -1,0 +1,11 @@
+// The command that inserts: reads a netlist and a plan, and writes the netlist with the test logic built in, its BSDL file and a report.
+// The contract of `insert` cites specs/Runs.antt, which stands on insertions' specs/Insertions.antt.
+// Own: no chapter of a standard speaks of it.
+#![tactic(auto)]
+
+mod inserting;
+mod laws;
+mod texts;
+
+pub use inserting::insert;
+pub use laws::insertion_faults_stand_apart;

@@ -1,0 +1,81 @@
+-- When each fault of an insertion stands: in the netlist's text, the module, the plan's text, how it fits, and the room. Own.
+use Rattle.std.specs.Prelude.{◌≡◌, ℕ, List, Some}
+use Rattle.verilog_tree.specs.declared.tree.Module.{Module}
+use Rattle.verilog_tree.specs.Texts.{SpellsText}
+use Rattle.verilog_texts.specs.TextFaults.{IsTextFault}
+use Rattle.link_model.specs.declared.fault.LinkFault.{LinkFault}
+use Rattle.netlist_model.specs.declared.What.{What}
+use Rattle.netlist_arena.specs.declared.room.ReserveFault.TheVariants as reserve
+use Rattle.netlist_arena.specs.Room.{too_many}
+use Rattle.netlist_link.specs.Linked.{LinkedView}
+use Rattle.netlist_link.specs.Links.{IsLinkFault}
+use Rattle.plan_texts.specs.declared.plan.Plan.{Plan}
+use Rattle.plan_texts.specs.Grammar.{SpellsPlan}
+use Rattle.plan_texts.specs.Faults as texts
+use Rattle.plan_fitting.specs.declared.fault.FitFault.{FitFault}
+use Rattle.plan_fitting.specs.declared.fitted.Fitted.{Fitted}
+use Rattle.plan_fitting.specs.Devices.{IsFitted}
+use Rattle.plan_fitting.specs.Fits as fits
+use Rattle.stitch_names.specs.Prepared.{room_of, ports_of}
+use Rattle.insertion_inputs.specs.declared.fault.InsertFault.{InsertFault}
+use Rattle.insertion_inputs.specs.declared.fault.InsertFault.TheVariants as fault
+use Rattle.insertion_inputs.specs.Inputs.{IsNetlistOf}
+
+-- The netlist.
+
+-- the netlist's bytes spell a tree in which this fault of linking stands
+pub record HasLinkFault (f : LinkFault) (net : List ℕ) : Type 0 where
+  pub tree : Module
+  pub spells : SpellsText net tree
+  pub only : (other : Module) → SpellsText net other → other ≡ tree
+  pub fault : IsLinkFault tree f
+
+abbrev pub StandsInNetlist : List ℕ → InsertFault → Type 0
+StandsInNetlist net (fault.Netlist f) = IsTextFault net f
+StandsInNetlist net (fault.Link f) = HasLinkFault f net
+StandsInNetlist net fault.OutOfMemory = Unit {0}
+StandsInNetlist net f = ⊥
+
+-- A plan at a netlist.
+
+-- the plan fits, and with its test logic there are so many where so many are the limit
+pub record HasTooMany (linked : LinkedView) (p : Plan) (what : What) (count limit : ℕ) : Type 0 where
+  pub fitted : Fitted
+  pub is : IsFitted linked p fitted
+  pub passes : too_many linked.arena.lists (room_of fitted) (room_of fitted) (ports_of fitted) ≡ Some (reserve.TooMany what count limit)
+
+abbrev pub StandsInFit : LinkedView → Plan → InsertFault → Type 0
+StandsInFit linked p (fault.Fit f) = fits.IsFault linked p f
+StandsInFit linked p (fault.TooMany what count limit) = HasTooMany linked p what count limit
+StandsInFit linked p fault.OutOfMemory = Unit {0}
+StandsInFit linked p f = ⊥
+
+-- the bytes spell a plan, in which the fault stands at this netlist
+pub record HasPlanAtFault (linked : LinkedView) (text : List ℕ) (f : InsertFault) : Type 0 where
+  pub plan : Plan
+  pub spells : SpellsPlan text plan
+  pub stands : StandsInFit linked plan f
+
+abbrev pub StandsInPlan : LinkedView → List ℕ → InsertFault → Type 0
+StandsInPlan linked text (fault.Plan f) = texts.IsFault text f
+StandsInPlan linked text (fault.Fit f) = HasPlanAtFault linked text (fault.Fit f)
+StandsInPlan linked text (fault.TooMany what count limit) = HasPlanAtFault linked text (fault.TooMany what count limit)
+StandsInPlan linked text fault.OutOfMemory = Unit {0}
+StandsInPlan linked text f = ⊥
+
+-- Both texts.
+
+-- the netlist's bytes spell a netlist at which the plan's have this fault
+pub record HasPlanFault (net text : List ℕ) (f : InsertFault) : Type 0 where
+  pub linked : LinkedView
+  pub netlist : IsNetlistOf net linked
+  pub stands : StandsInPlan linked text f
+
+-- The fault stands in the bytes of a netlist and of a plan; the netlist is looked at first.
+abbrev pub StandsInTexts : List ℕ → List ℕ → InsertFault → Type 0
+StandsInTexts net text (fault.Netlist f) = IsTextFault net f
+StandsInTexts net text (fault.Link f) = HasLinkFault f net
+StandsInTexts net text (fault.Plan f) = HasPlanFault net text (fault.Plan f)
+StandsInTexts net text (fault.Fit f) = HasPlanFault net text (fault.Fit f)
+StandsInTexts net text (fault.TooMany what count limit) = HasPlanFault net text (fault.TooMany what count limit)
+StandsInTexts net text fault.OutOfMemory = Unit {0}

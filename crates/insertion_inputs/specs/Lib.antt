@@ -1,0 +1,3 @@
+pub mod Reserves
+pub mod Inputs
+pub mod Faults

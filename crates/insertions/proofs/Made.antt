@@ -1,0 +1,177 @@
+-- What is written of a netlist with its test logic is what inserting comes to.
+use Rattle.std.proofs.Common.{◌≡◌, ℕ, ◌+◌, List, [], ◌∷◌, ◌++◌, length, Result, Ok, Err, IfOk, refl, sym, ap, subst, ◌∙◌}
+use Rattle.std.proofs.lemmas.List.Sums.{sum_by-append}
+use Rattle.verilog_tree.specs.declared.tree.Module.{Module}
+use Rattle.verilog_tree.specs.Texts.{SpellsText}
+use Rattle.verilog_tree.specs.Canonical.{canonical}
+use Rattle.bsdl_device.specs.declared.values.Device.{Device}
+use Rattle.bsdl_device.specs.IsDevice.{IsDevice}
+use Rattle.bsdl_device.specs.Canonical.{canonical_device}
+use Rattle.bsdl_device.specs.Spelled.{SpellsText as SpellsDeviceText}
+use Rattle.bsdl_values.specs.Laws.{DevicesAreReadBack}
+use Rattle.netlist_model.specs.Lists.{PortView, cell_count}
+use Rattle.netlist_model.specs.Formed.{IsLaidOut}
+use Rattle.netlist_arena.specs.Arena.{bit_count}
+use Rattle.netlist_link.specs.Linked.{LinkedView}
+use Rattle.netlist_link.specs.Links.{IsLinkOf}
+use Rattle.netlist_unlink.specs.Prefixes.{IsFreePrefix}
+use Rattle.plan_texts.specs.declared.plan.Plan.{Plan}
+use Rattle.plan_texts.specs.Exactly.{SpelledOnce}
+use Rattle.plan_texts.specs.Grammar.{SpellsPlan}
+use Rattle.plan_fitting.specs.declared.fitted.Fitted.{Fitted}
+use Rattle.plan_fitting.specs.Devices.{IsFitted, device_of}
+use Rattle.stitch_model.specs.declared.TapNames.{TapNames}
+use Rattle.stitch_model.specs.declared.TapPort.{TapPort}
+use Rattle.stitch_model.specs.Stitched.{tap_ports, tap_port}
+use Rattle.insertion_report.specs.Reports.{report_of}
+use Rattle.insertion_inputs.specs.declared.fault.InsertFault.{InsertFault}
+use Rattle.insertion_inputs.specs.declared.fault.InsertFault.TheVariants as fault
+use Rattle.insertion_inputs.specs.Inputs.{IsNetlistOf, IsLinkedTree, IsFittingAs}
+use Rattle.insertion_inputs.specs.Faults.{StandsInNetlist, StandsInPlan, StandsInTexts}
+use Rattle.plan_devices.specs.Laws.{FittedIsFitting}
+use Rattle.stitch_names.specs.Prepared.{prepared}
+use Rattle.scan_stitch.specs.Stitch.{CanStitch, IsStitched}
+use Rattle.stitch_texts.specs.Written.{IsStitchedOf, WritesStitched}
+use Rattle.stitch_texts.specs.Laws.{IsStitching, StitchedCanBeWritten, StitchedIsWritten}
+use Rattle.written_runs.specs.Laws.{WrittenRealises, WrittenIsAlone}
+use Rattle.insertions.specs.declared.texts.Inserted.{Inserted}
+use Rattle.insertions.specs.Insertions.{IsNetlistText, IsDeviceText, IsInsertion}
+
+-- Faults.
+
+pub netlist_stands : (net text : List ℕ) (f : InsertFault) → StandsInNetlist net f → StandsInTexts net text f
+netlist_stands net text (fault.Netlist f) stands = stands
+netlist_stands net text (fault.Link f) stands = stands
+netlist_stands net text fault.OutOfMemory stands = tt
+netlist_stands net text f stands = absurd stands
+
+pub plan_stands : (net text : List ℕ) (linked : LinkedView) (f : InsertFault) → IsNetlistOf net linked → StandsInPlan linked text f → StandsInTexts net text f
+plan_stands net text linked (fault.Plan f) is stands = record { linked = linked; netlist = is; stands = stands }
+plan_stands net text linked (fault.Fit f) is stands = record { linked = linked; netlist = is; stands = stands }
+plan_stands net text linked (fault.TooMany what count limit) is stands = record { linked = linked; netlist = is; stands = stands }
+plan_stands net text linked fault.OutOfMemory is stands = tt
+plan_stands net text linked f is stands = absurd stands
+
+-- The netlist with its test logic.
+
+pub linked_tree : (net : List ℕ) (linked : LinkedView) → IsNetlistOf net linked → IsLinkedTree linked
+linked_tree net linked is = record { tree = is.tree; is = is.is; links = is.links }
+
+abbrev pub stitching : (net text : List ℕ) (before readied after : LinkedView) (p : Plan) (f : Fitted) (d : Device) → (is : IsNetlistOf net before) → IsLaidOut before.arena.lists
+    → IsFittingAs text before p f d readied → IsStitchedOf before f after → IsStitching is.tree before p f after
+stitching net text before readied after p f d is laid made stitched = record {
+  tree = is.is;
+  linked = is.links;
+  laid = laid;
+  plan = (text, made.spells);
+  fits = made.prepares.ready.fits;
+  room = made.prepares.room;
+  is = stitched;
+}
+
+stitching_fits : (net text : List ℕ) (before readied after : LinkedView) (p : Plan) (f : Fitted) (d : Device) → (is : IsNetlistOf net before) → (laid : IsLaidOut before.arena.lists)
+    → (made : IsFittingAs text before p f d readied) → (stitched : IsStitchedOf before f after) → (stitching net text before readied after p f d is laid made stitched).fits ≡ made.prepares.ready.fits
+stitching_fits net text before readied after p f d is laid made stitched = refl
+
+pub can_stitch : FittedIsFitting → (net text : List ℕ) (before readied : LinkedView) (p : Plan) (f : Fitted) (d : Device) → IsNetlistOf net before → IsFittingAs text before p f d readied
+    → CanStitch readied f
+can_stitch law net text before readied p f d is made = record {
+  before = before;
+  plan = p;
+  fitted = made.prepares.ready.fits;
+  fitting = law is.tree before p f is.is is.links (text, made.spells) made.prepares.ready.fits;
+  dense = is.links.dense;
+  prepared_is = made.prepares.after_is;
+  small = made.prepares.ready.small;
+  few = made.prepares.room;
+}
+
+pub stitched_of : (before ready after : LinkedView) (f : Fitted) → ready ≡ prepared f before → IsStitched ready after f → IsStitchedOf before f after
+stitched_of before ready after f is made =
+    let s : IsStitched (prepared f before) after f = subst (λ (l : LinkedView). IsStitched l after f) is made in
+    record { names = s.tap; table = s.names; are = s.tap_is; same = s.netlist }
+
+-- The report.
+
+tap_bits : (names : TapNames) (port : TapPort) → bit_count (tap_ports names port) ≡ 5
+tap_bits names port = refl
+
+five_more : (before after : LinkedView) (f : Fitted) → IsStitchedOf before f after → bit_count after.arena.lists.ports ≡ bit_count before.arena.lists.ports + 5
+five_more before after f s =
+    let port = tap_port (length before.arena.lists.nets) in
+    ap bit_count s.same.ports ∙ sum_by-append (λ (q : PortView). length q.nets) before.arena.lists.ports (tap_ports s.names port)
+    ∙ ap (λ (n : ℕ). bit_count before.arena.lists.ports + n) (tap_bits s.names port)
+
+-- What writing needs.
+
+pub free_prefix : StitchedCanBeWritten → (net text : List ℕ) (before readied after : LinkedView) (p : Plan) (f : Fitted) (d : Device) → IsNetlistOf net before → IsLaidOut before.arena.lists
+    → IsFittingAs text before p f d readied → IsStitched readied after f → IsFreePrefix after p.prefix
+free_prefix law net text before readied after p f d is laid made built =
+    law is.tree before p f after (stitching net text before readied after p f d is laid made (stitched_of before readied after f made.prepares.after_is built))
+
+pub device_kept : (text : List ℕ) (before readied : LinkedView) (p : Plan) (f : Fitted) (d : Device) → IsFittingAs text before p f d readied → IsDevice d
+device_kept text before readied p f d made = subst IsDevice (sym made.device_is) made.prepares.device
+
+-- The whole.
+
+pub insertion_made : SpelledOnce → StitchedIsWritten → WrittenRealises → WrittenIsAlone → (net text verilog bsdl report : List ℕ) (before after : LinkedView) (p : Plan) (f : Fitted) (d : Device) → (is : IsNetlistOf net before)
+    → (s : IsStitching is.tree before p f after) → IsLaidOut after.arena.lists → SpellsPlan text p → d ≡ device_of before p s.fits.seen → IsNetlistText after p.prefix verilog → IsDeviceText d bsdl
+    → report ≡ report_of (bit_count after.arena.lists.ports) f.kept d → IsInsertion net text verilog bsdl report
+insertion_made once law realise single net text verilog bsdl report before after p f d is s laid_after spelled device_is out device told =
+    let w : WritesStitched before p out.tree = law is.tree before p f after s out.tree out.is out.writes in
+    written_made once realise single net text verilog bsdl report before after p f d is s laid_after spelled device_is out device told w w.linked.0 w.linked.1
+  where
+    written_made : SpelledOnce → WrittenRealises → WrittenIsAlone → (net text verilog bsdl report : List ℕ) (before after : LinkedView) (p : Plan) (f : Fitted) (d : Device) → (is : IsNetlistOf net before)
+        → (s : IsStitching is.tree before p f after) → IsLaidOut after.arena.lists → SpellsPlan text p → d ≡ device_of before p s.fits.seen → (out : IsNetlistText after p.prefix verilog) → IsDeviceText d bsdl
+        → report ≡ report_of (bit_count after.arena.lists.ports) f.kept d → WritesStitched before p out.tree → (written : LinkedView) → IsLinkOf out.tree written → IsInsertion net text verilog bsdl report
+    written_made once realise single net text verilog bsdl report before after p f d is s laid_after spelled device_is out device told w written links =
+        let bits : bit_count after.arena.lists.ports ≡ bit_count written.arena.lists.ports = five_more before after f s.is ∙ sym (w.bits written links) in
+        let kept : f.kept ≡ cell_count before.arena.lists = ap (λ (g : Fitted). g.kept) s.fits.is in
+        record {
+          tree = is.tree;
+          spells = is.spells;
+          only = is.only;
+          is = is.is;
+          linked = before;
+          links = is.links;
+          wanted = p;
+          spells_plan = spelled;
+          only_plan = λ other spells. once text other p spells spelled;
+          fits = record { seen = s.fits.seen; are_seen = s.fits.are_seen; faultless = s.fits.faultless };
+          written_tree = out.tree;
+          verilog_is = out.text_is;
+          spells_written = subst (λ (t : List ℕ). SpellsText t out.tree) (sym out.text_is) w.spells;
+          only_written = λ other spells. w.only other (subst (λ (t : List ℕ). SpellsText t other) out.text_is spells);
+          written = written;
+          links_written = links;
+          one = λ other other_links. w.one written other links other_links;
+          keeps = w.keeps written links;
+          device = subst (λ (e : Device). IsDeviceText e bsdl) device_is device;
+          report_is = told ∙ ap (λ (n : ℕ). report_of n f.kept d) bits ∙ ap (λ (n : ℕ). report_of (bit_count written.arena.lists.ports) n d) kept
+              ∙ ap (λ (e : Device). report_of (bit_count written.arena.lists.ports) (cell_count before.arena.lists) e) device_is;
+          realises = realise is.tree before p f after s laid_after out.tree out.writes written links;
+          alone = single is.tree before p f after s laid_after out.tree out.writes written links;
+        }
+
+-- The device's text.
+
+pub device_told : {E : Type 0} → DevicesAreReadBack → (r : Result (List ℕ) E) (d : Device) → IsDevice d → IfOk r (λ text. text ≡ canonical_device d) → IfOk r (IsDeviceText d)
+device_told law (Ok text) d is told =
+    let back = law d is in record {
+      text_is = told;
+      spells = subst (λ (t : List ℕ). SpellsDeviceText t d) (sym told) back.spells;
+      only = λ other spells. back.only other (subst (λ (t : List ℕ). SpellsDeviceText t other) told spells);
+    }
+device_told law (Err e) d is told = tt
+
+-- so it is of whatever was written, where memory lasted
+pub insertions_made : {E : Type 0} → SpelledOnce → StitchedIsWritten → WrittenRealises → WrittenIsAlone → (net text : List ℕ) (r : Result Inserted E) (before readied after : LinkedView) (p : Plan) (f : Fitted) (d : Device)
+    → IsNetlistOf net before → IsLaidOut before.arena.lists → IsLaidOut after.arena.lists → IsFittingAs text before p f d readied → IsStitched readied after f
+    → IfOk r (λ made. IsNetlistText after p.prefix made.verilog) → IfOk r (λ made. IsDeviceText d made.bsdl)
+    → IfOk r (λ made. made.report ≡ report_of (bit_count after.arena.lists.ports) f.kept d) → IfOk r (λ made. IsInsertion net text made.verilog made.bsdl made.report)
+insertions_made once law realise single net text (Ok made) before readied after p f d is laid laid_after fitting built out device told =
+    let stitched = stitched_of before readied after f fitting.prepares.after_is built in
+    let same = stitching_fits net text before readied after p f d is laid fitting stitched in
+    insertion_made once law realise single net text made.verilog made.bsdl made.report before after p f d is (stitching net text before readied after p f d is laid fitting stitched) laid_after fitting.spells
+    (fitting.device_is ∙ sym (ap (λ (fits : IsFitted before p f). device_of before p fits.seen) same)) out device told
+insertions_made once law realise single net text (Err e) before readied after p f d is laid laid_after fitting built out device told = tt

@@ -1,0 +1,85 @@
+-- What inserting makes of the bytes of a netlist and of a plan.
+-- IEEE Std 1149.1-2001: test logic architecture, the annex on BSDL; IEEE Std 1364-2001 for the netlists; plans and reports are own.
+use Rattle.std.specs.Prelude.{◌≡◌, ℕ, List}
+use Rattle.verilog_tree.specs.declared.tree.Module.{Module}
+use Rattle.verilog_tree.specs.Texts.{SpellsText}
+use Rattle.verilog_tree.specs.IsTree.{IsTree}
+use Rattle.verilog_tree.specs.Canonical.{canonical}
+use Rattle.bsdl_device.specs.declared.values.Device.{Device}
+use Rattle.bsdl_device.specs.Spelled.{SpellsText as SpellsDeviceText}
+use Rattle.bsdl_device.specs.Canonical.{canonical_device}
+use Rattle.netlist_model.specs.Lists.{cell_count}
+use Rattle.netlist_model.specs.Formed.{IsLaidOut}
+use Rattle.netlist_arena.specs.Arena.{bit_count}
+use Rattle.netlist_link.specs.Linked.{LinkedView}
+use Rattle.netlist_link.specs.Links.{IsLinkOf}
+use Rattle.netlist_link.specs.ViewLaws.{IsSameView}
+use Rattle.netlist_unlink.specs.Renumbered.{IsWrittenAs}
+use Rattle.plan_texts.specs.declared.plan.Plan.{Plan}
+use Rattle.plan_texts.specs.Grammar.{SpellsPlan}
+use Rattle.plan_fitting.specs.declared.fitted.Fitted.{Fitted}
+use Rattle.plan_fitting.specs.Fits.{Fits}
+use Rattle.plan_fitting.specs.Devices.{device_of}
+use Rattle.wrapped_chip.specs.Realises.{Keeps, Realises, Alone}
+use Rattle.insertion_report.specs.Reports.{report_of}
+use Rattle.insertion_inputs.specs.Inputs.{IsNetlistOf, IsFittingAs}
+use Rattle.stitch_texts.specs.Written.{spelt, tap_of}
+
+-- Texts that are written.
+
+-- own: the text is the canonical one of a module that the netlist is written as
+pub record IsNetlistText (linked : LinkedView) (prefix text : List ℕ) : Type 0 where
+  pub tree : Module
+  pub is : IsTree tree
+  pub writes : IsWrittenAs linked prefix tree
+  pub text_is : text ≡ canonical tree
+
+-- own: the text is canonical, and spells the device and no other
+pub record IsDeviceText (device : Device) (text : List ℕ) : Type 0 where
+  pub text_is : text ≡ canonical_device device
+  pub spells : SpellsDeviceText text device
+  pub only : (other : Device) → SpellsDeviceText text other → other ≡ device
+
+-- The whole.
+
+-- The netlist's bytes spell one tree, which is linked to this netlist, and the plan's bytes spell one plan, which fits it. The
+-- written text is the canonical text of a tree, which it spells alone; no fault stands in that tree, which has one netlist, and
+-- that keeps the first one's ports and cells, with the test access port. The BSDL text is the canonical text of the plan's device,
+-- which it spells alone. The report is on that device. The written netlist behaves as the first one wrapped in that device's test
+-- logic, and as the first one alone while a transparent instruction is in effect.
+pub record IsInsertion (net plan verilog bsdl report : List ℕ) : Type 0 where
+  pub tree : Module
+  pub spells : SpellsText net tree
+  pub only : (other : Module) → SpellsText net other → other ≡ tree
+  pub is : IsTree tree
+  pub linked : LinkedView
+  pub links : IsLinkOf tree linked
+  pub wanted : Plan
+  pub spells_plan : SpellsPlan plan wanted
+  pub only_plan : (other : Plan) → SpellsPlan plan other → other ≡ wanted
+  pub fits : Fits linked wanted
+  pub written_tree : Module
+  pub verilog_is : verilog ≡ canonical written_tree
+  pub spells_written : SpellsText verilog written_tree
+  pub only_written : (other : Module) → SpellsText verilog other → other ≡ written_tree
+  pub written : LinkedView
+  pub links_written : IsLinkOf written_tree written
+  pub one : (other : LinkedView) → IsLinkOf written_tree other → IsSameView written other
+  pub keeps : Keeps written.arena.lists linked.arena.lists (spelt written.names) (spelt linked.names) (tap_of wanted)
+  pub device : IsDeviceText (device_of linked wanted fits.seen) bsdl
+  pub report_is : report ≡ report_of (bit_count written.arena.lists.ports) (cell_count linked.arena.lists) (device_of linked wanted fits.seen)
+  -- through any legal events every pin of the written netlist reads as the netlist's wrapped in the device's test logic, and as the
+  -- netlist's alone while a transparent instruction is in effect
+  pub realises : Realises written.arena.lists (device_of linked wanted fits.seen) linked.arena.lists
+  pub alone : Alone written.arena.lists (device_of linked wanted fits.seen) linked.arena.lists
+
+-- What is stitched.
+
+-- own: the netlist was made ready for what was fitted, as some texts tell
+pub record IsReadied (readied : LinkedView) (p : Plan) (f : Fitted) (d : Device) : Type 0 where
+  pub net : List ℕ
+  pub text : List ℕ
+  pub before : LinkedView
+  pub netlist : IsNetlistOf net before
+  pub laid : IsLaidOut before.arena.lists
+  pub fitting : IsFittingAs text before p f d readied
