@@ -121,6 +121,7 @@ record IsReader (B : Device) (r : Reader) : Type 0 where
   port : DevPort
   index : Option ℕ
   there : slice_get B.ports place ≡ Some port
+  read : is_read_port B (place, port) ≡ true
   named : r.word ≡ bit_word port.name index
   cell : cell_of B.cells (record { port = place; index = index }) ≡ r.number
 
@@ -132,21 +133,22 @@ joined_readers : (B : Device) (xs ys : List Reader) → AreReaders B xs → AreR
 joined_readers B [] ys h k = k
 joined_readers B (x ∷ xs) ys h k = (h.0, joined_readers B xs ys h.1 k)
 
-port_readers : (B : Device) (place : ℕ) (p : DevPort) (is : List (Option ℕ)) → slice_get B.ports place ≡ Some p → AreReaders B (map (reader_at B.cells place p.name) is)
-port_readers B place p [] there = tt
-port_readers B place p (i ∷ is) there =
-    (record { place = place; port = p; index = i; there = there; named = refl; cell = refl }, port_readers B place p is there)
+port_readers : (B : Device) (place : ℕ) (p : DevPort) (is : List (Option ℕ)) → slice_get B.ports place ≡ Some p → is_read_port B (place, p) ≡ true → AreReaders B (map (reader_at B.cells place p.name) is)
+port_readers B place p [] there read = tt
+port_readers B place p (i ∷ is) there read =
+    (record { place = place; port = p; index = i; there = there; read = read; named = refl; cell = refl }, port_readers B place p is there read)
 
-readers_if : (B : Device) (place : ℕ) (p : DevPort) (b : Bool) → slice_get B.ports place ≡ Some p → AreReaders B (if b then map (reader_at B.cells place p.name) (indices p.range) else [])
-readers_if B place p true there = port_readers B place p (indices p.range) there
-readers_if B place p false there = tt
+readers_if : (B : Device) (place : ℕ) (p : DevPort) (b : Bool) → slice_get B.ports place ≡ Some p → is_read_port B (place, p) ≡ b
+    → AreReaders B (if b then map (reader_at B.cells place p.name) (indices p.range) else [])
+readers_if B place p true there read = port_readers B place p (indices p.range) there read
+readers_if B place p false there read = tt
 
 readers_from : (B : Device) (place : ℕ) (ps : List DevPort) → ((k : ℕ) → slice_get ps k ≡ slice_get B.ports (place + k)) → AreReaders B (flat_map (readers_of B) (enumerate_from place ps))
 readers_from B place [] same = tt
 readers_from B place (p ∷ ps) same =
     let here : slice_get B.ports place ≡ Some p = ap (slice_get B.ports) (let e : place ≡ place + 0 = omega arith in e) ∙ sym (same 0) in
     joined_readers B (readers_of B (place, p)) (flat_map (readers_of B) (enumerate_from (place + 1) ps))
-    (readers_if B place p (is_read_port B (place, p)) here)
+    (readers_if B place p (is_read_port B (place, p)) here refl)
     (readers_from B (place + 1) ps (λ k. same (suc k) ∙ ap (slice_get B.ports) (let e : place + suc k ≡ place + 1 + k = omega arith in e)))
 
 readers_are : (B : Device) → AreReaders B (readers B)
@@ -162,6 +164,7 @@ reader_by laws B moment levels m r is (Some n) e = λ t above known. inr (record
   index = is.index;
   number = n;
   there = is.there;
+  read = is.read;
   named = is.named;
   cell = is.cell ∙ e;
   reads = known_is (reading B m unknown_core n) (reading B (moment t).machine (moment t).core n) (reading_below laws B m (moment t).machine (moment t).core n above.machine) known;

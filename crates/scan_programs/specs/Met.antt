@@ -12,7 +12,7 @@ use Rattle.test_logic.specs.Machine.{Machine, reset, machine_step, test_logic_of
 use Rattle.scan_vectors.specs.declared.lines.Line.{Line}
 use Rattle.scan_vectors.specs.declared.lines.Line.TheVariants.{Start, Set, Expect}
 use Rattle.scan_programs.specs.Cells.{Core, captured, reading}
-use Rattle.scan_programs.specs.Pins.{bit_word, port_word, cell_of}
+use Rattle.scan_programs.specs.Pins.{bit_word, port_word, cell_of, is_read_port}
 use Rattle.scan_programs.specs.Program.{program_of}
 
 -- what holds at one moment: at the test access port, in the test logic, and before the boundary cells
@@ -58,13 +58,14 @@ IsRunFrom B moment t (Start word value ∷ lines) = IsRunFrom B moment t lines
 IsRunFrom B moment t (Set word value ∷ lines) = IsSet B word value (moment t) (moment (suc t)) × IsRunFrom B moment (suc t) lines
 IsRunFrom B moment t (Expect word value ∷ lines) = IsRunFrom B moment t lines
 
--- a bit with this word reads this value, by the cell that stands at it
+-- a bit of an output or inout with this word reads this value, by the cell that stands at it
 pub record BitReads (B : Device) (w : Moment) (word : List ℕ) (value : PinSig) : Type 0 where
   pub place : ℕ
   pub port : DevPort
   pub index : Option ℕ
   pub number : ℕ
   pub there : slice_get B.ports place ≡ Some port
+  pub read : is_read_port B (place, port) ≡ true
   pub named : word ≡ bit_word port.name index
   pub cell : cell_of B.cells (record { port = place; index = index }) ≡ Some number
   pub reads : reading B w.machine w.core number ≡ value

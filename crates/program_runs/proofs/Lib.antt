@@ -1,0 +1,10 @@
+mod Alone
+mod Cells
+mod Sides
+mod Bits
+mod Plays
+mod Beside
+mod Lines
+mod Sets
+mod There
+mod Plans

@@ -1,0 +1,83 @@
+// The chip that a device's test logic makes of a netlist meets the device's program, and so does each netlist that realises the chip.
+// specs/Laws.antt has the statements, over the definitions of wrapped_chip and scan_programs. Its functions are laws.
+// IEEE Std 1149.1-2001: test access port, boundary-scan register; programs are own.
+#![tactic(auto)]
+
+ghost use Rattle.program_runs.specs.Laws.{ProgramNamesPins, ChipMeetsProgram, RealisingMeetsProgram, ProgramRunExists, RunBesideProgramExists, NetlistMeetsProgram, ProgramRunThereExists, PlansStandAround, FittingPlansMeetPrograms};
+
+use netlist_laws::direction_of_a_bit;
+use plan_devices::{
+    controls_follow_their_rows, devices_have_ports, plans_suit_netlists, rows_stand_at_bits,
+    tap_names_are_new,
+};
+use scan_programs::programs_are_met;
+use wrapped_chip::some_chip_run;
+
+/// Each start of a program is of a bit of an input or inout, and each set of an input of the test access port.
+pub fn program_names_pins()
+    ensures { ProgramNamesPins }
+{}
+
+/// In each run of the chip by the program each expectation reads its value at its moment.
+pub fn chip_meets_program()
+    ensures { ChipMeetsProgram }
+{
+    programs_are_met();
+    direction_of_a_bit();
+}
+
+/// And so in each run beside it of a netlist that realises the chip.
+pub fn realising_meets_program()
+    ensures { RealisingMeetsProgram }
+{
+    chip_meets_program();
+}
+
+/// From any flip-flops of the netlist there is a run of the chip by the program.
+pub fn some_program_run()
+    ensures { ProgramRunExists }
+{
+    program_names_pins();
+    some_chip_run();
+}
+
+/// From any flip-flops of a netlist that realises the chip there is such a run with one beside it.
+pub fn some_run_beside_program()
+    ensures { RunBesideProgramExists }
+{
+    some_program_run();
+}
+
+/// In each run by the program of a netlist that realises the chip each expectation reads its value at its moment.
+pub fn netlist_meets_program()
+    ensures { NetlistMeetsProgram }
+{
+    realising_meets_program();
+    some_chip_run();
+}
+
+/// There is such a run from any flip-flops.
+pub fn some_run_by_program()
+    ensures { ProgramRunThereExists }
+{
+    some_run_beside_program();
+}
+
+/// The device of a plan that fits stands around the netlist.
+pub fn plans_stand_around()
+    ensures { PlansStandAround }
+{
+    devices_have_ports();
+    rows_stand_at_bits();
+    controls_follow_their_rows();
+    tap_names_are_new();
+}
+
+/// So each netlist that realises the chip of a plan that fits meets the device's program, with no other premise.
+pub fn fitting_plans_meet_programs()
+    ensures { FittingPlansMeetPrograms }
+{
+    netlist_meets_program();
+    plans_stand_around();
+    plans_suit_netlists();
+}
