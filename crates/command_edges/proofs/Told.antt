@@ -7,7 +7,7 @@ use Rattle.command_faults.specs.declared.status.Status.TheVariants as status
 use Rattle.command_faults.specs.Statuses.{status_of}
 use Rattle.command_edges.specs.Lengths.{IsShort, IsLong}
 use Rattle.command_edges.specs.Seen.{ShelfSeen, NameRose, WhereBothTold}
-use Rattle.command_edges.specs.EdgeFaults.{StandsInReading, StandsInWriting}
+use Rattle.command_edges.specs.EdgeFaults.{StandsInReading, StandsInWriting, AreShort}
 
 -- the text is the bytes that are told
 abbrev pub IsTold : List ℕ → List ℕ → Type 0
@@ -51,3 +51,14 @@ reading_memory name bytes shelf f told short calm stands = absurd stands
 pub write_rose : (name : List ℕ) (shelf : ShelfSeen) (f : Fault) → StandsInWriting name shelf f → NameRose shelf name
 write_rose name shelf (fault.WriteFault n) stands = stands.1
 write_rose name shelf f stands = absurd stands
+
+-- two texts that were read
+pub record AreRead (first second : List ℕ) (shelf : ShelfSeen) (one two : List ℕ) : Type 0 where
+  pub first_is : WhereTold (shelf.held first) (IsTold one)
+  pub second_is : WhereTold (shelf.held second) (IsTold two)
+  pub first_short : IsShort one
+  pub second_short : IsShort two
+
+pub are_short : (first second : List ℕ) (shelf : ShelfSeen) (one two : List ℕ) → AreRead first second shelf one two → AreShort first second shelf
+are_short first second shelf one two read =
+    (told_as (shelf.held first) one IsShort read.first_is read.first_short, told_as (shelf.held second) two IsShort read.second_is read.second_short)

@@ -1,3 +1,5 @@
 pub mod Lengths
 pub mod Seen
 pub mod EdgeFaults
+pub mod Ends
+pub mod OneText

@@ -1,5 +1,5 @@
 -- A fault that stands where both texts are free of faults and no count rises is want of memory.
-use Rattle.std.proofs.Common.{◌≡◌, ℕ, List, Option, Some, None, inl, inr, sym, subst, ◌∙◌, refl}
+use Rattle.std.proofs.Common.{◌≡◌, ℕ, List, Option, Some, None, Result, Ok, Err, IfErr, inl, inr, sym, subst, ◌∙◌, refl}
 use Rattle.verilog_lexicon.specs.declared.word.Spanned.{Spanned}
 use Rattle.verilog_tree.specs.declared.tree.Module.{Module}
 use Rattle.verilog_tree.specs.Texts.{SpellsModule, SpellsText}
@@ -29,10 +29,10 @@ use Rattle.command_faults.specs.Statuses.{status_of, text_status, link_status, p
 use Rattle.insertion_inputs.specs.declared.fault.InsertFault.TheVariants as insert
 use Rattle.insertion_inputs.specs.Faults.{HasLinkFault, HasPlanFault, HasTooMany}
 use Rattle.command_edges.specs.Seen.{ShelfSeen, SinkSeen, NameRose, SinkRose}
-use Rattle.command_edges.specs.EdgeFaults.{StandsInPutting}
 use Rattle.command_edges.proofs.Told.{reading_memory, write_rose}
+use Rattle.command_edges.proofs.Written.{put_rose}
 use Rattle.insert_command.specs.Faults.{StandsInInputs}
-use Rattle.insert_command.specs.Runs.{StandsInInsert, StandsInWritings}
+use Rattle.insert_command.specs.Runs.{StandsInInsert, StandsInWritings, CompletesInsert}
 use Rattle.insert_command.specs.Free.{HasNoFault, IsInsertable}
 
 -- the laws that keep faults apart from what is free of them
@@ -101,23 +101,23 @@ inputs_memory laws (fault.TooMany what count limit) net text ok stands =
 inputs_memory laws fault.OutOfMemory net text ok stands = refl
 inputs_memory laws f net text ok stands = absurd stands
 
-put_rose : (sink : SinkSeen) (f : Fault) → StandsInPutting sink f → SinkRose sink
-put_rose sink (fault.WriteFault n) stands = stands.1
-put_rose sink f stands = absurd stands
-
 writings_free : (outnet outbsdl verilog bsdl : List ℕ) (shelf : ShelfSeen) (sink : SinkSeen) (f : Fault) → (NameRose shelf outnet → ⊥) → (NameRose shelf outbsdl → ⊥) → (SinkRose sink → ⊥)
     → StandsInWritings outnet outbsdl verilog bsdl shelf sink f → ⊥
 writings_free outnet outbsdl verilog bsdl shelf sink f calm_net calm_bsdl still (inl s) = calm_net (write_rose outnet shelf f s.fault_is)
 writings_free outnet outbsdl verilog bsdl shelf sink f calm_net calm_bsdl still (inr (inl s)) = calm_bsdl (write_rose outbsdl shelf f s.fault_is)
 writings_free outnet outbsdl verilog bsdl shelf sink f calm_net calm_bsdl still (inr (inr s)) = still (put_rose sink f s.fault_is)
 
-pub insert_memory : Laws → (shelf : ShelfSeen) (sink : SinkSeen) (f : Fault) (netlist plan outnet outbsdl net text : List ℕ) → shelf.held netlist ≡ Some net → shelf.held plan ≡ Some text
-    → IsInsertable net text → (NameRose shelf netlist → ⊥) → (NameRose shelf plan → ⊥) → (NameRose shelf outnet → ⊥) → (NameRose shelf outbsdl → ⊥) → (SinkRose sink → ⊥)
-    → StandsInInsert netlist plan outnet outbsdl shelf sink f → status_of f ≡ status.Memory
-insert_memory laws shelf sink f netlist plan outnet outbsdl net text told too ok calm calm_plan calm_net calm_bsdl still (inl (inl stands)) = reading_memory netlist net shelf f told ok.short calm stands
-insert_memory laws shelf sink f netlist plan outnet outbsdl net text told too ok calm calm_plan calm_net calm_bsdl still (inl (inr (short, stands))) = reading_memory plan text shelf f too ok.short_plan calm_plan stands
-insert_memory laws shelf sink f netlist plan outnet outbsdl net text told too ok calm calm_plan calm_net calm_bsdl still (inr (inl (short, stands))) =
+insert_memory : Laws → (netlist plan outnet outbsdl : List ℕ) (shelf : ShelfSeen) (sink : SinkSeen) (f : Fault) → StandsInInsert netlist plan outnet outbsdl shelf sink f
+    → CompletesInsert netlist plan outnet outbsdl shelf sink (status_of f)
+insert_memory laws netlist plan outnet outbsdl shelf sink f (inl (inl stands)) net text told too ok calm calm_plan calm_net calm_bsdl still = reading_memory netlist net shelf f told ok.short calm stands
+insert_memory laws netlist plan outnet outbsdl shelf sink f (inl (inr (short, stands))) net text told too ok calm calm_plan calm_net calm_bsdl still = reading_memory plan text shelf f too ok.short_plan calm_plan stands
+insert_memory laws netlist plan outnet outbsdl shelf sink f (inr (inl (short, stands))) net text told too ok calm calm_plan calm_net calm_bsdl still =
     inputs_memory laws f net text ok
     (subst (λ (t : Option (List ℕ)). StandsInInputs (Some net) t f) too (subst (λ (t : Option (List ℕ)). StandsInInputs t (shelf.held plan) f) told stands))
-insert_memory laws shelf sink f netlist plan outnet outbsdl net text told too ok calm calm_plan calm_net calm_bsdl still (inr (inr s)) =
+insert_memory laws netlist plan outnet outbsdl shelf sink f (inr (inr s)) net text told too ok calm calm_plan calm_net calm_bsdl still =
     absurd (writings_free outnet outbsdl s.verilog s.bsdl shelf sink f calm_net calm_bsdl still s.stands)
+
+pub insert_completes : {T : Type 0} (r : Result T Fault) → Laws → (netlist plan outnet outbsdl : List ℕ) (shelf : ShelfSeen) (sink : SinkSeen) → IfErr r (StandsInInsert netlist plan outnet outbsdl shelf sink)
+    → IfErr r (λ f. CompletesInsert netlist plan outnet outbsdl shelf sink (status_of f))
+insert_completes (Ok x) laws netlist plan outnet outbsdl shelf sink stands = tt
+insert_completes (Err f) laws netlist plan outnet outbsdl shelf sink stands = insert_memory laws netlist plan outnet outbsdl shelf sink f stands

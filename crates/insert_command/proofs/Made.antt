@@ -1,6 +1,5 @@
 -- What was read, inserted and written, as it is told.
 use Rattle.std.proofs.Common.{◌≡◌, ◌≢◌, ℕ, Bool, List, take, Option, Some, Result, Ok, Err, OnOk, IfErr, inl, inr, refl, sym, subst, ap, ◌∙◌}
-use Rattle.std.specs.Result.{IsErrAnd}
 use Rattle.edge_io.specs.Shelf.{WhereTold, appended, told_if}
 use Rattle.command_faults.specs.declared.fault.Fault.{Fault}
 use Rattle.command_faults.specs.declared.fault.Fault.TheVariants as fault
@@ -12,12 +11,11 @@ use Rattle.insertion_inputs.specs.declared.fault.InsertFault.{InsertFault}
 use Rattle.insertion_inputs.specs.declared.fault.InsertFault.TheVariants as insert
 use Rattle.insertion_inputs.specs.Faults.{HasLinkFault, HasPlanFault, StandsInTexts}
 use Rattle.insertions.specs.Insertions.{IsInsertion}
-use Rattle.command_edges.specs.Lengths.{IsShort}
-use Rattle.command_edges.specs.Seen.{ShelfSeen, SinkSeen, NameRose, WhereBothTold}
-use Rattle.command_edges.specs.EdgeFaults.{AreShort, StandsInWriting, StandsInPutting}
-use Rattle.command_edges.proofs.Told.{IsTold, told_as, both_told}
+use Rattle.command_edges.specs.Seen.{ShelfSeen, SinkSeen}
+use Rattle.command_edges.proofs.Told.{IsTold, told_as, both_told, AreRead, are_short}
+use Rattle.command_edges.proofs.Written.{is_write, is_put, Longer, writing_longer, cut_longer, whole_longer}
 use Rattle.insert_command.specs.Faults.{fault_of, SpellsNetlist, SpellsSomePlan, StandsInBoth, StandsInInputs}
-use Rattle.insert_command.specs.Runs.{IsCutOff, IsWrittenOut, StandsInWritings, GavePart, AreInserted, IsInserted, StandsInInsert, IsFrontOfReport, GaveReport, GaveInInsert}
+use Rattle.insert_command.specs.Runs.{IsWrittenOut, StandsInWritings, GavePart, AreInserted, IsInserted, StandsInInsert, IsFrontOfReport, GaveReport, GaveInInsert}
 
 -- Faults of the texts.
 
@@ -49,16 +47,6 @@ inputs_told net_told plan_told net plan f is too stands = stands
 
 -- Texts that were read.
 
-pub record AreRead (netlist plan : List ℕ) (shelf : ShelfSeen) (net text : List ℕ) : Type 0 where
-  pub net_is : WhereTold (shelf.held netlist) (IsTold net)
-  pub text_is : WhereTold (shelf.held plan) (IsTold text)
-  pub short : IsShort net
-  pub short_text : IsShort text
-
-pub are_short : (netlist plan : List ℕ) (shelf : ShelfSeen) (net text : List ℕ) → AreRead netlist plan shelf net text → AreShort netlist plan shelf
-are_short netlist plan shelf net text read =
-    (told_as (shelf.held netlist) net IsShort read.net_is read.short, told_as (shelf.held plan) text IsShort read.text_is read.short_text)
-
 netlist_of : (net plan verilog bsdl report : List ℕ) → IsInsertion net plan verilog bsdl report → SpellsNetlist net
 netlist_of net plan verilog bsdl report i = (i.linked, record { tree = i.tree; spells = i.spells; only = i.only; is = i.is; links = i.links })
 
@@ -66,9 +54,9 @@ pub are_inserted : (netlist plan : List ℕ) (shelf : ShelfSeen) (net text veril
     → AreInserted netlist plan shelf verilog bsdl report
 are_inserted netlist plan shelf net text verilog bsdl report read i = record {
   short = are_short netlist plan shelf net text read;
-  netlist_spelled = told_as (shelf.held netlist) net SpellsNetlist read.net_is (netlist_of net text verilog bsdl report i);
-  plan_spelled = told_as (shelf.held plan) text SpellsSomePlan read.text_is (i.wanted, i.spells_plan);
-  insertion = both_told (shelf.held netlist) (shelf.held plan) net text (λ n p. IsInsertion n p verilog bsdl report) read.net_is read.text_is i;
+  netlist_spelled = told_as (shelf.held netlist) net SpellsNetlist read.first_is (netlist_of net text verilog bsdl report i);
+  plan_spelled = told_as (shelf.held plan) text SpellsSomePlan read.second_is (i.wanted, i.spells_plan);
+  insertion = both_told (shelf.held netlist) (shelf.held plan) net text (λ n p. IsInsertion n p verilog bsdl report) read.first_is read.second_is i;
 }
 
 -- What the command comes to, from what is written out.
@@ -97,17 +85,9 @@ pub insert_gave : {T : Type 0} (r : Result T Fault) (netlist plan : List ℕ) (s
 insert_gave (Ok x) netlist plan shelf before after net text verilog bsdl report read i gave = tt
 insert_gave (Err f) netlist plan shelf before after net text verilog bsdl report read i (inl same) = inl same
 insert_gave (Err f) netlist plan shelf before after net text verilog bsdl report read i (inr (sinks, (k, gives))) =
-    inr (sinks, report_front (shelf.held netlist) (shelf.held plan) before after net text verilog bsdl report k read.net_is read.text_is i gives)
+    inr (sinks, report_front (shelf.held netlist) (shelf.held plan) before after net text verilog bsdl report k read.first_is read.second_is i gives)
 
 -- Writing.
-
-is_write : (name : List ℕ) (shelf : ShelfSeen) (f : Fault) → StandsInWriting name shelf f → status_of f ≡ status.WriteFault
-is_write name shelf (fault.WriteFault n) stands = refl
-is_write name shelf f stands = absurd stands
-
-is_put : (sink : SinkSeen) (f : Fault) → StandsInPutting sink f → status_of f ≡ status.WriteFault
-is_put sink (fault.WriteFault n) stands = refl
-is_put sink f stands = absurd stands
 
 writes_fail : (outnet outbsdl verilog bsdl : List ℕ) (shelf : ShelfSeen) (sink : SinkSeen) (f : Fault) → StandsInWritings outnet outbsdl verilog bsdl shelf sink f → status_of f ≡ status.WriteFault
 writes_fail outnet outbsdl verilog bsdl shelf sink f (inl s) = is_write outnet shelf f s.fault_is
@@ -119,18 +99,7 @@ pub unwritten : {T : Type 0} (r : Result T Fault) (outnet outbsdl verilog bsdl :
 unwritten (Ok x) outnet outbsdl verilog bsdl shelf sink P stands = tt
 unwritten (Err f) outnet outbsdl verilog bsdl shelf sink P stands = λ other. absurd (other (writes_fail outnet outbsdl verilog bsdl shelf sink f stands))
 
--- a fault in writing stands as well over a longer time
-pub writing_longer : (name : List ℕ) (short long : ShelfSeen) (f : Fault) → (NameRose short name → NameRose long name) → StandsInWriting name short f → StandsInWriting name long f
-writing_longer name short long (fault.WriteFault n) longer stands = (stands.0, longer stands.1)
-writing_longer name short long f longer stands = absurd stands
-
 -- What is seen of a shelf over a longer time.
-
-pub record Longer (early long : ShelfSeen) : Type 0 where
-  pub after_same : (name : List ℕ) → long.written_after name ≡ early.written_after name
-  pub tells_same : long.tells ≡ early.tells
-  pub before_same : (name : List ℕ) → early.written name ≡ long.written name
-  pub rises : (name : List ℕ) → NameRose early name → NameRose long name
 
 pub out_longer : {T E : Type 0} (r : Result T E) (outnet outbsdl verilog bsdl report : List ℕ) (early long : ShelfSeen) (sink : SinkSeen) → ((name : List ℕ) → long.written_after name ≡ early.written_after name)
     → long.tells ≡ early.tells → OnOk r (IsWrittenOut outnet outbsdl verilog bsdl report early sink) → OnOk r (IsWrittenOut outnet outbsdl verilog bsdl report long sink)
@@ -140,13 +109,6 @@ out_longer (Ok x) outnet outbsdl verilog bsdl report early long sink after tells
   gives = out.gives;
 }
 out_longer (Err e) outnet outbsdl verilog bsdl report early long sink after tells out = tt
-
-cut_longer : (name text : List ℕ) (early long : ShelfSeen) → Longer early long → IsCutOff name text early → IsCutOff name text long
-cut_longer name text early long l (inl same) = inl (l.after_same name ∙ same ∙ l.before_same name)
-cut_longer name text early long l (inr (k, front)) = inr (k, l.after_same name ∙ front ∙ ap (λ (t : Bool). told_if t (take k text)) (sym l.tells_same))
-
-whole_longer : (name text : List ℕ) (early long : ShelfSeen) → Longer early long → early.written_after name ≡ told_if early.tells text → long.written_after name ≡ told_if long.tells text
-whole_longer name text early long l whole = l.after_same name ∙ whole ∙ ap (λ (t : Bool). told_if t text) (sym l.tells_same)
 
 longer_stands : (outnet outbsdl verilog bsdl : List ℕ) (early long : ShelfSeen) (sink : SinkSeen) (f : Fault) → Longer early long → StandsInWritings outnet outbsdl verilog bsdl early sink f
     → StandsInWritings outnet outbsdl verilog bsdl long sink f
@@ -170,8 +132,3 @@ pub writings_longer : {T : Type 0} (r : Result T Fault) (outnet outbsdl verilog 
     → IfErr r (StandsInWritings outnet outbsdl verilog bsdl early sink) → IfErr r (StandsInWritings outnet outbsdl verilog bsdl long sink)
 writings_longer (Ok x) outnet outbsdl verilog bsdl early long sink l stands = tt
 writings_longer (Err f) outnet outbsdl verilog bsdl early long sink l stands = longer_stands outnet outbsdl verilog bsdl early long sink f l stands
-
--- what a call answers of the fault that it hands on
-pub err_is : {A : Type 0} (r : Result A Fault) (f : Fault) (P : Fault → Type 0) → IsErrAnd r (λ made. made ≡ f) → P f → IfErr r P
-err_is (Ok x) f P is holds = tt
-err_is (Err made) f P is holds = subst P (sym is) holds

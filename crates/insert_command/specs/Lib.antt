@@ -1,3 +1,3 @@
 pub mod Faults
-pub mod Runs
 pub mod Free
+pub mod Runs

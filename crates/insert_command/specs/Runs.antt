@@ -1,11 +1,14 @@
 -- What `insert` writes and puts, when each fault stands in it, and what it leaves. Own.
-use Rattle.std.specs.Prelude.{◌≡◌, ℕ, ◌⊎◌, List, take, Option}
+use Rattle.std.specs.Prelude.{◌≡◌, ℕ, ◌⊎◌, List, take, Option, Some}
 use Rattle.edge_io.specs.Shelf.{WhereTold, appended, told_if}
 use Rattle.command_faults.specs.declared.fault.Fault.{Fault}
 use Rattle.command_faults.specs.declared.fault.Fault.TheVariants as fault
+use Rattle.command_faults.specs.declared.status.Status.{Status}
+use Rattle.command_faults.specs.declared.status.Status.TheVariants as status
 use Rattle.insertions.specs.Insertions.{IsInsertion}
-use Rattle.command_edges.specs.Seen.{ShelfSeen, SinkSeen, WhereBothTold}
+use Rattle.command_edges.specs.Seen.{ShelfSeen, SinkSeen, NameRose, SinkRose, WhereBothTold, IsCutOff}
 use Rattle.command_edges.specs.EdgeFaults.{StandsInReadingTwo, AreShort, StandsInWriting, StandsInPutting, standard_output}
+use Rattle.insert_command.specs.Free.{IsInsertable}
 use Rattle.insert_command.specs.Faults.{SpellsNetlist, SpellsSomePlan, StandsInInputs}
 
 -- Writing.
@@ -15,10 +18,6 @@ pub record IsWrittenOut (netlist_name device_name netlist device report : List �
   pub netlist_written : shelf.written_after netlist_name ≡ told_if shelf.tells netlist
   pub device_written : shelf.written_after device_name ≡ told_if shelf.tells device
   pub gives : sink.given_after ≡ appended report sink.given
-
--- what is written under the name is as before, or a front of the text
-abbrev pub IsCutOff : List ℕ → List ℕ → ShelfSeen → Type 0
-IsCutOff name text shelf = (shelf.written_after name ≡ shelf.written name) ⊎ ((k : ℕ) × (shelf.written_after name ≡ told_if shelf.tells (take k text)))
 
 -- the netlist couldn't be written, and the device is as before
 pub record StandsInNetlistWrite (netlist_name device_name netlist : List ℕ) (shelf : ShelfSeen) (f : Fault) : Type 0 where
@@ -103,3 +102,9 @@ pub record GaveReport (net plan before after : Option (List ℕ)) : Type 0 where
 -- nothing was given before the fault; or, where giving failed, a front of the report
 abbrev pub GaveInInsert : Option (List ℕ) → Option (List ℕ) → Fault → Option (List ℕ) → Option (List ℕ) → Type 0
 GaveInInsert net plan f before after = (after ≡ before) ⊎ (IsSinkFault f × GaveReport net plan before after)
+
+-- A refusal with this status, where no fault stands in both texts and no count of the names or of the sink rises, is want of memory.
+abbrev pub CompletesInsert : List ℕ → List ℕ → List ℕ → List ℕ → ShelfSeen → SinkSeen → Status → Type 0
+CompletesInsert netlist plan outnet outbsdl shelf sink end = (net text : List ℕ) → shelf.held netlist ≡ Some net → shelf.held plan ≡ Some text → IsInsertable net text
+    → (NameRose shelf netlist → ⊥) → (NameRose shelf plan → ⊥) → (NameRose shelf outnet → ⊥) → (NameRose shelf outbsdl → ⊥) → (SinkRose sink → ⊥)
+    → end ≡ status.Memory

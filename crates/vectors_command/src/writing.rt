@@ -3,7 +3,7 @@ ghost use Rattle.edge_io.specs.Shelf.{NoneFell, SameTold};
 ghost use Rattle.command_faults.specs.Statuses.{status_of};
 ghost use Rattle.command_faults.specs.declared.status.Status.{Status};
 ghost use Rattle.command_edges.specs.Seen.{shelf_seen};
-ghost use Rattle.vectors_command.specs.Runs.{CompletesVectors, IsWritten, StandsInVectors};
+ghost use Rattle.vectors_command.specs.Runs.{CompletesVectors, IsProgramWritten, StandsInVectors};
 
 use crate::texts::program_text;
 use command_edges::{read_text, write_text};
@@ -19,7 +19,7 @@ pub fn vectors<'a, S: Shelf>(
     input: &'a str,
     output: &'a str,
 ) -> Result<(), Fault<'a>>
-    ensures done { OnOk result (IsWritten input.now output.now
+    ensures done { OnOk result (IsProgramWritten input.now output.now
         (shelf_seen S.tells S.held S.written S.faults shelf.old shelf.new)) }
     ensures fault { IfErr result (StandsInVectors input.now output.now
         (shelf_seen S.tells S.held S.written S.faults shelf.old shelf.new)) }

@@ -1,0 +1,3 @@
+pub mod Simulations
+pub mod Faults
+pub mod Runs

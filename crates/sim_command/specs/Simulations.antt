@@ -1,0 +1,62 @@
+-- What `sim` makes of the bytes of a netlist and of events.
+-- IEEE Std 1364-2001 for the netlist; the texts of events and what a run puts are own.
+use Rattle.std.specs.Prelude.{◌≡◌, ℕ, List}
+use Rattle.verilog_tree.specs.declared.tree.Module.{Module}
+use Rattle.verilog_tree.specs.Texts.{SpellsText}
+use Rattle.link_model.specs.Late.{IsLinkable}
+use Rattle.netlist_link.specs.Linked.{LinkedView}
+use Rattle.netlist_link.specs.Links.{IsLinkOf}
+use Rattle.scan_vectors.specs.declared.lines.Lines.{Lines}
+use Rattle.scan_vectors.specs.Grammar.{SpellsLines}
+use Rattle.event_scripts.specs.declared.script.ScriptLine.{ScriptLine}
+use Rattle.event_scripts.specs.declared.fault.ScriptFault.{ScriptFault}
+use Rattle.event_scripts.specs.Rules.{AreLegal}
+use Rattle.event_scripts.specs.Scripts.{IsResolved, IsScriptFault}
+use Rattle.sim_runs.specs.Outputs.{IsOutput}
+use Rattle.command_edges.specs.Lengths.{IsShort}
+
+-- The netlist's bytes spell one tree, which is linked to this netlist; the events' bytes spell lines that are legal for it; and
+-- the text is that of their run, in which so many expectations aren't met.
+pub record IsSimulation (net events text : List ℕ) (missed : ℕ) : Type 0 where
+  pub tree : Module
+  pub spells : SpellsText net tree
+  pub only : (other : Module) → SpellsText net other → other ≡ tree
+  pub linked : LinkedView
+  pub links : IsLinkOf tree linked
+  pub lines : Lines
+  pub spells_lines : SpellsLines events lines
+  pub script : List ScriptLine
+  pub resolved : IsResolved linked lines script
+  pub output : IsOutput linked lines.list script text missed
+
+-- own: the netlist's bytes spell a tree that can be linked
+pub record SpellsLinkable (net : List ℕ) : Type 0 where
+  pub tree : Module
+  pub spells : SpellsText net tree
+  pub linkable : IsLinkable tree
+
+-- own: the bytes spell lines of events
+abbrev pub SpellsEvents : List ℕ → Type 0
+SpellsEvents events = (lines : Lines) × SpellsLines events lines
+
+-- own: the lines of the events have this fault for the netlist
+pub record HasScriptFault (f : ScriptFault) (net events : List ℕ) : Type 0 where
+  pub tree : Module
+  pub spells : SpellsText net tree
+  pub only : (other : Module) → SpellsText net other → other ≡ tree
+  pub linked : LinkedView
+  pub links : IsLinkOf tree linked
+  pub lines : Lines
+  pub spells_lines : SpellsLines events lines
+  pub fault : IsScriptFault linked lines f
+
+-- own: no fault stands in the bytes of the netlist and of the events
+pub record IsSimulable (net events : List ℕ) : Type 0 where
+  pub short : IsShort net
+  pub short_events : IsShort events
+  pub tree : Module
+  pub spells : SpellsText net tree
+  pub linkable : IsLinkable tree
+  pub lines : Lines
+  pub spells_lines : SpellsLines events lines
+  pub legal : (linked : LinkedView) → IsLinkOf tree linked → AreLegal linked lines

@@ -1,0 +1,19 @@
+ghost use Rattle.netlist_link.specs.Laws.{FaultsForbidLinks};
+ghost use Rattle.scan_vectors.specs.Exactly.{SpelledIsFaultless, SpelledOnce};
+ghost use Rattle.event_scripts.specs.Laws.{LegalIsNotIllegal};
+
+use event_scripts::legal_lines_are_not_illegal;
+use netlist_link::faults_forbid_links;
+use scan_vectors::texts_of_events_are_spelled_or_at_fault;
+
+/// A law: no fault stands in texts that are free of faults.
+pub fn simulation_faults_stand_apart()
+    ensures links { FaultsForbidLinks }
+    ensures once { SpelledOnce }
+    ensures faultless { SpelledIsFaultless }
+    ensures legal { LegalIsNotIllegal }
+{
+    faults_forbid_links();
+    texts_of_events_are_spelled_or_at_fault();
+    legal_lines_are_not_illegal();
+}

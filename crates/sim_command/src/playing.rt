@@ -1,0 +1,68 @@
+// From texts that were read to the text that is put.
+ghost use Rattle.std.specs.Prelude.{◌≡◌, ◌≤◌, Some, IfOk, IfErr};
+ghost use Rattle.verilog_tree.specs.declared.tree.Module.{Module};
+ghost use Rattle.verilog_texts.specs.Reading.{IsReadAs};
+ghost use Rattle.netlist_link.specs.Links.{IsLinkOf};
+ghost use Rattle.command_edges.specs.Ends.{IsEnd, run_status};
+ghost use Rattle.command_edges.specs.Seen.{sink_seen};
+ghost use Rattle.sim_command.specs.Faults.{StandsInNetlist, StandsInPlay};
+ghost use Rattle.sim_command.specs.Runs.{GaveInPlay, IsPlayed};
+
+use command_faults::{Fault, Status};
+use edge_io::sink::Sink;
+use edge_io::text::Text;
+use event_scripts::resolve;
+use netlist_link::{Linked, link};
+use scan_vectors::read_events;
+use sim_runs::{PlayFault, play};
+use std::alloc::Global;
+use verilog_texts::read_module;
+
+// The status at the end of a run in which so many expectations weren't met.
+fn status_after(missed: u64) -> Status
+    ensures status { result ≡ run_status missed }
+    ensures end { IsEnd result }
+{
+    if missed == 0 {
+        Status::Done
+    } else {
+        Status::Missed
+    }
+}
+
+// The netlist that a text spells.
+fn linked_of<'a>(alloc: Global, net: Text) -> Result<Linked, Fault<'a>>
+    ensures linked { IfOk result (λ linked. (tree : Module) × IsReadAs net tree × IsLinkOf tree linked) }
+    ensures fault { IfErr result (StandsInNetlist net) }
+{
+    let tree = read_module(alloc, net)?;
+    Ok(link(alloc, &tree)?)
+}
+
+/// Plays the events that one text spells on the netlist that the other spells.
+pub fn play_texts<'a, O: Sink>(
+    alloc: Global,
+    net: Text,
+    events: Text,
+    out: &mut O,
+) -> Result<Status, Fault<'a>>
+    ensures done { IfOk result (IsPlayed (Some net) (Some events)
+        (sink_seen O.given O.faults out.old out.new)) }
+    ensures fault { IfErr result (StandsInPlay (Some net) (Some events)
+        (sink_seen O.given O.faults out.old out.new)) }
+    ensures gave { IfErr result (λ fault. GaveInPlay (Some net) (Some events) fault
+        (O.given out.old) (O.given out.new)) }
+    ensures ended { IfOk result IsEnd }
+    ensures later { O.faults out.old ≤ O.faults out.new }
+{
+    let linked = linked_of(alloc, net)?;
+    let lines = read_events(alloc, events.as_bytes())?;
+    let script = resolve(alloc, &lines, &linked)?;
+    match play(alloc, &linked, &lines, &script, out) {
+        Ok(missed) => Ok(status_after(missed)),
+        Err(PlayFault::OutOfMemory) => Err(Fault::OutOfMemory),
+        Err(PlayFault::WriteFault) => Err(Fault::WriteFault {
+            name: "standard-output",
+        }),
+    }
+}
