@@ -1,0 +1,3 @@
+mod DeviceKinds
+mod Made
+mod Complete

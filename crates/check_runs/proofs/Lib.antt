@@ -1,0 +1,4 @@
+mod Numbers
+mod Taps
+mod Earliest
+mod Merged

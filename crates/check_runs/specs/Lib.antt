@@ -1,0 +1,4 @@
+pub mod Rules
+pub mod Firsts
+pub mod Checks
+pub mod Merges
