@@ -1,0 +1,2 @@
+mod Insertable
+mod Made

@@ -1,0 +1,2 @@
+pub mod Insertable
+pub mod Demonstrations

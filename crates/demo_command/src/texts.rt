@@ -1,0 +1,126 @@
+// From the number to the texts.
+ghost use Rattle.std.specs.Prelude.{◌≡◌, ◌<◌, ◌++◌, ◌∷◌, [], codes, IfErr, IfOk, OnOk};
+ghost use Rattle.std.specs.Fmt.{decimal};
+ghost use Rattle.verilog_tree.specs.Canonical.{canonical};
+ghost use Rattle.verilog_tree.specs.IsTree.{IsTree};
+ghost use Rattle.link_model.specs.Late.{IsLinkable};
+ghost use Rattle.output_lines.specs.Lines.{blank_word};
+ghost use Rattle.plan_texts.specs.Canonical.{canonical_plan};
+ghost use Rattle.insertion_inputs.specs.Faults.{StandsInTexts};
+ghost use Rattle.insertions.specs.Insertions.{IsInsertion};
+ghost use Rattle.command_faults.specs.Statuses.{status_of};
+ghost use Rattle.command_faults.specs.declared.status.Status.{Status};
+ghost use Rattle.insert_command.specs.Faults.{fault_of};
+ghost use Rattle.demo_chips.specs.Netlists.{demo_module};
+ghost use Rattle.demo_chips.specs.Plans.{demo_plan};
+ghost use Rattle.demo_command.specs.Demonstrations.{IsDemo, demo_line};
+
+use crate::laws::demo_texts_are_insertable;
+use command_faults::Fault;
+use demo_chips::{demo_module, demo_plan};
+use demo_netlists::demo_has_its_cells;
+use demo_plans::{demo_chips_are_counted, demo_plan_is_spelled};
+use edge_io::{OutOfMemory, Text};
+use insert_command::insertion_faults_stand_apart;
+use insertions::{InsertFault, Inserted, insert_texts};
+use itoa::Buffer;
+use plan_texts::print_plan;
+use std::alloc::Global;
+use verilog_printing::{canonical_texts_spell_their_trees, print_module};
+
+// The fault of a command, for one of inserting.
+fn fault_of<'a>(fault: InsertFault) -> Fault<'a>
+    ensures { result ≡ fault_of fault }
+{
+    match fault {
+        InsertFault::Netlist(fault) => Fault::Netlist(fault),
+        InsertFault::Link(fault) => Fault::Link(fault),
+        InsertFault::Plan(fault) => Fault::Plan(fault),
+        InsertFault::Fit(fault) => Fault::Fit(fault),
+        InsertFault::TooMany { what, count, limit } => Fault::TooMany { what, count, limit },
+        InsertFault::OutOfMemory => Fault::OutOfMemory,
+    }
+}
+
+// The canonical text of the netlist of a number.
+fn netlist_text(alloc: Global, number: u32) -> Result<Text, OutOfMemory>
+    requires { number < 10000 }
+    ensures { IfOk result (λ text. text ≡ canonical (demo_module number)) }
+{
+    let tree = demo_module(alloc, number)?;
+    print_module(alloc, &tree)
+}
+
+// The canonical text of the plan.
+fn plan_text(alloc: Global) -> Result<Text, OutOfMemory>
+    ensures { IfOk result (λ text. text ≡ canonical_plan demo_plan) }
+{
+    // A law that the proof uses.
+    demo_plan_is_spelled();
+    let plan = demo_plan(alloc)?;
+    print_plan(alloc, &plan)
+}
+
+// Inserts into the netlist of a number.
+fn insert_demo(alloc: Global, number: u32) -> Result<Inserted, InsertFault>
+    requires { number < 10000 }
+    ensures inserted { IfOk result (λ made. IsInsertion (canonical (demo_module number)) (canonical_plan demo_plan) made.verilog made.bsdl made.report) }
+    ensures fault { IfErr result (StandsInTexts (canonical (demo_module number)) (canonical_plan demo_plan)) }
+{
+    let net = netlist_text(alloc, number)?;
+    let plan = plan_text(alloc)?;
+    insert_texts(alloc, net, plan.as_bytes())
+}
+
+/// What comes of inserting into the netlist of a number. It is refused only where memory is short.
+pub fn inserted_demo<'a>(alloc: Global, number: u32) -> Result<Inserted, Fault<'a>>
+    requires number { number < 10000 }
+    requires tree { IsTree (demo_module number) }
+    requires linkable { IsLinkable (demo_module number) }
+    ensures made { IfOk result (λ made. IsDemo number made.verilog made.bsdl) }
+    ensures fault { IfErr result (λ fault. status_of fault ≡ Status.Memory) }
+{
+    // Laws that the proof uses.
+    canonical_texts_spell_their_trees();
+    insertion_faults_stand_apart();
+    demo_plan_is_spelled();
+    demo_has_its_cells();
+    demo_chips_are_counted();
+    demo_texts_are_insertable();
+    match insert_demo(alloc, number) {
+        Ok(inserted) => Ok(inserted),
+        Err(fault) => Err(fault_of(fault)),
+    }
+}
+
+// A word behind a blank.
+fn put_word(text: &mut Text, word: &[u8]) -> Result<(), OutOfMemory>
+    ensures { OnOk result (text.new ≡ text.old ++ blank_word word.now) }
+{
+    text.append(b" ")?;
+    text.append(word)
+}
+
+// A number's digits behind a blank.
+fn put_number(text: &mut Text, number: u32) -> Result<(), OutOfMemory>
+    ensures { OnOk result (text.new ≡ text.old ++ blank_word (decimal number)) }
+{
+    let mut digits = Buffer::new();
+    put_word(text, digits.format(number).as_bytes())
+}
+
+/// The line of a number.
+#[tactic(auto, unfolding(output_lines::specs::Lines::words_line))]
+pub fn line_text(alloc: Global, number: u32) -> Result<Text, OutOfMemory>
+    requires { number < 10000 }
+    ensures { IfOk result (λ text. text ≡ demo_line number) }
+{
+    let mut text = Text::from_bytes(alloc, b"demo")?;
+    put_number(&mut text, number)?;
+    put_word(&mut text, b"kept")?;
+    put_number(&mut text, 148 + 10 * number)?;
+    put_word(&mut text, b"boundary")?;
+    put_number(&mut text, 35)?;
+    text.append(b"\n")?;
+    Ok(text)
+}

@@ -1,0 +1,11 @@
+mod Places
+mod Items
+mod Bits
+mod Tree
+mod Names
+mod Text
+mod Directions
+mod Cells
+mod Drivers
+mod Linked
+mod Counted

@@ -1,0 +1,25 @@
+// Laws on the demonstration netlists: each is a tree that some text spells, and can be linked. There is no code.
+// specs/Laws.antt has the statements, over the definitions of demo_chips, verilog_tree and link_model.
+// IEEE Std 1364-2001: gate-level modelling, data types; the netlists are own.
+#![tactic(auto)]
+
+ghost use Rattle.demo_netlists.specs.Laws.{DemoCanBeLinked, DemoHasItsCells, DemoIsATree};
+
+use netlist_laws::numbers_of_a_dense_netlist;
+
+/// A law: the demonstration netlist of a number is a tree that some text spells.
+pub fn demo_is_a_tree()
+    ensures { DemoIsATree }
+{}
+
+/// A law: no fault stands in it.
+pub fn demo_can_be_linked()
+    ensures { DemoCanBeLinked }
+{}
+
+/// A law: each netlist that it is linked to has `100 + 10 * n` gates, 32 flip-flops and 16 outputs.
+pub fn demo_has_its_cells()
+    ensures { DemoHasItsCells }
+{
+    numbers_of_a_dense_netlist();
+}
