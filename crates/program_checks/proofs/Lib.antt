@@ -1,0 +1,4 @@
+mod Same
+mod Widths
+mod Ports
+mod Chips

@@ -1,0 +1,41 @@
+// The program of a device, resolved on a linked netlist that realises the device's chip: no expectation of it is missed.
+// specs/Laws.antt has the statements. Its functions are laws.
+// IEEE Std 1149.1-2001: test access port; programs and scripts are own.
+#![tactic(auto)]
+
+ghost use Rattle.program_scripts.specs.Words.{WordsNameBits};
+ghost use Rattle.program_scripts.specs.Laws.{ProgramsAreLegal, ScriptsRunThere, ScriptsAreMet};
+
+use netlist_laws::direction_of_a_bit;
+use program_runs::{netlist_meets_program, program_names_pins};
+
+/// What the word of a bit names is that bit alone.
+pub fn words_name_bits()
+    ensures { WordsNameBits }
+{}
+
+/// The lines of a device's program are legal for a netlist with its ports.
+pub fn programs_are_legal()
+    ensures { ProgramsAreLegal }
+{
+    words_name_bits();
+    direction_of_a_bit();
+}
+
+/// A run of a script of a device's program is one by the program.
+pub fn scripts_run_there()
+    ensures { ScriptsRunThere }
+{
+    words_name_bits();
+    program_names_pins();
+    direction_of_a_bit();
+}
+
+/// Where the netlist realises the device's chip, no expectation of the script is missed.
+pub fn scripts_are_met()
+    ensures { ScriptsAreMet }
+{
+    words_name_bits();
+    scripts_run_there();
+    netlist_meets_program();
+}
