@@ -18,7 +18,7 @@ use Rattle.plan_texts.specs.declared.fault.PlanFault.{PlanFault}
 use Rattle.plan_texts.specs.declared.fault.PlanFault.TheVariants as plan
 use Rattle.plan_fitting.specs.declared.fault.FitFault.{FitFault}
 use Rattle.plan_fitting.specs.declared.fault.FitFault.TheVariants as fit
-use Rattle.insert_cli.specs.Simulations.{IsEnd}
+use Rattle.command_edges.specs.Ends.{IsEnd}
 
 memory_apart : IsEnd status.Memory → ⊥
 memory_apart (inl e) = cc

@@ -1,9 +1,7 @@
 pub mod Forms
 pub mod FormLaws
-pub mod Texts
-pub mod Told
-pub mod Simulated
-pub mod Complete
-pub mod CompleteSim
-pub mod Inserts
+pub mod NameLaws
+pub mod Numbers
+pub mod Runs
+pub mod Meets
 pub mod Ends

@@ -1,126 +1,54 @@
--- The forms of the commands, over their words without the program's own name. Own.
-use Rattle.std.specs.Prelude.{◌≡◌, ◌≢◌, ℕ, ◌⊎◌, ◌==◌, List, [], ◌∷◌, Bool, false, Option, Some, None, codes}
-use Rattle.std.specs.Bool.{IsFalse}
-use Rattle.std.specs.List.{list_any}
-use Rattle.insert_cli.specs.declared.command.Conversion.{Conversion}
-use Rattle.insert_cli.specs.declared.command.Conversion.TheVariants as conversion
-use Rattle.insert_cli.specs.declared.command.Command.{Command}
-use Rattle.insert_cli.specs.declared.command.Command.TheVariants.{Convert, Insert, Sim}
+-- What each command comes to: its end, the faults that stand in it, what is given before them, and when it comes to its end. Own.
+use Rattle.std.specs.Prelude.{◌≡◌, ℕ, List, Option}
+use Rattle.command_faults.specs.declared.fault.Fault.{Fault}
+use Rattle.command_faults.specs.declared.status.Status.{Status}
+use Rattle.command_faults.specs.declared.status.Status.TheVariants as status
+use Rattle.command_edges.specs.Seen.{ShelfSeen, SinkSeen}
+use Rattle.convert_command.specs.Runs.{IsConvertedTo, StandsInConvert, CompletesConvert}
+use Rattle.sim_command.specs.Runs.{IsSimulated, StandsInSim, GaveInPlay, CompletesSim}
+use Rattle.insert_command.specs.Runs.{IsInserted, StandsInInsert, GaveInInsert, CompletesInsert, GavePart}
+use Rattle.vectors_command.specs.Runs.{IsProgramWritten, StandsInVectors, CompletesVectors}
+use Rattle.check_command.specs.CheckFaults.{FinishesCheck, StandsInCheck, GaveInCheck, CompletesCheck}
+use Rattle.demo_command.specs.Demonstrations.{IsDemonstrated, StandsInDemo, CompletesDemo, demo_line}
+use Rattle.insert_cli.specs.Forms.{Form}
 
--- a word that begins with `-`
-abbrev pub begins_with_dash : List ℕ → Bool
-begins_with_dash [] = false
-begins_with_dash (b ∷ bytes) = b == 45
+-- the end of a command that puts nothing
+abbrev pub IsQuietEnd : SinkSeen → Status → Type 0
+IsQuietEnd sink end = (end ≡ status.Done) × (sink.given_after ≡ sink.given)
 
--- the word of a conversion's command
-abbrev pub conversion_word : Conversion → List ℕ
-conversion_word conversion.Canon = codes "canon"
-conversion_word conversion.ShowBsdl = codes "showbsdl"
+-- The command came to its end with this status.
+abbrev pub FinishesIn : Form → ShelfSeen → SinkSeen → Status → Type 0
+FinishesIn (Form.Converts c input output) shelf sink end = IsQuietEnd sink end × IsConvertedTo c input output shelf
+FinishesIn (Form.Simulates netlist events) shelf sink end = IsSimulated netlist events shelf sink end
+FinishesIn (Form.Inserts netlist plan outnet outbsdl) shelf sink end = (end ≡ status.Done) × IsInserted netlist plan outnet outbsdl shelf sink
+FinishesIn (Form.MakesVectors bsdl output) shelf sink end = IsQuietEnd sink end × IsProgramWritten bsdl output shelf
+FinishesIn (Form.Checks netlist bsdl events) shelf sink end = FinishesCheck netlist bsdl events shelf sink end
+FinishesIn (Form.Demonstrates number outnet outbsdl) shelf sink end = (end ≡ status.Done) × IsDemonstrated number outnet outbsdl shelf sink
 
--- `canon IN OUT` or `showbsdl IN OUT`; no word begins with `-`
-pub record ConvertForm (words : List (List ℕ)) (c : Conversion) (input output : List ℕ) : Type 0 where
-  pub words_are : words ≡ conversion_word c ∷ input ∷ output ∷ []
-  pub plain_words : IsFalse (list_any begins_with_dash words)
+-- The fault stands in the command. One of writing says what it leaves.
+abbrev pub StandsIn : Form → ShelfSeen → SinkSeen → Fault → Type 0
+StandsIn (Form.Converts c input output) shelf sink f = StandsInConvert c input output shelf f
+StandsIn (Form.Simulates netlist events) shelf sink f = StandsInSim netlist events shelf sink f
+StandsIn (Form.Inserts netlist plan outnet outbsdl) shelf sink f = StandsInInsert netlist plan outnet outbsdl shelf sink f
+StandsIn (Form.MakesVectors bsdl output) shelf sink f = StandsInVectors bsdl output shelf f
+StandsIn (Form.Checks netlist bsdl events) shelf sink f = StandsInCheck netlist bsdl events shelf sink f
+StandsIn (Form.Demonstrates number outnet outbsdl) shelf sink f = StandsInDemo number outnet outbsdl shelf sink f
 
--- `sim NET EVENTS`; no word begins with `-`
-pub record SimForm (words : List (List ℕ)) (netlist events : List ℕ) : Type 0 where
-  pub words_are : words ≡ codes "sim" ∷ netlist ∷ events ∷ []
-  pub plain_words : IsFalse (list_any begins_with_dash words)
+-- What was given before the fault's line: nothing, or where giving failed a front of what the command puts.
+abbrev pub GaveIn : Form → ShelfSeen → Fault → Option (List ℕ) → Option (List ℕ) → Type 0
+GaveIn (Form.Converts c input output) shelf f before after = after ≡ before
+GaveIn (Form.Simulates netlist events) shelf f before after = GaveInPlay (shelf.held netlist) (shelf.held events) f before after
+GaveIn (Form.Inserts netlist plan outnet outbsdl) shelf f before after = GaveInInsert (shelf.held netlist) (shelf.held plan) f before after
+GaveIn (Form.MakesVectors bsdl output) shelf f before after = after ≡ before
+GaveIn (Form.Checks netlist bsdl events) shelf f before after = GaveInCheck (shelf.held netlist) (shelf.held bsdl) (shelf.held events) f before after
+GaveIn (Form.Demonstrates number outnet outbsdl) shelf f before after = GavePart (demo_line number) f before after
 
--- `insert NET PLAN OUTNET OUTBSDL`; no word begins with `-`
-pub record InsertForm (words : List (List ℕ)) (netlist plan outnet outbsdl : List ℕ) : Type 0 where
-  pub words_are : words ≡ codes "insert" ∷ netlist ∷ plan ∷ outnet ∷ outbsdl ∷ []
-  pub plain_words : IsFalse (list_any begins_with_dash words)
-
--- the words have no form
-pub record IsNoCommand (words : List (List ℕ)) : Type 0 where
-  pub convert : (c : Conversion) (input output : List ℕ) → ConvertForm words c input output → ⊥
-  pub sim : (netlist events : List ℕ) → SimForm words netlist events → ⊥
-  pub insert : (netlist plan outnet outbsdl : List ℕ) → InsertForm words netlist plan outnet outbsdl → ⊥
-
--- own: the words are `insert` and four names, or aren't
-abbrev pub IsInsertOf : List (List ℕ) → Option Command → Type 0
-IsInsertOf words None = (netlist plan outnet outbsdl : List ℕ) → words ≡ codes "insert" ∷ netlist ∷ plan ∷ outnet ∷ outbsdl ∷ [] → ⊥
-IsInsertOf words (Some (Insert netlist plan outnet outbsdl)) = words ≡ codes "insert" ∷ netlist.now ∷ plan.now ∷ outnet.now ∷ outbsdl.now ∷ []
-IsInsertOf words (Some (Convert c input output)) = ⊥
-IsInsertOf words (Some (Sim netlist events)) = ⊥
-
--- own: the words are those of a conversion or of `sim`, or aren't
-pub record IsNoThree (words : List (List ℕ)) : Type 0 where
-  pub convert : (c : Conversion) (input output : List ℕ) → words ≡ conversion_word c ∷ input ∷ output ∷ [] → ⊥
-  pub sim : (netlist events : List ℕ) → words ≡ codes "sim" ∷ netlist ∷ events ∷ [] → ⊥
-
-abbrev pub IsThreeOf : List (List ℕ) → Option Command → Type 0
-IsThreeOf words None = IsNoThree words
-IsThreeOf words (Some (Convert c input output)) = words ≡ conversion_word c ∷ input.now ∷ output.now ∷ []
-IsThreeOf words (Some (Sim netlist events)) = words ≡ codes "sim" ∷ netlist.now ∷ events.now ∷ []
-IsThreeOf words (Some (Insert netlist plan outnet outbsdl)) = ⊥
-
--- own: the same for any command, whatever its words begin with
-pub record IsNoPlain (words : List (List ℕ)) : Type 0 where
-  pub three : IsNoThree words
-  pub insert : IsInsertOf words None
-
-abbrev pub IsPlainOf : List (List ℕ) → Option Command → Type 0
-IsPlainOf words None = IsNoPlain words
-IsPlainOf words (Some (Convert c input output)) = words ≡ conversion_word c ∷ input.now ∷ output.now ∷ []
-IsPlainOf words (Some (Sim netlist events)) = words ≡ codes "sim" ∷ netlist.now ∷ events.now ∷ []
-IsPlainOf words (Some (Insert netlist plan outnet outbsdl)) = words ≡ codes "insert" ∷ netlist.now ∷ plan.now ∷ outnet.now ∷ outbsdl.now ∷ []
-
--- the command is the one that the words are; none where they have no form
-abbrev pub IsCommandOf : List (List ℕ) → Option Command → Type 0
-IsCommandOf words None = IsNoCommand words
-IsCommandOf words (Some (Convert c input output)) = ConvertForm words c input.now output.now
-IsCommandOf words (Some (Sim netlist events)) = SimForm words netlist.now events.now
-IsCommandOf words (Some (Insert netlist plan outnet outbsdl)) = InsertForm words netlist.now plan.now outnet.now outbsdl.now
-
--- a conversion with two different names
-pub record RunsConvert (words : List (List ℕ)) (c : Conversion) (input output : List ℕ) : Type 0 where
-  pub form : ConvertForm words c input output
-  pub differ : input ≢ output
-
--- no output has the name of another file of the command
-pub record AreApart (netlist plan outnet outbsdl : List ℕ) : Type 0 where
-  pub outnet_netlist : outnet ≢ netlist
-  pub outnet_plan : outnet ≢ plan
-  pub outbsdl_netlist : outbsdl ≢ netlist
-  pub outbsdl_plan : outbsdl ≢ plan
-  pub outbsdl_outnet : outbsdl ≢ outnet
-
--- the name is that of an output and of another file of the command
-abbrev pub IsSameName : List ℕ → List ℕ → List ℕ → List ℕ → List ℕ → Type 0
-IsSameName name netlist plan outnet outbsdl =
-    ((name ≡ outnet) × ((outnet ≡ netlist) ⊎ ((outnet ≡ plan) ⊎ (outnet ≡ outbsdl))))
-    ⊎ ((name ≡ outbsdl) × ((outbsdl ≡ netlist) ⊎ (outbsdl ≡ plan)))
-
--- `insert` with outputs of their own names
-pub record RunsInsert (words : List (List ℕ)) (netlist plan outnet outbsdl : List ℕ) : Type 0 where
-  pub form : InsertForm words netlist plan outnet outbsdl
-  pub apart : AreApart netlist plan outnet outbsdl
-
--- the name is that of an output of `insert`
-pub record InsertWrites (words : List (List ℕ)) (name : List ℕ) : Type 0 where
-  pub netlist : List ℕ
-  pub plan : List ℕ
-  pub outnet : List ℕ
-  pub outbsdl : List ℕ
-  pub runs : RunsInsert words netlist plan outnet outbsdl
-  pub is_one : (name ≡ outnet) ⊎ (name ≡ outbsdl)
-
--- the name is that of a file that the command writes
-abbrev pub Writes : List (List ℕ) → List ℕ → Type 0
-Writes words name = ((c : Conversion) × ((input : List ℕ) × RunsConvert words c input name)) ⊎ InsertWrites words name
-
--- a conversion runs on a command's names, of which this holds
-abbrev pub OfConvert : List (List ℕ) → (Conversion → List ℕ → List ℕ → Type 0) → Type 0
-OfConvert words P = (c : Conversion) × ((input : List ℕ) × ((output : List ℕ)
-    × (RunsConvert words c input output × P c input output)))
-
--- `sim` runs on a command's names, of which this holds
-abbrev pub OfSim : List (List ℕ) → (List ℕ → List ℕ → Type 0) → Type 0
-OfSim words P = (netlist : List ℕ) × ((events : List ℕ) × (SimForm words netlist events × P netlist events))
-
--- `insert` runs on a command's names, of which this holds
-abbrev pub OfInsert : List (List ℕ) → (List ℕ → List ℕ → List ℕ → List ℕ → Type 0) → Type 0
-OfInsert words P = (netlist : List ℕ) × ((plan : List ℕ) × ((outnet : List ℕ) × ((outbsdl : List ℕ)
-    × (RunsInsert words netlist plan outnet outbsdl × P netlist plan outnet outbsdl))))
+-- A refusal with this status, where no fault stands in what the command reads, and no count of its names or of the sink rises, is want
+-- of memory.
+abbrev pub CompletesIn : Form → ShelfSeen → SinkSeen → Status → Type 0
+CompletesIn (Form.Converts c input output) shelf sink end = CompletesConvert c input output shelf end
+CompletesIn (Form.Simulates netlist events) shelf sink end = CompletesSim netlist events shelf sink end
+CompletesIn (Form.Inserts netlist plan outnet outbsdl) shelf sink end = CompletesInsert netlist plan outnet outbsdl shelf sink end
+CompletesIn (Form.MakesVectors bsdl output) shelf sink end = CompletesVectors bsdl output shelf end
+CompletesIn (Form.Checks netlist bsdl events) shelf sink end = CompletesCheck netlist bsdl events shelf sink end
+CompletesIn (Form.Demonstrates number outnet outbsdl) shelf sink end = CompletesDemo outnet outbsdl shelf sink end

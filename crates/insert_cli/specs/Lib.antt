@@ -1,7 +1,6 @@
+pub mod Forms
+pub mod Names
 pub mod Commands
-pub mod Conversions
-pub mod ConvertFaults
-pub mod Simulations
-pub mod SimFaults
-pub mod Inserts
 pub mod Causes
+pub mod Meets
+pub mod Parsed

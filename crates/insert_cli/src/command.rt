@@ -1,26 +1,26 @@
-ghost use Rattle.std.specs.Prelude.{◌≡◌, ◌↔◌, map, string_bytes, Some, IsTrue};
-ghost use Rattle.insert_cli.specs.declared.command.Conversion.{Conversion};
+ghost use Rattle.std.specs.Prelude.{◌≡◌, [], ◌∷◌, map, string_bytes};
 ghost use Rattle.std.specs.List.{list_any};
-ghost use Rattle.insert_cli.specs.Commands as forms;
+ghost use Rattle.insert_cli.specs.Forms as forms;
+ghost use Rattle.insert_cli.specs.Parsed.{IsCommandOf, IsNumberOf, IsPlainOf};
 
 use crate::words::WordList;
-
-/// Reads a text of one format, and writes its canonical text.
-#[derive(Clone, Copy, Debug, PartialEq, Eq)]
-pub enum Conversion {
-    /// Netlists, by the command `canon`.
-    Canon,
-    /// BSDL texts, by the command `showbsdl`.
-    ShowBsdl,
-}
+use bsdl_runs::numbers::decimal;
+use bsdl_runs::runs::is_integer;
+use convert_command::Conversion;
 
 /// A command with the names of its files.
 #[derive(Clone, Copy, Debug)]
 pub enum Command<'a> {
+    /// Writes the canonical text of a netlist or of a device.
     Convert {
         conversion: Conversion,
         input: &'a str,
         output: &'a str,
+    },
+    /// Plays the events of one text on the netlist of another.
+    Sim {
+        netlist: &'a str,
+        events: &'a str,
     },
     /// Builds the test logic of a plan into a netlist, and writes the netlist and its BSDL file.
     Insert {
@@ -29,10 +29,22 @@ pub enum Command<'a> {
         outnet: &'a str,
         outbsdl: &'a str,
     },
-    /// Plays the events of one text on the netlist of another.
-    Sim {
+    /// Writes the program of a device.
+    Vectors {
+        bsdl: &'a str,
+        output: &'a str,
+    },
+    /// Runs events on a netlist that is to have the test logic of a device.
+    Check {
         netlist: &'a str,
+        bsdl: &'a str,
         events: &'a str,
+    },
+    /// Builds test logic into the demonstration netlist of a number, and writes the netlist and its BSDL file.
+    Demo {
+        number: u32,
+        outnet: &'a str,
+        outbsdl: &'a str,
     },
 }
 
@@ -56,71 +68,114 @@ fn has_option(words: &[String]) -> bool
     false
 }
 
-// The conversion whose command has this word.
-fn conversion_named(word: &str) -> Option<Conversion>
-    ensures some { (c : Conversion) → (result ≡ Some c) ↔ (word.now ≡ forms.conversion_word c) }
+// The command of two names.
+fn of_two<'a>(word: &str, first: &'a str, second: &'a str) -> Option<Command<'a>>
+    ensures { IsPlainOf (word.now ∷ first.now ∷ second.now ∷ []) result }
 {
     match word {
-        "canon" => Some(Conversion::Canon),
-        "showbsdl" => Some(Conversion::ShowBsdl),
+        "canon" => Some(Command::Convert {
+            conversion: Conversion::Canon,
+            input: first,
+            output: second,
+        }),
+        "showbsdl" => Some(Command::Convert {
+            conversion: Conversion::ShowBsdl,
+            input: first,
+            output: second,
+        }),
+        "sim" => Some(Command::Sim {
+            netlist: first,
+            events: second,
+        }),
+        "vectors" => Some(Command::Vectors {
+            bsdl: first,
+            output: second,
+        }),
         _ => None,
     }
 }
 
-// `insert` with its names, where the words are that.
-fn insert_of(words: &[String]) -> Option<Command<'_>>
-    ensures { forms.IsInsertOf (map string_bytes words.now) result }
+// The number that 1 to 4 digits are.
+fn number_of(word: &str) -> Option<u32>
+    ensures { IsNumberOf word.now result }
 {
-    let [command, netlist, plan, outnet, outbsdl] = words else {
-        return None;
-    };
-    if command.as_str() == "insert" {
+    let digits = word.as_bytes();
+    if digits.len() <= 4 && is_integer(digits) {
+        Some(decimal(digits))
+    } else {
+        None
+    }
+}
+
+// The command of three names, or of a number and two.
+fn of_three<'a>(word: &str, first: &'a str, second: &'a str, third: &'a str) -> Option<Command<'a>>
+    ensures { IsPlainOf (word.now ∷ first.now ∷ second.now ∷ third.now ∷ []) result }
+{
+    match word {
+        "check" => Some(Command::Check {
+            netlist: first,
+            bsdl: second,
+            events: third,
+        }),
+        "demo" => match number_of(first) {
+            Some(number) => Some(Command::Demo {
+                number,
+                outnet: second,
+                outbsdl: third,
+            }),
+            None => None,
+        },
+        _ => None,
+    }
+}
+
+// The command of four names.
+fn of_four<'a>(
+    word: &str,
+    first: &'a str,
+    second: &'a str,
+    third: &'a str,
+    fourth: &'a str,
+) -> Option<Command<'a>>
+    ensures { IsPlainOf (word.now ∷ first.now ∷ second.now ∷ third.now ∷ fourth.now ∷ []) result }
+{
+    if word == "insert" {
         return Some(Command::Insert {
-            netlist: netlist.as_str(),
-            plan: plan.as_str(),
-            outnet: outnet.as_str(),
-            outbsdl: outbsdl.as_str(),
+            netlist: first,
+            plan: second,
+            outnet: third,
+            outbsdl: fourth,
         });
     }
     None
 }
 
-// The command of three words.
-fn command_of_three(words: &[String]) -> Option<Command<'_>>
-    ensures { forms.IsThreeOf (map string_bytes words.now) result }
-{
-    let [command, first, second] = words else {
-        return None;
-    };
-    if command.as_str() == "sim" {
-        return Some(Command::Sim {
-            netlist: first.as_str(),
-            events: second.as_str(),
-        });
-    }
-    match conversion_named(command.as_str()) {
-        Some(conversion) => Some(Command::Convert {
-            conversion,
-            input: first.as_str(),
-            output: second.as_str(),
-        }),
-        None => None,
-    }
-}
-
 // The command that words are of which none begins with `-`.
 fn plain_command(words: &[String]) -> Option<Command<'_>>
-    ensures { forms.IsPlainOf (map string_bytes words.now) result }
+    ensures { IsPlainOf (map string_bytes words.now) result }
 {
-    match insert_of(words) {
-        Some(command) => Some(command),
-        None => command_of_three(words),
+    match words {
+        [word, first, second] => of_two(word.as_str(), first.as_str(), second.as_str()),
+        [word, first, second, third] => of_three(
+            word.as_str(),
+            first.as_str(),
+            second.as_str(),
+            third.as_str(),
+        ),
+        [word, first, second, third, fourth] => of_four(
+            word.as_str(),
+            first.as_str(),
+            second.as_str(),
+            third.as_str(),
+            fourth.as_str(),
+        ),
+        _ => None,
     }
 }
 
-/// The command that the words are. None where they have the form of no command, or a word begins with `-`.
+/// The command that the words are. None where they are no command.
 pub fn command_of(words: &WordList) -> Option<Command<'_>>
-    ensures { forms.IsCommandOf words.now result }
+    ensures { IsCommandOf words.now result }
 {
     let words = words.as_slice();
     if has_option(words) {

@@ -2,20 +2,20 @@ ghost use Rattle.std.specs.Prelude.{◌≡◌, ◌≢◌, ◌≤◌, ℕ, List, 
 ghost use Rattle.edge_io.specs.Shelf.{NoneFell, SameTold};
 ghost use Rattle.command_faults.specs.Statuses.{status_of};
 ghost use Rattle.command_faults.specs.declared.status.Status.{Status};
-ghost use Rattle.insert_cli.specs.Causes.{CompletesConvert, CompletesInsert, CompletesSim, CutsShort, Fails, Finishes, Gave, Stands};
-ghost use Rattle.insert_cli.specs.Commands.{Writes};
+ghost use Rattle.command_edges.specs.Ends.{IsEnd};
 ghost use Rattle.command_edges.specs.Seen.{shelf_seen, sink_seen};
-ghost use Rattle.insert_cli.specs.Simulations.{IsEnd};
+ghost use Rattle.insert_cli.specs.Causes.{Completes, Fails, Finishes, Stands};
+ghost use Rattle.insert_cli.specs.Meets.{MissesNothing};
+ghost use Rattle.insert_cli.specs.Names.{Writes};
 
-use crate::command::{Command, command_of};
-use crate::convert::convert;
-use crate::inserting::insert_apart;
-use crate::simulate::{faults_stand_apart, simulate};
+use crate::command::command_of;
+use crate::names::same_name;
+use crate::running::run_command;
 use crate::words::WordList;
 use command_faults::{Fault, Status, put_fault};
 use edge_io::shelf::Shelf;
 use edge_io::sink::Sink;
-use insert_command::insertion_faults_stand_apart;
+use program_checks::written_programs_miss_nothing;
 use std::alloc::Global;
 
 // Runs the command that the words are, up to its fault.
@@ -29,16 +29,14 @@ fn run<'a, S: Shelf, O: Sink>(
         (shelf_seen S.tells S.held S.written S.faults shelf.old shelf.new)
         (sink_seen O.given O.faults out.old out.new)) }
     ensures ended { IfOk result IsEnd }
-    ensures fault { IfErr result (Stands words.now
+    ensures fault { IfErr result (λ fault. Stands words.now
         (shelf_seen S.tells S.held S.written S.faults shelf.old shelf.new)
-        (sink_seen O.given O.faults out.old out.new)) }
-    ensures gave { IfErr result (λ fault. Gave words.now
-        (shelf_seen S.tells S.held S.written S.faults shelf.old shelf.new) fault
-        (O.given out.old) (O.given out.new)) }
+        (sink_seen O.given O.faults out.old out.new) fault (O.given out.new)) }
+    ensures complete { IfErr result (λ fault. Completes words.now
+        (shelf_seen S.tells S.held S.written S.faults shelf.old shelf.new)
+        (sink_seen O.given O.faults out.old out.new) (status_of fault)) }
     ensures unwritten { IfErr result (λ fault. (status_of fault ≢ Status.WriteFault)
         → SameTold (S.written shelf.old) (S.written shelf.new)) }
-    ensures cut_short { IfErr result (λ fault. (status_of fault ≡ Status.WriteFault) → CutsShort words.now
-        (shelf_seen S.tells S.held S.written S.faults shelf.old shelf.new)) }
     ensures others { (name : List ℕ) → (Writes words.now name → ⊥)
         → S.written shelf.new name ≡ S.written shelf.old name }
     ensures held { SameTold (S.held shelf.old) (S.held shelf.new) }
@@ -48,25 +46,9 @@ fn run<'a, S: Shelf, O: Sink>(
     let Some(command) = command_of(words) else {
         return Err(Fault::Usage);
     };
-    match command {
-        Command::Convert {
-            conversion,
-            input,
-            output,
-        } => {
-            if input == output {
-                return Err(Fault::SameName { name: output });
-            }
-            convert(alloc, conversion, shelf, input, output)?;
-            Ok(Status::Done)
-        }
-        Command::Insert {
-            netlist,
-            plan,
-            outnet,
-            outbsdl,
-        } => insert_apart(alloc, shelf, out, netlist, plan, outnet, outbsdl),
-        Command::Sim { netlist, events } => simulate(alloc, shelf, out, netlist, events),
+    match same_name(command) {
+        Some(name) => Err(Fault::SameName { name }),
+        None => run_command(alloc, shelf, out, command),
     }
 }
 
@@ -78,16 +60,17 @@ pub fn run_tool<S: Shelf, O: Sink>(
     shelf: &mut S,
     out: &mut O,
 ) -> Status
-    // At status 0 a conversion's output is the canonical text of the one tree or device that the input spells,
-    // and nothing is put. At status 0 or 6 a simulation put the text of the events' run, and the status is 6
-    // where an expectation isn't met. At status 0 an insertion wrote the netlist with the plan's test logic and
-    // the BSDL text of its device, and put its report.
+    // At status 0 a conversion's output is the canonical text of the one tree or device that the input spells, and
+    // that of `vectors` is the text of the program of the device; nothing is put. At status 0 or 6 a simulation put
+    // the text of the events' run, or a check its misses and its last line, and the status is 6 where an expectation
+    // isn't met. At status 0 an insertion wrote the netlist with the plan's test logic and the BSDL text of its device,
+    // and put its report; and a demonstration did so for the netlist of its number, and put its line.
     ensures done { IsEnd result → Finishes words.now
         (shelf_seen S.tells S.held S.written S.faults shelf.old shelf.new)
         (sink_seen O.given O.faults out.old out.new) result }
 
-    // Any other status has a fault that stands, and the sink got its line; before it only a simulation or an
-    // insertion whose giving failed put a front of its text.
+    // Any other status has a fault that stands, and the sink got its line; before it only a command whose giving
+    // failed put a front of its text. A fault of writing says what it leaves.
     ensures fault { (IsEnd result → ⊥) → Fails words.now
         (shelf_seen S.tells S.held S.written S.faults shelf.old shelf.new)
         (sink_seen O.given O.faults out.old out.new) result }
@@ -95,27 +78,24 @@ pub fn run_tool<S: Shelf, O: Sink>(
     // Only a write that failed leaves anything changed, and only under the outputs' names.
     ensures unwritten { (IsEnd result → ⊥) → result ≢ Status.WriteFault
         → SameTold (S.written shelf.old) (S.written shelf.new) }
-    ensures cut_short { result ≡ Status.WriteFault → CutsShort words.now
-        (shelf_seen S.tells S.held S.written S.faults shelf.old shelf.new) }
     ensures others { (name : List ℕ) → (Writes words.now name → ⊥)
         → S.written shelf.new name ≡ S.written shelf.old name }
     ensures held { SameTold (S.held shelf.old) (S.held shelf.new) }
 
-    // Where no fault stands in the words and the texts, and the counts of faults of the command's own names and
+    // Where no fault stands in the words and in what the command reads, and the counts of faults of its own names and
     // of the sink don't rise, the command comes to its end, or wants memory.
-    ensures complete { CompletesConvert words.now
+    ensures complete { (IsEnd result → ⊥) → Completes words.now
+        (shelf_seen S.tells S.held S.written S.faults shelf.old shelf.new)
+        (sink_seen O.given O.faults out.old out.new) result }
+
+    // A check of the netlist and of the BSDL text that an insertion wrote, by the program of that device, never misses.
+    ensures meets { MissesNothing words.now
         (shelf_seen S.tells S.held S.written S.faults shelf.old shelf.new) result }
-    ensures complete_sim { CompletesSim words.now
-        (shelf_seen S.tells S.held S.written S.faults shelf.old shelf.new)
-        (sink_seen O.given O.faults out.old out.new) result }
-    ensures complete_insert { CompletesInsert words.now
-        (shelf_seen S.tells S.held S.written S.faults shelf.old shelf.new)
-        (sink_seen O.given O.faults out.old out.new) result }
     ensures later { NoneFell (S.faults shelf.old) (S.faults shelf.new) }
     ensures puts_later { O.faults out.old ≤ O.faults out.new }
 {
-    faults_stand_apart();
-    insertion_faults_stand_apart();
+    // A law that the proof uses.
+    written_programs_miss_nothing();
     let fault = match run(alloc, words, shelf, out) {
         Ok(status) => return status,
         Err(fault) => fault,

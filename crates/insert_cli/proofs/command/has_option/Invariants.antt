@@ -1,6 +1,6 @@
 use Rattle.std.proofs.Common.{◌≡◌, drop, map, string_bytes, Global}
 use Rattle.std.specs.List.{list_any}
-use Rattle.insert_cli.specs.Commands as forms
+use Rattle.insert_cli.specs.Forms as forms
 use Rattle.insert_cli.proofs.command.has_option.Given as goal
 
 abbrev pub invariant-loop-word : goal.invariant-loop-word

@@ -1,9 +1,12 @@
-use Rattle.std.proofs.Common.{map, string_bytes}
-use Rattle.insert_cli.proofs.FormLaws.{insert_plain, three_plain}
+use Rattle.std.proofs.Common.{arith, map, string_bytes, refl}
+use Rattle.insert_cli.proofs.Forms.{five_are, words_of_five}
+use Rattle.insert_cli.proofs.FormLaws.{plain_as}
 use Rattle.insert_cli.proofs.command.plain_command.Goals as goal
 
-pub returns-in-Some : goal.returns-in-Some
-returns-in-Some c = insert_plain (map string_bytes c.args.words.now) c.in-Some.command c.in-Some.ensures
-
-pub returns-in-None : goal.returns-in-None
-returns-in-None c = three_plain (map string_bytes c.args.words.now) c.command_of_three.result c.in-None.ensures c.command_of_three.ensures
+pub returns-in-len5 : goal.returns-in-len5
+returns-in-len5 c =
+    let are = five_are c.args.words.now c.word-item-then-words-lt6.result c.first-item-then-words-lt6.result c.second-item-then-words-lt6.result c.third-item-then-words-lt6.result c.fourth-item.result (omega arith) (omega arith) c.word-item-then-words-lt6.is c.first-item-then-words-lt6.is c.second-item-then-words-lt6.is c.third-item-then-words-lt6.is c.fourth-item.is in
+    plain_as (map string_bytes c.args.words.now) _ c.of_four.result
+    (words_of_five (map string_bytes c.args.words.now) c.args.words.now c.word-item-then-words-lt6.result c.first-item-then-words-lt6.result c.second-item-then-words-lt6.result c.third-item-then-words-lt6.result c.fourth-item.result _ _ _ _ _ refl are
+    c.as_str-in-len5.ensures.value c.as_str-in-len5-2.ensures.value c.as_str-in-len5-3.ensures.value c.as_str-in-len5-4.ensures.value c.as_str-in-len5-5.ensures.value)
+    c.of_four.ensures

@@ -1,69 +1,23 @@
-use Rattle.std.proofs.Common.{◌≡◌, Some, subst}
-use Rattle.command_faults.specs.Statuses.{status_of}
 use Rattle.command_faults.specs.declared.status.Status.TheVariants as status
-use Rattle.insert_cli.specs.Causes.{CutsShort}
-use Rattle.insert_cli.specs.declared.command.Command.{Command}
-use Rattle.insert_cli.specs.Commands.{IsCommandOf}
 use Rattle.command_edges.specs.Seen.{ShelfSeen, SinkSeen, shelf_seen, sink_seen}
-use Rattle.insert_cli.proofs.Simulated.{run_done, run_fault, run_gives, err_is, cuts_short}
-use Rattle.insert_cli.proofs.Inserts.{insert_done, insert_fault, insert_gives, insert_cuts, other_name}
+use Rattle.insert_cli.specs.Names.{Runs}
+use Rattle.insert_cli.specs.Parsed.{form_of}
+use Rattle.insert_cli.proofs.Numbers.{small_number}
+use Rattle.insert_cli.proofs.Runs.{run_completes, name_completes}
 use Rattle.insert_cli.proofs.tool.run.Goals as goal
 
-pub returns-in-Insert-clause-done : goal.returns-in-Insert-clause-done
-returns-in-Insert-clause-done g c =
-    let form = subst (λ (k : Command). IsCommandOf c.args.words.now (Some k)) c.in-Insert.is c.in-Some.ensures in
-    let shelf : ShelfSeen = shelf_seen g.S.Shelf.tells g.S.Shelf.held g.S.Shelf.written g.S.Shelf.faults c.args.shelf.now c.insert_apart.new.shelf in
-    let sink : SinkSeen = sink_seen g.O.Sink.given g.O.Sink.faults c.args.out.now c.insert_apart.new.out in
-    insert_done c.insert_apart.result c.args.words.now shelf sink c.in-Insert.netlist.now c.in-Insert.plan.now c.in-Insert.outnet.now c.in-Insert.outbsdl.now form c.insert_apart.ensures.done
+pub run_command-requires-clause-small : goal.run_command-requires-clause-small
+run_command-requires-clause-small g c = small_number c.args.words.now c.in-Some.command c.in-Some.ensures
 
-pub returns-in-Insert-clause-fault : goal.returns-in-Insert-clause-fault
-returns-in-Insert-clause-fault g c =
-    let form = subst (λ (k : Command). IsCommandOf c.args.words.now (Some k)) c.in-Insert.is c.in-Some.ensures in
-    let shelf : ShelfSeen = shelf_seen g.S.Shelf.tells g.S.Shelf.held g.S.Shelf.written g.S.Shelf.faults c.args.shelf.now c.insert_apart.new.shelf in
-    let sink : SinkSeen = sink_seen g.O.Sink.given g.O.Sink.faults c.args.out.now c.insert_apart.new.out in
-    insert_fault c.insert_apart.result c.args.words.now shelf sink c.in-Insert.netlist.now c.in-Insert.plan.now c.in-Insert.outnet.now c.in-Insert.outbsdl.now form c.insert_apart.ensures.fault
+pub returns-in-None-clause-complete : goal.returns-in-None-clause-complete
+returns-in-None-clause-complete g c =
+    let shelf : ShelfSeen = shelf_seen g.S.Shelf.tells g.S.Shelf.held g.S.Shelf.written g.S.Shelf.faults c.args.shelf.now c.run_command.new.shelf in
+    let sink : SinkSeen = sink_seen g.O.Sink.given g.O.Sink.faults c.args.out.now c.run_command.new.out in
+    let runs : Runs c.args.words.now (form_of c.in-Some.command) = record { has = c.in-Some.ensures; apart = c.same_name.ensures.apart c.in-None.is } in
+    run_completes c.run_command.result c.args.words.now (form_of c.in-Some.command) shelf sink runs c.run_command.ensures.complete
 
-pub returns-in-Insert-clause-gave : goal.returns-in-Insert-clause-gave
-returns-in-Insert-clause-gave g c =
-    let form = subst (λ (k : Command). IsCommandOf c.args.words.now (Some k)) c.in-Insert.is c.in-Some.ensures in
-    let shelf : ShelfSeen = shelf_seen g.S.Shelf.tells g.S.Shelf.held g.S.Shelf.written g.S.Shelf.faults c.args.shelf.now c.insert_apart.new.shelf in
-    insert_gives c.insert_apart.result c.args.words.now shelf (g.O.Sink.given c.args.out.now) (g.O.Sink.given c.insert_apart.new.out) c.in-Insert.netlist.now c.in-Insert.plan.now c.in-Insert.outnet.now c.in-Insert.outbsdl.now form
-    c.insert_apart.ensures.gave
-
-pub returns-in-Insert-clause-cut_short : goal.returns-in-Insert-clause-cut_short
-returns-in-Insert-clause-cut_short g c =
-    let form = subst (λ (k : Command). IsCommandOf c.args.words.now (Some k)) c.in-Insert.is c.in-Some.ensures in
-    let shelf : ShelfSeen = shelf_seen g.S.Shelf.tells g.S.Shelf.held g.S.Shelf.written g.S.Shelf.faults c.args.shelf.now c.insert_apart.new.shelf in
-    insert_cuts c.insert_apart.result c.args.words.now shelf c.in-Insert.netlist.now c.in-Insert.plan.now c.in-Insert.outnet.now c.in-Insert.outbsdl.now form
-
-pub returns-in-Insert-clause-others : goal.returns-in-Insert-clause-others
-returns-in-Insert-clause-others g c = λ name absent.
-    let form = subst (λ (k : Command). IsCommandOf c.args.words.now (Some k)) c.in-Insert.is c.in-Some.ensures in
-    c.insert_apart.ensures.others name (other_name c.args.words.now name c.in-Insert.netlist.now c.in-Insert.plan.now c.in-Insert.outnet.now c.in-Insert.outbsdl.now form absent)
-
-pub returns-in-Sim-clause-done : goal.returns-in-Sim-clause-done
-returns-in-Sim-clause-done g c =
-    let form = subst (λ (k : Command). IsCommandOf c.args.words.now (Some k)) c.in-Sim.is c.in-Some.ensures in
-    let shelf : ShelfSeen = shelf_seen g.S.Shelf.tells g.S.Shelf.held g.S.Shelf.written g.S.Shelf.faults c.args.shelf.now c.simulate.new.shelf in
-    let sink : SinkSeen = sink_seen g.O.Sink.given g.O.Sink.faults c.args.out.now c.simulate.new.out in
-    run_done c.simulate.result c.args.words.now shelf sink c.in-Sim.netlist.now c.in-Sim.events.now form c.simulate.ensures.done
-
-pub returns-in-Sim-clause-fault : goal.returns-in-Sim-clause-fault
-returns-in-Sim-clause-fault g c =
-    let form = subst (λ (k : Command). IsCommandOf c.args.words.now (Some k)) c.in-Sim.is c.in-Some.ensures in
-    let shelf : ShelfSeen = shelf_seen g.S.Shelf.tells g.S.Shelf.held g.S.Shelf.written g.S.Shelf.faults c.args.shelf.now c.simulate.new.shelf in
-    let sink : SinkSeen = sink_seen g.O.Sink.given g.O.Sink.faults c.args.out.now c.simulate.new.out in
-    run_fault c.simulate.result c.args.words.now shelf sink c.in-Sim.netlist.now c.in-Sim.events.now form c.simulate.ensures.fault
-
-pub returns-in-Sim-clause-gave : goal.returns-in-Sim-clause-gave
-returns-in-Sim-clause-gave g c =
-    let form = subst (λ (k : Command). IsCommandOf c.args.words.now (Some k)) c.in-Sim.is c.in-Some.ensures in
-    let shelf : ShelfSeen = shelf_seen g.S.Shelf.tells g.S.Shelf.held g.S.Shelf.written g.S.Shelf.faults c.args.shelf.now c.simulate.new.shelf in
-    run_gives c.simulate.result c.args.words.now shelf (g.O.Sink.given c.args.out.now) (g.O.Sink.given c.simulate.new.out) c.in-Sim.netlist.now c.in-Sim.events.now form c.simulate.ensures.gave
-
-pub returns-in_err-convert-in-Convert-clause-cut_short : goal.returns-in_err-convert-in-Convert-clause-cut_short
-returns-in_err-convert-in-Convert-clause-cut_short g c =
-    let form = subst (λ (k : Command). IsCommandOf c.args.words.now (Some k)) c.in-Convert.is c.in-Some.ensures in
-    let shelf : ShelfSeen = shelf_seen g.S.Shelf.tells g.S.Shelf.held g.S.Shelf.written g.S.Shelf.faults c.args.shelf.now c.convert.new.shelf in
-    err_is c.from_residual.result c.in_err-convert-in-Convert.field-0.0 (λ f. status_of f ≡ status.WriteFault → CutsShort c.args.words.now shelf) c.from_residual.ensures.1
-    (λ failed. cuts_short c.args.words.now shelf c.in-Convert.conversion c.in-Convert.input.now c.in-Convert.output.now form (c.in_err-convert-in-Convert.ensures.cut_short failed))
+pub returns-in-Some-same_name-clause-complete : goal.returns-in-Some-same_name-clause-complete
+returns-in-Some-same_name-clause-complete g c =
+    let shelf : ShelfSeen = shelf_seen g.S.Shelf.tells g.S.Shelf.held g.S.Shelf.written g.S.Shelf.faults c.args.shelf.now c.args.shelf.now in
+    let sink : SinkSeen = sink_seen g.O.Sink.given g.O.Sink.faults c.args.out.now c.args.out.now in
+    name_completes c.args.words.now (form_of c.in-Some.command) c.in-Some-same_name.name.now shelf sink status.Usage c.in-Some.ensures c.in-Some-same_name.ensures.same

@@ -1,0 +1,53 @@
+-- The commands, with the names of their files, and the words that they are, without the program's own name. Own.
+use Rattle.std.specs.Prelude.{◌≡◌, ◌≤◌, ℕ, ◌==◌, List, [], ◌∷◌, length, Bool, false, IsTrue, codes}
+use Rattle.std.specs.Bool.{IsFalse}
+use Rattle.std.specs.List.{list_all, list_any}
+use Rattle.bsdl_lexicon.specs.Bytes.{is_digit}
+use Rattle.bsdl_device.specs.Runs.{value_after}
+use Rattle.convert_command.specs.declared.conversion.Conversion.{Conversion}
+use Rattle.convert_command.specs.declared.conversion.Conversion.TheVariants as conversion
+
+-- a command with the names of its files
+pub data Form : Type 0 where
+  Converts : (c : Conversion) (input output : List ℕ) → Form
+  Simulates : (netlist events : List ℕ) → Form
+  Inserts : (netlist plan outnet outbsdl : List ℕ) → Form
+  MakesVectors : (bsdl output : List ℕ) → Form
+  Checks : (netlist bsdl events : List ℕ) → Form
+  Demonstrates : (number : ℕ) (outnet outbsdl : List ℕ) → Form
+
+-- the word of a conversion's command
+abbrev pub conversion_word : Conversion → List ℕ
+conversion_word conversion.Canon = codes "canon"
+conversion_word conversion.ShowBsdl = codes "showbsdl"
+
+-- 1 to 4 digits, and their value
+pub record IsNumeral (digits : List ℕ) (number : ℕ) : Type 0 where
+  pub some : 1 ≤ length digits
+  pub few : length digits ≤ 4
+  pub are_digits : IsTrue (list_all is_digit digits)
+  pub value : number ≡ value_after 10 0 digits
+
+-- `canon IN OUT`, `showbsdl IN OUT`, `sim NET EVENTS`, `insert NET PLAN OUTNET OUTBSDL`, `vectors BSDL OUT`, `check NET BSDL EVENTS`
+-- and `demo NUMBER OUTNET OUTBSDL`
+abbrev pub HasWords : List (List ℕ) → Form → Type 0
+HasWords words (Form.Converts c input output) = words ≡ conversion_word c ∷ input ∷ output ∷ []
+HasWords words (Form.Simulates netlist events) = words ≡ codes "sim" ∷ netlist ∷ events ∷ []
+HasWords words (Form.Inserts netlist plan outnet outbsdl) = words ≡ codes "insert" ∷ netlist ∷ plan ∷ outnet ∷ outbsdl ∷ []
+HasWords words (Form.MakesVectors bsdl output) = words ≡ codes "vectors" ∷ bsdl ∷ output ∷ []
+HasWords words (Form.Checks netlist bsdl events) = words ≡ codes "check" ∷ netlist ∷ bsdl ∷ events ∷ []
+HasWords words (Form.Demonstrates number outnet outbsdl) = (digits : List ℕ) × (IsNumeral digits number × (words ≡ codes "demo" ∷ digits ∷ outnet ∷ outbsdl ∷ []))
+
+-- a word that begins with `-`
+abbrev pub begins_with_dash : List ℕ → Bool
+begins_with_dash [] = false
+begins_with_dash (b ∷ bytes) = b == 45
+
+-- the words are this command; no word begins with `-`
+pub record HasForm (words : List (List ℕ)) (form : Form) : Type 0 where
+  pub words_are : HasWords words form
+  pub plain_words : IsFalse (list_any begins_with_dash words)
+
+-- the words are no command
+abbrev pub IsNoCommand : List (List ℕ) → Type 0
+IsNoCommand words = (form : Form) → HasForm words form → ⊥

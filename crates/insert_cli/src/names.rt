@@ -1,0 +1,56 @@
+ghost use Rattle.std.specs.Prelude.{◌≡◌, ◌≢◌, [], ◌∷◌, None, IfSome};
+ghost use Rattle.insert_cli.specs.Names.{AreApart, IsRepeated, inputs, outputs};
+ghost use Rattle.insert_cli.specs.Parsed.{form_of};
+
+use crate::command::Command;
+
+// The output's name, where another file has it too.
+fn taken<'a>(output: &'a str, other: &str) -> Option<&'a str>
+    ensures same { IfSome result (λ name. (name.now ≡ output.now) × (output.now ≡ other.now)) }
+    ensures apart { result ≡ None → output.now ≢ other.now }
+{
+    if output == other { Some(output) } else { None }
+}
+
+// The first output of `insert` that has the name of another of its files.
+fn taken_in_insert<'a>(
+    netlist: &str,
+    plan: &str,
+    outnet: &'a str,
+    outbsdl: &'a str,
+) -> Option<&'a str>
+    ensures same { IfSome result (λ name. IsRepeated name.now (netlist.now ∷ plan.now ∷ []) (outnet.now ∷ outbsdl.now ∷ [])) }
+    ensures apart { result ≡ None → AreApart (netlist.now ∷ plan.now ∷ []) (outnet.now ∷ outbsdl.now ∷ []) }
+{
+    if outnet == netlist || outnet == plan || outnet == outbsdl {
+        return Some(outnet);
+    }
+    if outbsdl == netlist || outbsdl == plan {
+        return Some(outbsdl);
+    }
+    None
+}
+
+/// The first output that has the name of another file of the command.
+pub fn same_name<'a>(command: Command<'a>) -> Option<&'a str>
+    ensures same { IfSome result (λ name. IsRepeated name.now (inputs (form_of command.entry)) (outputs (form_of command.entry))) }
+    ensures apart { result ≡ None → AreApart (inputs (form_of command.entry)) (outputs (form_of command.entry)) }
+{
+    match command {
+        Command::Convert { input, output, .. } => taken(output, input),
+        Command::Sim { .. } => None,
+        Command::Insert {
+            netlist,
+            plan,
+            outnet,
+            outbsdl,
+        } => taken_in_insert(netlist, plan, outnet, outbsdl),
+        Command::Vectors { bsdl, output } => taken(output, bsdl),
+        Command::Check { .. } => None,
+        Command::Demo {
+            outnet,
+            outbsdl,
+            ..
+        } => taken(outnet, outbsdl),
+    }
+}
