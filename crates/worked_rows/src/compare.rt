@@ -1,6 +1,7 @@
-use crate::row::{NamedText, Row, Run};
+use crate::held::Held;
+use crate::row::{Content, Run};
 use edge_io::{MemShelf, MemSink, OutOfMemory};
-use insert_cli::{Status, run_tool};
+use insert_cli::{Status, WordList, run_tool};
 use std::alloc::Global;
 use std::fmt;
 
@@ -28,6 +29,14 @@ impl fmt::Display for Difference<'_> {
     }
 }
 
+/// A run of a command over the texts that are held.
+#[derive(Clone, Copy)]
+pub(crate) struct Trial<'a> {
+    pub(crate) words: &'a WordList,
+    pub(crate) held: &'a Held<'a>,
+    pub(crate) run: &'a Run,
+}
+
 /// What a run came to.
 #[derive(Drop)]
 pub(crate) struct Outcome {
@@ -37,11 +46,11 @@ pub(crate) struct Outcome {
 }
 
 impl Outcome {
-    /// Runs the command of a row over a shelf and a sink that fail as the run says.
-    pub(crate) fn of(alloc: Global, row: &Row, run: &Run) -> Result<Outcome, OutOfMemory> {
-        let mut shelf = shelf_of(alloc, row, run)?;
-        let mut sink = sink_of(alloc, run)?;
-        let status = run_tool(alloc, &row.words, &mut shelf, &mut sink);
+    /// Runs a command over a shelf and a sink that fail as the run says.
+    pub(crate) fn of(alloc: Global, trial: Trial) -> Result<Outcome, OutOfMemory> {
+        let mut shelf = shelf_of(alloc, trial.held, trial.run)?;
+        let mut sink = sink_of(alloc, trial.run)?;
+        let status = run_tool(alloc, trial.words, &mut shelf, &mut sink);
         Ok(Outcome {
             status,
             shelf,
@@ -53,25 +62,21 @@ impl Outcome {
     pub(crate) fn differences<'a>(
         &self,
         alloc: Global,
-        row: &'a Row,
-        run: &'a Run,
+        trial: Trial<'a>,
     ) -> Result<Vec<Difference<'a>>, OutOfMemory> {
         let mut found = Vec::new(alloc);
         let got = self.status.exit_number();
-        if got != run.status {
+        if got != trial.run.status {
             found.push(Difference::Status { got })?;
         }
-        if self.sink.given() != run.given.as_bytes() {
+        if !is_given(self.sink.given(), trial.run) {
             let got = String::from_utf8_lossy(alloc, self.sink.given())?;
             found.push(Difference::Given { got })?;
         }
-        for file in row.held.iter() {
-            let name = file.name.as_str();
-            if self.shelf.held_of(name) != Some(file.text.as_bytes()) {
-                found.push(Difference::Held { name })?;
-            }
+        if let Some(name) = trial.held.first_lost(&self.shelf) {
+            found.push(Difference::Held { name })?;
         }
-        self.add_unwritten(alloc, run, &mut found)?;
+        self.add_unwritten(alloc, trial, &mut found)?;
         Ok(found)
     }
 
@@ -79,14 +84,14 @@ impl Outcome {
     fn add_unwritten<'a>(
         &self,
         alloc: Global,
-        run: &'a Run,
+        trial: Trial<'a>,
         found: &mut Vec<Difference<'a>>,
     ) -> Result<(), OutOfMemory> {
-        for room in run.rooms.iter() {
-            self.add_if_unlike(alloc, room.name.as_str(), run, found)?;
+        for room in trial.run.rooms.iter() {
+            self.add_if_unlike(alloc, room.name.as_str(), trial, found)?;
         }
-        for file in run.written.iter() {
-            self.add_if_unlike(alloc, file.name.as_str(), run, found)?;
+        for file in trial.run.written.iter() {
+            self.add_if_unlike(alloc, file.name.as_str(), trial, found)?;
         }
         Ok(())
     }
@@ -95,11 +100,11 @@ impl Outcome {
         &self,
         alloc: Global,
         name: &'a str,
-        run: &Run,
+        trial: Trial<'a>,
         found: &mut Vec<Difference<'a>>,
     ) -> Result<(), OutOfMemory> {
         let written = self.shelf.written_of(name);
-        if written == run.written_of(name) {
+        if is_as_wanted(written, trial.run.content_of(name), trial.held) {
             return Ok(());
         }
         let got = match written {
@@ -109,13 +114,66 @@ impl Outcome {
         found.push(Difference::Written { name, got })?;
         Ok(())
     }
+
+    /// Holds from now on what the run keeps of the outputs.
+    pub(crate) fn keep(
+        &self,
+        alloc: Global,
+        run: &Run,
+        held: &mut Held,
+    ) -> Result<(), OutOfMemory> {
+        for name in run.kept.iter() {
+            if let Some(bytes) = self.shelf.written_of(name.as_str()) {
+                held.keep(alloc, name.as_str(), bytes)?;
+            }
+        }
+        Ok(())
+    }
 }
 
-fn shelf_of(alloc: Global, row: &Row, run: &Run) -> Result<MemShelf, OutOfMemory> {
-    let mut shelf = MemShelf::new(alloc);
-    for NamedText { name, text } in row.held.iter() {
-        shelf.place(name.as_str(), text.as_bytes())?;
+// Whether the sink got what the run wants.
+fn is_given(given: &[u8], run: &Run) -> bool {
+    match &run.last_line {
+        Some(line) => ends_in_line(given, line.as_str().as_bytes()),
+        None => given == run.given.as_bytes(),
     }
+}
+
+// Whether the last line of a text is this one.
+fn ends_in_line(text: &[u8], line: &[u8]) -> bool {
+    let Some(lines) = text.strip_suffix(b"\n") else {
+        return false;
+    };
+    match lines.strip_suffix(line) {
+        Some(before) => before.is_empty() || before.ends_with(b"\n"),
+        None => false,
+    }
+}
+
+// Whether what was written under a name is what must be written there.
+fn is_as_wanted(written: Option<&[u8]>, wanted: Option<&Content>, held: &Held) -> bool {
+    match (written, wanted) {
+        (Some(bytes), Some(content)) => is_content(bytes, content, held),
+        (None, None) => true,
+        _ => false,
+    }
+}
+
+fn is_content(bytes: &[u8], content: &Content, held: &Held) -> bool {
+    match content {
+        Content::Text(text) => bytes == text.as_bytes(),
+        Content::Any => true,
+        Content::Held(name) => held.text_of(name.as_str()) == Some(bytes),
+        Content::Front(name, count) => match held.text_of(name.as_str()) {
+            Some(text) => bytes.len() == *count && text.starts_with(bytes),
+            None => false,
+        },
+    }
+}
+
+fn shelf_of(alloc: Global, held: &Held, run: &Run) -> Result<MemShelf, OutOfMemory> {
+    let mut shelf = MemShelf::new(alloc);
+    held.place_on(&mut shelf)?;
     for room in run.rooms.iter() {
         shelf.make_room(room.name.as_str(), room.bytes)?;
     }

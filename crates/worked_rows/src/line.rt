@@ -44,8 +44,18 @@ pub(crate) enum Line<'a> {
     Ends(u8),
     /// The sink is given a text.
     Gives,
+    /// The sink is given a text whose last line is this one.
+    GivesLast(&'a str),
     /// A text is written under this name.
     Writes(&'a str),
+    /// Some text is written under this name.
+    WritesAny(&'a str),
+    /// Under the first name the text is written that is held under the second.
+    Same(&'a str, &'a str),
+    /// Under the first name so many bytes are written: the front of the text that is held under the second.
+    Front(&'a str, &'a str, usize),
+    /// What was written under this name is held from then on.
+    Keep(&'a str),
     /// A piece of a text.
     Piece(Piece<'a>),
 }
@@ -82,8 +92,20 @@ impl<'a> Line<'a> {
             "room" => Line::of_room(rest),
             "sink-room" => Some(Line::SinkRoom(rest.parse().ok()?)),
             "ends" => Some(Line::Ends(rest.parse().ok()?)),
+            _ => Line::of_end(key, rest),
+        }
+    }
+
+    // A line on what a run comes to.
+    fn of_end(key: &str, rest: &'a str) -> Option<Line<'a>> {
+        match key {
             "gives" => Some(Line::Gives),
+            "gives-last" => Some(Line::GivesLast(rest)),
             "writes" => Some(Line::Writes(rest)),
+            "writes-any" => Some(Line::WritesAny(rest)),
+            "same" => Line::of_same(rest),
+            "front" => Line::of_front(rest),
+            "keep" => Some(Line::Keep(rest)),
             _ => None,
         }
     }
@@ -91,6 +113,17 @@ impl<'a> Line<'a> {
     fn of_room(text: &'a str) -> Option<Line<'a>> {
         let (name, bytes) = text.rsplit_once(' ')?;
         Some(Line::Room(name, bytes.parse().ok()?))
+    }
+
+    fn of_same(text: &'a str) -> Option<Line<'a>> {
+        let (name, held) = text.split_once(' ')?;
+        Some(Line::Same(name, held))
+    }
+
+    fn of_front(text: &'a str) -> Option<Line<'a>> {
+        let (names, bytes) = text.rsplit_once(' ')?;
+        let (name, held) = names.split_once(' ')?;
+        Some(Line::Front(name, held, bytes.parse().ok()?))
     }
 }
 

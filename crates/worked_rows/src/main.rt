@@ -4,6 +4,7 @@
 #![tactic(auto)]
 
 mod compare;
+mod held;
 mod line;
 mod piece;
 mod row;

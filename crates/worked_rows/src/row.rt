@@ -30,6 +30,26 @@ pub(crate) struct Room {
     pub(crate) bytes: u64,
 }
 
+/// What must be written under a name.
+#[derive(Drop)]
+pub(crate) enum Content {
+    /// This text.
+    Text(Text),
+    /// Any text.
+    Any,
+    /// The text that is held under this name.
+    Held(String),
+    /// So many bytes, the front of the text that is held under this name.
+    Front(String, usize),
+}
+
+/// An output that must be written.
+#[derive(Drop)]
+pub(crate) struct Written {
+    pub(crate) name: String,
+    pub(crate) content: Content,
+}
+
 /// What fails in one run of a row, and what it must come to.
 #[derive(Drop)]
 pub(crate) struct Run {
@@ -42,7 +62,11 @@ pub(crate) struct Run {
     pub(crate) sink_room: u64,
     pub(crate) status: u8,
     pub(crate) given: Text,
-    pub(crate) written: Vec<NamedText>,
+    /// The last line of what the sink must have got, where the row doesn't say all of it.
+    pub(crate) last_line: Option<String>,
+    pub(crate) written: Vec<Written>,
+    /// The outputs that are held for the runs that come after.
+    pub(crate) kept: Vec<String>,
 }
 
 impl Run {
@@ -55,7 +79,9 @@ impl Run {
             sink_room: ROOM,
             status: 0,
             given: Text::new(alloc),
+            last_line: None,
             written: Vec::new(alloc),
+            kept: Vec::new(alloc),
         }
     }
 
@@ -82,50 +108,159 @@ impl Run {
         Ok(())
     }
 
-    /// The text that must be written under a name, if any.
-    pub(crate) fn written_of(&self, name: &str) -> Option<&[u8]> {
+    /// Adds an output that must be written.
+    pub(crate) fn add_written(
+        &mut self,
+        alloc: Global,
+        name: &str,
+        content: Content,
+    ) -> Result<(), OutOfMemory> {
+        let name = String::from_str(alloc, name)?;
+        self.written.push(Written { name, content })?;
+        Ok(())
+    }
+
+    /// Adds an output that must be the text that is held under a name.
+    pub(crate) fn add_same(
+        &mut self,
+        alloc: Global,
+        name: &str,
+        held: &str,
+    ) -> Result<(), OutOfMemory> {
+        let held = String::from_str(alloc, held)?;
+        self.add_written(alloc, name, Content::Held(held))
+    }
+
+    /// Adds an output that must be so many bytes, the front of the text that is held under a name.
+    pub(crate) fn add_front(
+        &mut self,
+        alloc: Global,
+        name: &str,
+        held: &str,
+        bytes: usize,
+    ) -> Result<(), OutOfMemory> {
+        let held = String::from_str(alloc, held)?;
+        self.add_written(alloc, name, Content::Front(held, bytes))
+    }
+
+    /// Says how the last line must read of what the sink gets.
+    pub(crate) fn set_last_line(&mut self, alloc: Global, line: &str) -> Result<(), OutOfMemory> {
+        self.last_line = Some(String::from_str(alloc, line)?);
+        Ok(())
+    }
+
+    /// Adds an output that is held for the runs that come after.
+    pub(crate) fn add_kept(&mut self, alloc: Global, name: &str) -> Result<(), OutOfMemory> {
+        self.kept.push(String::from_str(alloc, name)?)?;
+        Ok(())
+    }
+
+    /// What must be written under a name, if anything.
+    pub(crate) fn content_of(&self, name: &str) -> Option<&Content> {
         for file in self.written.iter() {
             if file.name.as_str() == name {
-                return Some(file.text.as_bytes());
+                return Some(&file.content);
             }
         }
         None
     }
+
+    // The text that must be written under the name that was added last.
+    fn last_text(&mut self) -> Option<&mut Text> {
+        match &mut self.written.last_mut()?.content {
+            Content::Text(text) => Some(text),
+            _ => None,
+        }
+    }
 }
 
-/// A command, the texts that it finds, and its runs.
+/// A command and its runs.
 #[derive(Drop)]
-pub(crate) struct Row {
-    /// The number of its first line in the table, from 1.
-    pub(crate) number: usize,
+pub(crate) struct Command {
     pub(crate) words: WordList,
-    pub(crate) held: Vec<NamedText>,
     pub(crate) runs: Vec<Run>,
 }
 
-impl Row {
-    /// A row without words, texts and runs.
-    pub(crate) fn new(alloc: Global, number: usize) -> Row {
-        Row {
-            number,
+impl Command {
+    fn new(alloc: Global) -> Command {
+        Command {
             words: WordList::new(alloc),
-            held: Vec::new(alloc),
             runs: Vec::new(alloc),
         }
     }
 
-    /// Adds words that blanks part.
-    pub(crate) fn add_words(&mut self, words: &str) -> Result<(), LineFault> {
+    // Adds words that blanks part.
+    fn add_words(&mut self, words: &str) -> Result<(), OutOfMemory> {
         for word in words.split_whitespace() {
             self.words.push(word)?;
         }
         Ok(())
     }
+}
 
-    /// Adds a run, and the rooms that it has where it lists none.
+/// The texts that commands find, and the commands in the order in which they run.
+#[derive(Drop)]
+pub(crate) struct Row {
+    /// The number of its first line in the table, from 1.
+    pub(crate) number: usize,
+    pub(crate) held: Vec<NamedText>,
+    pub(crate) commands: Vec<Command>,
+}
+
+impl Row {
+    /// A row without texts, whose command has no words and no runs.
+    pub(crate) fn new(alloc: Global, number: usize) -> Result<Row, OutOfMemory> {
+        let mut commands = Vec::new(alloc);
+        commands.push(Command::new(alloc))?;
+        Ok(Row {
+            number,
+            held: Vec::new(alloc),
+            commands,
+        })
+    }
+
+    /// Whether its last command has a run.
+    pub(crate) fn is_whole(&self) -> bool {
+        match self.commands.last() {
+            Some(command) => !command.runs.is_empty(),
+            None => false,
+        }
+    }
+
+    /// Adds words to its last command, or begins one with them where that has a run.
+    pub(crate) fn add_words(&mut self, alloc: Global, words: &str) -> Result<(), LineFault> {
+        if self.is_whole() {
+            self.commands.push(Command::new(alloc))?;
+        }
+        let command = self.commands.last_mut().ok_or(LineFault::BadLine)?;
+        Ok(command.add_words(words)?)
+    }
+
+    /// Adds a run of its last command, and the rooms that the run has where it lists none.
     pub(crate) fn add_run(&mut self, alloc: Global, mut run: Run) -> Result<(), LineFault> {
-        run.add_usual_rooms(alloc, self.words.as_slice())?;
-        self.runs.push(run)?;
+        let command = self.commands.last_mut().ok_or(LineFault::BadLine)?;
+        run.add_usual_rooms(alloc, command.words.as_slice())?;
+        command.runs.push(run)?;
         Ok(())
+    }
+
+    /// The text that was held last.
+    pub(crate) fn last_held(&mut self) -> Option<&mut Text> {
+        Some(&mut self.held.last_mut()?.text)
+    }
+
+    /// What the sink must have got in the run that was added last.
+    pub(crate) fn last_given(&mut self) -> Option<&mut Text> {
+        Some(&mut self.last_run()?.given)
+    }
+
+    /// The text that must be written under the name that was added last.
+    pub(crate) fn last_written(&mut self) -> Option<&mut Text> {
+        self.last_run()?.last_text()
+    }
+
+    /// The run that was added last, if its last command has one.
+    pub(crate) fn last_run(&mut self) -> Option<&mut Run> {
+        self.commands.last_mut()?.runs.last_mut()
     }
 }

@@ -1,6 +1,6 @@
 use crate::line::{Line, LineFault, Piece};
 use crate::piece::append_piece;
-use crate::row::{NamedText, Row, Run};
+use crate::row::{Content, NamedText, Row, Run};
 use edge_io::Text;
 use std::alloc::Global;
 use thiserror::Error;
@@ -82,33 +82,54 @@ impl TableReader {
     // Whether no line is wanted: each row has a run, and no run is begun.
     fn is_whole(&self) -> bool {
         let has_run = match self.rows.last() {
-            Some(row) => !row.runs.is_empty(),
+            Some(row) => row.is_whole(),
             None => true,
         };
         has_run && self.next.is_none()
     }
 
     fn take(&mut self, number: usize, line: Line) -> Result<(), LineFault> {
+        let alloc = self.alloc;
         match line {
             Line::Empty => Ok(()),
             Line::Row => self.begin_row(number),
-            Line::Words(words) => self.row()?.add_words(words),
+            Line::Words(words) => self.row()?.add_words(alloc, words),
             Line::Held(name) => self.begin_held(name),
             Line::Fail(call) => Ok(self.next_run().fails.push(call)?),
             Line::FailPut(call) => Ok(self.next_run().put_fails.push(call)?),
-            Line::Room(name, bytes) => self.add_room(name, bytes),
+            Line::Room(name, bytes) => Ok(self.next_run().add_room(alloc, name, bytes)?),
             Line::SinkRoom(bytes) => {
                 self.next_run().sink_room = bytes;
                 Ok(())
             }
             Line::Ends(status) => self.end_run(status),
+            Line::Piece(piece) => append_piece(self.text()?, piece),
+            line => self.take_end(line),
+        }
+    }
+
+    // Takes a line on what the run must come to that was ended last.
+    fn take_end(&mut self, line: Line) -> Result<(), LineFault> {
+        let alloc = self.alloc;
+        let run = self.run()?;
+        match line {
             Line::Gives => {
                 self.target = Target::Given;
-                Ok(())
+                return Ok(());
             }
-            Line::Writes(name) => self.begin_written(name),
-            Line::Piece(piece) => append_piece(self.text()?, piece),
+            Line::Writes(name) => {
+                run.add_written(alloc, name, Content::Text(Text::new(alloc)))?;
+                self.target = Target::Written;
+                return Ok(());
+            }
+            Line::GivesLast(text) => run.set_last_line(alloc, text)?,
+            Line::WritesAny(name) => run.add_written(alloc, name, Content::Any)?,
+            Line::Same(name, held) => run.add_same(alloc, name, held)?,
+            Line::Front(name, held, bytes) => run.add_front(alloc, name, held, bytes)?,
+            Line::Keep(name) => run.add_kept(alloc, name)?,
+            _ => return Err(LineFault::BadLine),
         }
+        Ok(())
     }
 
     // The row that was begun last.
@@ -119,10 +140,7 @@ impl TableReader {
 
     // The run that was ended last.
     fn run(&mut self) -> Result<&mut Run, LineFault> {
-        match self.rows.last_mut() {
-            Some(row) => row.runs.last_mut().ok_or(LineFault::BadLine),
-            None => Err(LineFault::BadLine),
-        }
+        self.row()?.last_run().ok_or(LineFault::BadLine)
     }
 
     fn next_run(&mut self) -> &mut Run {
@@ -136,7 +154,7 @@ impl TableReader {
             return Err(LineFault::BadLine);
         }
         self.target = Target::Nowhere;
-        self.rows.push(Row::new(self.alloc, number))?;
+        self.rows.push(Row::new(self.alloc, number)?)?;
         Ok(())
     }
 
@@ -144,19 +162,6 @@ impl TableReader {
         let file = NamedText::new(self.alloc, name)?;
         self.row()?.held.push(file)?;
         self.target = Target::Held;
-        Ok(())
-    }
-
-    fn begin_written(&mut self, name: &str) -> Result<(), LineFault> {
-        let file = NamedText::new(self.alloc, name)?;
-        self.run()?.written.push(file)?;
-        self.target = Target::Written;
-        Ok(())
-    }
-
-    fn add_room(&mut self, name: &str, bytes: u64) -> Result<(), LineFault> {
-        let alloc = self.alloc;
-        self.next_run().add_room(alloc, name, bytes)?;
         Ok(())
     }
 
@@ -172,21 +177,13 @@ impl TableReader {
 
     // The text to which the next piece belongs.
     fn text(&mut self) -> Result<&mut Text, LineFault> {
-        match self.target {
-            Target::Nowhere => Err(LineFault::BadLine),
-            Target::Held => match self.rows.last_mut() {
-                Some(row) => last_text(&mut row.held),
-                None => Err(LineFault::BadLine),
-            },
-            Target::Given => Ok(&mut self.run()?.given),
-            Target::Written => last_text(&mut self.run()?.written),
-        }
-    }
-}
-
-fn last_text(files: &mut Vec<NamedText>) -> Result<&mut Text, LineFault> {
-    match files.last_mut() {
-        Some(file) => Ok(&mut file.text),
-        None => Err(LineFault::BadLine),
+        let row = self.rows.last_mut().ok_or(LineFault::BadLine)?;
+        let text = match self.target {
+            Target::Nowhere => None,
+            Target::Held => row.last_held(),
+            Target::Given => row.last_given(),
+            Target::Written => row.last_written(),
+        };
+        text.ok_or(LineFault::BadLine)
     }
 }

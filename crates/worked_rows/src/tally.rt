@@ -1,5 +1,6 @@
-use crate::compare::Outcome;
-use crate::row::{Row, Run};
+use crate::compare::{Outcome, Trial};
+use crate::held::Held;
+use crate::row::Row;
 use anyhow::Result;
 use std::alloc::Global;
 use std::fmt;
@@ -27,30 +28,46 @@ impl Tally {
         rows: &[Row],
     ) -> Result<()> {
         for row in rows {
-            for run in row.runs.iter() {
-                self.try_run(rt, alloc, table, row, run)?;
+            self.try_row(rt, alloc, table, row)?;
+        }
+        Ok(())
+    }
+
+    // Makes the runs of a row, each over what is kept of those before it.
+    fn try_row(&mut self, rt: &impl Print, alloc: Global, table: &str, row: &Row) -> Result<()> {
+        let mut held = Held::new(alloc, row.held.as_slice());
+        for command in row.commands.iter() {
+            for run in command.runs.iter() {
+                let trial = Trial {
+                    words: &command.words,
+                    held: &held,
+                    run,
+                };
+                let outcome = self.try_run(rt, alloc, table, row.number, trial)?;
+                outcome.keep(alloc, run, &mut held)?;
             }
         }
         Ok(())
     }
 
+    // Makes a run, and prints where it differs.
     fn try_run(
         &mut self,
         rt: &impl Print,
         alloc: Global,
         table: &str,
-        row: &Row,
-        run: &Run,
-    ) -> Result<()> {
-        let outcome = Outcome::of(alloc, row, run)?;
-        let differences = outcome.differences(alloc, row, run)?;
+        number: usize,
+        trial: Trial,
+    ) -> Result<Outcome> {
+        let outcome = Outcome::of(alloc, trial)?;
+        let differences = outcome.differences(alloc, trial)?;
         self.rows = self.rows.saturating_add(1);
         if !differences.is_empty() {
             self.differ = self.differ.saturating_add(1);
         }
         for difference in differences.iter() {
-            println!(rt; "{table} {}: {difference}", row.number)?;
+            println!(rt; "{table} {number}: {difference}")?;
         }
-        Ok(())
+        Ok(outcome)
     }
 }
