@@ -1,9 +1,11 @@
-"""What the benchmarks share: netlists, and runs that are timed."""
+"""What the benchmarks share: netlists, plans, and runs that are timed."""
 import os, subprocess, sys, time
 
 TOP = os.path.dirname(os.path.dirname(os.path.abspath(__file__)))
 PROGRAM = os.path.join(TOP, "crates/lavkhind/out/lavkhind")
 RUNS = 5
+# The pins of the pseudo-random netlists, with their cells.
+DEMO_PINS = [("clk", "BC_4"), ("rn", "BC_4")] + [(f"{port}[{i}]", "BC_1") for port in "dq" for i in range(16)]
 
 
 def drawing_from(number):
@@ -39,6 +41,19 @@ def random_netlist(number):
     yield "endmodule"
 
 
+def plan(entity, pins):
+    """A plan with all seven instructions, whose pins are these with their cells."""
+    yield from ("plan 1", f"entity {entity}", "package PK", "prefix bs_")
+    for number, name in enumerate(("tck", "tms", "tdi", "tdo", "trst")):
+        yield f"{name} {name.upper()} T{number}"
+    yield from ("clock 10", "length 4", "capture 0001")
+    opcodes = {"BYPASS": "1111", "EXTEST": "0000", "SAMPLE": "0001", "PRELOAD": "0001"}
+    opcodes |= {"IDCODE": "0010", "HIGHZ": "0011", "CLAMP": "0100"}
+    yield from (f"opcode {name} {bits}" for name, bits in opcodes.items())
+    yield from ("idcode 0001 0000000000000001 00000000001 1", "control BC_1")
+    yield from (f"pin {pin} {number} {cell}" for number, (pin, cell) in enumerate(pins, 1))
+
+
 def buffers(count):
     """A chain of named buffers over scalar wires."""
     yield "module chain (input a, output y);"
@@ -63,10 +78,10 @@ def make(path, lines):
     os.waitpid(child, 0)
 
 
-def run(words):
-    """The best time of the runs, in seconds, and the peak memory of a run, in bytes."""
+def run(words, runs=RUNS):
+    """The best time of so many runs, in seconds, and the peak memory of a run, in bytes."""
     best, peak = None, 0
-    for _ in range(RUNS):
+    for _ in range(runs):
         start = time.perf_counter()
         process = subprocess.Popen(words, stdout=subprocess.DEVNULL, env={**os.environ, "LC_ALL": "C"})
         _, status, usage = os.wait4(process.pid, 0)
@@ -81,3 +96,13 @@ def run(words):
 def build():
     """Proves and builds the program, where it isn't yet, by a run of its own."""
     subprocess.run([os.path.join(TOP, "lavkhind")], stdout=subprocess.DEVNULL)
+
+
+def wrapped(folder, number):
+    """The pseudo-random netlist of the number with boundary scan built in, and its BSDL file, as paths."""
+    name = f"demo_{number}"
+    paths = [os.path.join(folder, name + end) for end in (".v", ".plan", ".out.v", ".out.bsd")]
+    make(paths[0], random_netlist(number))
+    make(paths[1], plan("demo_chip", DEMO_PINS))
+    run([PROGRAM, "insert", *paths], 1)
+    return paths[2], paths[3]
