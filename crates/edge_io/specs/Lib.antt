@@ -1,4 +1,5 @@
 pub mod Shelf
+pub mod Places
 pub mod Calls
 pub mod Reserved
 pub mod Entries

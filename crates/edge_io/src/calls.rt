@@ -34,7 +34,10 @@ impl Calls {
 
     /// Lists a call that is to fail.
     pub fn fail_call(&mut self, number: u64) -> Result<(), OutOfMemory>
-        ensures ok { OnOk result (self.new ≡ record self.old { listed = self.old.listed ++ number ∷ [] }) }
+        ensures ok { OnOk result (self.new ≡ record self.old {
+          listed = self.old.listed
+              ++ number ∷ [];
+        }) }
         ensures err { OnErr result (self.new ≡ self.old) }
     {
         self.listed.push(number)?;

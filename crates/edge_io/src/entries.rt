@@ -40,7 +40,8 @@ pub fn set_value<T: Drop>(
     name: &[u8],
     value: T,
 ) -> Result<(), OutOfMemory>
-    ensures ok { OnOk result (ChangesOne (value_of entries.old.items) (value_of entries.new.items) name.now
+    ensures ok { OnOk result (ChangesOne (value_of entries.old.items)
+        (value_of entries.new.items) name.now
         (λ before after. after ≡ Some value)) }
     ensures err { OnErr result (entries.new.items ≡ entries.old.items) }
 {

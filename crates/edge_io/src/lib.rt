@@ -14,6 +14,7 @@ mod outputs;
 mod reserved;
 pub mod row;
 pub mod shelf;
+mod short_text;
 pub mod sink;
 pub mod text;
 pub mod whole;

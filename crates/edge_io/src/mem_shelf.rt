@@ -126,11 +126,13 @@ impl Shelf for MemShelf {
 
     fn read_at(&mut self, name: &str, at: u64, into: &mut [u8]) -> Result<usize, Failed>
         ensures count { IfOk result (λ n. n ≤ length into.new) }
-        ensures bytes { IfOk result (λ n. WhereTold (placed_bytes self.old name.now) (Reads at n into.new)) }
+        ensures bytes { IfOk result (λ n. WhereTold (placed_bytes self.old name.now)
+            (Reads at n into.new)) }
         ensures held { SameTold (placed_bytes self.old) (placed_bytes self.new) }
         ensures written { SameTold (written_bytes self.old) (written_bytes self.new) }
         ensures later { NoneFell (λ _. self.old.calls.faults) (λ _. self.new.calls.faults) }
-        ensures cause { OnErr result (RoseAt (λ _. self.old.calls.faults) (λ _. self.new.calls.faults) name.now) }
+        ensures cause { OnErr result (RoseAt (λ _. self.old.calls.faults)
+            (λ _. self.new.calls.faults) name.now) }
 
         // When it fails, and all that changes.
         ensures exact { IsErr result ↔ FailsToRead self.old name.now }
@@ -144,12 +146,14 @@ impl Shelf for MemShelf {
     }
 
     fn start(&mut self, name: &str) -> Result<(), Failed>
-        ensures started { OnOk result (ChangesOne (written_bytes self.old) (written_bytes self.new) name.now
+        ensures started { OnOk result (ChangesOne (written_bytes self.old)
+            (written_bytes self.new) name.now
             (λ before after. after ≡ told_if true [])) }
         ensures failed { OnErr result (SameTold (written_bytes self.old) (written_bytes self.new)) }
         ensures held { SameTold (placed_bytes self.old) (placed_bytes self.new) }
         ensures later { NoneFell (λ _. self.old.calls.faults) (λ _. self.new.calls.faults) }
-        ensures cause { OnErr result (RoseAt (λ _. self.old.calls.faults) (λ _. self.new.calls.faults) name.now) }
+        ensures cause { OnErr result (RoseAt (λ _. self.old.calls.faults)
+            (λ _. self.new.calls.faults) name.now) }
 
         // When it fails, and what else changes.
         ensures exact { IsErr result ↔ FailsToStart self.old name.now }
@@ -168,12 +172,14 @@ impl Shelf for MemShelf {
         ensures count { IfOk result (λ n. n ≤ length piece.now) }
         ensures some { IfOk result (λ n. 0 < length piece.now → 0 < n) }
         ensures started { OnOk result (StartedIfTold true (written_bytes self.old name.now)) }
-        ensures added { IfOk result (λ n. ChangesOne (written_bytes self.old) (written_bytes self.new) name.now
+        ensures added { IfOk result (λ n. ChangesOne (written_bytes self.old)
+            (written_bytes self.new) name.now
             (λ before after. after ≡ appended (take n piece.now) before)) }
         ensures failed { OnErr result (SameTold (written_bytes self.old) (written_bytes self.new)) }
         ensures held { SameTold (placed_bytes self.old) (placed_bytes self.new) }
         ensures later { NoneFell (λ _. self.old.calls.faults) (λ _. self.new.calls.faults) }
-        ensures cause { OnErr result (RoseAt (λ _. self.old.calls.faults) (λ _. self.new.calls.faults) name.now) }
+        ensures cause { OnErr result (RoseAt (λ _. self.old.calls.faults)
+            (λ _. self.new.calls.faults) name.now) }
 
         // When it fails, how much fits, and what else changes.
         ensures exact { IsErr result ↔ FailsToAppend self.old name.now (length piece.now) }

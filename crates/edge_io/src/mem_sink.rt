@@ -51,7 +51,8 @@ impl MemSink {
 
     /// Raises the room for what is given to this number of bytes, where it was less.
     pub fn make_room(&mut self, bytes: u64) -> Result<(), OutOfMemory>
-        ensures ok { OnOk result (self.new.text ≡ record self.old.text { room = max self.old.text.room bytes }) }
+        ensures ok { OnOk result (self.new.text ≡ record self.old.text
+            { room = max self.old.text.room bytes }) }
         ensures rest { self.new ≡ record self.old { text = self.new.text } }
         ensures err { OnErr result (self.new ≡ self.old) }
     {

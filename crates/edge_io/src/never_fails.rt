@@ -41,7 +41,8 @@ impl NeverFails {
 
     /// Puts bytes under a name, for reads, in place of what was placed there before.
     pub fn place(&mut self, name: &str, bytes: &[u8]) -> Result<(), OutOfMemory>
-        ensures ok { OnOk result (ChangesOne (placed_or_empty self.old) (placed_or_empty self.new) name.now
+        ensures ok { OnOk result (ChangesOne (placed_or_empty self.old)
+            (placed_or_empty self.new) name.now
             (λ before after. after ≡ Some bytes.now)) }
         ensures err { OnErr result (self.new ≡ self.old) }
     {

@@ -82,7 +82,8 @@ pub fn make_room_for(
 /// Starts the name, or answers false where it has no room.
 pub fn start_output(outputs: &mut [Entry<Output>], name: &[u8]) -> bool
     ensures found { IsTrue result ↔ IsSome (room_in outputs.old name.now) }
-    ensures started { IsTrue result → ChangesOne (written_in outputs.old) (written_in outputs.new) name.now
+    ensures started { IsTrue result → ChangesOne (written_in outputs.old)
+        (written_in outputs.new) name.now
         (λ before after. after ≡ Some []) }
     ensures room { SameTold (room_in outputs.old) (room_in outputs.new) }
     ensures same { result ≡ false → outputs.new ≡ outputs.old }
@@ -100,7 +101,8 @@ pub fn add_to_output(outputs: &mut [Entry<Output>], name: &[u8], piece: &[u8]) -
     ensures none { IsNone result ↔ (IsNone (written_in outputs.old name.now)
         ⊎ ((0 < length piece.now) × (spare_in outputs.old name.now ≡ 0))) }
     ensures count { IfSome result (λ n. n ≡ min (length piece.now) (spare_in outputs.old name.now)) }
-    ensures added { IfSome result (λ n. ChangesOne (written_in outputs.old) (written_in outputs.new) name.now
+    ensures added { IfSome result (λ n. ChangesOne (written_in outputs.old)
+        (written_in outputs.new) name.now
         (λ before after. after ≡ appended (take n piece.now) before)) }
     ensures room { SameTold (room_in outputs.old) (room_in outputs.new) }
     ensures same { IfNone result (outputs.new ≡ outputs.old) }

@@ -38,7 +38,8 @@ pub fn read_whole<S: Shelf>(
     ensures within { IfOk result (λ text. length text ≤ limit) }
     ensures too_long { IsErrOf result ReadIssue.TooLong
         → WhereTold (S.held shelf.old name.now) (λ bytes. limit < length bytes) }
-    ensures fault { IsErrOf result ReadIssue.ReadFault → RoseAt (S.faults shelf.old) (S.faults shelf.new) name.now }
+    ensures fault { IsErrOf result ReadIssue.ReadFault
+        → RoseAt (S.faults shelf.old) (S.faults shelf.new) name.now }
     ensures later { NoneFell (S.faults shelf.old) (S.faults shelf.new) }
     ensures held { SameTold (S.held shelf.old) (S.held shelf.new) }
     ensures written { SameTold (S.written shelf.old) (S.written shelf.new) }
@@ -70,7 +71,8 @@ fn read_pieces<S: Shelf>(
     ensures within { IfOk result (λ text. length text ≤ limit) }
     ensures too_long { IsErrOf result ReadIssue.TooLong
         → WhereTold (S.held shelf.old name.now) (λ bytes. limit < length bytes) }
-    ensures fault { IsErrOf result ReadIssue.ReadFault → RoseAt (S.faults shelf.old) (S.faults shelf.new) name.now }
+    ensures fault { IsErrOf result ReadIssue.ReadFault
+        → RoseAt (S.faults shelf.old) (S.faults shelf.new) name.now }
     ensures later { NoneFell (S.faults shelf.old) (S.faults shelf.new) }
     ensures held { SameTold (S.held shelf.old) (S.held shelf.new) }
     ensures written { SameTold (S.written shelf.old) (S.written shelf.new) }
@@ -120,7 +122,8 @@ pub fn write_whole<S: Shelf>(shelf: &mut S, name: &str, text: &[u8]) -> Result<(
 /// value.
 pub fn put_whole<O: Sink>(out: &mut O, text: &[u8]) -> Result<(), WriteFault>
     ensures ok { OnOk result (O.given out.new ≡ appended text.now (O.given out.old)) }
-    ensures fault { OnErr result ((k : ℕ) × (O.given out.new ≡ appended (take k text.now) (O.given out.old))) }
+    ensures fault { OnErr result ((k : ℕ) × (O.given out.new
+        ≡ appended (take k text.now) (O.given out.old))) }
     ensures cause { OnErr result (Rose (O.faults out.old) (O.faults out.new)) }
     ensures later { O.faults out.old ≤ O.faults out.new }
 {

@@ -1,4 +1,4 @@
-use Rattle.std.proofs.Common.{◌≡◌, ℕ, ◌+◌, ◌-◌, ◌≤◌, List, [], ◌∷◌, ◌++◌, length, take, drop, slice_get, Option, Some, None, suc, zero, refl, sym, ap, subst, ◌∙◌, arith, length-append, length-drop}
+use Rattle.std.proofs.Common.{◌≡◌, ℕ, ◌+◌, ◌≤◌, List, [], ◌∷◌, ◌++◌, length, take, drop, slice_get, Option, Some, None, suc, zero, refl, sym, ap, subst, ◌∙◌, arith, length-append, length-drop}
 use Rattle.std.proofs.lemmas.List.{take-append-le, drop-append-le}
 use Rattle.std.proofs.lemmas.Option.{same_Some, slice_get-map}
 use Rattle.std.specs.Option.{option_map}
@@ -9,11 +9,11 @@ use Rattle.verilog_lexicon.specs.declared.words.Entry.{Entry}
 use Rattle.verilog_lexicon.specs.declared.words.Mark.{Mark}
 use Rattle.verilog_lexicon.specs.declared.words.Mark.TheVariants as mark
 use Rattle.verilog_lexicon.specs.Words.{WordText, spanned, plain, front}
-use Rattle.verilog_lexicon.specs.Entries.{word_of, spanned_of, list_of, ends_at, AreKept}
+use Rattle.verilog_lexicon.specs.Entries.{word_of, len_of, spanned_of, list_of, ends_at, AreKept}
 
 -- one entry more
 
-pub kept_push : (names : List ℕ) (es : List Entry) (e : Entry) → AreKept names es → ends_at e.len e.mark ≤ length names → AreKept names (es ++ e ∷ [])
+pub kept_push : (names : List ℕ) (es : List Entry) (e : Entry) → AreKept names es → ends_at e.mark ≤ length names → AreKept names (es ++ e ∷ [])
 kept_push names [] e are within = (within, tt)
 kept_push names (f ∷ es) e are within = (are.0, kept_push names es e are.1 within)
 
@@ -32,30 +32,30 @@ part_longer names more from len within =
     ap (take len) (drop-append-le from names more (omega arith))
     ∙ take-append-le len (drop from names) more (omega (arith, length-drop from names))
 
-word_longer : (names more : List ℕ) (len : ℕ) (m : Mark) → ends_at len m ≤ length names → word_of (names ++ more) len m ≡ word_of names len m
-word_longer names more len (mark.Name from) within = ap (λ (l : List ℕ). word.Name l) (part_longer names more from len within)
-word_longer names more len (mark.EscapedName from) within = ap (λ (l : List ℕ). word.Name l) (part_longer names more from (len - 2) within)
-word_longer names more len (mark.Reserved r) within = refl
-word_longer names more len (mark.Number n) within = refl
-word_longer names more len (mark.Const value) within = refl
-word_longer names more len (mark.Symbol s) within = refl
+word_longer : (names more : List ℕ) (m : Mark) → ends_at m ≤ length names → word_of (names ++ more) m ≡ word_of names m
+word_longer names more (mark.Name count from) within = ap (λ (l : List ℕ). word.Name l) (part_longer names more from count within)
+word_longer names more (mark.EscapedName count from) within = ap (λ (l : List ℕ). word.Name l) (part_longer names more from count within)
+word_longer names more (mark.Reserved len r) within = refl
+word_longer names more (mark.Number len n) within = refl
+word_longer names more (mark.Const value) within = refl
+word_longer names more (mark.Symbol s) within = refl
 
 pub list_longer : (names more : List ℕ) (es : List Entry) → AreKept names es → list_of (names ++ more) es ≡ list_of names es
 list_longer names more [] are = refl
 list_longer names more (e ∷ es) are =
-    ap (λ (w : Word). spanned w e.at e.len ∷ list_of (names ++ more) es) (word_longer names more e.len e.mark are.0)
+    ap (λ (w : Word). spanned w e.at (len_of e.mark) ∷ list_of (names ++ more) es) (word_longer names more e.mark are.0)
     ∙ ap (λ (l : List Spanned). spanned_of names e ∷ l) (list_longer names more es are.1)
 
 -- the entry of a number
 
-pub kept_at : (names : List ℕ) (es : List Entry) (k : ℕ) (e : Entry) → AreKept names es → Some e ≡ slice_get es k → ends_at e.len e.mark ≤ length names
+pub kept_at : (names : List ℕ) (es : List Entry) (k : ℕ) (e : Entry) → AreKept names es → Some e ≡ slice_get es k → ends_at e.mark ≤ length names
 kept_at names [] k e are is = cc
-kept_at names (f ∷ es) zero e are is = subst (λ (x : Entry). ends_at x.len x.mark ≤ length names) (sym (same_Some e f is)) are.0
+kept_at names (f ∷ es) zero e are is = subst (λ (x : Entry). ends_at x.mark ≤ length names) (sym (same_Some e f is)) are.0
 kept_at names (f ∷ es) (suc k) e are is = kept_at names es k e are.1 is
 
-pub front_some : {X : Type 0} (of : Word → Option X) (names : List ℕ) (es : List Entry) (k : ℕ) (e : Entry) → Some e ≡ slice_get es k → front of (drop k (plain (list_of names es))) ≡ of (word_of names e.len e.mark)
+pub front_some : {X : Type 0} (of : Word → Option X) (names : List ℕ) (es : List Entry) (k : ℕ) (e : Entry) → Some e ≡ slice_get es k → front of (drop k (plain (list_of names es))) ≡ of (word_of names e.mark)
 front_some of names [] k e is = cc
-front_some of names (f ∷ es) zero e is = ap (λ (x : Entry). of (word_of names x.len x.mark)) (sym (same_Some e f is))
+front_some of names (f ∷ es) zero e is = ap (λ (x : Entry). of (word_of names x.mark)) (sym (same_Some e f is))
 front_some of names (f ∷ es) (suc k) e is = front_some of names es k e is
 
 pub front_none : {X : Type 0} (of : Word → Option X) (names : List ℕ) (es : List Entry) (k : ℕ) → None ≡ slice_get es k → front of (drop k (plain (list_of names es))) ≡ None
@@ -66,7 +66,7 @@ front_none of names (f ∷ es) (suc k) is = front_none of names es k is
 
 -- what a word is, as the entry of its number says
 
-pub at_some : {X : Type 0} (of : Word → Option X) (names : List ℕ) (es found : List Entry) (end k : ℕ) (text : WordText) (e : Entry) (r : Option X) → record { list = list_of names es; end = end } ≡ text → found ≡ es → Some e ≡ slice_get found k → r ≡ of (word_of names e.len e.mark) → r ≡ front of (drop k (plain text.list))
+pub at_some : {X : Type 0} (of : Word → Option X) (names : List ℕ) (es found : List Entry) (end k : ℕ) (text : WordText) (e : Entry) (r : Option X) → record { list = list_of names es; end = end } ≡ text → found ≡ es → Some e ≡ slice_get found k → r ≡ of (word_of names e.mark) → r ≡ front of (drop k (plain text.list))
 at_some of names es found end k text e r is same there gives =
     gives
     ∙ sym (front_some of names es k e (there ∙ ap (λ (l : List Entry). slice_get l k) same))
@@ -77,9 +77,9 @@ at_none of names es found end k text is same none =
     sym (front_none of names es k (none ∙ ap (λ (l : List Entry). slice_get l k) same))
     ∙ ap (λ (t : WordText). front of (drop k (plain t.list))) is
 
-pub kept_found : (names text : List ℕ) (es found : List Entry) (k : ℕ) (e : Entry) → AreKept names es → found ≡ es → Some e ≡ slice_get found k → text ≡ names → ends_at e.len e.mark ≤ length text
+pub kept_found : (names text : List ℕ) (es found : List Entry) (k : ℕ) (e : Entry) → AreKept names es → found ≡ es → Some e ≡ slice_get found k → text ≡ names → ends_at e.mark ≤ length text
 kept_found names text es found k e are same there is =
-    subst (λ (l : List ℕ). ends_at e.len e.mark ≤ length l) (sym is) (kept_at names es k e are (there ∙ ap (λ (l : List Entry). slice_get l k) same))
+    subst (λ (l : List ℕ). ends_at e.mark ≤ length l) (sym is) (kept_at names es k e are (there ∙ ap (λ (l : List Entry). slice_get l k) same))
 
 pub word_some : (names text : List ℕ) (es found : List Entry) (end k : ℕ) (now : WordText) (e : Entry) (s : Spanned) → record { list = list_of names es; end = end } ≡ now → found ≡ es → Some e ≡ slice_get found k → text ≡ names → s ≡ spanned_of text e → Some s ≡ slice_get now.list k
 word_some names text es found end k now e s is same there names_are gives =

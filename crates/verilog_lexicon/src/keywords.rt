@@ -355,9 +355,13 @@ fn from_u_to_x(name: &[u8]) -> Option<Reserved>
 pub fn reserved_of(name: &[u8]) -> Option<Reserved>
     ensures { result ≡ keys.reserved_of name.now }
 {
-    let [first, ..] = name else {
+    let [first, second, ..] = name else {
         return None;
     };
+    // The second byte of each is a small letter.
+    if *second < b'a' {
+        return None;
+    }
     reserved_from(*first, name)
 }
 

@@ -2,7 +2,7 @@ ghost use Rattle.std.specs.Prelude.{◌≡◌, ℕ, ◌+◌, ◌^◌, ◌<◌, �
 ghost use Rattle.std.specs.Option.{option_copied};
 ghost use Rattle.verilog_lexicon.specs.Keywords.{name_word};
 ghost use Rattle.verilog_lexicon.specs.Words.{WordText, with_word, spanned, place_in, plain, front, name_in, reserved_in, number_in, const_in, symbol_of};
-ghost use Rattle.verilog_lexicon.specs.Entries.{word_of, spanned_of, list_of, ends_at, AreKept};
+ghost use Rattle.verilog_lexicon.specs.Entries.{word_of, len_of, spanned_of, list_of, ends_at, AreKept};
 ghost use Rattle.verilog_lexicon.specs.declared.words.Entry.{Entry};
 
 use crate::keywords::reserved_of;
@@ -14,13 +14,14 @@ use std::alloc::Global;
 use std::marker::Model;
 use std::mem::size_of;
 
-// What a word is; a name by the offset of its bytes among those of all names.
+// What a word is, and its length in the text where its kind doesn't say it. Of a name stand the offset and the count of its
+// bytes among those of all names; an escaped one takes two bytes more in the text.
 #[derive(Clone, Copy, Debug, Drop)]
 enum Mark {
-    Name { from: u32 },
-    EscapedName { from: u32 },
-    Reserved(Reserved),
-    Number(u32),
+    Name { count: u16, from: u32 },
+    EscapedName { count: u16, from: u32 },
+    Reserved { len: u16, word: Reserved },
+    Number { len: u16, value: u32 },
     Const(bool),
     Symbol(Symbol),
 }
@@ -28,16 +29,15 @@ enum Mark {
 #[derive(Clone, Copy, Debug, Drop)]
 struct Entry {
     at: u32,
-    len: u32,
     mark: Mark,
 }
 
-// An entry takes 16 bytes.
-const _: () = prove!(size_of::<Entry>() == 16);
+// An entry takes 12 bytes.
+const _: () = prove!(size_of::<Entry>() == 12);
 
-/// The words of a text in order, with their places, and the text's length. It takes 16 bytes a word beside the bytes of the
-/// names. Words that begin past the first 4 GiB of a text, or whose names take more, aren't kept: they are answered with
-/// `OutOfMemory`.
+/// The words of a text in order, with their places, and the text's length. It takes 12 bytes a word beside the bytes of the
+/// names. Words that begin past the first 4 GiB of a text, that have more than 65,535 bytes, or whose names take more than
+/// 4 GiB, aren't kept: they are answered with `OutOfMemory`.
 #[derive(Drop)]
 pub struct Words {
     names: Vec<u8>,
@@ -55,53 +55,53 @@ impl Model for Words {
 
 impl Mark {
     fn reserved(self) -> Option<Reserved>
-        ensures { (names : List ℕ) (len : ℕ) → result ≡ reserved_in (word_of names len self) }
+        ensures { (names : List ℕ) → result ≡ reserved_in (word_of names self) }
     {
         match self {
-            Mark::Reserved(reserved) => Some(reserved),
+            Mark::Reserved { word, .. } => Some(word),
             Mark::Name { .. }
             | Mark::EscapedName { .. }
-            | Mark::Number(_)
+            | Mark::Number { .. }
             | Mark::Const(_)
             | Mark::Symbol(_) => None,
         }
     }
 
     fn number(self) -> Option<u32>
-        ensures { (names : List ℕ) (len : ℕ) → result ≡ number_in (word_of names len self) }
+        ensures { (names : List ℕ) → result ≡ number_in (word_of names self) }
     {
         match self {
-            Mark::Number(value) => Some(value),
+            Mark::Number { value, .. } => Some(value),
             Mark::Name { .. }
             | Mark::EscapedName { .. }
-            | Mark::Reserved(_)
+            | Mark::Reserved { .. }
             | Mark::Const(_)
             | Mark::Symbol(_) => None,
         }
     }
 
     fn constant(self) -> Option<bool>
-        ensures { (names : List ℕ) (len : ℕ) → result ≡ const_in (word_of names len self) }
+        ensures { (names : List ℕ) → result ≡ const_in (word_of names self) }
     {
         match self {
             Mark::Const(value) => Some(value),
             Mark::Name { .. }
             | Mark::EscapedName { .. }
-            | Mark::Reserved(_)
-            | Mark::Number(_)
+            | Mark::Reserved { .. }
+            | Mark::Number { .. }
             | Mark::Symbol(_) => None,
         }
     }
 
     fn symbol(self) -> Option<Symbol>
-        ensures { (names : List ℕ) (len : ℕ) → result ≡ symbol_of (word_of names len self) }
+        ensures { (names : List ℕ) → result ≡ symbol_of (word_of names self) }
     {
         match self {
             Mark::Symbol(symbol) => Some(symbol),
             Mark::Name { .. }
             | Mark::EscapedName { .. }
-            | Mark::Reserved(_)
-            | Mark::Number(_)
+            | Mark::Reserved { .. }
+            | Mark::Number { .. }
             | Mark::Const(_) => None,
         }
     }
@@ -113,37 +113,50 @@ fn entry_at(entries: &[Entry], number: usize) -> Option<Entry>
     entries.get(number).copied()
 }
 
-// The bytes of the name that an entry is.
-fn name_of(names: &[u8], entry: Entry) -> Option<&[u8]>
-    requires { ends_at entry.len entry.mark ≤ length names.now }
-    ensures { option_copied result ≡ name_in (word_of names.now entry.len entry.mark) }
+// A length, where it is kept.
+fn kept_len(len: usize) -> Result<u16, OutOfMemory>
+    ensures { IfOk result (λ kept. kept ≡ len) }
 {
-    match entry.mark {
-        Mark::Name { from } => {
-            let rest = &names[from as usize..];
-            Some(&rest[..entry.len as usize])
+    let Ok(kept) = u16::try_from(len) else {
+        return Err(OutOfMemory);
+    };
+    Ok(kept)
+}
+
+fn part_of(names: &[u8], from: u32, count: u16) -> &[u8]
+    requires { from + count ≤ length names.now }
+    ensures { result.now ≡ take count (drop from names.now) }
+{
+    let rest = &names[from as usize..];
+    &rest[..count as usize]
+}
+
+// The bytes of the name that a mark says.
+fn name_of(names: &[u8], mark: Mark) -> Option<&[u8]>
+    requires { ends_at mark ≤ length names.now }
+    ensures { option_copied result ≡ name_in (word_of names.now mark) }
+{
+    match mark {
+        Mark::Name { from, count } | Mark::EscapedName { from, count } => {
+            Some(part_of(names, from, count))
         }
-        Mark::EscapedName { from } => {
-            let rest = &names[from as usize..];
-            Some(&rest[..entry.len.saturating_sub(2) as usize])
-        }
-        Mark::Reserved(_) | Mark::Number(_) | Mark::Const(_) | Mark::Symbol(_) => None,
+        Mark::Reserved { .. } | Mark::Number { .. } | Mark::Const(_) | Mark::Symbol(_) => None,
     }
 }
 
 // Adds an entry.
 #[tactic(auto, using(crate::proofs::Entries::kept_push, crate::proofs::Entries::list_push))]
-fn push_entry(entries: &mut Vec<Entry>, mark: Mark, at: u64, len: u32) -> Result<(), OutOfMemory>
-    ensures kept { (names : List ℕ) → ends_at len mark ≤ length names
+fn push_entry(entries: &mut Vec<Entry>, mark: Mark, at: u64) -> Result<(), OutOfMemory>
+    ensures kept { (names : List ℕ) → ends_at mark ≤ length names
         → AreKept names entries.old.items → AreKept names entries.new.items }
     ensures ok { OnOk result ((names : List ℕ) → list_of names entries.new.items
-        ≡ list_of names entries.old.items ++ spanned (word_of names len mark) at len ∷ []) }
+        ≡ list_of names entries.old.items ++ spanned (word_of names mark) at (len_of mark) ∷ []) }
     ensures err { OnErr result (entries.new.items ≡ entries.old.items) }
 {
     let Ok(at) = u32::try_from(at) else {
         return Err(OutOfMemory);
     };
-    entries.push(Entry { at, len, mark })?;
+    entries.push(Entry { at, mark })?;
     Ok(())
 }
 
@@ -164,28 +177,27 @@ fn push_bytes(names: &mut Vec<u8>, name: &[u8]) -> Result<u32, OutOfMemory>
 }
 
 fn copy_of(alloc: Global, names: &[u8], entry: Entry) -> Result<Spanned, OutOfMemory>
-    requires { ends_at entry.len entry.mark ≤ length names.now }
+    requires { ends_at entry.mark ≤ length names.now }
     ensures { IfOk result (λ w. w ≡ spanned_of names.now entry) }
 {
-    let word = match entry.mark {
-        Mark::Reserved(reserved) => Word::Reserved(reserved),
-        Mark::Number(value) => Word::Number(value),
-        Mark::Const(value) => Word::Const(value),
-        Mark::Symbol(symbol) => Word::Symbol(symbol),
-        Mark::Name { from } => {
-            let rest = &names[from as usize..];
-            Word::Name(Text::from_bytes(alloc, &rest[..entry.len as usize])?)
+    let (word, len) = match entry.mark {
+        Mark::Reserved { len, word } => (Word::Reserved(word), u32::from(len)),
+        Mark::Number { len, value } => (Word::Number(value), u32::from(len)),
+        Mark::Const(value) => (Word::Const(value), 4),
+        Mark::Symbol(symbol) => (Word::Symbol(symbol), 1),
+        Mark::Name { from, count } => {
+            let name = Text::from_bytes(alloc, part_of(names, from, count))?;
+            (Word::Name(name), u32::from(count))
         }
-        Mark::EscapedName { from } => {
-            let rest = &names[from as usize..];
-            let count = entry.len.saturating_sub(2);
-            Word::Name(Text::from_bytes(alloc, &rest[..count as usize])?)
+        Mark::EscapedName { from, count } => {
+            let name = Text::from_bytes(alloc, part_of(names, from, count))?;
+            (Word::Name(name), u32::from(count) + 2)
         }
     };
     Ok(Spanned {
         word,
         at: u64::from(entry.at),
-        len: entry.len,
+        len,
     })
 }
 
@@ -209,12 +221,12 @@ impl Words {
             ≡ with_word self.old (spanned (name_word name.now) at (length name.now))) }
         ensures err { OnErr result (self.new ≡ self.old) }
     {
-        let len = name.len() as u32;
+        let count = kept_len(name.len())?;
         match reserved_of(name) {
-            Some(reserved) => push_entry(&mut self.entries, Mark::Reserved(reserved), at, len),
+            Some(word) => push_entry(&mut self.entries, Mark::Reserved { len: count, word }, at),
             None => {
                 let from = push_bytes(&mut self.names, name)?;
-                push_entry(&mut self.entries, Mark::Name { from }, at, len)
+                push_entry(&mut self.entries, Mark::Name { count, from }, at)
             }
         }
     }
@@ -226,9 +238,9 @@ impl Words {
             ≡ with_word self.old (spanned (Word.Name name.now) at (length name.now + 2))) }
         ensures err { OnErr result (self.new ≡ self.old) }
     {
-        let len = name.len() as u32 + 2;
+        let count = kept_len(name.len())?;
         let from = push_bytes(&mut self.names, name)?;
-        push_entry(&mut self.entries, Mark::EscapedName { from }, at, len)
+        push_entry(&mut self.entries, Mark::EscapedName { count, from }, at)
     }
 
     /// Adds a number, which takes `len` bytes in the text.
@@ -236,7 +248,8 @@ impl Words {
         ensures ok { OnOk result (self.new ≡ with_word self.old (spanned (Word.Number value) at len)) }
         ensures err { OnErr result (self.new ≡ self.old) }
     {
-        push_entry(&mut self.entries, Mark::Number(value), at, len)
+        let len = kept_len(len as usize)?;
+        push_entry(&mut self.entries, Mark::Number { len, value }, at)
     }
 
     /// Adds a constant.
@@ -244,7 +257,7 @@ impl Words {
         ensures ok { OnOk result (self.new ≡ with_word self.old (spanned (Word.Const value) at 4)) }
         ensures err { OnErr result (self.new ≡ self.old) }
     {
-        push_entry(&mut self.entries, Mark::Const(value), at, 4)
+        push_entry(&mut self.entries, Mark::Const(value), at)
     }
 
     /// Adds a symbol.
@@ -252,7 +265,7 @@ impl Words {
         ensures ok { OnOk result (self.new ≡ with_word self.old (spanned (Word.Symbol symbol) at 1)) }
         ensures err { OnErr result (self.new ≡ self.old) }
     {
-        push_entry(&mut self.entries, Mark::Symbol(symbol), at, 1)
+        push_entry(&mut self.entries, Mark::Symbol(symbol), at)
     }
 
     /// Says how long the text is.
@@ -331,7 +344,7 @@ impl Words {
         ensures { option_copied result ≡ front name_in (drop number (plain self.now.list)) }
     {
         match entry_at(self.entries.as_slice(), number) {
-            Some(entry) => name_of(self.names.as_slice(), entry),
+            Some(entry) => name_of(self.names.as_slice(), entry.mark),
             None => None,
         }
     }

@@ -10,7 +10,7 @@ name_of-requires c =
 
 pub returns-in-Some : goal.returns-in-Some
 returns-in-Some c =
-    at_some name_in c.self.inside.names.items c.self.inside.entries.items _ c.self.inside.end c.args.number c.args.self.now c.in-Some.entry _ c.self.view_is c.as_slice.ensures.value c.in-Some.ensures (c.name_of.ensures ∙ ap (λ (l : List ℕ). name_in (word_of l c.in-Some.entry.len c.in-Some.entry.mark)) c.as_slice-in-Some.ensures.value)
+    at_some name_in c.self.inside.names.items c.self.inside.entries.items _ c.self.inside.end c.args.number c.args.self.now c.in-Some.entry _ c.self.view_is c.as_slice.ensures.value c.in-Some.ensures (c.name_of.ensures ∙ ap (λ (l : List ℕ). name_in (word_of l c.in-Some.entry.mark)) c.as_slice-in-Some.ensures.value)
 
 pub returns-in-None : goal.returns-in-None
 returns-in-None c =

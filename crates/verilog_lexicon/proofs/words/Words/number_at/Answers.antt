@@ -4,7 +4,7 @@ use Rattle.verilog_lexicon.proofs.words.Words.number_at.Goals as goal
 
 pub returns-in-Some : goal.returns-in-Some
 returns-in-Some c =
-    at_some number_in c.self.inside.names.items c.self.inside.entries.items _ c.self.inside.end c.args.number c.args.self.now c.in-Some.entry _ c.self.view_is c.as_slice.ensures.value c.in-Some.ensures (c.number.ensures c.self.inside.names.items c.in-Some.entry.len)
+    at_some number_in c.self.inside.names.items c.self.inside.entries.items _ c.self.inside.end c.args.number c.args.self.now c.in-Some.entry _ c.self.view_is c.as_slice.ensures.value c.in-Some.ensures (c.number.ensures c.self.inside.names.items)
 
 pub returns-in-None : goal.returns-in-None
 returns-in-None c =

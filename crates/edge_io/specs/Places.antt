@@ -1,0 +1,8 @@
+use Rattle.std.specs.Prelude.{ℕ, List}
+use Rattle.edge_io.specs.declared.text.Place.{Place}
+use Rattle.edge_io.specs.declared.text.Place.TheVariants.{Short, Long}
+
+-- the bytes of a text, wherever they lie
+abbrev pub bytes_of : Place → List ℕ
+bytes_of (Short short) = short
+bytes_of (Long long) = long.value.items
