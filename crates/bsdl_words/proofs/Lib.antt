@@ -4,4 +4,6 @@ pub mod Complete
 pub mod Once
 pub mod Begun
 pub mod Sound
+pub mod Text
 pub mod Feeding
+pub mod Runs

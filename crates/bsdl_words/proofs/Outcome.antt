@@ -2,13 +2,13 @@ use Rattle.std.proofs.Common.{◌≡◌, ℕ, ◌+◌, List, [], ◌∷◌, ◌+
 use Rattle.std.specs.Prelude.{option_and_then}
 use Rattle.std.specs.Option.{option_map}
 use Rattle.bsdl_lexicon.specs.declared.token.BsdlSpanned.{BsdlSpanned}
+use Rattle.word_cutter.specs.Language.{outcome as machine_outcome}
 use Rattle.bsdl_words.specs.declared.mode.Mode.{Mode}
 use Rattle.bsdl_words.specs.Machine.{State, state, step, end}
 
 -- the words of a text that goes on with these bytes and ends
 abbrev pub outcome : ℕ → State → List ℕ → Option (List BsdlSpanned)
-outcome at s [] = end s
-outcome at s (b ∷ bytes) = option_and_then (λ t. outcome (at + 1) t bytes) (step at s b)
+outcome at s bytes = machine_outcome step end at s bytes
 
 -- the same place and the same pending bytes, spelled otherwise
 pub same_outcome : (m : Mode) (words : List BsdlSpanned) (from : ℕ) (rest : List ℕ) (a b : ℕ) (p q : List ℕ) → a ≡ b → p ≡ q → outcome a (state words m from p) rest ≡ outcome b (state words m from q) rest

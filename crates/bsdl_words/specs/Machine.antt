@@ -1,10 +1,11 @@
-use Rattle.std.specs.Prelude.{ℕ, ◌+◌, List, [], ◌∷◌, ◌++◌, length, Option, Some, None, if◌then◌else◌, ◌==◌, nat_lt, nat_le, option_and_then}
+use Rattle.std.specs.Prelude.{ℕ, ◌+◌, List, [], ◌∷◌, ◌++◌, length, Option, Some, None, if◌then◌else◌, ◌==◌, nat_lt, nat_le}
 use Rattle.std.specs.Option.{option_map}
 use Rattle.bsdl_lexicon.specs.declared.token.BsdlToken.TheVariants as word
 use Rattle.bsdl_lexicon.specs.declared.token.BsdlSpanned.{BsdlSpanned}
 use Rattle.bsdl_lexicon.specs.declared.symbol.BsdlSymbol.{BsdlSymbol}
 use Rattle.bsdl_lexicon.specs.declared.symbol.BsdlSymbol.TheVariants.{LeftParenthesis, RightParenthesis, Colon, Semicolon, Comma, Ampersand, Dot}
 use Rattle.bsdl_lexicon.specs.Bytes.{is_blank, is_letter, is_digit, is_letter_or_digit, is_name_byte, is_exponent_mark, is_sign, is_quotable}
+use Rattle.bsdl_lexicon.specs.declared.words.BsdlWords.{BsdlWords}
 use Rattle.bsdl_lexicon.specs.Words.{spanned}
 use Rattle.bsdl_lexicon.specs.Pieces.{value_from}
 use Rattle.bsdl_words.specs.declared.mode.Mode.{Mode}
@@ -120,11 +121,6 @@ step_in in_.Quoted at words from pending b =
 abbrev pub step : ℕ → State → ℕ → Option State
 step at s b = step_in s.mode at s.words s.from s.pending b
 
--- the state after these bytes, the first of them at this place
-abbrev pub run : ℕ → State → List ℕ → Option State
-run at s [] = Some s
-run at s (b ∷ bytes) = option_and_then (λ t. run (at + 1) t bytes) (step at s b)
-
 -- the words of a text that ends here
 abbrev pub end_in : Mode → List BsdlSpanned → ℕ → List ℕ → Option (List BsdlSpanned)
 end_in in_.Between words from pending = Some words
@@ -143,3 +139,7 @@ end_in in_.Quoted words from pending = None
 
 abbrev pub end : State → Option (List BsdlSpanned)
 end s = end_in s.mode s.words s.from s.pending
+
+-- these words and the text's length, where it ends at this place
+abbrev pub text_at : ℕ → State → Option BsdlWords
+text_at at s = option_map (λ words. record { list = words; end = at }) (end s)

@@ -1,8 +1,9 @@
-ghost use Rattle.std.specs.Prelude.{◌≡◌};
+ghost use Rattle.std.specs.Prelude.{◌≡◌, ◌==◌, not};
 ghost use Rattle.bsdl_lexicon.specs.Bytes as bytes;
 ghost use Rattle.bsdl_words.specs.Machine as machine;
 
 use bsdl_lexicon::BsdlSymbol;
+use word_cutter::ByteClass;
 
 // Tests of one byte.
 
@@ -66,5 +67,49 @@ pub fn symbol_with(b: u8) -> Option<BsdlSymbol>
         b'&' => Some(BsdlSymbol::Ampersand),
         b'.' => Some(BsdlSymbol::Dot),
         _ => None,
+    }
+}
+
+/// Blanks.
+pub struct BlankBytes;
+
+impl ByteClass for BlankBytes {
+    ghost holds = { bytes.is_blank };
+
+    fn holds(byte: u8) -> bool {
+        is_blank(byte)
+    }
+}
+
+/// Bytes that don't end a line.
+pub struct LineBytes;
+
+impl ByteClass for LineBytes {
+    ghost holds = { λ b. not (b == 10) };
+
+    fn holds(byte: u8) -> bool {
+        byte != b'\n'
+    }
+}
+
+/// Letters and digits.
+pub struct LetterBytes;
+
+impl ByteClass for LetterBytes {
+    ghost holds = { bytes.is_letter_or_digit };
+
+    fn holds(byte: u8) -> bool {
+        is_letter_or_digit(byte)
+    }
+}
+
+/// Bytes of a string.
+pub struct QuotableBytes;
+
+impl ByteClass for QuotableBytes {
+    ghost holds = { bytes.is_quotable };
+
+    fn holds(byte: u8) -> bool {
+        is_quotable(byte)
     }
 }

@@ -1,5 +1,5 @@
-use edge_io::OutOfMemory;
 use thiserror::Error;
+use word_cutter::CutFault;
 
 /// Why a BSDL text isn't cut into words.
 #[derive(Clone, Copy, Debug, Drop, Error, PartialEq, Eq)]
@@ -12,13 +12,16 @@ pub enum BsdlWordFault {
     OutOfMemory,
 }
 
-impl From<OutOfMemory> for BsdlWordFault {
+impl From<CutFault> for BsdlWordFault {
     ghost use Rattle.std.specs.Prelude.{◌≡◌};
-    ghost use Rattle.bsdl_words.specs.declared.fault.BsdlWordFault.TheVariants as fault;
+    ghost use Rattle.bsdl_words.specs.Kinds.{word_fault};
 
-    ghost from_gives = { λ _ e. e ≡ fault.OutOfMemory };
+    ghost from_gives = { λ fault e. e ≡ word_fault fault };
 
-    fn from(_error: OutOfMemory) -> BsdlWordFault {
-        BsdlWordFault::OutOfMemory
+    fn from(fault: CutFault) -> BsdlWordFault {
+        match fault {
+            CutFault::BadByte { place } => BsdlWordFault::BsdlWord { place },
+            CutFault::OutOfMemory => BsdlWordFault::OutOfMemory,
+        }
     }
 }

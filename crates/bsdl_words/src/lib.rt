@@ -8,6 +8,7 @@ mod cutter;
 mod fault;
 mod integers;
 mod laws;
+mod machine;
 mod mode;
 mod whole;
 

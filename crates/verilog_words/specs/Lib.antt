@@ -1,3 +1,5 @@
 pub mod Machine
+pub mod Kinds
+pub mod Steps
 pub mod Fed
 pub mod Laws

@@ -1,4 +1,4 @@
-use Rattle.std.specs.Prelude.{ℕ, ◌+◌, Bool, true, false, List, [], ◌∷◌, ◌++◌, length, slice_get, Option, Some, None, if◌then◌else◌, ◌==◌, nat_lt, nat_le, option_and_then, codes}
+use Rattle.std.specs.Prelude.{ℕ, ◌+◌, Bool, true, false, List, [], ◌∷◌, ◌++◌, length, slice_get, Option, Some, None, if◌then◌else◌, ◌==◌, nat_lt, nat_le, codes}
 use Rattle.std.specs.Option.{option_map, option_map_or}
 use Rattle.std.specs.Str.{bytes_eq}
 use Rattle.verilog_lexicon.specs.declared.word.Word.TheVariants as word
@@ -7,7 +7,7 @@ use Rattle.verilog_lexicon.specs.declared.symbol.Symbol.{Symbol}
 use Rattle.verilog_lexicon.specs.declared.symbol.Symbol.TheVariants.{LeftParenthesis, RightParenthesis, LeftBracket, RightBracket, Colon, Comma, Semicolon, Dot, Equals}
 use Rattle.verilog_lexicon.specs.Keywords.{name_word}
 use Rattle.verilog_lexicon.specs.Bytes.{is_blank, is_letter, is_digit, is_name_byte, clings, is_escaped_byte, is_base}
-use Rattle.verilog_lexicon.specs.Words.{spanned}
+use Rattle.verilog_lexicon.specs.Words.{spanned, WordText}
 use Rattle.verilog_lexicon.specs.Pieces.{value_from}
 use Rattle.verilog_words.specs.declared.mode.Mode.{Mode}
 use Rattle.verilog_words.specs.declared.mode.Mode.TheVariants as in_
@@ -157,11 +157,6 @@ step_in (in_.Constant value) at words from pending b =
 abbrev pub step : ℕ → State → ℕ → Option State
 step at s b = step_in s.mode at s.words s.from s.pending b
 
--- the state after these bytes, the first of them at this place
-abbrev pub run : ℕ → State → List ℕ → Option State
-run at s [] = Some s
-run at s (b ∷ bytes) = option_and_then (λ t. run (at + 1) t bytes) (step at s b)
-
 -- the words of a text that ends here
 abbrev pub end_in : Mode → List Spanned → ℕ → List ℕ → Option (List Spanned)
 end_in in_.Between words from pending = Some words
@@ -181,3 +176,7 @@ end_in (in_.Constant value) words from pending = Some (with_constant words from 
 
 abbrev pub end : State → Option (List Spanned)
 end s = end_in s.mode s.words s.from s.pending
+
+-- these words and the text's length, where it ends at this place
+abbrev pub text_at : ℕ → State → Option WordText
+text_at at s = option_map (λ words. record { list = words; end = at }) (end s)

@@ -1,10 +1,11 @@
-ghost use Rattle.std.specs.Prelude.{◌≡◌, length};
+ghost use Rattle.std.specs.Prelude.{◌≡◌, ◌==◌, length, not};
 ghost use Rattle.verilog_lexicon.specs.Bytes as bytes;
 ghost use Rattle.verilog_words.specs.Machine as machine;
 
 use crate::mode::Directive;
 use verilog_lexicon::Symbol;
 use verilog_lexicon::keywords::is_name_byte;
+use word_cutter::ByteClass;
 
 // Tests of one byte.
 
@@ -90,4 +91,59 @@ pub fn is_whole(directive: Directive, pending: &[u8]) -> bool
     ensures { result ≡ machine.is_whole directive pending.now }
 {
     directive.name().len() <= pending.len()
+}
+
+/// Bytes of a name.
+pub struct NameBytes;
+
+/// Bytes of an escaped name.
+pub struct EscapedBytes;
+
+/// Blanks.
+pub struct BlankBytes;
+
+/// Bytes that don't end a line.
+pub struct LineBytes;
+
+/// Bytes that are no star.
+pub struct StarlessBytes;
+
+impl ByteClass for NameBytes {
+    ghost holds = { bytes.is_name_byte };
+
+    fn holds(byte: u8) -> bool {
+        is_name_byte(byte)
+    }
+}
+
+impl ByteClass for EscapedBytes {
+    ghost holds = { bytes.is_escaped_byte };
+
+    fn holds(byte: u8) -> bool {
+        is_escaped_byte(byte)
+    }
+}
+
+impl ByteClass for BlankBytes {
+    ghost holds = { bytes.is_blank };
+
+    fn holds(byte: u8) -> bool {
+        is_blank(byte)
+    }
+}
+
+impl ByteClass for LineBytes {
+    ghost holds = { λ b. not (b == 10) };
+
+    fn holds(byte: u8) -> bool {
+        byte != b'\n'
+    }
+}
+
+impl ByteClass for StarlessBytes {
+    ghost holds = { λ b. not (b == 42) };
+
+    fn holds(byte: u8) -> bool {
+        byte != b'*'
+    }
 }

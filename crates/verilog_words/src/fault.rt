@@ -1,5 +1,5 @@
-use edge_io::OutOfMemory;
 use thiserror::Error;
+use word_cutter::CutFault;
 
 /// Why a text isn't cut into words.
 #[derive(Clone, Copy, Debug, Drop, Error, PartialEq, Eq)]
@@ -12,13 +12,16 @@ pub enum WordFault {
     OutOfMemory,
 }
 
-impl From<OutOfMemory> for WordFault {
+impl From<CutFault> for WordFault {
     ghost use Rattle.std.specs.Prelude.{◌≡◌};
-    ghost use Rattle.verilog_words.specs.declared.fault.WordFault.TheVariants as fault;
+    ghost use Rattle.verilog_words.specs.Kinds.{word_fault};
 
-    ghost from_gives = { λ _ e. e ≡ fault.OutOfMemory };
+    ghost from_gives = { λ fault e. e ≡ word_fault fault };
 
-    fn from(_error: OutOfMemory) -> WordFault {
-        WordFault::OutOfMemory
+    fn from(fault: CutFault) -> WordFault {
+        match fault {
+            CutFault::BadByte { place } => WordFault::BadWord { place },
+            CutFault::OutOfMemory => WordFault::OutOfMemory,
+        }
     }
 }

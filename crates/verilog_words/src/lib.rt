@@ -7,6 +7,7 @@ mod classes;
 mod cutter;
 mod fault;
 mod laws;
+mod machine;
 mod mode;
 
 pub use cutter::Cutter;

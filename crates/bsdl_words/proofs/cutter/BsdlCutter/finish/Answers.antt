@@ -1,18 +1,20 @@
-use Rattle.std.proofs.Common.{ℕ, subst}
-use Rattle.bsdl_words.specs.Fed.{state_of, StepFault}
-use Rattle.bsdl_words.specs.Machine.{end}
+use Rattle.std.proofs.Common.{sym, subst, ◌∙◌}
 use Rattle.std.proofs.lemmas.Option.{same_Some}
-use Rattle.bsdl_words.proofs.Feeding.{fault_end, ends_words, words_unique}
+use Rattle.bsdl_words.specs.Fed.{IsEndFault}
+use Rattle.bsdl_words.specs.Steps.{state_of}
+use Rattle.bsdl_words.specs.declared.fault.BsdlWordFault.{BsdlWordFault}
+use Rattle.bsdl_words.proofs.Feeding.{text_ends, text_end, text_fault, unique}
 use Rattle.bsdl_words.proofs.cutter.BsdlCutter.finish.Goals as goal
-
-pub returns-clause-words : goal.returns-clause-words
-returns-clause-words c = λ bytes fed.
-    ends_words bytes (state_of c.args.self) c.end.new.self.words fed.ran c.in_default-end.ensures.0
-
-pub returns-clause-only : goal.returns-clause-only
-returns-clause-only c = λ bytes fed words cut.
-    same_Some _ _ (words_unique bytes words c.end.new.self.words cut (ends_words bytes (state_of c.args.self) c.end.new.self.words fed.ran c.in_default-end.ensures.0))
 
 pub returns-in-Err-clause-fault : goal.returns-in-Err-clause-fault
 returns-in-Err-clause-fault c = λ bytes fed.
-    fault_end c.in-Err.e bytes (state_of c.args.self) fed.ran (subst (λ (k : ℕ). StepFault c.in-Err.e k (end (state_of c.args.self))) fed.at c.in-Err.ensures)
+    subst (λ (w : BsdlWordFault). IsEndFault w bytes) (sym c.from.ensures) (text_fault bytes c.args.self.cutter.at (state_of c.args.self.cutter.machine) c.in-Err.e fed.ran fed.at_is (c.in-Err.ensures.fault bytes fed))
+
+pub returns-clause-words : goal.returns-clause-words
+returns-clause-words c = λ bytes fed. text_ends bytes c.args.self.cutter.at (state_of c.args.self.cutter.machine) c.in-Ok.words fed.ran c.in-Ok.ensures.words
+
+pub returns-clause-only : goal.returns-clause-only
+returns-clause-only c = λ bytes fed words cut. same_Some _ _ (unique bytes words c.in-Ok.words.list cut (text_ends bytes c.args.self.cutter.at (state_of c.args.self.cutter.machine) c.in-Ok.words fed.ran c.in-Ok.ensures.words))
+
+pub returns-clause-end : goal.returns-clause-end
+returns-clause-end c = λ bytes fed. text_end c.args.self.cutter.at (state_of c.args.self.cutter.machine) c.in-Ok.words c.in-Ok.ensures.words ∙ fed.at_is

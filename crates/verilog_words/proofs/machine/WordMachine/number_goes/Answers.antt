@@ -1,7 +1,7 @@
 use Rattle.std.proofs.Common.{◌≡◌, ℕ, ◌+◌, ◌*◌, ◌-◌, ◌^◌, ◌<◌, [], ◌∷◌, length, ap, sym, subst, ◌∙◌, arith, length-append}
 use Rattle.verilog_lexicon.specs.Pieces.{value_from}
 use Rattle.verilog_words.proofs.Values.{value_push}
-use Rattle.verilog_words.proofs.cutter.Cutter.number_goes.Goals as goal
+use Rattle.verilog_words.proofs.machine.WordMachine.number_goes.Goals as goal
 
 pub invariant_of-self-2-clause-number : goal.invariant_of-self-2-clause-number
 invariant_of-self-2-clause-number c = λ _.

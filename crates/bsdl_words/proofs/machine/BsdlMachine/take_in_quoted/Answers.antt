@@ -1,0 +1,21 @@
+use Rattle.std.proofs.Common.{List, ℕ, ◌≡◌, ◌≤◌, ◌++◌, Some, arith, ap, sym, ◌∙◌, take, length}
+use Rattle.std.proofs.lemmas.List.Sums.{prefix_len-le-length}
+use Rattle.bsdl_lexicon.specs.Bytes.{is_quotable}
+use Rattle.bsdl_words.specs.declared.mode.Mode.TheVariants as in_
+use Rattle.bsdl_words.specs.declared.mode.Mode.{Mode}
+use Rattle.bsdl_words.specs.Machine.{state}
+use Rattle.bsdl_words.specs.Steps.{from_in, pending_in}
+use Rattle.bsdl_words.proofs.Runs.{quoted_goes}
+use Rattle.bsdl_words.proofs.machine.BsdlMachine.take_in_quoted.Goals as goal
+
+pub returns : goal.returns
+returns c =
+    let piece = c.args.piece.now in
+    let n = c.run_len-count.result in
+    let old = c.args.self.now in (
+      omega arith,
+      omega (arith, c.run_len-count.ensures, prefix_len-le-length is_quotable piece),
+      quoted_goes old piece c.args.at n c.requires.quoted (omega (arith, c.run_len-count.ensures))
+          ∙ ap (λ (l : List ℕ). Some (state old.words in_.Quoted old.from l)) (sym c.in-Ok.ensures.ok)
+          ∙ ap (λ (k : Mode). Some (state old.words k (from_in k old.from) (pending_in k c.append.new.self))) (sym c.requires.quoted),
+    )
