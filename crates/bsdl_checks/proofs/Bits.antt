@@ -3,6 +3,7 @@ use Rattle.std.proofs.Common.{◌≡◌, ℕ, zero, suc, ◌+◌, ◌-◌, ◌<�
 use Rattle.std.specs.List.{list_any, filter_map, cons_option}
 use Rattle.std.proofs.lemmas.List.Elements.{filter_map-append}
 use Rattle.std.proofs.Math.Seq.{take-suc}
+use Rattle.list_laws.proofs.Tests.{or_false}
 use Rattle.bsdl_device.specs.declared.values.PortRange.{PortRange}
 use Rattle.std.proofs.lemmas.List.Folds.{list_any-append}
 use Rattle.bsdl_device.specs.declared.written.DeclaredPort.{DeclaredPort}
@@ -22,10 +23,6 @@ along_bits test passes (p ∷ ps) = by (along_bits test passes ps) (passes p)
         ∙ ap (λ b. b || list_any test (bits_of (filter passes ps))) (list_any-map test (bit_of_port p.name) (indices p.range))
         ∙ ap (λ b. some_bit test p || b) rest
     by rest false = rest
-
-pub or_false : (b : Bool) → (b || false) ≡ b
-or_false true = refl
-or_false false = refl
 
 -- a vector's bits, by the places of their indices
 pub along_places : (test : Option ℕ → Bool) (at : ℕ → ℕ) (n : ℕ) → list_any test (map (λ place. Some (at place)) (counted_from 0 n)) ≡ list_any (λ place. test (Some (at place))) (counted_from 0 n)

@@ -4,17 +4,12 @@ use Rattle.std.specs.List.{filter_map, cons_option}
 use Rattle.std.specs.Prelude.{find}
 use Rattle.std.proofs.lemmas.List.Elements.{filter_map-append}
 use Rattle.std.proofs.lemmas.List.{map-append}
+use Rattle.list_laws.proofs.Lists.{counted-last}
 use Rattle.bsdl_device.specs.declared.entries.RowEntry.{RowEntry}
 use Rattle.bsdl_device.specs.declared.written.DeclaredPort.{DeclaredPort}
 use Rattle.bsdl_device.specs.Ports.{counted_from}
 use Rattle.bsdl_device.specs.Checks.{is_numbered}
 use Rattle.bsdl_device.specs.Denoted.{ordered_rows, cell_of}
-
-counted-last : (first n : ℕ) → counted_from first (suc n) ≡ counted_from first n ++ (first + n) ∷ []
-counted-last first zero = let e : first ≡ first + 0 = omega arith in ap (λ (k : ℕ). k ∷ []) e
-counted-last first (suc n) =
-    let e : suc first + n ≡ first + suc n = omega arith in
-    ap (λ (l : List ℕ). first ∷ l) (counted-last (suc first) n) ∙ ap (λ (k : ℕ). first ∷ (counted_from (suc first) n ++ k ∷ [])) e
 
 -- one number more
 pub ordered_next : (rows : List RowEntry) (n : ℕ) → ordered_rows (n + 1) rows ≡ ordered_rows n rows ++ cons_option (find (is_numbered n) rows) []

@@ -2,12 +2,12 @@
 use Rattle.std.proofs.Common.{◌≡◌, ℕ, Bool, true, false, ◌||◌, ◌&&◌, ◌==◌, List, [], ◌∷◌, nat_eq, Option, Some, None, if◌then◌else◌, refl, ap, ◌∙◌}
 use Rattle.std.specs.List.{list_any, filter_map, cons_option}
 use Rattle.std.specs.Option.{option_map, option_map_or}
+use Rattle.list_laws.proofs.Numbers.{eqb-sym}
 use Rattle.bsdl_device.specs.declared.values.Disable.{Disable}
 use Rattle.bsdl_device.specs.declared.entries.RowEntry.{RowEntry}
 use Rattle.bsdl_device.specs.Checks.{is_numbered}
 use Rattle.bsdl_device.specs.RowRules.{is_control, is_disabled_by}
 use Rattle.bsdl_checks.specs.Controls.{control_in, own_number}
-use Rattle.bsdl_checks.proofs.Sets.{eqb-sym}
 
 pub named_by : (n : ℕ) (rows : List RowEntry) → list_any (nat_eq n) (filter_map control_in rows) ≡ list_any (is_disabled_by n) rows
 named_by n [] = refl

@@ -2,12 +2,13 @@
 use Rattle.std.proofs.Common.{◌≡◌, ℕ, Bool, true, false, ◌||◌, ◌&&◌, ◌==◌, List, [], ◌∷◌, nat_eq, Option, Some, None, if◌then◌else◌, refl, ap, sym, ◌∙◌}
 use Rattle.std.specs.List.{list_any, filter_map, cons_option}
 use Rattle.std.specs.Option.{option_map_or}
+use Rattle.list_laws.proofs.Numbers.{eqb-sym}
 use Rattle.bsdl_device.specs.declared.values.Disable.{Disable}
 use Rattle.bsdl_device.specs.declared.entries.RowEntry.{RowEntry}
 use Rattle.bsdl_device.specs.Checks.{any_pair}
 use Rattle.bsdl_device.specs.RowRules.{differ, rows_disagree, disables_disagree}
 use Rattle.bsdl_checks.specs.Controls.{control_by}
-use Rattle.bsdl_checks.proofs.Sets.{eqb-sym, any_alike}
+use Rattle.bsdl_checks.proofs.Sets.{any_alike}
 
 -- the control cell of a disable value
 abbrev pub cell_by : Bool → Option Disable → Option ℕ

@@ -2,6 +2,7 @@
 use Rattle.std.proofs.Common.{◌≡◌, ◌≤◌, Bool, true, false, cond, ◌||◌, List, [], ◌∷◌, length, Option, Some, None, refl, arith, ltb-false}
 use Rattle.std.specs.Option.{option_map}
 use Rattle.std.proofs.lemmas.List.Sums.{sum_by-cons}
+use Rattle.list_laws.proofs.Tests.{or_first, or_second}
 use Rattle.bsdl_device.specs.declared.values.PortRange.{PortRange}
 use Rattle.bsdl_device.specs.declared.written.DeclaredPort.{DeclaredPort}
 use Rattle.bsdl_device.specs.declared.written.File.{File}
@@ -17,14 +18,6 @@ wide (Some r) = omega arith
 ports-le : (ports : List DeclaredPort) → length ports ≤ port_bits ports
 ports-le [] = omega arith
 ports-le (p ∷ ps) = omega (arith, wide p.range, ports-le ps, sum_by-cons (λ (q : DeclaredPort). width q.range) p ps)
-
-or_first : (a b : Bool) → (a || b) ≡ false → a ≡ false
-or_first true b h = h
-or_first false b h = refl
-
-or_second : (a b : Bool) → (a || b) ≡ false → b ≡ false
-or_second true b h = absurd (cc)
-or_second false b h = h
 
 not_found : {A B : Type 0} (g : A → B) (b : Bool) (x : A) (rest : Option A) → option_map g (cond b (Some x) rest) ≡ None → b ≡ false
 not_found g true x rest h = absurd (cc)

@@ -1,6 +1,7 @@
 -- What tables find, by the lists that they are made of.
 use Rattle.std.proofs.Common.{◌≡◌, ℕ, Bool, true, false, ◌==◌, nat_eq, List, map, position, Option, refl, ap, sym, ◌∙◌}
 use Rattle.std.specs.Map.{lookup}
+use Rattle.list_laws.proofs.Numbers.{eqb-sym}
 use Rattle.bsdl_lexicon.specs.Names.{is_same_name}
 use Rattle.bsdl_device.specs.declared.entries.PinEntry.{PinEntry}
 use Rattle.bsdl_device.specs.declared.entries.RowEntry.{RowEntry}
@@ -8,7 +9,6 @@ use Rattle.bsdl_device.specs.Checks.{is_numbered}
 use Rattle.bsdl_checks.specs.declared.name_key.NameKey.{NameKey}
 use Rattle.bsdl_checks.specs.NameTables.{names_in, under_name}
 use Rattle.bsdl_checks.proofs.Tables.{key_of, position-map, places_by_names, name-sym}
-use Rattle.bsdl_checks.proofs.Sets.{eqb-sym}
 use Rattle.bsdl_checks.specs.Tables.{FindsEntries, FindsRows}
 
 position_alike : {A : Type 0} (p q : A → Bool) → ((x : A) → p x ≡ q x) → (xs : List A) → position p xs ≡ position q xs

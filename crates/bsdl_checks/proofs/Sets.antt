@@ -3,17 +3,9 @@ use Rattle.std.proofs.Common.{◌≡◌, ℕ, Bool, true, false, List, [], ◌�
 use Rattle.std.specs.List.{list_any}
 use Rattle.std.proofs.lemmas.List.Folds.{list_any-append}
 use Rattle.indexmap.specs.IndexSet.{insert_key}
+use Rattle.list_laws.proofs.Numbers.{eqb-sym}
 use Rattle.bsdl_device.specs.declared.entries.RowEntry.{RowEntry}
 use Rattle.bsdl_device.specs.Checks.{any_pair, is_numbered}
-
-pub eqb-sym : (a b : ℕ) → (a == b) ≡ (b == a)
-eqb-sym a b = by (a == b) (b == a) refl refl
-  where
-    by : (s t : Bool) → (a == b) ≡ s → (b == a) ≡ t → s ≡ t
-    by true true e f = refl
-    by false false e f = refl
-    by true false e f = sym (eq-eqb b a (sym (eqb-true a b e))) ∙ f
-    by false true e f = sym e ∙ eq-eqb a b (sym (eqb-true b a f))
 
 absorbed : (a b : Bool) → (b ≡ true → a ≡ true) → a ≡ (a || (b || false))
 absorbed true b h = refl

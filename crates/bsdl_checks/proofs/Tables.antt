@@ -7,6 +7,7 @@ use Rattle.std.proofs.lemmas.List.Sums.{sum_by-cons}
 use Rattle.std.specs.Str.{bytes_eq}
 use Rattle.std.proofs.lemmas.Slice.Eq.{bytes_eq-Decides}
 use Rattle.std.specs.List.{list_any, position_or_len}
+use Rattle.list_laws.proofs.Bytes.{bytes_eq-sym}
 use Rattle.bsdl_lexicon.specs.Names.{lower, is_same_name}
 use Rattle.bsdl_device.specs.declared.written.DeclaredPort.{DeclaredPort}
 use Rattle.bsdl_device.specs.declared.entries.PinEntry.{PinEntry}
@@ -50,15 +51,6 @@ places_by_names keys names name h = sym (position-map (is_same_name name) (λ (k
 pub counts_by_names : (keys : List NameKey) (names : List (List ℕ)) (name : List ℕ) → names_in keys ≡ names
     → count_by (λ (k : NameKey). is_same_name name k.0.now) keys ≡ count_by (is_same_name name) names
 counts_by_names keys names name h = sym (count_by-map (is_same_name name) (λ (k : NameKey). k.0.now) keys) ∙ ap (count_by (is_same_name name)) h
-
-bytes_eq-sym : (a b : List ℕ) → bytes_eq a b ≡ bytes_eq b a
-bytes_eq-sym a b = by (bytes_eq a b) (bytes_eq b a) refl refl
-  where
-    by : (s t : Bool) → bytes_eq a b ≡ s → bytes_eq b a ≡ t → s ≡ t
-    by true true e f = refl
-    by false false e f = refl
-    by true false e f = sym ((bytes_eq-Decides b a).1 (sym ((bytes_eq-Decides a b).0 e))) ∙ f
-    by false true e f = sym e ∙ (bytes_eq-Decides a b).1 (sym ((bytes_eq-Decides b a).0 f))
 
 pub name-sym : (a b : List ℕ) → is_same_name a b ≡ is_same_name b a
 name-sym a b = bytes_eq-sym (map lower a) (map lower b)

@@ -53,7 +53,8 @@ fn entry_lacks_opcode(opcodes: &[OpcodeEntry], entry: &AccessEntry) -> bool
 }
 
 fn some_lacks_opcode(opcodes: &[OpcodeEntry], access: &[AccessEntry]) -> bool
-    ensures { result ≡ list_any (λ a. list_any (rule.is_without_opcode opcodes.now) a.instructions) access.now }
+    ensures { result ≡ list_any (λ a. list_any
+        (rule.is_without_opcode opcodes.now) a.instructions) access.now }
 {
     access
         .iter()
@@ -108,7 +109,8 @@ fn holds_other(entry: &AccessEntry) -> bool
 }
 
 fn some_holds_other(access: &[AccessEntry]) -> bool
-    ensures { result ≡ list_any (λ a. list_any (rule.selects_other a.register) a.instructions) access.now }
+    ensures { result ≡ list_any (λ a. list_any
+        (rule.selects_other a.register) a.instructions) access.now }
 {
     access.iter().any(|entry| holds_other(entry))
 }

@@ -60,7 +60,8 @@ fn bits_of_rows<'a>(alloc: Global, rows: &'a [RowEntry]) -> Result<Vec<BitKey<'a
 }
 
 fn push_bit<'a>(keys: &mut Vec<BitKey<'a>>, row: &'a RowEntry) -> Result<(), OutOfMemory>
-    ensures { OnOk result (bits_in keys.new.items ≡ bits_in keys.old.items ++ cons_option row.now.port []) }
+    ensures { OnOk result (bits_in keys.new.items ≡ bits_in keys.old.items
+        ++ cons_option row.now.port []) }
 {
     match &row.port {
         None => Ok(()),
@@ -83,7 +84,8 @@ impl<'a> BitRows<'a> {
 
     /// Whether a bit stands in one row.
     pub fn has_once(&self, name: &[u8], index: Option<u32>) -> bool
-        ensures { result ≡ (count_by (row_rule.is_row_of (declared.bit_of_port name.now index)) self.now == 1) }
+        ensures { result ≡ (count_by (row_rule.is_row_of
+            (declared.bit_of_port name.now index)) self.now == 1) }
     {
         let bit = BitKey {
             port: NameKey(name),

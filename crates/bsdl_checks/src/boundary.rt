@@ -45,14 +45,16 @@ fn lacks_number(count: u32, set: &IndexSet<u32>) -> bool
 }
 
 fn misses_number(alloc: Global, count: u32, numbers: &[u32]) -> Result<bool, OutOfMemory>
-    ensures { IfOk result (λ misses. misses ≡ list_any (λ n. not (list_any (nat_eq n) numbers.now)) (counted_from 0 count)) }
+    ensures { IfOk result (λ misses. misses ≡ list_any (λ n. not (list_any (nat_eq n) numbers.now))
+        (counted_from 0 count)) }
 {
     let set = number_set(alloc, numbers)?;
     Ok(lacks_number(count, &set))
 }
 
 fn some_number_missing(alloc: Global, count: u32, rows: &[RowEntry]) -> Result<bool, OutOfMemory>
-    ensures { IfOk result (λ misses. misses ≡ list_any (λ number. not (list_any (rule.is_numbered number) rows.now)) (counted_from 0 count)) }
+    ensures { IfOk result (λ misses. misses ≡ list_any
+        (λ number. not (list_any (rule.is_numbered number) rows.now)) (counted_from 0 count)) }
 {
     let numbers = row_numbers(alloc, rows)?;
     let misses = misses_number(alloc, count, &numbers)?;

@@ -56,7 +56,8 @@ fn push_cell(
     number: u32,
 ) -> Result<(), OutOfMemory>
     requires { length ports.now ≤ 4096 }
-    ensures { OnOk result (made.new ≡ made.old ++ map (denoted.cell_of ports.now) (cons_option (find (rule.is_numbered number) rows.now) [])) }
+    ensures { OnOk result (made.new ≡ made.old
+        ++ map (denoted.cell_of ports.now) (cons_option (find (rule.is_numbered number) rows.now) [])) }
 {
     match rows.find(number) {
         None => Ok(()),
@@ -72,7 +73,8 @@ fn ordered_cells(
     rows: &RowTable,
 ) -> Result<Row<CellRow>, OutOfMemory>
     requires { length ports.now ≤ 4096 }
-    ensures { IfOk result (λ made. made ≡ map (denoted.cell_of ports.now) (denoted.ordered_rows count rows.now)) }
+    ensures { IfOk result (λ made. made ≡ map (denoted.cell_of ports.now)
+        (denoted.ordered_rows count rows.now)) }
 {
     let mut made = Row::new(alloc);
     for number in 0..count {
@@ -89,7 +91,8 @@ pub fn cells_of(
     rows: &[RowEntry],
 ) -> Result<Row<CellRow>, OutOfMemory>
     requires { length ports.now ≤ 4096 }
-    ensures { IfOk result (λ made. made ≡ map (denoted.cell_of ports.now) (denoted.ordered_rows count rows.now)) }
+    ensures { IfOk result (λ made. made ≡ map (denoted.cell_of ports.now)
+        (denoted.ordered_rows count rows.now)) }
 {
     let table = RowTable::of(alloc, rows)?;
     ordered_cells(alloc, ports, count, &table)

@@ -91,7 +91,8 @@ pub fn controls_of<'a>(alloc: Global, rows: &'a [RowEntry]) -> Result<Controls<'
 
 /// Whether a row names this control cell.
 pub fn is_named(controls: &Controls, number: u32) -> bool
-    requires { known.KnowsControls controls.now.rows.now controls.now.named.keys controls.now.present.keys }
+    requires { known.KnowsControls controls.now.rows.now controls.now.named.keys
+        controls.now.present.keys }
     ensures { result ≡ list_any (row_rule.is_disabled_by number) controls.now.rows.now }
 {
     has_number(&controls.named, number)
@@ -99,8 +100,10 @@ pub fn is_named(controls: &Controls, number: u32) -> bool
 
 /// Whether there is a control cell of this number.
 pub fn is_present(controls: &Controls, number: u32) -> bool
-    requires { known.KnowsControls controls.now.rows.now controls.now.named.keys controls.now.present.keys }
-    ensures { result ≡ list_any (λ s. rule.is_numbered number s && row_rule.is_control s) controls.now.rows.now }
+    requires { known.KnowsControls controls.now.rows.now controls.now.named.keys
+        controls.now.present.keys }
+    ensures { result ≡ list_any (λ s. rule.is_numbered number s
+        && row_rule.is_control s) controls.now.rows.now }
 {
     has_number(&controls.present, number)
 }

@@ -125,7 +125,8 @@ pub fn first_fault(
     contents: &Contents,
 ) -> Result<Option<BrokenRule>, OutOfMemory>
     requires { length (shape.file_words file.now) < 2 ^ 64 }
-    ensures { IfOk result (λ found. option_map first.told found ≡ meaning.first_meaning_fault file.now contents.now) }
+    ensures { IfOk result (λ found. option_map first.told found
+        ≡ meaning.first_meaning_fault file.now contents.now) }
 {
     match first_kind(alloc, file, contents)? {
         None => Ok(None),

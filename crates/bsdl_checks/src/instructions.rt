@@ -1,5 +1,5 @@
 // Rules on the instruction register: its length, opcodes, the captured bits and the identification code.
-ghost use Rattle.std.specs.Prelude.{◌≡◌, ◌==◌, ◌-◌, ◌^◌, IfOk, map};
+ghost use Rattle.std.specs.Prelude.{◌≡◌, IfOk, map};
 ghost use Rattle.std.specs.List.{list_any};
 ghost use Rattle.bsdl_device.specs.Instructions as profile;
 ghost use Rattle.bsdl_device.specs.Checks as rule;
@@ -9,6 +9,7 @@ use crate::name_key::NameKey;
 use crate::names::is_repeated;
 use bsdl_device::{Contents, File, OpcodeEntry};
 use bsdl_lexicon::names::same_name;
+use bsdl_runs::numbers::is_ones;
 use cell_library::{Bits, Instr};
 use edge_io::OutOfMemory;
 use std::alloc::Global;
@@ -117,13 +118,6 @@ fn has_misfit(wanted: u32, opcodes: &[OpcodeEntry]) -> bool
     opcodes
         .iter()
         .any(|opcode| has_other_length(wanted, opcode.bits))
-}
-
-// Each bit is 1.
-fn is_ones(bits: Bits) -> bool
-    ensures { result ≡ (bits.value == 2 ^ bits.len - 1) }
-{
-    bits.len <= 32 && bits.value as u64 == (1u64 << bits.len) - 1
 }
 
 fn bypass_is_not_ones(opcodes: &[OpcodeEntry]) -> bool

@@ -8,7 +8,8 @@ use std::alloc::Global;
 
 /// The numbers of a list, as a set.
 pub fn number_set(alloc: Global, numbers: &[u32]) -> Result<IndexSet<u32>, OutOfMemory>
-    ensures { IfOk result (λ set. (n : ℕ) → list_any (nat_eq n) set.keys ≡ list_any (nat_eq n) numbers.now) }
+    ensures { IfOk result (λ set. (n : ℕ) → list_any (nat_eq n) set.keys
+        ≡ list_any (nat_eq n) numbers.now) }
 {
     let mut set = IndexSet::new(alloc);
     for number in numbers {

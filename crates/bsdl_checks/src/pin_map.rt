@@ -82,7 +82,8 @@ fn some_misfits(ports: &PortTable, entries: &[PinEntry]) -> bool
 
 // Adds the pins of an entry at the end.
 fn extend_pins<'a>(keys: &mut Vec<NameKey<'a>>, pins: &'a MappedPins) -> Result<(), OutOfMemory>
-    ensures { OnOk result (names_in keys.new.items ≡ names_in keys.old.items ++ rule.entry_pins pins.now) }
+    ensures { OnOk result (names_in keys.new.items ≡ names_in keys.old.items
+        ++ rule.entry_pins pins.now) }
 {
     match pins {
         MappedPins::One(pin) => {

@@ -32,7 +32,8 @@ fn push_declared(
     ports: &mut Vec<DeclaredPort>,
     declaration: &PortDeclaration,
 ) -> Result<(), OutOfMemory>
-    ensures { OnOk result (ports.new.items ≡ ports.old.items ++ map (declared.port_declared declaration.now) declaration.now.names) }
+    ensures { OnOk result (ports.new.items ≡ ports.old.items
+        ++ map (declared.port_declared declaration.now) declaration.now.names) }
 {
     for name in declaration.names.as_slice() {
         ports.push(DeclaredPort {
@@ -86,13 +87,15 @@ fn has_too_many_bits(ports: &[DeclaredPort]) -> bool
 }
 
 fn names_unit(file: &File, name: &[u8]) -> bool
-    ensures { result ≡ (is_same_name name.now file.now.entity || is_same_name name.now file.now.«package») }
+    ensures { result ≡ (is_same_name name.now file.now.entity
+        || is_same_name name.now file.now.«package») }
 {
     same_name(name, file.entity.as_bytes()) || same_name(name, file.package.as_bytes())
 }
 
 fn is_named_as_unit(file: &File, ports: &[DeclaredPort]) -> bool
-    ensures { result ≡ list_any (λ name. is_same_name name file.now.entity || is_same_name name file.now.«package») (declared.port_names ports.now) }
+    ensures { result ≡ list_any (λ name. is_same_name name file.now.entity
+        || is_same_name name file.now.«package») (declared.port_names ports.now) }
 {
     for port in ports {
         if names_unit(file, port.name.as_bytes()) {

@@ -19,7 +19,8 @@ use edge_io::OutOfMemory;
 use std::alloc::Global;
 
 fn control_fails(controls: &Controls, row: &RowEntry) -> bool
-    requires { known.KnowsControls controls.now.rows.now controls.now.named.keys controls.now.present.keys }
+    requires { known.KnowsControls controls.now.rows.now controls.now.named.keys
+        controls.now.present.keys }
     ensures { result ≡ row_rule.control_fails controls.now.rows.now row.now }
 {
     is_control(row)
@@ -101,7 +102,8 @@ fn disable_misfits(row: &RowEntry) -> bool
 }
 
 fn control_is_unknown(controls: &Controls, row: &RowEntry) -> bool
-    requires { known.KnowsControls controls.now.rows.now controls.now.named.keys controls.now.present.keys }
+    requires { known.KnowsControls controls.now.rows.now controls.now.named.keys
+        controls.now.present.keys }
     ensures { result ≡ row_rule.control_is_unknown controls.now.rows.now row.now }
 {
     match row.disable {
@@ -111,7 +113,8 @@ fn control_is_unknown(controls: &Controls, row: &RowEntry) -> bool
 }
 
 fn row_misfits(ports: &PortTable, tap: &TapNames, controls: &Controls, row: &RowEntry) -> bool
-    requires { known.KnowsControls controls.now.rows.now controls.now.named.keys controls.now.present.keys }
+    requires { known.KnowsControls controls.now.rows.now controls.now.named.keys
+        controls.now.present.keys }
     ensures { result ≡ row_rule.row_misfits ports.now tap.now controls.now.rows.now row.now }
 {
     control_fails(controls, row)
@@ -126,8 +129,10 @@ fn row_misfits(ports: &PortTable, tap: &TapNames, controls: &Controls, row: &Row
 }
 
 fn some_misfits(ports: &PortTable, tap: &TapNames, controls: &Controls) -> bool
-    requires { known.KnowsControls controls.now.rows.now controls.now.named.keys controls.now.present.keys }
-    ensures { result ≡ list_any (row_rule.row_misfits ports.now tap.now controls.now.rows.now) controls.now.rows.now }
+    requires { known.KnowsControls controls.now.rows.now controls.now.named.keys
+        controls.now.present.keys }
+    ensures { result ≡ list_any (row_rule.row_misfits ports.now tap.now controls.now.rows.now)
+        controls.now.rows.now }
 {
     for row in controls.rows {
         if row_misfits(ports, tap, controls, row) {

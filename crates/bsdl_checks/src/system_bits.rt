@@ -74,7 +74,9 @@ fn index_at(range: PortRange, place: u64) -> u32
 
 // A bit of a vector stands in no row or in two.
 fn some_of_vector(rows: &BitRows, name: &[u8], range: PortRange) -> bool
-    ensures { result ≡ list_any (λ place. row_rule.bit_not_in_one_row rows.now (declared.bit_of_port name.now (Some (declared.index_at range place)))) (declared.counted_from 0 (declared.width (Some range))) }
+    ensures { result ≡ list_any (λ place. row_rule.bit_not_in_one_row rows.now
+        (declared.bit_of_port name.now (Some (declared.index_at range place))))
+        (declared.counted_from 0 (declared.width (Some range))) }
 {
     let count = width(Some(range));
     for place in 0..count {
@@ -97,7 +99,8 @@ fn some_of_port(rows: &BitRows, port: &DeclaredPort) -> bool
 }
 
 fn some_of_ports(rows: &BitRows, ports: &[DeclaredPort], tap: &TapNames) -> bool
-    ensures { result ≡ list_any (λ p. row_rule.is_system_port tap.now p && some_bit (row_rule.bit_not_in_one_row rows.now) p) ports.now }
+    ensures { result ≡ list_any (λ p. row_rule.is_system_port tap.now p
+        && some_bit (row_rule.bit_not_in_one_row rows.now) p) ports.now }
 {
     ports.iter().any(|port| is_system_port(tap, port) && some_of_port(rows, port))
 }
@@ -105,7 +108,8 @@ fn some_of_ports(rows: &BitRows, ports: &[DeclaredPort], tap: &TapNames) -> bool
 /// Whether a bit of the device's own logic stands in no row or in two.
 #[tactic(auto, using(crate::proofs::Bits::along_bits))]
 pub fn some_bit_not_in_one_row(rows: &BitRows, ports: &PortTable, tap: &TapNames) -> bool
-    ensures { result ≡ list_any (row_rule.bit_not_in_one_row rows.now) (row_rule.system_bits ports.now tap.now) }
+    ensures { result ≡ list_any (row_rule.bit_not_in_one_row rows.now)
+        (row_rule.system_bits ports.now tap.now) }
 {
     some_of_ports(rows, ports.as_slice(), tap)
 }

@@ -8,12 +8,8 @@ use Rattle.bsdl_reading.specs.Readers.{take_at}
 use Rattle.bsdl_reading.specs.Files.{or_next}
 use Rattle.bsdl_reading.proofs.Exact.{Exact, Anything}
 use Rattle.bsdl_reading.proofs.Matched.{Spelled, spelled_take}
-use Rattle.bsdl_reading.proofs.Views.{Free}
+use Rattle.bsdl_reading.proofs.Views.{Free, seen}
 use Rattle.bsdl_contents.specs.Reading.{among}
-
--- something, where a test is passed
-abbrev pub seen : Bool → Option (Unit {0})
-seen b = cond b (Some tt) None
 
 -- one word is no other
 key_differs : (a b : List ℕ) → is_same_name a b ≡ false → (w : ContentWord) → key_in a w ≡ Some tt → key_in b w ≡ None

@@ -25,11 +25,11 @@ use Rattle.bsdl_reading.proofs.Exact.{Exact, Anything}
 use Rattle.bsdl_reading.proofs.Choices.{NotNext}
 use Rattle.bsdl_reading.proofs.Matched.{Spelled, spelled_take, spelled_marks, spelled_ended, spelled_pair, spelled_made}
 use Rattle.bsdl_reading.proofs.Listed.{AreSome, spelled_some}
-use Rattle.bsdl_reading.proofs.Views.{Free}
+use Rattle.bsdl_reading.proofs.Views.{Free, seen}
 use Rattle.bsdl_contents.specs.Reading as reading
 use Rattle.bsdl_contents.specs.Reading.{seen_as, views, list_at, several_at, pins_at, pin_entry_at, opcode_at, access_at, code_in, code_of}
 use Rattle.bsdl_contents.proofs.Chosen.{Ways, spelled_choice}
-use Rattle.bsdl_contents.proofs.Among.{Leads, seen, among_law}
+use Rattle.bsdl_contents.proofs.Among.{Leads, among_law}
 
 -- Marks.
 

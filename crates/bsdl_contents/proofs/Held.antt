@@ -3,6 +3,7 @@ use Rattle.std.proofs.Common.{◌≡◌, ℕ, Bool, true, false, List, [], ◌�
 use Rattle.std.specs.Prelude.{◌&&◌}
 use Rattle.std.specs.List.{list_all, AllByRecursion}
 use Rattle.std.specs.Option.{option_map}
+use Rattle.list_laws.proofs.Tests.{and_true, and_left, and_right}
 use Rattle.cell_library.specs.declared.codes.Bits.{Bits}
 use Rattle.bsdl_device.specs.declared.entries.MappedPins.{MappedPins}
 use Rattle.bsdl_device.specs.declared.entries.MappedPins.TheVariants as pins
@@ -23,7 +24,7 @@ use Rattle.bsdl_reading.specs.Readers.{Read}
 use Rattle.bsdl_reading.proofs.Exact.{Exact}
 use Rattle.bsdl_reading.proofs.Matched.{Spelled}
 use Rattle.bsdl_reading.proofs.Listed.{AreSome}
-use Rattle.bsdl_reading.proofs.Views.{Free}
+use Rattle.bsdl_reading.proofs.Views.{Free, all_free}
 use Rattle.bsdl_contents.specs.Laws.{HoldOneContents}
 use Rattle.bsdl_contents.specs.Reading as reading
 use Rattle.bsdl_contents.specs.Reading.{section_at, whole_at, contents_from, contents_at}
@@ -46,22 +47,6 @@ reads_section {X} {one} ok words holds strings l stop to from = record {
 
 -- Rules.
 
-all_free : {X : Type 0} (xs : List X) → AllByRecursion (λ (x : X). Free x) xs
-all_free [] = tt
-all_free (x ∷ xs) = (tt, all_free xs)
-
-both_hold : (a b : Bool) → a ≡ true → b ≡ true → (a && b) ≡ true
-both_hold true b h k = k
-both_hold false b h k = absurd (cc)
-
-first_holds : (a b : Bool) → (a && b) ≡ true → a ≡ true
-first_holds true b h = refl
-first_holds false b h = absurd (cc)
-
-second_holds : (a b : Bool) → (a && b) ≡ true → b ≡ true
-second_holds true b h = h
-second_holds false b h = absurd (cc)
-
 pins_to : (m : MappedPins) → ArePins m → has_pins m ≡ true
 pins_to (pins.One pin) h = refl
 pins_to (pins.Several list) h = h.0
@@ -72,23 +57,23 @@ pins_from (pins.Several list) h = (h, all_free list)
 
 entries_to : (es : List PinEntry) → AllByRecursion IsPinEntry es → list_all (λ (e : PinEntry). has_pins e.pins) es ≡ true
 entries_to [] h = refl
-entries_to (e ∷ es) h = both_hold (has_pins e.pins) (list_all (λ (e : PinEntry). has_pins e.pins) es) (pins_to e.pins h.0) (entries_to es h.1)
+entries_to (e ∷ es) h = and_true (has_pins e.pins) (list_all (λ (e : PinEntry). has_pins e.pins) es) (pins_to e.pins h.0) (entries_to es h.1)
 
 entries_from : (es : List PinEntry) → list_all (λ (e : PinEntry). has_pins e.pins) es ≡ true → AllByRecursion IsPinEntry es
 entries_from [] h = tt
 entries_from (e ∷ es) h =
     let tail : Bool = list_all (λ (e : PinEntry). has_pins e.pins) es in
-    (pins_from e.pins (first_holds (has_pins e.pins) tail h), entries_from es (second_holds (has_pins e.pins) tail h))
+    (pins_from e.pins (and_left (has_pins e.pins) tail h), entries_from es (and_right (has_pins e.pins) tail h))
 
 accesses_to : (list : List AccessEntry) → AllByRecursion IsAccessEntry list → list_all (λ (a : AccessEntry). is_filled a.instructions) list ≡ true
 accesses_to [] h = refl
-accesses_to (a ∷ list) h = both_hold (is_filled a.instructions) (list_all (λ (a : AccessEntry). is_filled a.instructions) list) h.0.0 (accesses_to list h.1)
+accesses_to (a ∷ list) h = and_true (is_filled a.instructions) (list_all (λ (a : AccessEntry). is_filled a.instructions) list) h.0.0 (accesses_to list h.1)
 
 accesses_from : (list : List AccessEntry) → list_all (λ (a : AccessEntry). is_filled a.instructions) list ≡ true → AllByRecursion IsAccessEntry list
 accesses_from [] h = tt
 accesses_from (a ∷ list) h =
     let tail : Bool = list_all (λ (a : AccessEntry). is_filled a.instructions) list in
-    ((first_holds (is_filled a.instructions) tail h, all_free a.instructions), accesses_from list (second_holds (is_filled a.instructions) tail h))
+    ((and_left (is_filled a.instructions) tail h, all_free a.instructions), accesses_from list (and_right (is_filled a.instructions) tail h))
 
 -- Sections.
 

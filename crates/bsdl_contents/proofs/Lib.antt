@@ -5,7 +5,5 @@ pub mod RowLaws
 pub mod Held
 pub mod RunLengths
 pub mod ListLoops
-pub mod Underscores
-pub mod DigitValues
 pub mod JoinedStrings
 pub mod Told

@@ -2,4 +2,3 @@ pub mod Cutting
 pub mod Reading
 pub mod Outcomes
 pub mod Laws
-pub mod Digits

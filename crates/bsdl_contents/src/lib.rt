@@ -7,12 +7,10 @@ mod cut;
 mod fault;
 mod laws;
 mod lists;
-mod numbers;
 mod parts;
 mod piece;
 mod read;
 mod reader;
-mod runs;
 mod sections;
 
 pub use fault::{ContentsFault, HeldSection};

@@ -5,8 +5,9 @@ ghost use Rattle.bsdl_device.specs.Grammar as words;
 ghost use Rattle.bsdl_device.specs.Canonical as text_of;
 
 use crate::head::port_name;
-use crate::numbers::{put_all, put_attribute, put_number};
+use crate::text::{put_all, put_attribute};
 use bsdl_device::{CellRow, DevBit, DevPort, Device, Disable, Safe};
+use bsdl_runs::written::put_number;
 use cell_library::{BoundaryKind, Function};
 use edge_io::{OutOfMemory, Text};
 
@@ -151,7 +152,8 @@ fn put_register(
     ports: &[DevPort],
     cells: &[CellRow],
 ) -> Result<(), OutOfMemory>
-    ensures { OnOk result (text.new ≡ text.old ++ text_of.boundary_rows_text entity.now ports.now cells.now) }
+    ensures { OnOk result (text.new ≡ text.old
+        ++ text_of.boundary_rows_text entity.now ports.now cells.now) }
 {
     put_attribute(text, b";\n", b"BOUNDARY_REGISTER", entity, b"\n    \"")?;
     put_rows(text, ports, cells)

@@ -3,8 +3,9 @@ ghost use Rattle.std.specs.Prelude.{◌≡◌, ◌++◌, OnOk, codes};
 ghost use Rattle.bsdl_device.specs.Shape as words;
 ghost use Rattle.bsdl_device.specs.Canonical as text_of;
 
-use crate::numbers::{put_all, put_number};
+use crate::text::put_all;
 use bsdl_device::{DevPort, Device, PortMode, PortRange, Stop};
+use bsdl_runs::written::put_number;
 use edge_io::{OutOfMemory, Text};
 
 fn mode_word(mode: PortMode) -> &'static [u8]
@@ -287,7 +288,8 @@ fn put_scan_clock(
     frequency: &[u8],
     stop: &[u8],
 ) -> Result<(), OutOfMemory>
-    ensures { OnOk result (text.new ≡ text.old ++ text_of.scan_clock_text name.now frequency.now stop.now) }
+    ensures { OnOk result (text.new ≡ text.old
+        ++ text_of.scan_clock_text name.now frequency.now stop.now) }
 {
     put_all(
         text,

@@ -3,8 +3,9 @@ ghost use Rattle.std.specs.Prelude.{◌≡◌, ◌++◌, filter, OnOk, codes};
 ghost use Rattle.bsdl_device.specs.Instructions as words;
 ghost use Rattle.bsdl_device.specs.Canonical as text_of;
 
-use crate::numbers::{put_all, put_attribute, put_bits, put_number, put_pattern};
+use crate::text::{put_all, put_attribute};
 use bsdl_device::Device;
+use bsdl_runs::written::{put_bits, put_number, put_pattern};
 use cell_library::{Instr, Opcode};
 use edge_io::{OutOfMemory, Text};
 

@@ -6,7 +6,7 @@
 mod boundary;
 mod head;
 mod instructions;
-mod numbers;
 mod print;
+mod text;
 
 pub use print::print_device;

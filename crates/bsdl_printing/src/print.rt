@@ -6,7 +6,7 @@ ghost use Rattle.bsdl_device.specs.Spelled.{SpellsText};
 use crate::boundary::put_boundary;
 use crate::head::{put_head, put_tap};
 use crate::instructions::put_registers;
-use crate::numbers::put_all;
+use crate::text::put_all;
 use bsdl_device::Device;
 use bsdl_round_trip::{canonical_texts_spell_their_devices, spelled_devices_keep_the_conditions};
 use edge_io::{OutOfMemory, Text};

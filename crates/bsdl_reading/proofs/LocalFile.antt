@@ -3,6 +3,7 @@ use Rattle.std.proofs.Common.{◌≡◌, ℕ, suc, ◌+◌, ◌-◌, ◌<◌, �
 use Rattle.std.specs.Prelude.{codes}
 use Rattle.std.proofs.lemmas.List.{append_cancel_right}
 use Rattle.std.proofs.Math.Seq.{take-append-add}
+use Rattle.list_laws.proofs.Options.{none_some}
 use Rattle.bsdl_lexicon.specs.declared.token.BsdlToken.{BsdlToken}
 use Rattle.bsdl_lexicon.specs.declared.symbol.BsdlSymbol.TheVariants.{LeftParenthesis, RightParenthesis, Colon, Semicolon, Comma, Ampersand}
 use Rattle.bsdl_lexicon.specs.Words.{name_in, key_in, integer_in, real_in, quoted_in, symbol_in}
@@ -18,7 +19,7 @@ use Rattle.bsdl_reading.specs.Readers.{Read, pair_at, skip_at, ended_at}
 use Rattle.bsdl_reading.specs.Files as files
 use Rattle.bsdl_reading.specs.Files.{views, key, mode_in, direction_in, stop_in, bound_in}
 use Rattle.bsdl_reading.specs.Laws.{file_at}
-use Rattle.bsdl_reading.proofs.Exact.{got, none_some}
+use Rattle.bsdl_reading.proofs.Exact.{got}
 use Rattle.bsdl_reading.proofs.Views.{name_law, string_law}
 use Rattle.bsdl_reading.proofs.Sections.{declaration_law}
 use Rattle.bsdl_reading.proofs.Proved.{reads_each_file}

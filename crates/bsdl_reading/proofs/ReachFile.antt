@@ -3,6 +3,7 @@ use Rattle.std.proofs.Common.{◌≡◌, ℕ, ◌-◌, ◌==◌, Bool, true, fal
 use Rattle.std.specs.Prelude.{codes, map}
 use Rattle.std.specs.List.{AllByRecursion}
 use Rattle.std.proofs.Math.Seq.{take-append_seam}
+use Rattle.list_laws.proofs.Options.{none_some}
 use Rattle.bsdl_lexicon.specs.declared.token.BsdlToken.{BsdlToken}
 use Rattle.bsdl_lexicon.specs.declared.token.BsdlToken.TheVariants as word
 use Rattle.bsdl_lexicon.specs.declared.symbol.BsdlSymbol.{BsdlSymbol}
@@ -31,7 +32,7 @@ use Rattle.bsdl_reading.specs.Files.{views, key, mark_in, mode_in, direction_in,
 use Rattle.bsdl_device.specs.Spelled.{SpellsFile}
 use Rattle.bsdl_device.specs.Matching.{separated_by}
 use Rattle.bsdl_reading.specs.Laws.{file_at, FaultsAtFaultWord}
-use Rattle.bsdl_reading.proofs.Exact.{Exact, Anything, exact_take, got, stays, reading, none_some}
+use Rattle.bsdl_reading.proofs.Exact.{Exact, Anything, exact_take, got, stays, reading}
 use Rattle.bsdl_reading.proofs.Choices.{NotNext}
 use Rattle.bsdl_reading.proofs.Matched.{Spelled, spelled_skip, spelled_ended}
 use Rattle.bsdl_reading.proofs.Listed.{AreSome}

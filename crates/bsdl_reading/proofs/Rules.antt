@@ -3,31 +3,16 @@ use Rattle.std.proofs.Common.{◌≡◌, Bool, true, false, List, [], ◌∷◌,
 use Rattle.std.specs.Prelude.{◌&&◌}
 use Rattle.std.specs.List.{list_all, AllByRecursion}
 use Rattle.std.specs.Option.{option_map_or}
+use Rattle.list_laws.proofs.Tests.{and_true, and_left, and_right}
+use Rattle.bsdl_reading.proofs.Views.{Free, all_free}
 use Rattle.bsdl_device.specs.declared.written.WrittenRange.{WrittenRange}
 use Rattle.bsdl_device.specs.declared.written.PortDeclaration.{PortDeclaration}
 use Rattle.bsdl_device.specs.declared.written.StringAttribute.{StringAttribute}
 use Rattle.bsdl_device.specs.declared.written.File.{File}
 use Rattle.bsdl_device.specs.Matching.{is_filled}
 use Rattle.bsdl_device.specs.Shape.{is_ordered, is_declaration, IsFile}
-use Rattle.bsdl_reading.proofs.Views.{Free}
 use Rattle.bsdl_reading.proofs.Sections.{IsType, IsDeclaration, HasCode}
 use Rattle.bsdl_reading.proofs.Whole.{KeptFile}
-
-all_free : {X : Type 0} (xs : List X) → AllByRecursion (λ (x : X). Free x) xs
-all_free [] = tt
-all_free (x ∷ xs) = (tt, all_free xs)
-
-both_hold : (a b : Bool) → a ≡ true → b ≡ true → (a && b) ≡ true
-both_hold true b h k = k
-both_hold false b h k = absurd (cc)
-
-first_holds : (a b : Bool) → (a && b) ≡ true → a ≡ true
-first_holds true b h = refl
-first_holds false b h = absurd (cc)
-
-second_holds : (a b : Bool) → (a && b) ≡ true → b ≡ true
-second_holds true b h = h
-second_holds false b h = absurd (cc)
 
 type_to : (o : Option WrittenRange) → IsType o → option_map_or is_ordered o true ≡ true
 type_to None h = refl
@@ -39,13 +24,13 @@ type_from (Some r) h = h
 
 declarations_to : (ds : List PortDeclaration) → AllByRecursion IsDeclaration ds → list_all is_declaration ds ≡ true
 declarations_to [] h = refl
-declarations_to (d ∷ ds) h = both_hold (is_declaration d) (list_all is_declaration ds) (both_hold (is_filled d.names) (option_map_or is_ordered d.range true) h.0.0.0 (type_to d.range h.0.1)) (declarations_to ds h.1)
+declarations_to (d ∷ ds) h = and_true (is_declaration d) (list_all is_declaration ds) (and_true (is_filled d.names) (option_map_or is_ordered d.range true) h.0.0.0 (type_to d.range h.0.1)) (declarations_to ds h.1)
 
 declarations_from : (ds : List PortDeclaration) → list_all is_declaration ds ≡ true → AllByRecursion IsDeclaration ds
 declarations_from [] h = tt
 declarations_from (d ∷ ds) h =
-    let here = first_holds (is_declaration d) (list_all is_declaration ds) h in
-    (((first_holds (is_filled d.names) (option_map_or is_ordered d.range true) here, all_free d.names), type_from d.range (second_holds (is_filled d.names) (option_map_or is_ordered d.range true) here)), declarations_from ds (second_holds (is_declaration d) (list_all is_declaration ds) h))
+    let here = and_left (is_declaration d) (list_all is_declaration ds) h in
+    (((and_left (is_filled d.names) (option_map_or is_ordered d.range true) here, all_free d.names), type_from d.range (and_right (is_filled d.names) (option_map_or is_ordered d.range true) here)), declarations_from ds (and_right (is_declaration d) (list_all is_declaration ds) h))
 
 code_to : (o : Option StringAttribute) → HasCode o → option_map_or (λ (a : StringAttribute). is_filled a.strings) o true ≡ true
 code_to None h = refl

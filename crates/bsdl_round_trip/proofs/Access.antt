@@ -3,6 +3,7 @@ use Rattle.std.proofs.Common.{◌≡◌, List, [], ◌∷◌, ◌++◌, Bool, tr
 use Rattle.std.specs.Prelude.{◌||◌, not, codes}
 use Rattle.std.specs.List.{list_any, list_all, filter}
 use Rattle.std.proofs.lemmas.List.Folds.{list_any-append}
+use Rattle.list_laws.proofs.Tests.{not_false, or_first, or_second, neither}
 use Rattle.cell_library.specs.declared.codes.Instr.{Instr}
 use Rattle.cell_library.specs.declared.codes.Instr.TheVariants as instr
 use Rattle.cell_library.specs.declared.codes.Opcode.{Opcode}
@@ -15,7 +16,7 @@ use Rattle.bsdl_device.specs.Grammar.{IsAccess}
 use Rattle.bsdl_device.specs.Instructions.{instruction_word, names_instruction}
 use Rattle.bsdl_device.specs.Checks.{is_repeated, has_instruction, lacks_instruction, instructions_of, is_without_opcode, selects_other}
 use Rattle.bsdl_device.specs.Canonical.{has_opcode}
-use Rattle.bsdl_round_trip.proofs.Pairs.{or_first, or_second, neither, any_same}
+use Rattle.bsdl_round_trip.proofs.Pairs.{any_same}
 use Rattle.bsdl_round_trip.proofs.Names.{same_turned}
 use Rattle.bsdl_round_trip.proofs.Rebuilt.{opcode_entry, present, device_id_entries, access_entries}
 use Rattle.bsdl_round_trip.proofs.Instructions.{has_by_opcode}
@@ -26,10 +27,6 @@ pub record HasAll (opcodes : List Opcode) : Type 0 where
   pub sample : has_opcode opcodes instr.Sample ≡ true
   pub preload : has_opcode opcodes instr.Preload ≡ true
   pub bypass : has_opcode opcodes instr.Bypass ≡ true
-
-not_false : (b : Bool) → not b ≡ false → b ≡ true
-not_false true h = refl
-not_false false h = absurd (cc)
 
 pub has_all : (opcodes : List Opcode) → lacks_instruction (map opcode_entry opcodes) ≡ false → HasAll opcodes
 has_all opcodes h =

@@ -4,6 +4,7 @@ use Rattle.std.proofs.lemmas.List.{length-map}
 use Rattle.std.specs.Prelude.{◌==◌, ◌||◌, ◌&&◌, not, nat_lt}
 use Rattle.std.specs.List.{list_any, filter_map}
 use Rattle.std.specs.Option.{option_map, option_map_or}
+use Rattle.list_laws.proofs.Tests.{or_first, or_second, neither}
 use Rattle.cell_library.specs.declared.codes.Instr.TheVariants as instr
 use Rattle.cell_library.specs.declared.codes.Function.TheVariants as function
 use Rattle.cell_library.specs.declared.codes.Opcode.{Opcode}
@@ -24,7 +25,6 @@ use Rattle.bsdl_device.specs.Checks.{any_pair, is_repeated, port_named_twice, po
 use Rattle.bsdl_device.specs.RowRules.{is_function, row_fails, row_misfits, bit_not_in_one_row, system_bits, rows_disagree, highz_fails}
 use Rattle.bsdl_device.specs.Denoted.{device_of, port_of, cell_of, place_of, ordered_rows, opcode_of}
 use Rattle.bsdl_round_trip.proofs.Totals.{Shuffled, any_shuffled}
-use Rattle.bsdl_round_trip.proofs.Pairs.{or_first, or_second, neither}
 use Rattle.bsdl_round_trip.proofs.Names.{same_self}
 use Rattle.bsdl_round_trip.proofs.Lookups.{place_of_same}
 use Rattle.bsdl_round_trip.proofs.Rebuilt.{code_strings, rebuilt_file, rebuilt_contents, as_declared, rebuilt_ports, entry_of, opcode_entry, tap_of}

@@ -7,6 +7,9 @@ use Rattle.std.proofs.lemmas.Fmt.{decimal_by_steps, length-decimal-le, decimal_n
 use Rattle.std.proofs.Math.Nat.{mul-le-mul_right, pow-succ', mul_assoc}
 use Rattle.std.proofs.lemmas.List.Folds.{list_all-append}
 use Rattle.std.proofs.Math.Bool.{and-false}
+use Rattle.list_laws.proofs.Tests.{not_true, and_left, and_right}
+use Rattle.list_laws.proofs.Lists.{all_append, push_all}
+use Rattle.list_laws.proofs.Digits.{push_value, value_below, decimal_digits}
 use Rattle.cell_library.specs.declared.codes.Bits.{Bits}
 use Rattle.bsdl_lexicon.specs.Bytes.{is_name_byte, is_digit, is_quotable}
 use Rattle.bsdl_device.specs.Matching.{each_after, separated_by}
@@ -85,18 +88,6 @@ patterns_of atoms = flat_map atom_patterns atoms
 
 -- Runs.
 
-and_left : (a b : Bool) → (a && b) ≡ true → a ≡ true
-and_left true b h = refl
-and_left false b h = h
-
-and_right : (a b : Bool) → (a && b) ≡ true → b ≡ true
-and_right true b h = h
-and_right false b h = absurd (cc)
-
-not_false : (b : Bool) → not b ≡ true → b ≡ false
-not_false true h = absurd (cc)
-not_false false h = refl
-
 run_words : (b : ℕ) (run rest : List ℕ) → is_name_byte b ≡ true → list_all is_name_byte run ≡ true → begins_run rest ≡ false → content_words (b ∷ (run ++ rest)) ≡ Run (b ∷ run) ∷ content_words rest
 run_words b [] rest here all apart =
     ap (λ (x : Bool). if x then (if begins_run rest then lengthened b (content_words rest) else Run (b ∷ []) ∷ content_words rest) else if b == 32 then content_words rest else Other b ∷ content_words rest) here
@@ -114,33 +105,6 @@ cut_run (b ∷ run) rest is apart =
     run_words b run rest (and_left (is_name_byte b) (list_all is_name_byte run) all) (and_right (is_name_byte b) (list_all is_name_byte run) all) apart
 
 -- Numbers.
-
-push_all : (test : ℕ → Bool) (ds : List ℕ) (d : ℕ) → list_all test ds ≡ true → test d ≡ true → list_all test (ds ++ d ∷ []) ≡ true
-push_all test [] d all last = ap (λ (x : Bool). x && true) last
-push_all test (e ∷ ds) d all last = ap (λ (x : Bool). x && list_all test (ds ++ d ∷ [])) (and_left (test e) (list_all test ds) all) ∙ push_all test ds d (and_right (test e) (list_all test ds) all) last
-
-push_value : (base n : ℕ) (ds : List ℕ) (d : ℕ) → value_after base n (ds ++ d ∷ []) ≡ base * value_after base n ds + (d - 48)
-push_value base n [] d = refl
-push_value base n (e ∷ ds) d = push_value base (base * n + (e - 48)) ds d
-
-pub record DigitsOf (n : ℕ) (ds : List ℕ) : Type 0 where
-  pub digits : list_all is_digit ds ≡ true
-  pub value : value_after 10 0 ds ≡ n
-
-digit_byte : (d : ℕ) → d < 10 → is_digit (48 + d) ≡ true
-digit_byte d low = grind arith
-
-one_digit : (n : ℕ) → n < 10 → DigitsOf n ((48 + n) ∷ [])
-one_digit n low = record { digits = ap (λ (x : Bool). x && true) (digit_byte n low); value = omega arith }
-
-more_digits : (n : ℕ) (ds : List ℕ) → 10 ≤ n → DigitsOf (n / 10) ds → DigitsOf n (ds ++ (48 + n % 10) ∷ [])
-more_digits n ds large before = record {
-  digits = push_all is_digit ds (48 + n % 10) before.digits (digit_byte (n % 10) (omega arith));
-  value = push_value 10 0 ds (48 + n % 10) ∙ (let e : value_after 10 0 ds ≡ n / 10 = before.value in omega arith);
-}
-
-pub decimal_digits : (n : ℕ) → n < 2 ^ 64 → DigitsOf n (decimal n)
-decimal_digits n low = decimal_by_steps DigitsOf one_digit more_digits n low
 
 digits_are_name_bytes : (ds : List ℕ) → list_all is_digit ds ≡ true → list_all is_name_byte ds ≡ true
 digits_are_name_bytes [] h = refl
@@ -169,19 +133,6 @@ fits_integer n low =
     ∙ ap (λ (v : ℕ). Some v) (decimal_digits n (omega arith)).value
 
 -- Bits.
-
--- a value of so many bits, behind a number that was read before
-value_below : (n : ℕ) (ds : List ℕ) → list_all (λ b. b == 48 || b == 49) ds ≡ true → value_after 2 n ds + 1 ≤ (n + 1) * 2 ^ length ds
-value_below n [] h = omega arith
-value_below n (d ∷ ds) h =
-    let bit : d - 48 ≤ 1 = digit d (and_left (d == 48 || d == 49) (list_all (λ b. b == 48 || b == 49) ds) h) in
-    let rest : value_after 2 (2 * n + (d - 48)) ds + 1 ≤ (2 * n + (d - 48) + 1) * 2 ^ length ds = value_below (2 * n + (d - 48)) ds (and_right (d == 48 || d == 49) (list_all (λ b. b == 48 || b == 49) ds) h) in
-    let more : (2 * n + (d - 48) + 1) * 2 ^ length ds ≤ ((n + 1) * 2) * 2 ^ length ds = mul-le-mul_right (2 ^ length ds) (omega arith) in
-    let power : (n + 1) * 2 ^ length (d ∷ ds) ≡ ((n + 1) * 2) * 2 ^ length ds = ap (λ (k : ℕ). (n + 1) * k) (pow-succ' 2 (length ds)) ∙ sym (mul_assoc (n + 1) 2 (2 ^ length ds)) in
-    omega arith
-  where
-    digit : (b : ℕ) → (b == 48 || b == 49) ≡ true → b - 48 ≤ 1
-    digit b k = grind arith
 
 pub record BitsOf (len n : ℕ) (ds : List ℕ) : Type 0 where
   pub many : length ds ≡ len
@@ -273,8 +224,8 @@ pin_fits pin h = ap (λ (x : Bool). if x then Some pin else None) h
 mark_words : (b : ℕ) (rest : List ℕ) → is_mark b ≡ true → content_words (b ∷ rest) ≡ Other b ∷ content_words rest
 mark_words b rest quotable =
     let h = and_right (is_quotable b) (not (is_name_byte b) && not (b == 32)) quotable in
-    ap (λ (x : Bool). if x then (if begins_run rest then lengthened b (content_words rest) else Run (b ∷ []) ∷ content_words rest) else if b == 32 then content_words rest else Other b ∷ content_words rest) (not_false (is_name_byte b) (and_left (not (is_name_byte b)) (not (b == 32)) h))
-    ∙ ap (λ (x : Bool). if x then content_words rest else Other b ∷ content_words rest) (not_false (b == 32) (and_right (not (is_name_byte b)) (not (b == 32)) h))
+    ap (λ (x : Bool). if x then (if begins_run rest then lengthened b (content_words rest) else Run (b ∷ []) ∷ content_words rest) else if b == 32 then content_words rest else Other b ∷ content_words rest) (not_true (is_name_byte b) (and_left (not (is_name_byte b)) (not (b == 32)) h))
+    ∙ ap (λ (x : Bool). if x then content_words rest else Other b ∷ content_words rest) (not_true (b == 32) (and_right (not (is_name_byte b)) (not (b == 32)) h))
 
 mark_fits : (b : ℕ) → Fits (MarkByte b) (Other b)
 mark_fits b = ap (λ (x : Bool). if x then Some tt else None) (eq-eqb b b refl)
@@ -283,7 +234,7 @@ mark_fits b = ap (λ (x : Bool). if x then Some tt else None) (eq-eqb b b refl)
 pub no_run : (atoms : List ContentAtom) → AllByRecursion IsAtom atoms → spaced true atoms ≡ true → begins_run (bytes_of atoms) ≡ false
 no_run [] all h = refl
 no_run (Space ∷ atoms) all h = refl
-no_run (Mark b ∷ atoms) all h = not_false (is_name_byte b) (and_left (not (is_name_byte b)) (not (b == 32)) (and_right (is_quotable b) (not (is_name_byte b) && not (b == 32)) all.0))
+no_run (Mark b ∷ atoms) all h = not_true (is_name_byte b) (and_left (not (is_name_byte b)) (not (b == 32)) (and_right (is_quotable b) (not (is_name_byte b) && not (b == 32)) all.0))
 no_run (Key word ∷ atoms) all h = absurd (cc)
 no_run (Identifier name ∷ atoms) all h = absurd (cc)
 no_run (Name name ∷ atoms) all h = absurd (cc)
@@ -341,10 +292,6 @@ bytes_of-append (a ∷ xs) ys = ap (λ (t : List ℕ). atom_bytes a ++ t) (bytes
 pub patterns_of-append : (xs ys : List ContentAtom) → patterns_of (xs ++ ys) ≡ patterns_of xs ++ patterns_of ys
 patterns_of-append [] ys = refl
 patterns_of-append (a ∷ xs) ys = ap (λ (t : List ContentPattern). atom_patterns a ++ t) (patterns_of-append xs ys) ∙ sym (append_assoc (atom_patterns a) (patterns_of xs) (patterns_of ys))
-
-pub all_append : {A : Type 0} (P : A → Type 0) (xs ys : List A) → AllByRecursion P xs → AllByRecursion P ys → AllByRecursion P (xs ++ ys)
-all_append P [] ys a b = b
-all_append P (x ∷ xs) ys a b = (a.0, all_append P xs ys a.1 b)
 
 -- whether the last of the atoms is a run
 abbrev pub last_long : Bool → List ContentAtom → Bool

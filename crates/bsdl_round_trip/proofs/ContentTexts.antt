@@ -5,6 +5,7 @@ use Rattle.std.specs.List.{AllByRecursion}
 use Rattle.std.specs.Option.{option_map, option_map_or}
 use Rattle.std.specs.Fmt.{decimal}
 use Rattle.std.proofs.Math.Bool.{and-false}
+use Rattle.list_laws.proofs.Lists.{all_append}
 use Rattle.cell_library.specs.declared.codes.BoundaryKind.{BoundaryKind}
 use Rattle.cell_library.specs.declared.codes.BoundaryKind.TheVariants as cell
 use Rattle.cell_library.specs.declared.codes.Function.{Function}
@@ -30,7 +31,7 @@ use Rattle.bsdl_device.specs.Instructions.{instruction_word}
 use Rattle.bsdl_device.specs.Grammar.{register_word, access_words, cell_word, function_word, safe_word, bit_word, pin_entry_words, opcode_words, row_words}
 use Rattle.bsdl_device.specs.Canonical.{pieces, each_after, separated_text, pattern_text, pin_list_text, pins_text, pin_entry_text, opcode_text, port_name, index_text, pin_text, disable_text, row_text}
 use Rattle.bsdl_round_trip.proofs.Good.{GoodBits, GoodPin, is_name}
-use Rattle.bsdl_round_trip.proofs.ContentAtoms.{ContentAtom, Space, Key, Name, Integer, Mark, IsAtom, is_run, is_mark, last_long, spaced-append, bytes_of, patterns_of, bytes_of-append, patterns_of-append, spaced, all_append, Entry, after_commas, between_commas, entries}
+use Rattle.bsdl_round_trip.proofs.ContentAtoms.{ContentAtom, Space, Key, Name, Integer, Mark, IsAtom, is_run, is_mark, last_long, spaced-append, bytes_of, patterns_of, bytes_of-append, patterns_of-append, spaced, Entry, after_commas, between_commas, entries}
 use Rattle.bsdl_round_trip.proofs.EntryAtoms.{index_atoms, port_atoms, disable_atoms, row_atoms, pin_atoms, pins_atoms, pin_entry_atoms, opcode_atoms, more_names, names_atoms, access_atoms}
 use Rattle.bsdl_round_trip.proofs.Rebuilt.{mapped, entry_of, opcode_entry, port_bit, row_entry}
 use Rattle.bsdl_round_trip.proofs.Pieces.{pieces_then}

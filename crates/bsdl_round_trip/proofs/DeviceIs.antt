@@ -3,6 +3,7 @@ use Rattle.std.proofs.Common.{◌≡◌, ℕ, zero, suc, ◌%◌, ◌<◌, ◌�
 use Rattle.std.specs.Prelude.{◌==◌, ◌||◌, not, nat_lt, is_some, count_by, sum_by, IfSome}
 use Rattle.std.specs.List.{list_any}
 use Rattle.std.specs.Option.{option_map_or}
+use Rattle.list_laws.proofs.Tests.{not_false, or_first, or_second}
 use Rattle.cell_library.specs.declared.codes.Instr.TheVariants as instr
 use Rattle.bsdl_lexicon.specs.Names.{is_same_name}
 use Rattle.bsdl_device.specs.declared.values.PortMode.TheVariants as mode
@@ -15,7 +16,7 @@ use Rattle.bsdl_device.specs.Checks.{any_pair, is_repeated, port_named_twice, po
 use Rattle.bsdl_device.specs.RowRules.{row_misfits, bit_not_in_one_row, system_bits, rows_disagree, highz_fails}
 use Rattle.bsdl_device.specs.Spelled.{SpellsText}
 use Rattle.bsdl_device.specs.IsDevice.{AreDevicePorts, names_of, IsDeviceTap, IsInstructionRegister, IsDeviceCode, own_bits, is_at, AreDeviceRows, IsDevice}
-use Rattle.bsdl_round_trip.proofs.Pairs.{or_first, or_second, any-map}
+use Rattle.bsdl_round_trip.proofs.Pairs.{any-map}
 use Rattle.bsdl_round_trip.proofs.Names.{all_to, none_all}
 use Rattle.bsdl_round_trip.proofs.Instructions.{has_by_opcode}
 use Rattle.bsdl_round_trip.proofs.Rebuilt.{as_declared, entry_of, opcode_entry, tap_of, row_entries, rebuilt_file, rebuilt_contents, rebuilt_ports}
@@ -26,10 +27,6 @@ use Rattle.bsdl_round_trip.proofs.Places.{AreNamed, scalar_at, tap_repeats_at}
 use Rattle.bsdl_round_trip.proofs.DeviceRows.{agree_rows, rows_from, not_once}
 use Rattle.bsdl_round_trip.proofs.DevicePorts.{name_is, bits_are, ports_named, widths_same, pins_same, entries_wide, ports_are}
 use Rattle.bsdl_round_trip.proofs.DeviceKept.{names_again, map_rules, row_rules, places_within, highz_same, bits_same}
-
-not_false : (b : Bool) → not b ≡ false → b ≡ true
-not_false true h = refl
-not_false false h = absurd (cc)
 
 -- Ports.
 

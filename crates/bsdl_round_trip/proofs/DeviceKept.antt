@@ -5,6 +5,7 @@ use Rattle.std.proofs.lemmas.Option.{slice_get_within}
 use Rattle.std.specs.Prelude.{◌==◌, ◌||◌, ◌&&◌, not, nat_lt, nat_le, is_some, is_none, slice_get, count_by, IfSome}
 use Rattle.std.specs.List.{list_any, enumerate_from, AllByRecursion}
 use Rattle.std.specs.Option.{option_map, option_map_or}
+use Rattle.list_laws.proofs.Tests.{and_right, not_false, neither}
 use Rattle.cell_library.specs.declared.codes.Function.TheVariants as function
 use Rattle.cell_library.specs.declared.codes.Instr.TheVariants as instr
 use Rattle.cell_library.specs.declared.codes.Opcode.{Opcode}
@@ -29,7 +30,7 @@ use Rattle.bsdl_device.specs.Denoted.{device_of, port_of, cell_of, place_of, ord
 use Rattle.bsdl_device.specs.Canonical.{port_name, has_opcode, canonical_device}
 use Rattle.bsdl_device.specs.Spelled.{SpellsText}
 use Rattle.bsdl_device.specs.IsDevice.{IsBits, IsDeviceRange, IsDevicePort, names_of, tap_places, is_scalar_at, IsDeviceTap, IsDeviceCode, is_control_at, is_disabled, IsDeviceRow, own_bits, is_at, IsDevice}
-use Rattle.bsdl_round_trip.proofs.Pairs.{neither, any-map}
+use Rattle.bsdl_round_trip.proofs.Pairs.{any-map}
 use Rattle.bsdl_round_trip.proofs.Names.{same_self, all_to, all_none}
 use Rattle.bsdl_round_trip.proofs.Identifiers.{name_test}
 use Rattle.bsdl_round_trip.proofs.Instructions.{named_again, has_by_opcode, opcodes_again}
@@ -44,14 +45,6 @@ use Rattle.bsdl_round_trip.proofs.ReadBack.{spells}
 use Rattle.bsdl_round_trip.proofs.Places.{AreNamed, place_at, scalar_at, scalar_within, tap_repeats_at}
 use Rattle.bsdl_round_trip.proofs.DeviceRows.{agree_rows, outputs_rows, PinThere, pin_there, rows_keep, not_once, bits_at, cells_at, rows_numbered, rows_many}
 use Rattle.bsdl_round_trip.proofs.DevicePorts.{name_good, bits_good, declared_good, ports_good, ports_named, names_same, widths_same, ports_filled, pins_same, mapped_once, entries_fit, own_ports_again, are_wide}
-
-not_false : (b : Bool) → not b ≡ false → b ≡ true
-not_false true h = refl
-not_false false h = absurd (cc)
-
-and_right : (a b : Bool) → (a && b) ≡ true → b ≡ true
-and_right true b h = h
-and_right false b h = absurd (cc)
 
 -- What the canonical file declares.
 

@@ -4,6 +4,7 @@ use Rattle.std.specs.Prelude.{◌==◌, ◌||◌, ◌&&◌, not, nat_le, count_b
 use Rattle.std.specs.List.{list_any, list_all, flat_map, AllByRecursion}
 use Rattle.std.specs.Option.{option_map, option_map_or}
 use Rattle.std.proofs.lemmas.List.Sums.{sum_by-cons}
+use Rattle.list_laws.proofs.Tests.{and_left, and_right, not_false, and_true, neither}
 use Rattle.cell_library.specs.declared.codes.Bits.{Bits}
 use Rattle.bsdl_lexicon.specs.Names.{is_same_name}
 use Rattle.bsdl_lexicon.specs.Pieces.{IsIdentifier}
@@ -21,7 +22,7 @@ use Rattle.bsdl_device.specs.Denoted.{port_of}
 use Rattle.bsdl_device.specs.Canonical.{bits_text}
 use Rattle.bsdl_device.specs.IsDevice.{IsDeviceName, IsBits, IsDeviceRange, IsDevicePin, IsDevicePort, AreDevicePorts, names_of}
 use Rattle.bsdl_round_trip.proofs.Totals.{weigh, tally, count_by-tally}
-use Rattle.bsdl_round_trip.proofs.Pairs.{neither, any-map}
+use Rattle.bsdl_round_trip.proofs.Pairs.{any-map}
 use Rattle.bsdl_round_trip.proofs.Names.{same_turned, at_most_one, found_each, found_some, find_same, all_to, all_none, none_all}
 use Rattle.bsdl_round_trip.proofs.Identifiers.{name_test}
 use Rattle.bsdl_round_trip.proofs.Rebuilt.{mapped, entry_of, as_declared}
@@ -31,22 +32,6 @@ use Rattle.bsdl_round_trip.proofs.ContentAtoms.{bits_digits, good_below}
 use Rattle.bsdl_round_trip.proofs.ContentTexts.{IsPort, HasOne}
 use Rattle.bsdl_round_trip.proofs.Held.{IsFileName, IsSmallRange, IsDeclared}
 use Rattle.bsdl_round_trip.proofs.Places.{AreNamed}
-
-and_left : (a b : Bool) → (a && b) ≡ true → a ≡ true
-and_left true b h = refl
-and_left false b h = h
-
-and_right : (a b : Bool) → (a && b) ≡ true → b ≡ true
-and_right true b h = h
-and_right false b h = absurd (cc)
-
-both : (a b : Bool) → a ≡ true → b ≡ true → (a && b) ≡ true
-both true b h k = k
-both false b h k = absurd (cc)
-
-not_false : (b : Bool) → not b ≡ false → b ≡ true
-not_false true h = refl
-not_false false h = absurd (cc)
 
 -- Names and bits.
 
@@ -63,7 +48,7 @@ bits_good bits is =
     record {
       run = text;
       is = ap (λ (n : ℕ). nat_le 1 n && nat_le n 32 && list_all (λ b. b == 48 || b == 49) text) of.many
-          ∙ both (nat_le 1 bits.len && nat_le bits.len 32) (list_all (λ b. b == 48 || b == 49) text) (both (nat_le 1 bits.len) (nat_le bits.len 32) (le-leb 1 bits.len is.some) (le-leb bits.len 32 is.few)) of.digits;
+          ∙ and_true (nat_le 1 bits.len && nat_le bits.len 32) (list_all (λ b. b == 48 || b == 49) text) (and_true (nat_le 1 bits.len) (nat_le bits.len 32) (le-leb 1 bits.len is.some) (le-leb bits.len 32 is.few)) of.digits;
       len = sym of.many;
       value = sym of.value;
     }
@@ -146,7 +131,7 @@ pins_own (Some r) pins each = refl
 
 pub ports_filled : (ports : List DevPort) → AreWide ports → list_all (λ (e : PinEntry). has_pins e.pins) (map entry_of ports) ≡ true
 ports_filled [] all = refl
-ports_filled (p ∷ ps) all = both (has_pins (mapped p.range p.pins)) (list_all (λ (e : PinEntry). has_pins e.pins) (map entry_of ps)) (pins_are_there p.range (mapped p.range p.pins) (pins_right p.range p.pins all.0)) (ports_filled ps all.1)
+ports_filled (p ∷ ps) all = and_true (has_pins (mapped p.range p.pins)) (list_all (λ (e : PinEntry). has_pins e.pins) (map entry_of ps)) (pins_are_there p.range (mapped p.range p.pins) (pins_right p.range p.pins all.0)) (ports_filled ps all.1)
 
 pub pins_same : (ports : List DevPort) → AreWide ports → all_pins (map entry_of ports) ≡ flat_map (λ (p : DevPort). p.pins) ports
 pins_same [] all = refl

@@ -5,6 +5,7 @@ use Rattle.std.specs.List.{list_any, flat_map, enumerate_from, AllByRecursion}
 use Rattle.std.specs.Option.{option_map, option_map_or}
 use Rattle.std.proofs.lemmas.List.Folds.{list_any-append}
 use Rattle.std.proofs.lemmas.Option.{slice_get_within}
+use Rattle.list_laws.proofs.Tests.{and_left, and_right, not_false, or_false, and_true, or_first, or_second, neither}
 use Rattle.cell_library.specs.declared.codes.BoundaryKind.{BoundaryKind}
 use Rattle.cell_library.specs.declared.codes.BoundaryKind.TheVariants as cell
 use Rattle.cell_library.specs.declared.codes.Function.{Function}
@@ -26,7 +27,7 @@ use Rattle.bsdl_device.specs.Denoted.{bit_of, cell_of}
 use Rattle.bsdl_device.specs.Canonical.{port_name}
 use Rattle.bsdl_device.specs.IsDevice.{is_tap_place, suits, wanted_mode, is_bit_of, stands_right, is_control_at, names_control, disable_right, is_used, IsDeviceRow, own_bits_at, is_at, rows_clash}
 use Rattle.bsdl_round_trip.proofs.Totals.{weigh, tally, count_by-tally}
-use Rattle.bsdl_round_trip.proofs.Pairs.{or_first, or_second, neither, any_same, any-map}
+use Rattle.bsdl_round_trip.proofs.Pairs.{any_same, any-map}
 use Rattle.bsdl_round_trip.proofs.Numbered.{differ_by_order, NumberedFrom}
 use Rattle.bsdl_round_trip.proofs.Rebuilt.{as_declared, tap_of, port_bit, row_entry, row_entries}
 use Rattle.bsdl_round_trip.proofs.Places.{AreNamed, same_at, named_at, place_at, tap_at}
@@ -68,10 +69,6 @@ no_row ports n first (c ∷ cs) low =
         by : (x : Bool) → (a == b) ≡ x → (a == b) ≡ false
         by true is = let same : a ≡ b = eqb-true a b is in absurd (omega arith)
         by false is = is
-
-or_false : (b : Bool) → (b || false) ≡ b
-or_false true = refl
-or_false false = refl
 
 control_rows : (ports : List DevPort) (n first k : ℕ) (cells : List CellRow) → n ≡ first + k → list_any (λ (s : RowEntry). is_numbered n s && is_control s) (row_entries ports first cells) ≡ is_control_at cells k
 control_rows ports n first k [] is = refl
@@ -125,22 +122,6 @@ misfits_same d named n c = by c.pin
     by None = refl
     by (Some b) = ap not (own_at d named b)
 
-and_left : (a b : Bool) → (a && b) ≡ true → a ≡ true
-and_left true b h = refl
-and_left false b h = h
-
-and_right : (a b : Bool) → (a && b) ≡ true → b ≡ true
-and_right true b h = h
-and_right false b h = absurd (cc)
-
-both : (a b : Bool) → a ≡ true → b ≡ true → (a && b) ≡ true
-both true b h k = k
-both false b h k = absurd (cc)
-
-not_false : (b : Bool) → not b ≡ false → b ≡ true
-not_false true h = refl
-not_false false h = absurd (cc)
-
 same_mode : (a b : PortMode) → is_mode a b ≡ true → a ≡ b
 same_mode mode.Input mode.Input h = refl
 same_mode mode.Input mode.Output h = absurd (cc)
@@ -169,7 +150,7 @@ bit_of_from d wanted b own has = by (slice_get d.ports b.port) own has
     by (Some p) h k =
         let bit = has_bit p.range b.index in
         let free = not (is_tap_place d b.port) in
-        both (bit && free) (is_mode wanted p.mode) (both bit free (and_left bit (free && not (is_mode mode.Linkage p.mode)) h) (and_left free (not (is_mode mode.Linkage p.mode)) (and_right bit (free && not (is_mode mode.Linkage p.mode)) h))) k
+        and_true (bit && free) (is_mode wanted p.mode) (and_true bit free (and_left bit (free && not (is_mode mode.Linkage p.mode)) h) (and_left free (not (is_mode mode.Linkage p.mode)) (and_right bit (free && not (is_mode mode.Linkage p.mode)) h))) k
 
 -- what a bit of a port of a mode is
 pub record OwnBit (d : Device) (wanted : PortMode) (b : DevBit) : Type 0 where
@@ -195,7 +176,7 @@ own_bit d wanted b apart h = by (slice_get d.ports b.port) refl h
           there = is;
           bit = and_left bit free two;
           own = ap (λ (o : Option DevPort). option_map_or (λ (q : DevPort). has_bit q.range b.index && (not (is_tap_place d b.port) && not (is_mode mode.Linkage q.mode))) o false) is
-              ∙ both bit (free && not (is_mode mode.Linkage p.mode)) (and_left bit free two) (both free (not (is_mode mode.Linkage p.mode)) (and_right bit free two) other);
+              ∙ and_true bit (free && not (is_mode mode.Linkage p.mode)) (and_left bit free two) (and_true free (not (is_mode mode.Linkage p.mode)) (and_right bit free two) other);
           mode = ap (λ (o : Option DevPort). option_map_or (λ (q : DevPort). is_mode wanted q.mode) o false) is ∙ right;
         }
 
@@ -359,23 +340,23 @@ row_keeps d n c is = by c.function c.cell c.pin c.disable is.cell is.pin is.disa
     by function.Input k pin disable suit stands off used =
         let p = pin_kept d mode.Input pin refl stands in
         let e = free_kept d disable off in
-        nine_none _ _ _ _ _ _ _ _ _ refl p.some p.own (ap not (both (is_cell cell.Bc1 k || is_cell cell.Bc4 k) (option_map_or (has_mode d mode.Input) pin false) suit p.mode)) refl refl refl e.0 e.1
+        nine_none _ _ _ _ _ _ _ _ _ refl p.some p.own (ap not (and_true (is_cell cell.Bc1 k || is_cell cell.Bc4 k) (option_map_or (has_mode d mode.Input) pin false) suit p.mode)) refl refl refl e.0 e.1
     by function.Clock k pin disable suit stands off used =
         let p = pin_kept d mode.Input pin refl stands in
         let e = free_kept d disable off in
-        nine_none _ _ _ _ _ _ _ _ _ refl p.some p.own refl (ap not (both (is_cell cell.Bc4 k) (option_map_or (has_mode d mode.Input) pin false) suit p.mode)) refl refl e.0 e.1
+        nine_none _ _ _ _ _ _ _ _ _ refl p.some p.own refl (ap not (and_true (is_cell cell.Bc4 k) (option_map_or (has_mode d mode.Input) pin false) suit p.mode)) refl refl e.0 e.1
     by function.Output2 k pin disable suit stands off used =
         let p = pin_kept d mode.Output pin refl stands in
         let e = free_kept d disable off in
-        nine_none _ _ _ _ _ _ _ _ _ refl p.some p.own refl refl (ap not (both (is_cell cell.Bc1 k || is_cell cell.Bc2 k) (option_map_or (has_mode d mode.Output) pin false) suit p.mode)) refl e.0 e.1
+        nine_none _ _ _ _ _ _ _ _ _ refl p.some p.own refl refl (ap not (and_true (is_cell cell.Bc1 k || is_cell cell.Bc2 k) (option_map_or (has_mode d mode.Output) pin false) suit p.mode)) refl e.0 e.1
     by function.Output3 k pin disable suit stands off used =
         let p = pin_kept d mode.Output pin refl stands in
         let e = held_kept d disable off in
-        nine_none _ _ _ _ _ _ _ _ _ refl p.some p.own refl refl (ap not (both (is_cell cell.Bc1 k || is_cell cell.Bc2 k) (option_map_or (has_mode d mode.Output) pin false) suit p.mode)) refl e.0 e.1
+        nine_none _ _ _ _ _ _ _ _ _ refl p.some p.own refl refl (ap not (and_true (is_cell cell.Bc1 k || is_cell cell.Bc2 k) (option_map_or (has_mode d mode.Output) pin false) suit p.mode)) refl e.0 e.1
     by function.Bidir k pin disable suit stands off used =
         let p = pin_kept d mode.Inout pin refl stands in
         let e = held_kept d disable off in
-        nine_none _ _ _ _ _ _ _ _ _ refl p.some p.own refl refl refl (ap not (both (is_cell cell.Bc7 k) (option_map_or (has_mode d mode.Inout) pin false) suit p.mode)) e.0 e.1
+        nine_none _ _ _ _ _ _ _ _ _ refl p.some p.own refl refl refl (ap not (and_true (is_cell cell.Bc7 k) (option_map_or (has_mode d mode.Inout) pin false) suit p.mode)) e.0 e.1
     by function.Control k pin disable suit stands off used =
         let p = no_pin d pin stands in
         let e = free_kept d disable off in

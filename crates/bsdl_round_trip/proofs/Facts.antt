@@ -3,6 +3,7 @@ use Rattle.std.proofs.Common.{◌≡◌, ℕ, ◌^◌, ◌<◌, List, [], ◌∷
 use Rattle.std.specs.Prelude.{◌&&◌}
 use Rattle.std.specs.List.{list_all, flat_map, filter_map, cons_option, AllByRecursion}
 use Rattle.std.specs.Option.{option_map, option_map_or}
+use Rattle.list_laws.proofs.Lists.{all_append, all_front}
 use Rattle.cell_library.specs.declared.codes.Instr.{Instr}
 use Rattle.cell_library.specs.declared.codes.Opcode.{Opcode}
 use Rattle.bsdl_lexicon.specs.declared.token.BsdlSpanned.{BsdlSpanned}
@@ -32,8 +33,7 @@ use Rattle.bsdl_device.specs.Ports.{declared_ports, port_declared, range_of}
 use Rattle.bsdl_device.specs.Checks.{entry_pins}
 use Rattle.bsdl_device.specs.Denoted.{opcode_of}
 use Rattle.bsdl_device.specs.Spelled.{HasContents, HoldIdcode}
-use Rattle.bsdl_round_trip.proofs.Good.{GoodToken, GoodPattern, GoodContent, GoodBits, GoodPin, good_tokens, good_words, all_contents, all_front, all_behind, all_separated}
-use Rattle.bsdl_round_trip.proofs.ContentAtoms.{all_append}
+use Rattle.bsdl_round_trip.proofs.Good.{GoodToken, GoodPattern, GoodContent, GoodBits, GoodPin, good_tokens, good_words, all_contents, all_behind, all_separated}
 use Rattle.bsdl_round_trip.proofs.Names.{all_to}
 use Rattle.bsdl_round_trip.proofs.Held.{IsFileName, IsSmallRange, IsCode}
 

@@ -4,6 +4,8 @@ use Rattle.std.specs.Prelude.{◌==◌, ◌&&◌, not, IsTrue, if◌then◌else�
 use Rattle.std.specs.List.{list_all, flat_map, AllByRecursion}
 use Rattle.std.specs.Fmt.{decimal}
 use Rattle.std.proofs.lemmas.Fmt.{length-decimal-le, decimal_nonempty}
+use Rattle.list_laws.proofs.Tests.{and_left, and_right}
+use Rattle.list_laws.proofs.Digits.{decimal_digits}
 use Rattle.bsdl_lexicon.specs.declared.token.BsdlToken.TheVariants as word
 use Rattle.bsdl_lexicon.specs.declared.symbol.BsdlSymbol.{BsdlSymbol}
 use Rattle.bsdl_lexicon.specs.declared.symbol.BsdlSymbol.TheVariants.{LeftParenthesis, RightParenthesis, Colon, Semicolon, Comma, Ampersand, Dot}
@@ -16,7 +18,6 @@ use Rattle.bsdl_device.specs.Shape.{Pattern, KeyWord, NameOf, IntegerOf, RealOf,
 use Rattle.bsdl_device.specs.Runs.{is_identifier, value_after}
 use Rattle.bsdl_round_trip.proofs.Names.{same_self}
 use Rattle.bsdl_round_trip.proofs.Identifiers.{identifier_from}
-use Rattle.bsdl_round_trip.proofs.ContentAtoms.{decimal_digits}
 
 pub data FileAtom : Type 0 where
   Blank : ℕ → FileAtom
@@ -174,14 +175,6 @@ Follows BehindColon rest = NotFirst (λ c. c == 61) rest
 not_true : (x : Bool) → not x ≡ true → x ≡ false
 not_true true h = absurd (cc)
 not_true false h = refl
-
-and_left : (a b : Bool) → (a && b) ≡ true → a ≡ true
-and_left true b h = refl
-and_left false b h = h
-
-and_right : (a b : Bool) → (a && b) ≡ true → b ≡ true
-and_right true b h = h
-and_right false b h = absurd (cc)
 
 blank_follows : (e : Ending) (b : ℕ) (rest : List ℕ) → is_space b ≡ true → Follows e (b ∷ rest)
 blank_follows Free b rest h = tt

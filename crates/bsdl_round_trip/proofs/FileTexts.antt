@@ -2,6 +2,8 @@
 use Rattle.std.proofs.Common.{◌≡◌, ℕ, ◌^◌, ◌<◌, List, [], ◌∷◌, ◌++◌, Bool, true, false, Option, Some, None, map, length, refl, sym, ap, ◌∙◌, append-nil}
 use Rattle.std.specs.Prelude.{◌&&◌, codes}
 use Rattle.std.specs.List.{list_all, AllByRecursion}
+use Rattle.list_laws.proofs.Tests.{and_left, and_right}
+use Rattle.list_laws.proofs.Lists.{all_append}
 use Rattle.bsdl_lexicon.specs.declared.symbol.BsdlSymbol.TheVariants.{LeftParenthesis, RightParenthesis, Colon, Semicolon, Comma, Ampersand, Dot}
 use Rattle.bsdl_lexicon.specs.Bytes.{is_quotable}
 use Rattle.bsdl_device.specs.declared.values.PortMode.{PortMode}
@@ -15,7 +17,6 @@ use Rattle.bsdl_device.specs.declared.written.Direction.{Direction}
 use Rattle.bsdl_device.specs.declared.written.Direction.TheVariants as direction
 use Rattle.bsdl_device.specs.Shape.{mode_word, direction_word, stop_word, joined}
 use Rattle.bsdl_round_trip.proofs.FileAtoms.{FileAtom, Blank, Key, Name, Integer, Real, String, Symbol, Becomes, IsFileAtom, is_space, Ending, Free, ending, goes, is_free, fitting}
-use Rattle.bsdl_round_trip.proofs.ContentAtoms.{all_append}
 use Rattle.bsdl_round_trip.proofs.ContentAtoms.{Name as ContentName, atoms_quotable}
 use Rattle.bsdl_round_trip.proofs.EntryAtoms.{pin_entry_atoms, opcode_atoms, access_atoms, row_atoms}
 use Rattle.bsdl_round_trip.proofs.Identifiers.{name_test}
@@ -137,14 +138,6 @@ pub record Section (atoms : List FileAtom) : Type 0 where
   pub all : AllByRecursion IsFileAtom atoms
   pub fits : fitting Free atoms ≡ true
   pub ends : last_ending Free atoms ≡ Free
-
-and_left : (a b : Bool) → (a && b) ≡ true → a ≡ true
-and_left true b h = refl
-and_left false b h = h
-
-and_right : (a b : Bool) → (a && b) ≡ true → b ≡ true
-and_right true b h = h
-and_right false b h = absurd (cc)
 
 fitting-append : (e : Ending) (xs ys : List FileAtom) → fitting e xs ≡ true → fitting (last_ending e xs) ys ≡ true → fitting e (xs ++ ys) ≡ true
 fitting-append e [] ys a b = b

@@ -2,6 +2,8 @@
 use Rattle.std.proofs.Common.{◌≡◌, ℕ, ◌+◌, ◌-◌, ◌*◌, ◌^◌, ◌<◌, ◌≤◌, List, [], ◌∷◌, ◌++◌, Bool, true, false, Option, Some, None, length, refl, sym, ap, subst, ◌∙◌, arith, leb-true}
 use Rattle.std.specs.Prelude.{◌==◌, ◌&&◌, not, nat_le, IsTrue, if◌then◌else◌}
 use Rattle.std.specs.List.{list_all, AllByRecursion}
+use Rattle.list_laws.proofs.Tests.{and_left, and_right}
+use Rattle.list_laws.proofs.Lists.{all_front}
 use Rattle.cell_library.specs.declared.codes.Bits.{Bits}
 use Rattle.bsdl_lexicon.specs.declared.token.BsdlToken.{BsdlToken}
 use Rattle.bsdl_lexicon.specs.declared.token.BsdlToken.TheVariants as word
@@ -43,14 +45,6 @@ value_most n m (d ∷ ds) le all = value_most (10 * n + (d - 48)) (10 * m + 9) d
 
 integer_small : (digits : List ℕ) → IsInteger digits → value_from 0 digits < 10 ^ 9
 integer_small digits is = let below : most 0 digits < 10 ^ 9 = few_digits digits is.1 in let value : value_from 0 digits ≤ most 0 digits = value_most 0 0 digits (omega arith) is.0.1 in omega arith
-
-and_left : (a b : Bool) → (a && b) ≡ true → a ≡ true
-and_left true b h = refl
-and_left false b h = h
-
-and_right : (a b : Bool) → (a && b) ≡ true → b ≡ true
-and_right true b h = h
-and_right false b h = absurd (cc)
 
 value_after_most : (n m : ℕ) (ds : List ℕ) → n ≤ m → list_all is_digit ds ≡ true → value_after 10 n ds ≤ most m ds
 value_after_most n m [] le all = le
@@ -210,10 +204,6 @@ pub all_contents : (ps : List runs.ContentPattern) (ws : List ContentWord) → r
 all_contents [] ws m all = tt
 all_contents (p ∷ ps) [] m all = absurd m
 all_contents (p ∷ ps) (w ∷ ws) m all = (content_good p w all.0 m.0, all_contents ps ws m.1 all.1)
-
-pub all_front : {A : Type 0} (P : A → Type 0) (xs ys : List A) → AllByRecursion P (xs ++ ys) → AllByRecursion P xs
-all_front P [] ys all = tt
-all_front P (x ∷ xs) ys all = (all.0, all_front P xs ys all.1)
 
 pub all_behind : {A : Type 0} (P : A → Type 0) (xs ys : List A) → AllByRecursion P (xs ++ ys) → AllByRecursion P ys
 all_behind P [] ys all = all

@@ -2,23 +2,12 @@
 use Rattle.std.proofs.Common.{◌≡◌, ℕ, ◌<◌, ◌≤◌, List, [], ◌∷◌, Bool, true, false, length, refl, ap, arith, leb-true, le-leb}
 use Rattle.std.specs.Prelude.{◌==◌, ◌||◌, ◌&&◌, not, nat_le, IsTrue}
 use Rattle.std.specs.List.{list_all, AllByRecursion}
+use Rattle.list_laws.proofs.Tests.{and_left, and_right, and_true}
 use Rattle.bsdl_lexicon.specs.Bytes.{is_letter, is_name_byte, is_letter_or_digit}
 use Rattle.bsdl_lexicon.specs.Reserved.{is_reserved}
 use Rattle.bsdl_lexicon.specs.Pieces.{IsIdentifier, HasSingleUnderscores}
 use Rattle.bsdl_device.specs.Runs.{is_identifier, has_single_underscores}
 use Rattle.bsdl_round_trip.proofs.Good.{is_name}
-
-and_left : (a b : Bool) → (a && b) ≡ true → a ≡ true
-and_left true b h = refl
-and_left false b h = h
-
-and_right : (a b : Bool) → (a && b) ≡ true → b ≡ true
-and_right true b h = h
-and_right false b h = absurd (cc)
-
-both : (a b : Bool) → a ≡ true → b ≡ true → (a && b) ≡ true
-both true b h k = k
-both false b h k = absurd (cc)
 
 letter_is_name : (b : ℕ) → is_letter b ≡ true → is_name_byte b ≡ true
 letter_is_name b h = grind arith
@@ -38,7 +27,7 @@ name_byte_is_other b h k = by (is_letter_or_digit b) (b == 95) h k
 
 all_bytes : (bytes : List ℕ) → AllByRecursion (λ c. IsTrue (is_name_byte c)) bytes → list_all is_name_byte bytes ≡ true
 all_bytes [] all = refl
-all_bytes (b ∷ bytes) all = both (is_name_byte b) (list_all is_name_byte bytes) all.0 (all_bytes bytes all.1)
+all_bytes (b ∷ bytes) all = and_true (is_name_byte b) (list_all is_name_byte bytes) all.0 (all_bytes bytes all.1)
 
 each_byte : (bytes : List ℕ) → list_all is_name_byte bytes ≡ true → AllByRecursion (λ c. IsTrue (is_name_byte c)) bytes
 each_byte [] h = tt
@@ -50,7 +39,7 @@ single_test b [] h = by (b == 95) h.0
     by : (x : Bool) → (IsTrue x → ⊥) → not x ≡ true
     by true k = absurd (k refl)
     by false k = refl
-single_test b (c ∷ bytes) h = both (not (b == 95 && c == 95)) (has_single_underscores (c ∷ bytes)) (by (b == 95) h.0) (single_test c bytes h.1)
+single_test b (c ∷ bytes) h = and_true (not (b == 95 && c == 95)) (has_single_underscores (c ∷ bytes)) (by (b == 95) h.0) (single_test c bytes h.1)
   where
     by : (x : Bool) → (IsTrue x → IsTrue (is_letter_or_digit c)) → not (x && c == 95) ≡ true
     by true k = ap not (other_is_no_underscore c (k refl))
@@ -79,9 +68,9 @@ pub identifier_test : (name : List ℕ) → IsIdentifier name → is_identifier 
 identifier_test [] is = absurd is
 identifier_test (b ∷ bytes) is =
     let short : length bytes < 255 = is.3 in
-    both (is_letter b && list_all is_name_byte (b ∷ bytes) && has_single_underscores (b ∷ bytes)) (nat_le (length (b ∷ bytes)) 255)
-    (both (is_letter b && list_all is_name_byte (b ∷ bytes)) (has_single_underscores (b ∷ bytes))
-    (both (is_letter b) (list_all is_name_byte (b ∷ bytes)) is.0 (both (is_name_byte b) (list_all is_name_byte bytes) (letter_is_name b is.0) (all_bytes bytes is.1)))
+    and_true (is_letter b && list_all is_name_byte (b ∷ bytes) && has_single_underscores (b ∷ bytes)) (nat_le (length (b ∷ bytes)) 255)
+    (and_true (is_letter b && list_all is_name_byte (b ∷ bytes)) (has_single_underscores (b ∷ bytes))
+    (and_true (is_letter b) (list_all is_name_byte (b ∷ bytes)) is.0 (and_true (is_name_byte b) (list_all is_name_byte bytes) (letter_is_name b is.0) (all_bytes bytes is.1)))
     (single_test b bytes (λ under. (let no_under = letter_is_no_underscore b is.0 in absurd (cc)), is.2)))
     (le-leb (length (b ∷ bytes)) 255 (omega arith))
 
@@ -95,4 +84,4 @@ identifier_from (b ∷ bytes) h =
     (and_left (is_letter b) (list_all is_name_byte (b ∷ bytes)) two, each_byte bytes all, (single_each b bytes all (and_right (is_letter b && list_all is_name_byte (b ∷ bytes)) (has_single_underscores (b ∷ bytes)) three)).1, omega arith)
 
 pub name_test : (name : List ℕ) → IsIdentifier name × (is_reserved name ≡ false) → is_name name ≡ true
-name_test name h = both (is_identifier name) (not (is_reserved name)) (identifier_test name h.0) (ap not h.1)
+name_test name h = and_true (is_identifier name) (not (is_reserved name)) (identifier_test name h.0) (ap not h.1)

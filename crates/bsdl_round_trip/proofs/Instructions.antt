@@ -3,6 +3,7 @@ use Rattle.std.proofs.Common.{◌≡◌, ℕ, List, [], ◌∷◌, Bool, false, 
 use Rattle.std.specs.Prelude.{◌||◌, ◌&&◌, ◌==◌, ◌-◌, ◌^◌, not, is_none}
 use Rattle.std.specs.List.{list_any, filter_map, cons_option}
 use Rattle.std.specs.Option.{option_map}
+use Rattle.list_laws.proofs.Tests.{or_first, or_second}
 use Rattle.cell_library.specs.declared.codes.Instr.{Instr}
 use Rattle.cell_library.specs.declared.codes.Instr.TheVariants as instr
 use Rattle.cell_library.specs.declared.codes.Opcode.{Opcode}
@@ -12,7 +13,7 @@ use Rattle.bsdl_device.specs.Instructions.{instruction_word, instruction_named, 
 use Rattle.bsdl_device.specs.Checks.{any_pair, has_instruction, opcode_is_unknown, opcode_named_twice, lacks_instruction, has_other_length, bypass_is_not_ones, are_sample_and_preload, opcodes_clash}
 use Rattle.bsdl_device.specs.Denoted.{opcode_of}
 use Rattle.bsdl_device.specs.Canonical.{has_opcode}
-use Rattle.bsdl_round_trip.proofs.Pairs.{or_first, or_second, any_same, any-map, pair-map, pair_same}
+use Rattle.bsdl_round_trip.proofs.Pairs.{any_same, any-map, pair-map, pair_same}
 use Rattle.bsdl_round_trip.proofs.Names.{same_name-true, same_left, same_right, find_same, found_passes}
 use Rattle.bsdl_round_trip.proofs.Rebuilt.{opcode_entry}
 

@@ -3,10 +3,10 @@ use Rattle.std.proofs.Common.{◌≡◌, ℕ, ◌+◌, ◌≤◌, List, [], ◌�
 use Rattle.std.specs.List.{list_any, AllByRecursion}
 use Rattle.std.specs.Str.{bytes_eq}
 use Rattle.std.proofs.lemmas.Slice.Eq.{bytes_eq-Decides}
+use Rattle.list_laws.proofs.Tests.{or_first, or_second, neither}
 use Rattle.bsdl_lexicon.specs.Names.{lower, same_name, is_same_name}
 use Rattle.bsdl_device.specs.Checks.{any_pair, is_repeated}
 use Rattle.bsdl_round_trip.proofs.Totals.{weigh, tally, none_any, any_none, Shuffled}
-use Rattle.bsdl_round_trip.proofs.Pairs.{or_first, or_second, neither}
 
 -- what the test says
 

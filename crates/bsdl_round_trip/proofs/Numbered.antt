@@ -2,13 +2,13 @@
 use Rattle.std.proofs.Common.{◌≡◌, ℕ, suc, zero, ◌+◌, ◌<◌, ◌≤◌, List, [], ◌∷◌, Bool, true, false, cond, Option, Some, length, find, refl, sym, ap, subst, ◌∙◌, arith, eq-eqb, eqb-true, ltb-true, lt-ltb, add-one}
 use Rattle.std.specs.Prelude.{◌==◌, ◌||◌, not, nat_lt}
 use Rattle.std.specs.List.{list_any, filter_map, cons_option, AllByRecursion}
+use Rattle.list_laws.proofs.Tests.{not_false, or_first, or_second, neither}
 use Rattle.bsdl_device.specs.declared.entries.RowEntry.{RowEntry}
 use Rattle.bsdl_device.specs.Ports.{counted_from}
 use Rattle.bsdl_device.specs.Checks.{any_pair, is_numbered}
 use Rattle.bsdl_device.specs.Denoted.{ordered_rows}
 use Rattle.bsdl_round_trip.proofs.Totals.{weigh, tally, none_any, Shuffled}
 use Rattle.bsdl_round_trip.proofs.Chosen.{chosen_shuffled}
-use Rattle.bsdl_round_trip.proofs.Pairs.{or_first, or_second, neither}
 use Rattle.bsdl_round_trip.proofs.Names.{found_passes, some_found, all_to, none_all}
 
 -- Tests of numbers.
@@ -77,10 +77,6 @@ pub record CountedRows (count : ℕ) (rows : List RowEntry) : Type 0 where
   pub below : list_any (λ (r : RowEntry). not (nat_lt r.number count)) rows ≡ false
   pub apart : any_pair (λ (r : RowEntry) (s : RowEntry). r.number == s.number) rows ≡ false
   pub each : list_any (λ number. not (list_any (is_numbered number) rows)) (counted_from 0 count) ≡ false
-
-not_false : (b : Bool) → not b ≡ false → b ≡ true
-not_false true h = refl
-not_false false h = absurd (cc)
 
 some_any : {A : Type 0} (test : A → Bool) (xs : List A) → list_any test xs ≡ true → 1 ≤ tally test xs
 some_any test [] h = absurd (cc)

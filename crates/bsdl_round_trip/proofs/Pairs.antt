@@ -1,19 +1,9 @@
 -- Pairs that pass a test, in any order of the list.
 use Rattle.std.proofs.Common.{◌≡◌, List, [], ◌∷◌, Bool, true, false, ◌||◌, map, refl, ap, ◌∙◌}
 use Rattle.std.specs.List.{list_any}
+use Rattle.list_laws.proofs.Tests.{or_first, or_second, neither}
 use Rattle.bsdl_device.specs.Checks.{any_pair}
 use Rattle.bsdl_round_trip.proofs.Totals.{any_shuffled, Shuffled}
-
-pub or_first : (a b : Bool) → (a || b) ≡ false → a ≡ false
-or_first true b h = h
-or_first false b h = refl
-
-pub or_second : (a b : Bool) → (a || b) ≡ false → b ≡ false
-or_second true b h = absurd (cc)
-or_second false b h = h
-
-pub neither : (a b : Bool) → a ≡ false → b ≡ false → (a || b) ≡ false
-neither a b h k = rw h k
 
 pub any_same : {A : Type 0} (f g : A → Bool) → ((x : A) → f x ≡ g x) → (xs : List A) → list_any f xs ≡ list_any g xs
 any_same f g same [] = refl

@@ -3,6 +3,7 @@ use Rattle.std.proofs.Common.{◌≡◌, ℕ, ◌+◌, ◌≤◌, List, [], ◌�
 use Rattle.std.specs.Prelude.{◌==◌, ◌||◌, not, count_by}
 use Rattle.std.specs.List.{list_any, list_all, filter_map, cons_option, AllByRecursion}
 use Rattle.std.specs.Option.{option_map, option_map_or}
+use Rattle.list_laws.proofs.Tests.{not_false}
 use Rattle.bsdl_lexicon.specs.Names.{same_name, is_same_name}
 use Rattle.bsdl_device.specs.declared.values.PortRange.{PortRange}
 use Rattle.bsdl_device.specs.declared.values.DevPort.{DevPort}
@@ -44,10 +45,6 @@ pub record PortMapped (ports : List DeclaredPort) (entries : List PinEntry) (p :
   pub entry : PinEntry
   pub found : find (λ (e : PinEntry). is_same_name e.port p.name) entries ≡ Some entry
   pub fits : has_pins_for p.range entry.pins ≡ true
-
-not_false : (b : Bool) → not b ≡ false → b ≡ true
-not_false true h = refl
-not_false false h = absurd (cc)
 
 port_mapped : (ports : List DeclaredPort) (entries : List PinEntry) → list_any (entry_misfits ports) entries ≡ false → (p : DeclaredPort)
     → (port_named ports p.name ≡ Some p) × (not (count_by (λ (e : PinEntry). is_same_name e.port p.name) entries == 1) ≡ false) → PortMapped ports entries p

@@ -6,6 +6,7 @@ use Rattle.std.proofs.lemmas.Option.{slice_get_within}
 use Rattle.std.specs.Prelude.{◌==◌, ◌||◌, ◌&&◌, not, is_none, slice_get, unwrap_or, nat_lt}
 use Rattle.std.specs.List.{list_any, prefix_len, AllByRecursion}
 use Rattle.std.specs.Option.{option_map, option_map_or}
+use Rattle.list_laws.proofs.Tests.{or_first, or_second}
 use Rattle.bsdl_lexicon.specs.Names.{same_name, is_same_name}
 use Rattle.bsdl_device.specs.declared.values.PortMode.{PortMode}
 use Rattle.bsdl_device.specs.declared.values.DevPort.{DevPort}
@@ -18,7 +19,6 @@ use Rattle.bsdl_device.specs.RowRules.{is_tap_port}
 use Rattle.bsdl_device.specs.Denoted.{place_of}
 use Rattle.bsdl_device.specs.Canonical.{port_name}
 use Rattle.bsdl_device.specs.IsDevice.{names_of, tap_places, is_tap_place, is_scalar_at}
-use Rattle.bsdl_round_trip.proofs.Pairs.{or_first, or_second}
 use Rattle.bsdl_round_trip.proofs.Names.{same_name-true, same_self, same_turned}
 use Rattle.bsdl_round_trip.proofs.Numbered.{eq_turned, differ_by_order}
 use Rattle.bsdl_round_trip.proofs.Rebuilt.{as_declared, tap_of}

@@ -3,6 +3,7 @@ use Rattle.std.proofs.Common.{◌≡◌, ℕ, suc, ◌+◌, ◌^◌, ◌<◌, �
 use Rattle.std.specs.Prelude.{◌&&◌, ◌||◌, ◌==◌, not, is_none, is_some}
 use Rattle.std.specs.List.{list_all, list_any, AllByRecursion}
 use Rattle.std.specs.Option.{option_map, option_map_or}
+use Rattle.list_laws.proofs.Tests.{or_first, or_second}
 use Rattle.bsdl_lexicon.specs.Names.{is_same_name}
 use Rattle.bsdl_lexicon.specs.Words.{plain}
 use Rattle.bsdl_lexicon.specs.Pieces.{words_from}
@@ -28,7 +29,6 @@ use Rattle.bsdl_device.specs.Spelled.{SpellsText}
 use Rattle.bsdl_device.specs.Canonical.{port_name, canonical_device}
 use Rattle.bsdl_round_trip.specs.Laws.{CanonicalReadsBack}
 use Rattle.bsdl_round_trip.proofs.Good.{GoodPin, all_patterns}
-use Rattle.bsdl_round_trip.proofs.Pairs.{or_first, or_second}
 use Rattle.bsdl_round_trip.proofs.Lookups.{name_at_place}
 use Rattle.bsdl_round_trip.proofs.Identifiers.{name_test}
 use Rattle.bsdl_round_trip.proofs.Rebuilt.{rebuilt_file, rebuilt_contents}

@@ -4,6 +4,7 @@ use Rattle.std.specs.Prelude.{◌==◌, ◌||◌, ◌&&◌, not, is_some, is_non
 use Rattle.std.specs.List.{list_any}
 use Rattle.std.specs.Option.{option_map, option_map_or}
 use Rattle.std.proofs.Math.Bool.{and-false}
+use Rattle.list_laws.proofs.Tests.{or_first, or_second, neither}
 use Rattle.cell_library.specs.declared.codes.Function.TheVariants as function
 use Rattle.cell_library.specs.declared.codes.BoundaryKind.TheVariants as cell
 use Rattle.bsdl_lexicon.specs.Names.{same_name, is_same_name}
@@ -22,7 +23,7 @@ use Rattle.bsdl_device.specs.Checks.{any_pair, is_numbered}
 use Rattle.bsdl_device.specs.RowRules.{is_control, is_cell, is_function, is_disabled_by, control_fails, lacks_port, is_system_port, is_system_bit, port_misfits, is_row_of, bit_not_in_one_row, stands_at, input_fails, clock_fails, output_fails, bidir_fails, disable_misfits, control_is_unknown, differ, disables_disagree, rows_disagree, row_misfits}
 use Rattle.bsdl_device.specs.Denoted.{port_of, bit_of, cell_of}
 use Rattle.bsdl_round_trip.proofs.Totals.{weigh, total_same, total-map, count_by-tally, any_shuffled, count_shuffled, Shuffled}
-use Rattle.bsdl_round_trip.proofs.Pairs.{or_first, or_second, neither, any_same, any-map, pair-map, pairs_shuffled}
+use Rattle.bsdl_round_trip.proofs.Pairs.{any_same, any-map, pair-map, pairs_shuffled}
 use Rattle.bsdl_round_trip.proofs.Names.{same_name-true, same_right, found_passes}
 use Rattle.bsdl_round_trip.proofs.Lookups.{port_named_same, place_of_same, name_at_place}
 use Rattle.bsdl_round_trip.proofs.Taps.{SameTap, system_port_same}

@@ -3,6 +3,7 @@ use Rattle.std.proofs.Common.{◌≡◌, ℕ, List, [], ◌∷◌, Bool, false, 
 use Rattle.std.specs.Prelude.{◌||◌, ◌&&◌, not, is_none}
 use Rattle.std.specs.List.{list_any, filter}
 use Rattle.std.specs.Option.{option_map_or}
+use Rattle.list_laws.proofs.Tests.{or_first, or_second}
 use Rattle.bsdl_lexicon.specs.Names.{same_name, is_same_name}
 use Rattle.bsdl_device.specs.declared.values.PortMode.{PortMode}
 use Rattle.bsdl_device.specs.declared.values.PortMode.TheVariants as mode
@@ -15,7 +16,6 @@ use Rattle.bsdl_device.specs.RowRules.{is_system_port, system_bits}
 use Rattle.bsdl_device.specs.Ports.{bits_of}
 use Rattle.bsdl_device.specs.Denoted.{place_of, port_of}
 use Rattle.bsdl_device.specs.Canonical.{port_name}
-use Rattle.bsdl_round_trip.proofs.Pairs.{or_first, or_second}
 use Rattle.bsdl_round_trip.proofs.Names.{same_left, same_right}
 use Rattle.bsdl_round_trip.proofs.Lookups.{port_named_same, same_at_place}
 

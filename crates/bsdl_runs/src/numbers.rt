@@ -1,9 +1,11 @@
-// The values of digits.
-ghost use Rattle.std.specs.Prelude.{◌≡◌, ◌+◌, ◌*◌, ◌-◌, ◌^◌, ◌<◌, ◌≤◌, length, IsTrue};
+// The values of digits, and patterns of ones.
+ghost use Rattle.std.specs.Prelude.{◌≡◌, ◌==◌, ◌+◌, ◌*◌, ◌-◌, ◌^◌, ◌<◌, ◌≤◌, length, IsTrue};
 ghost use Rattle.bsdl_lexicon.specs.Bytes.{is_digit};
 ghost use Rattle.bsdl_device.specs.Runs.{value_after};
 ghost use Rattle.std.specs.List.{list_all};
 ghost use Rattle.bsdl_runs.specs.Digits.{is_bit};
+
+use cell_library::Bits;
 
 // The value with one decimal digit more.
 fn with_digit(value: u32, count: usize, digit: u8) -> u32
@@ -53,4 +55,11 @@ pub fn binary(bits: &[u8]) -> u32
         value = with_bit(value, i, bits[i]);
     }
     value
+}
+
+/// Whether each bit of the pattern is 1.
+pub fn is_ones(bits: Bits) -> bool
+    ensures { result ≡ (bits.value == 2 ^ bits.len - 1) }
+{
+    bits.len <= 32 && bits.value as u64 == (1u64 << bits.len) - 1
 }

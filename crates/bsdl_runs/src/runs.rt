@@ -62,6 +62,13 @@ pub fn is_pattern(run: &[u8]) -> bool
     1 <= run.len() && run.len() <= 32 && are_bits(run)
 }
 
+/// Whether the run is a pin, of at most 32 bytes.
+pub fn is_pin(run: &[u8]) -> bool
+    ensures { result ≡ runs.is_pin run.now }
+{
+    1 <= run.len() && run.len() <= 32
+}
+
 fn begins_with_letter(run: &[u8]) -> bool
     ensures { result ≡ runs.begins_with_letter run.now }
 {

@@ -2,6 +2,7 @@
 use Rattle.std.proofs.Common.{◌≡◌, ℕ, ◌+◌, ◌<◌, List, length, set, replicate, refl, sym, ◌∙◌, ap, arith, Option, Some, None, length-set, inl, inr, subst, IsSome, true, false}
 use Rattle.std.proofs.lemmas.Bool.Decides.{eqb_tells, leb_tells}
 use Rattle.std.proofs.lemmas.List.{get_or_past, get_or-replicate, length-replicate}
+use Rattle.list_laws.proofs.Lists.{at_set}
 use Rattle.netlist_model.specs.declared.NetId.{NetId}
 use Rattle.netlist_model.specs.declared.CellId.{CellId}
 use Rattle.netlist_model.specs.Lists.{CellView, NetlistView, cell_at, Drives}
@@ -9,7 +10,6 @@ use Rattle.netlist_model.specs.Formed.{IsLaidOut}
 use Rattle.netlist_arena.specs.Looks.{IsDrivenOnce}
 use Rattle.cell_order.specs.Tables.{AreDriversBelow, driver_at, with_driver, with_output}
 use Rattle.cell_order.proofs.Fall.{cell_at_once}
-use Rattle.cell_order.proofs.Lists.{at_set}
 
 pub no_drivers : (N : NetlistView) → AreDriversBelow N 0 (replicate (length N.nets) None)
 no_drivers N = record {

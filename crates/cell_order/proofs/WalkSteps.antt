@@ -4,6 +4,7 @@ use Rattle.std.specs.List.{slice_get}
 use Rattle.std.proofs.lemmas.Bool.Decides.{eqb_tells}
 use Rattle.std.proofs.lemmas.List.Sums.{sum_by-set}
 use Rattle.std.proofs.lemmas.Option.{slice_get_within, slice_get_read}
+use Rattle.list_laws.proofs.Lists.{at_set}
 use Rattle.netlist_model.specs.declared.CellId.{CellId}
 use Rattle.netlist_model.specs.Lists.{CellView, NetlistView, cell_at, cell_count, Drives}
 use Rattle.netlist_model.specs.declared.NetId.{NetId}
@@ -18,7 +19,6 @@ use Rattle.cell_order.specs.declared.walk.Mark.TheVariants.{Unseen, OnPath, Plac
 use Rattle.cell_order.specs.declared.walk.Walk.{Walk}
 use Rattle.cell_order.specs.declared.order.Wait.{Wait}
 use Rattle.cell_order.specs.Walk.{mark_at, weight, IsBehind, Falls, IsReady, IsWaiting, Walks, KeepsSeen, steps_of}
-use Rattle.cell_order.proofs.Lists.{at_set}
 use Rattle.cell_order.proofs.Fall.{cell_at_once, falls_first, falls_next, falls_not}
 use Rattle.cell_order.proofs.Spread.{one_cell}
 use Rattle.cell_order.proofs.Steps.{marked_inside, look, enter, finish}

@@ -155,7 +155,8 @@ fn mark_feeds(netlist: &Packed, cell: CellId, marks: &mut [bool])
 fn keep_inputs(inputs: &[bool], marks: &mut [bool])
     requires { length inputs.now ≡ length marks.old }
     ensures long { length marks.new ≡ length marks.old }
-    ensures kept { (net : ℕ) → IsMarked marks.new net ↔ (IsMarked marks.old net × IsMarked inputs.now net) }
+    ensures kept { (net : ℕ) → IsMarked marks.new net
+        ↔ (IsMarked marks.old net × IsMarked inputs.now net) }
 {
     for net in 0..marks.len() {
         marks[net] = marks[net] && inputs[net];

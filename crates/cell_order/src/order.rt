@@ -97,11 +97,13 @@ fn first_wait(
     from: u32,
 ) -> Option<Wait>
     requires live { IsLive netlist.now.lists cell.0 }
-    requires dense { (number : ℕ) → IsLive netlist.now.lists number → number < cell_count netlist.now.lists }
+    requires dense { (number : ℕ) → IsLive netlist.now.lists number
+        → number < cell_count netlist.now.lists }
     requires drivers { AreDrivers netlist.now.lists drivers.now }
     requires marks { length marks.now ≡ cell_count netlist.now.lists }
     requires seen { IsSeenTo netlist.now.lists marks.now cell.0 from }
-    ensures { MatchOption result (IsReady netlist.now.lists marks.now cell.0) (IsWaiting netlist.now.lists marks.now cell.0) }
+    ensures { MatchOption result (IsReady netlist.now.lists marks.now cell.0)
+        (IsWaiting netlist.now.lists marks.now cell.0) }
 {
     netlist.is_laid_out();
     if let Kind::Flop(_) = netlist.kind(cell) {

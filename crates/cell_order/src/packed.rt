@@ -55,14 +55,16 @@ impl<'a> Packed<'a> {
 
     pub(crate) fn kind(&self, cell: CellId) -> Kind
         requires { IsLive self.now.lists cell.0 }
-        ensures { option_map (λ (found : CellView). found.kind) (cell_at self.now.lists cell.0) ≡ Some result }
+        ensures { option_map (λ (found : CellView). found.kind) (cell_at self.now.lists cell.0)
+            ≡ Some result }
     {
         self.netlist.kind(number_of(self.netlist, self.cells, cell))
     }
 
     pub(crate) fn output(&self, cell: CellId) -> Option<NetId>
         requires { IsLive self.now.lists cell.0 }
-        ensures value { option_map (λ (found : CellView). found.output) (cell_at self.now.lists cell.0) ≡ Some result }
+        ensures value { option_map (λ (found : CellView). found.output) (cell_at self.now.lists cell.0)
+            ≡ Some result }
         ensures below { MatchOption result ⊤ (IsNetBelow (length self.now.lists.nets)) }
     {
         self.netlist
@@ -72,7 +74,8 @@ impl<'a> Packed<'a> {
     pub(crate) fn feed_count(&self, cell: CellId) -> u32
         requires { IsLive self.now.lists cell.0 }
         ensures takes { IfSome (cell_at self.now.lists cell.0) (λ found. Takes found.kind result) }
-        ensures count { option_map (λ (found : CellView). length found.feeds) (cell_at self.now.lists cell.0) ≡ Some result }
+        ensures count { option_map (λ (found : CellView). length found.feeds)
+            (cell_at self.now.lists cell.0) ≡ Some result }
     {
         self.netlist
             .feed_count(number_of(self.netlist, self.cells, cell))

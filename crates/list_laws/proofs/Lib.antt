@@ -4,3 +4,4 @@ pub mod Lists
 pub mod Bytes
 pub mod Numbers
 pub mod Marks
+pub mod Digits

@@ -1,14 +1,15 @@
 -- Elements of lists that are joined, cut or compared by their places.
-use Rattle.std.proofs.Common.{◌≡◌, ◌≢◌, ◌⊎◌, inl, inr, ℕ, zero, suc, ◌+◌, ◌<◌, ◌≤◌, Bool, true, false, not, cond, List, [], ◌∷◌, ◌++◌, length, take, drop, set, get_or, get_or-set_other, refl, sym, subst, ap, ◌∙◌, arith, Some, None}
-use Rattle.std.specs.Prelude.{slice_get}
-use Rattle.std.specs.List.{AllByRecursion, list_all, list_any, position, position_or_len}
+use Rattle.std.proofs.Common.{◌≡◌, ◌≢◌, ◌⊎◌, inl, inr, ℕ, zero, suc, ◌+◌, ◌<◌, ◌≤◌, Bool, true, false, not, cond, ◌&&◌, List, [], ◌∷◌, ◌++◌, length, take, drop, map, set, get_or, get_or-set_other, refl, sym, subst, ap, ◌∙◌, arith, Some, None}
+use Rattle.std.specs.Prelude.{slice_get, slice_set, nat_eq}
+use Rattle.std.specs.List.{AllByRecursion, list_all, list_any, position, position_or_len, starts_with}
 use Rattle.std.proofs.lemmas.Bool.{lt-ltb}
 use Rattle.std.proofs.lemmas.Bool.Decides.{eqb_tells}
 use Rattle.std.proofs.lemmas.Grind.{get_or-set_at}
 use Rattle.std.proofs.lemmas.List.{take_more}
 use Rattle.std.proofs.lemmas.Option.{slice_get_within, get_or_from_slice_get}
 use Rattle.list_laws.specs.Lists.{counted_from, AreAll}
-use Rattle.list_laws.proofs.Tests.{and_left, and_right}
+use Rattle.list_laws.proofs.Tests.{and_left, and_right, and_true}
+use Rattle.list_laws.proofs.Numbers.{eqb_same}
 
 -- What holds of each element.
 
@@ -28,6 +29,20 @@ pub all_from_list_all : {A : Type 0} (p : A → Bool) (xs : List A) → list_all
 all_from_list_all p [] h = tt
 all_from_list_all p (x ∷ xs) h = (and_left (p x) (list_all p xs) h, all_from_list_all p xs (and_right (p x) (list_all p xs) h))
 
+pub all_at : {X : Type 0} (P : X → Type 0) (xs : List X) (k : ℕ) (x : X) → AllByRecursion P xs → slice_get xs k ≡ Some x → P x
+all_at P [] k x all h = absurd (cc)
+all_at {X = X} P (y ∷ ys) zero x all h = let same : y ≡ x = cc in subst P same all.0
+all_at P (y ∷ ys) (suc k) x all h = all_at P ys k x all.1 h
+
+pub all_mapped : {X Y : Type 0} (P : Y → Type 0) (f : X → Y) (xs : List X) → AllByRecursion (λ x. P (f x)) xs → AllByRecursion P (map f xs)
+all_mapped P f [] all = tt
+all_mapped P f (x ∷ xs) all = (all.0, all_mapped P f xs all.1)
+
+-- a test that one more element passes
+pub push_all : {X : Type 0} (test : X → Bool) (xs : List X) (x : X) → list_all test xs ≡ true → test x ≡ true → list_all test (xs ++ x ∷ []) ≡ true
+push_all test [] x all last = ap (λ (b : Bool). b && true) last
+push_all test (y ∷ xs) x all last = ap (λ (b : Bool). b && list_all test (xs ++ x ∷ [])) (and_left (test y) (list_all test xs) all) ∙ push_all test xs x (and_right (test y) (list_all test xs) all) last
+
 -- What stands at a place.
 
 pub slice_get_there : {X : Type 0} (xs : List X) (k : ℕ) → k < length xs → (x : X) × (slice_get xs k ≡ Some x)
@@ -45,7 +60,38 @@ slice_get-append_right [] ys n k e = ap (slice_get ys) (omega arith)
 slice_get-append_right (x ∷ xs) ys zero k e = absurd (omega arith)
 slice_get-append_right (x ∷ xs) ys (suc n) k e = slice_get-append_right xs ys n k (omega arith)
 
+-- after a push
+pub at_push : {X : Type 0} (xs : List X) (y x : X) (i : ℕ) → slice_get (xs ++ y ∷ []) i ≡ Some x → ((i ≡ length xs) × (y ≡ x)) ⊎ ((i < length xs) × (slice_get xs i ≡ Some x))
+at_push [] y x zero e = inl (refl, cc)
+at_push [] y x (suc i) e = absurd (cc)
+at_push (z ∷ xs) y x zero e = inr (omega arith, e)
+at_push (z ∷ xs) y x (suc i) e = elim (at_push xs y x i e) [
+  | inl h ↦ inl (ap suc h.0, h.1)
+  | inr h ↦ let low = h.0 in inr (omega arith, h.1)
+]
+
+pub last_push : {X : Type 0} (xs : List X) (y : X) → slice_get (xs ++ y ∷ []) (length xs) ≡ Some y
+last_push [] y = refl
+last_push (z ∷ xs) y = last_push xs y
+
+pub before_push : {X : Type 0} (xs ys : List X) (x : X) (i : ℕ) → slice_get xs i ≡ Some x → slice_get (xs ++ ys) i ≡ Some x
+before_push [] ys x i e = absurd (cc)
+before_push (z ∷ xs) ys x zero e = e
+before_push (z ∷ xs) ys x (suc i) e = before_push xs ys x i e
+
 -- after a write
+pub slice_get-set_same : {X : Type 0} (xs : List X) (k : ℕ) (x : X) → k < length xs → slice_get (slice_set xs k x) k ≡ Some x
+slice_get-set_same [] k x h = absurd (omega arith)
+slice_get-set_same (y ∷ xs) zero x h = refl
+slice_get-set_same (y ∷ xs) (suc k) x h = slice_get-set_same xs k x (omega arith)
+
+pub slice_get-set_other : {X : Type 0} (xs : List X) (k j : ℕ) (x : X) → j ≢ k → slice_get (slice_set xs k x) j ≡ slice_get xs j
+slice_get-set_other [] k j x h = refl
+slice_get-set_other (y ∷ xs) zero zero x h = absurd (h refl)
+slice_get-set_other (y ∷ xs) zero (suc j) x h = refl
+slice_get-set_other (y ∷ xs) (suc k) zero x h = refl
+slice_get-set_other (y ∷ xs) (suc k) (suc j) x h = slice_get-set_other xs k j x (λ e. h (ap suc e))
+
 pub at_set : {X : Type 0} (xs : List X) (i j : ℕ) (y d : X) → i < length xs → ((j ≡ i) × (get_or (set xs i y) j d ≡ y)) ⊎ ((j ≢ i) × (get_or (set xs i y) j d ≡ get_or xs j d))
 at_set xs i j y d h = elim (eqb_tells j i) [ inl e ↦ inl (e.1, get_or-set_at xs i j y d e.1 h) | inr e ↦ inr (e.1, get_or-set_other xs i j y d e.1) ]
 
@@ -76,7 +122,18 @@ slice_get-counted_from first zero k h = absurd (omega arith)
 slice_get-counted_from first (suc n) zero h = ap Some (omega arith)
 slice_get-counted_from first (suc n) (suc k) h = slice_get-counted_from (suc first) n k (omega arith) ∙ ap Some (omega arith)
 
+pub counted-last : (first n : ℕ) → counted_from first (suc n) ≡ counted_from first n ++ (first + n) ∷ []
+counted-last first zero = let none : first + 0 ≡ first = omega arith in ap (λ (k : ℕ). k ∷ []) (sym none)
+counted-last first (suc n) =
+    let next : suc first + n ≡ first + suc n = omega arith in
+    ap (λ (l : List ℕ). first ∷ l) (counted-last (suc first) n ∙ ap (λ (k : ℕ). counted_from (suc first) n ++ k ∷ []) next)
+
 -- Lists that agree place by place.
+
+-- functions that give the same at each place
+pub map_same : {X Y : Type 0} (f g : X → Y) (xs : List X) → ((k : ℕ) (x : X) → slice_get xs k ≡ Some x → f x ≡ g x) → map f xs ≡ map g xs
+map_same f g [] each = refl
+map_same f g (x ∷ xs) each = ap (λ y. y ∷ map f xs) (each 0 x refl) ∙ ap (λ rest. g x ∷ rest) (map_same f g xs (λ k y at. each (suc k) y at))
 
 -- as many
 pub AreAll-length : {X Y : Type 0} (Is : X → Y → Type 0) (xs : List X) (ys : List Y) → AreAll Is xs ys → length xs ≡ length ys
@@ -128,3 +185,14 @@ front_all [] zero long = refl
 front_all [] (suc n) long = refl
 front_all (x ∷ xs) zero long = absurd (omega arith)
 front_all {X = X} (x ∷ xs) (suc n) long = ap (λ (zs : List X). x ∷ zs) (front_all xs n (omega arith))
+
+-- the front that is as long as the first of two lists is the first
+pub front_of : {X : Type 0} (xs ys : List X) (n : ℕ) → n ≡ length xs → take n (xs ++ ys) ≡ xs
+front_of [] ys n is = rw is refl
+front_of (x ∷ xs) ys zero is = absurd (omega arith)
+front_of {X = X} (x ∷ xs) ys (suc n) is = ap (λ (zs : List X). x ∷ zs) (front_of xs ys n (omega arith))
+
+-- what begins with its front
+pub begins_joined : (prefix rest : List ℕ) → starts_with nat_eq (prefix ++ rest) prefix ≡ true
+begins_joined [] rest = refl
+begins_joined (x ∷ prefix) rest = and_true (nat_eq x x) (starts_with nat_eq (prefix ++ rest) prefix) (eqb_same x) (begins_joined prefix rest)

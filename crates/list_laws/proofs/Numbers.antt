@@ -12,3 +12,6 @@ eqb_less a b h = elim (eqb_tells a b) [ inl e ↦ let same = e.1 in absurd (omeg
 -- a number of fewer than nine digits has room for one more
 pub few_digits : (count : ℕ) → count < 9 → 10 ^ count ≤ 10 ^ 8
 few_digits count few = pow-le-pow_right {n = 10} (omega arith) {i = count} {j = 8} (omega arith)
+
+pub eqb-sym : (a b : ℕ) → (a == b) ≡ (b == a)
+eqb-sym a b = grind arith

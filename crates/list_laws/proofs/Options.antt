@@ -1,6 +1,7 @@
 -- Options that are told, and the first of several.
-use Rattle.std.proofs.Common.{◌≡◌, ℕ, zero, suc, true, false, List, [], ◌∷◌, Option, Some, None, is_some, refl, sym}
+use Rattle.std.proofs.Common.{◌≡◌, ℕ, zero, suc, Bool, true, false, cond, if◌then◌else◌, List, [], ◌∷◌, ◌++◌, find, Option, Some, None, is_some, refl, sym, ap, subst, ◌∙◌}
 use Rattle.std.specs.Prelude.{slice_get}
+use Rattle.std.specs.List.{AllByRecursion}
 use Rattle.list_laws.specs.Options.{or_else, first_in}
 
 -- nothing is no value
@@ -24,3 +25,34 @@ pub first_in-at : {X Y : Type 0} (test : X → Option Y) (xs : List X) (k : ℕ)
 first_in-at test [] k x clear here = absurd (cc)
 first_in-at {X} test (y ∷ ys) zero x clear here = let same : y ≡ x = cc in rw (sym same) ((or_else-parts (test y) (first_in test ys) clear).0)
 first_in-at test (y ∷ ys) (suc k) x clear here = first_in-at test ys k x ((or_else-parts (test y) (first_in test ys) clear).1) here
+
+pub or_else-assoc : {X : Type 0} (a b c : Option X) → or_else (or_else a b) c ≡ or_else a (or_else b c)
+or_else-assoc None b c = refl
+or_else-assoc (Some x) b c = refl
+
+-- along one list behind another
+pub first_in-append : {X Y : Type 0} (test : X → Option Y) (xs ys : List X) → first_in test (xs ++ ys) ≡ or_else (first_in test xs) (first_in test ys)
+first_in-append test [] ys = refl
+first_in-append test (x ∷ xs) ys = ap (or_else (test x)) (first_in-append test xs ys) ∙ sym (or_else-assoc (test x) (first_in test xs) (first_in test ys))
+
+-- where a test gives nothing at each place, it gives nothing along the list
+pub none_along : {X Y : Type 0} (test : X → Option Y) (xs : List X) → AllByRecursion (λ x. test x ≡ None) xs → first_in test xs ≡ None
+none_along test [] all = refl
+none_along test (x ∷ xs) all = rw all.0 (none_along test xs all.1)
+
+pub some_same : {X : Type 0} (x y : X) (o : Option X) → o ≡ Some x → o ≡ Some y → x ≡ y
+some_same x y o e f = cc
+
+-- a choice that gives nothing
+pub not_there : {X : Type 0} (b : Bool) (x : X) (rest : Option X) → (if b then Some x else rest) ≡ None → (b ≡ false) × (rest ≡ None)
+not_there true x rest h = absurd (cc)
+not_there false x rest h = (refl, h)
+
+-- what is found passes
+pub found : {X : Type 0} (p : X → Bool) (xs : List X) (x : X) → find p xs ≡ Some x → p x ≡ true
+found p [] x h = absurd (cc)
+found {X = X} p (y ∷ ys) x h = step (find p ys) (p y) refl (λ k. found p ys x k) h
+  where
+    step : (rest : Option X) (t : Bool) → p y ≡ t → (rest ≡ Some x → p x ≡ true) → cond t (Some y) rest ≡ Some x → p x ≡ true
+    step rest true e more k = let same : y ≡ x = cc in subst (λ (z : X). p z ≡ true) same e
+    step rest false e more k = more k

@@ -7,6 +7,8 @@ use Rattle.std.specs.Str.{bytes_eq}
 use Rattle.std.specs.Fmt.{decimal}
 use Rattle.std.specs.Cmp.Lexicographic.{bytes_decides}
 use Rattle.std.proofs.lemmas.List.Elements.{All-nil, All-cons, All-head, All-tail}
+use Rattle.list_laws.proofs.Tests.{both_true}
+use Rattle.list_laws.proofs.Options.{or_else-parts, found}
 use Rattle.cell_library.specs.declared.codes.Instr.{Instr}
 use Rattle.bsdl_lexicon.specs.Bytes.{is_digit}
 use Rattle.bsdl_device.specs.Instructions.{instruction_word, all_instructions}
@@ -26,32 +28,20 @@ use Rattle.plan_texts.specs.Rules.{instruction_of, known, twice_fault, opcode_fa
 use Rattle.plan_texts.specs.Meaning.{typed, plan_of}
 use Rattle.plan_texts.specs.Grammar.{PlanSource, OpcodeWords, GroupWords, SpellsPlan, IsOpcode, AreGroups, AreGroupsIf, IsSource, keyed, tap_words, opcode_words, idcode_words, idcode_rows, code_rows, plan_rows, entry_of, groups_of, written_of}
 use Rattle.plan_texts.specs.Canonical.{opcode_row, code_row, code_rows_of, canonical_rows, canonical_plan, IsPlan}
-use Rattle.plan_texts.proofs.Digits.{both, decimal_all_digits, decimal_some, decimal_value, decimal_is_length, pattern_back, pattern_below, pattern_group, low_bits}
-
-neither : {X : Type 0} (a b : Option X) → or_else a b ≡ None → (a ≡ None) × (b ≡ None)
-neither None b h = (refl, h)
-neither (Some x) b h = absurd (cc)
-
-found_holds-step : {X : Type 0} (p : X → Bool) (y x : X) (rest : Option X) (t : Bool) → p y ≡ t → (rest ≡ Some x → p x ≡ true) → cond t (Some y) rest ≡ Some x → p x ≡ true
-found_holds-step {X = X} p y x rest true e more h = let same : y ≡ x = cc in subst (λ (z : X). p z ≡ true) same e
-found_holds-step p y x rest false e more h = more h
-
-found_holds : {X : Type 0} (p : X → Bool) (xs : List X) (x : X) → find p xs ≡ Some x → p x ≡ true
-found_holds p [] x h = absurd (cc)
-found_holds p (y ∷ ys) x h = found_holds-step p y x (find p ys) (p y) refl (λ k. found_holds p ys x k) h
+use Rattle.plan_texts.proofs.Digits.{decimal_all_digits, decimal_some, decimal_value, decimal_is_length, pattern_back, pattern_below, pattern_group, low_bits}
 
 -- a known opcode line is written from what it means
 opcode_again : (o : OpcodeWords) → IsOpcode o → (i : Instr) → instruction_of o.name ≡ Some i
     → opcode_row (record { instr = i; bits = bits_of o.bits }) ≡ opcode_words o
 opcode_again o is i e =
-    let name : o.name ≡ instruction_word i = (bytes_decides o.name (instruction_word i)).0 (found_holds (λ (j : Instr). bytes_eq o.name (instruction_word j)) all_instructions i e) in
+    let name : o.name ≡ instruction_word i = (bytes_decides o.name (instruction_word i)).0 (found (λ (j : Instr). bytes_eq o.name (instruction_word j)) all_instructions i e) in
     ap (λ (w : List ℕ). codes "opcode" ∷ w ∷ pattern_text (bits_of o.bits) ∷ []) (sym name)
     ∙ ap (λ (w : List ℕ). codes "opcode" ∷ o.name ∷ w ∷ []) (pattern_back o.bits is.bits)
 
 opcodes_again : (os : List OpcodeWords) → All IsOpcode os → first_in unknown_fault (map entry_of os) ≡ None → map opcode_row (filter_map typed (map entry_of os)) ≡ map opcode_words os
 opcodes_again [] each none = refl
 opcodes_again (o ∷ os) each none =
-    let t = neither (unknown_fault (entry_of o)) (first_in unknown_fault (map entry_of os)) none in
+    let t = or_else-parts (unknown_fault (entry_of o)) (first_in unknown_fault (map entry_of os)) none in
     by (instruction_of o.name) refl t.0 (opcodes_again os (All-tail IsOpcode o os each) t.1)
   where
     by : (found : Option Instr) → instruction_of o.name ≡ found → (if is_some found then None else Some (fault.PlanInstruction o.name)) ≡ None
@@ -131,9 +121,9 @@ rows_are : (s : PlanSource) → IsSource s → rule_fault (written_of s) ≡ Non
 unfolding printed
 rows_are s is rules =
     let entries = map entry_of s.opcodes in
-    let a = neither (twice_fault entries) _ rules in
-    let b = neither (opcode_fault (value_after 10 0 s.length) (bits_of s.capture) (known entries)) _ a.1 in
-    let d = neither (idcode_fault (known entries) (option_map groups_of s.idcode)) (first_in unknown_fault entries) b.1 in
+    let a = or_else-parts (twice_fault entries) _ rules in
+    let b = or_else-parts (opcode_fault (value_after 10 0 s.length) (bits_of s.capture) (known entries)) _ a.1 in
+    let d = or_else-parts (idcode_fault (known entries) (option_map groups_of s.idcode)) (first_in unknown_fault entries) b.1 in
     let opcodes : map opcode_row (filter_map typed entries) ≡ map opcode_words s.opcodes = opcodes_again s.opcodes is.opcodes d.1 in
     let code : code_rows_of (option_map code_of (option_map groups_of s.idcode)) ≡ idcode_rows s.idcode = codes_again (known entries) s.idcode is.idcode d.0 in
     let capture : pattern_text (bits_of s.capture) ≡ s.capture = pattern_back s.capture is.capture in
@@ -141,8 +131,8 @@ rows_are s is rules =
 
 length_within : (w : List ℕ) → is_length w ≡ true → (2 ≤ value_after 10 0 w) × (value_after 10 0 w ≤ 32)
 length_within w h =
-    let t = both (is_integer w && nat_le 2 (value_after 10 0 w)) (nat_le (value_after 10 0 w) 32) h in
-    let u = both (is_integer w) (nat_le 2 (value_after 10 0 w)) t.0 in
+    let t = both_true (is_integer w && nat_le 2 (value_after 10 0 w)) (nat_le (value_after 10 0 w) 32) h in
+    let u = both_true (is_integer w) (nat_le 2 (value_after 10 0 w)) t.0 in
     (leb-true 2 (value_after 10 0 w) u.1, leb-true (value_after 10 0 w) 32 t.1)
 
 printed_is : (s : PlanSource) → IsSource s → IsSource (printed s)
@@ -190,7 +180,7 @@ digit_is_byte b h = record { no_blank = no_blank b h; no_end = no_end b h }
 digits_are_bytes : (ds : List ℕ) → list_all is_digit ds ≡ true → All IsWordByte ds
 digits_are_bytes [] h = All-nil IsWordByte
 digits_are_bytes (d ∷ ds) h =
-    let t = both (is_digit d) (list_all is_digit ds) h in
+    let t = both_true (is_digit d) (list_all is_digit ds) h in
     All-cons IsWordByte d ds (digit_is_byte d t.0) (digits_are_bytes ds t.1)
 
 some_bytes : (w : List ℕ) → 0 < length w → w ≢ []

@@ -3,6 +3,7 @@ use Rattle.std.proofs.Common.{◌≡◌, ℕ, Bool, true, false, cond, ◌&&◌,
 use Rattle.std.specs.Prelude.{option_and_then}
 use Rattle.std.specs.Str.{bytes_eq}
 use Rattle.std.specs.Cmp.Lexicographic.{bytes_decides}
+use Rattle.list_laws.proofs.Tests.{both_true, and_true}
 use Rattle.cell_library.specs.declared.codes.Bits.{Bits}
 use Rattle.cell_library.specs.declared.codes.BoundaryKind.{BoundaryKind}
 use Rattle.cell_library.specs.declared.codes.BoundaryKind.TheVariants as kind
@@ -15,13 +16,6 @@ use Rattle.plan_texts.specs.declared.plan.PinLine.{PinLine}
 use Rattle.plan_texts.specs.declared.written.CodeGroups.{CodeGroups}
 use Rattle.plan_texts.specs.Forms.{is_name, is_pin, is_length, bits_of, if_word, word_behind, word_line, version_if, version_line, number_if, length_line, bits_if, capture_line, tap_if, tap_line, opcode_if, opcode_line, groups_if, idcode_line, cell_named, control_only, control_line, pin_with, pin_if, pin_line}
 use Rattle.plan_texts.specs.Grammar.{OpcodeWords, GroupWords, cell_word, keyed, tap_words, opcode_words, idcode_words, pin_words, IsTapLine, IsOpcode, AreGroups, IsControl, IsPinLine, entry_of, groups_of}
-
-both_true : (a b : Bool) → a && b ≡ true → (a ≡ true) × (b ≡ true)
-both_true true b h = (refl, h)
-both_true false b h = cc
-
-true_both : (a b : Bool) → a ≡ true → b ≡ true → a && b ≡ true
-true_both a b h k = rw (h, k)
 
 -- the value where a test holds
 holding : {X : Type 0} (t : Bool) (x y : X) → cond t (Some x) None ≡ Some y → (t ≡ true) × (x ≡ y)
@@ -221,10 +215,10 @@ pin_seen words line h =
 pub tap_sees : (key : List ℕ) (line : TapLine) → after_key key (tap_words key line) ≡ Some (line.name ∷ line.pin ∷ []) → IsTapLine line → tap_line key (tap_words key line) ≡ Some line
 tap_sees key line first is =
     ap (λ (o : Option (List (List ℕ))). option_and_then tap_if (option_and_then two_of o)) first
-    ∙ held (is_name line.name && is_pin line.pin) line (true_both (is_name line.name) (is_pin line.pin) is.name is.pin)
+    ∙ held (is_name line.name && is_pin line.pin) line (and_true (is_name line.name) (is_pin line.pin) is.name is.pin)
 
 pub opcode_sees : (o : OpcodeWords) → IsOpcode o → opcode_line (opcode_words o) ≡ Some (entry_of o)
-opcode_sees o is = held (is_name o.name && is_pattern o.bits) (entry_of o) (true_both (is_name o.name) (is_pattern o.bits) is.name is.bits)
+opcode_sees o is = held (is_name o.name && is_pattern o.bits) (entry_of o) (and_true (is_name o.name) (is_pattern o.bits) is.name is.bits)
 
 pub idcode_sees : (g : GroupWords) → AreGroups g → idcode_line (idcode_words g) ≡ Some (groups_of g)
 idcode_sees g is =

@@ -31,7 +31,8 @@ fn read_version(reader: &mut LineReader<'_>) -> Result<(), LineFault>
 }
 
 fn read_name(alloc: Global, reader: &mut LineReader<'_>, key: &[u8]) -> Result<Text, LineFault>
-    ensures gives { Gives result reader.new.rows (line_at (forms.word_line key.now forms.is_name) reader.old.rows) }
+    ensures gives { Gives result reader.new.rows
+        (line_at (forms.word_line key.now forms.is_name) reader.old.rows) }
     ensures end { reader.new.end ≡ reader.old.end }
 {
     let Some(line) = reader.line() else {
@@ -193,7 +194,8 @@ fn take_opcode(
 
 #[tactic(auto, using(crate::proofs::Many::many_begins, crate::proofs::Many::many_more, crate::proofs::Many::many_ends, crate::proofs::Many::rest_shorter))]
 fn read_opcodes(alloc: Global, reader: &mut LineReader<'_>) -> Result<Row<OpcodeEntry>, OutOfMemory>
-    ensures many { IfOk result (λ list. many_at forms.opcode_line reader.old.rows ≡ (list, reader.new.rows)) }
+    ensures many { IfOk result (λ list. many_at forms.opcode_line reader.old.rows
+        ≡ (list, reader.new.rows)) }
     ensures end { reader.new.end ≡ reader.old.end }
 {
     let mut list = Row::new(alloc);
@@ -269,7 +271,8 @@ fn take_pin(alloc: Global, reader: &mut LineReader<'_>) -> Result<Option<PinLine
 
 #[tactic(auto, using(crate::proofs::Many::many_begins, crate::proofs::Many::many_more, crate::proofs::Many::many_ends, crate::proofs::Many::rest_shorter))]
 fn read_pin_lines(alloc: Global, reader: &mut LineReader<'_>) -> Result<Row<PinLine>, OutOfMemory>
-    ensures many { IfOk result (λ list. many_at forms.pin_line reader.old.rows ≡ (list, reader.new.rows)) }
+    ensures many { IfOk result (λ list. many_at forms.pin_line reader.old.rows
+        ≡ (list, reader.new.rows)) }
     ensures end { reader.new.end ≡ reader.old.end }
 {
     let mut list = Row::new(alloc);

@@ -1,11 +1,12 @@
 // The instructions of the profile, by their names, and the rules on opcodes.
-ghost use Rattle.std.specs.Prelude.{◌≡◌, ◌==◌, ◌-◌, ◌^◌};
+ghost use Rattle.std.specs.Prelude.{◌≡◌};
 ghost use Rattle.bsdl_device.specs.Instructions as profile;
 ghost use Rattle.bsdl_device.specs.Checks as rule;
 ghost use Rattle.plan_texts.specs.Rules as rules;
 
 use bsdl_device::OpcodeEntry;
 use bsdl_lexicon::same_name;
+use bsdl_runs::numbers::is_ones;
 use cell_library::{Bits, Instr};
 
 /// The name of an instruction.
@@ -64,13 +65,6 @@ pub fn has_other_length(wanted: u32, bits: Bits) -> bool
     ensures { result ≡ rule.has_other_length wanted bits }
 {
     bits.len != wanted
-}
-
-// Each bit is 1.
-fn is_ones(bits: Bits) -> bool
-    ensures { result ≡ (bits.value == 2 ^ bits.len - 1) }
-{
-    bits.len <= 32 && bits.value as u64 == (1u64 << bits.len) - 1
 }
 
 /// The opcode is that of BYPASS, and has a bit other than 1.

@@ -81,7 +81,9 @@ pub fn capture_line(line: &[u8]) -> Option<Bits>
 
 /// The key, a name and a physical pin.
 pub fn tap_line<'a>(key: &[u8], line: &'a [u8]) -> Option<(&'a [u8], &'a [u8])>
-    ensures { MatchOption result (forms.tap_line key.now (words_of line.now) ≡ None) (λ (name, pin). forms.tap_line key.now (words_of line.now) ≡ Some (record { name = name.now; pin = pin.now })) }
+    ensures { MatchOption result (forms.tap_line key.now (words_of line.now)
+        ≡ None) (λ (name, pin). forms.tap_line key.now (words_of line.now)
+        ≡ Some (record { name = name.now; pin = pin.now })) }
 {
     let Some(rest) = after_key(key, line) else {
         return None;
@@ -94,7 +96,9 @@ pub fn tap_line<'a>(key: &[u8], line: &'a [u8]) -> Option<(&'a [u8], &'a [u8])>
 
 /// `opcode NAME BITS`
 pub fn opcode_line(line: &[u8]) -> Option<(&[u8], Bits)>
-    ensures { MatchOption result (forms.opcode_line (words_of line.now) ≡ None) (λ (name, bits). forms.opcode_line (words_of line.now) ≡ Some (record { name = name.now; bits = bits })) }
+    ensures { MatchOption result (forms.opcode_line (words_of line.now)
+        ≡ None) (λ (name, bits). forms.opcode_line (words_of line.now)
+        ≡ Some (record { name = name.now; bits = bits })) }
 {
     let Some(rest) = after_key(b"opcode", line) else {
         return None;
@@ -151,7 +155,9 @@ pub fn control_line(line: &[u8]) -> Option<BoundaryKind>
 
 /// `pin PORT PIN CELL`
 pub fn pin_line(line: &[u8]) -> Option<(&[u8], &[u8], BoundaryKind)>
-    ensures { MatchOption result (forms.pin_line (words_of line.now) ≡ None) (λ (port, pin, cell). forms.pin_line (words_of line.now) ≡ Some (record { port = port.now; pin = pin.now; cell = cell })) }
+    ensures { MatchOption result (forms.pin_line (words_of line.now)
+        ≡ None) (λ (port, pin, cell). forms.pin_line (words_of line.now)
+        ≡ Some (record { port = port.now; pin = pin.now; cell = cell })) }
 {
     let Some(rest) = after_key(b"pin", line) else {
         return None;

@@ -2,6 +2,7 @@
 use Rattle.std.proofs.Common.{◌≡◌, ℕ, Bool, true, false, ◌&&◌, List, [], ◌∷◌, Option, Some, None, codes, refl, subst}
 use Rattle.std.specs.Str.{bytes_eq}
 use Rattle.std.specs.Cmp.Lexicographic.{bytes_decides}
+use Rattle.list_laws.proofs.Tests.{both_true}
 use Rattle.signal_values.specs.declared.PinSig.{PinSig}
 use Rattle.signal_values.specs.Values.{pin_sig_of}
 use Rattle.scan_vectors.specs.declared.lines.Act.{Act}
@@ -9,10 +10,6 @@ use Rattle.scan_vectors.specs.declared.lines.Act.TheVariants as act
 use Rattle.scan_vectors.specs.declared.lines.Line.{Line}
 use Rattle.scan_vectors.specs.Grammar.{act_word, value_of, event_words, header_words}
 use Rattle.scan_vectors.specs.Faults.{act_named, value_named, line_of, line_if, event_of, is_header}
-
-both_true : (a b : Bool) → a && b ≡ true → (a ≡ true) × (b ≡ true)
-both_true true b h = (refl, h)
-both_true false b h = cc
 
 is_header_two : (a b : List ℕ) → bytes_eq a (codes "events") && bytes_eq b (codes "1") ≡ true → a ∷ b ∷ [] ≡ header_words
 is_header_two a b h =

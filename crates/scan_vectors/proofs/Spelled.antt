@@ -4,6 +4,7 @@ use Rattle.std.specs.Prelude.{All}
 use Rattle.std.specs.List.{enumerate_from}
 use Rattle.std.proofs.lemmas.Bool.{ltb-false}
 use Rattle.std.proofs.lemmas.List.Elements.{All-nil, All-cons, All-head, All-tail}
+use Rattle.list_laws.proofs.Options.{or_else-parts}
 use Rattle.signal_values.specs.Values.{pin_sig_of}
 use Rattle.netlist_model.specs.declared.What.TheVariants as what
 use Rattle.scan_vectors.specs.declared.fault.EventFault.{EventFault}
@@ -44,10 +45,6 @@ record WrittenAs (k : ℕ) (rows : List (ℕ × List (List ℕ))) : Type 0 where
   letters : All HasLetter written
   few : k + length written ≤ 1000001
 
-or_else_none : {X : Type 0} (a b : Option X) → or_else a b ≡ None → (a ≡ None) × (b ≡ None)
-or_else_none None b h = (refl, h)
-or_else_none (Some x) b h = cc
-
 row_fits-if : (k n : ℕ) (o : Option Line) (t : Bool) → nat_lt 1000000 k ≡ t
     → cond (is_some o) (cond t (Some (fault.TooMany what.Lines 1000001 1000000)) None) (Some (fault.EventLine n)) ≡ None → (l : Line) × (o ≡ Some l) × (k ≤ 1000000)
 row_fits-if k n None t e h = cc
@@ -70,7 +67,7 @@ written_more k n words rows l has as' =
 written_from : (k : ℕ) (rows : List (ℕ × List (List ℕ))) → k ≤ 1000001 → first_in line_fault (enumerate_from k rows) ≡ None → WrittenAs k rows
 written_from k [] fits h = record { written = []; rows_are = refl; letters = All-nil HasLetter; few = omega arith }
 written_from k ((n, words) ∷ rows) fits h =
-    let both = or_else_none (line_fault (k, (n, words))) (first_in line_fault (enumerate_from (k + 1) rows)) h in
+    let both = or_else-parts (line_fault (k, (n, words))) (first_in line_fault (enumerate_from (k + 1) rows)) h in
     let row = row_fits k n words both.0 in
     written_more k n words rows row.0 (event_has_words words row.0 row.1) (written_from (k + 1) rows (let f : k ≤ 1000000 = row.2 in omega arith) both.1)
 

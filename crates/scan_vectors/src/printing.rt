@@ -21,7 +21,8 @@ fn act_word(act: Act) -> &'static [u8]
 }
 
 fn put_words(text: &mut Text, act: Act, pin: &Text, value: PinSig) -> Result<(), OutOfMemory>
-    ensures { OnOk result (text.new ≡ text.old ++ row_text (grammar.act_word act ∷ pin.now ∷ (show_byte value ∷ []) ∷ [])) }
+    ensures { OnOk result (text.new ≡ text.old
+        ++ row_text (grammar.act_word act ∷ pin.now ∷ (show_byte value ∷ []) ∷ [])) }
 {
     let letter = [show(value)];
     put_three(text, act_word(act), pin.as_bytes(), &letter)

@@ -77,7 +77,9 @@ impl Reader {
 
     fn read_header(&mut self, line: &[u8]) -> Result<(), EventFault>
         requires { self.old.begun ≡ false }
-        ensures read { (bytes : List ℕ) (rest : List (List ℕ)) → IsBefore bytes self.old.lines self.old.lines.end (line.now ∷ rest) → HasRead bytes self.new rest result }
+        ensures read { (bytes : List ℕ) (rest : List (List ℕ))
+            → IsBefore bytes self.old.lines self.old.lines.end (line.now ∷ rest)
+            → HasRead bytes self.new rest result }
         ensures end { self.new.lines.end ≡ self.old.lines.end }
     {
         match form_of(line) {
@@ -94,7 +96,9 @@ impl Reader {
 
     fn read_event(&mut self, alloc: Global, line: &[u8]) -> Result<(), EventFault>
         requires { self.old.begun ≡ true }
-        ensures read { (bytes : List ℕ) (rest : List (List ℕ)) → IsBehind bytes self.old.lines self.old.lines.end (line.now ∷ rest) → HasRead bytes self.new rest result }
+        ensures read { (bytes : List ℕ) (rest : List (List ℕ))
+            → IsBehind bytes self.old.lines self.old.lines.end (line.now ∷ rest)
+            → HasRead bytes self.new rest result }
         ensures end { OnOk result (self.new.lines.end ≡ self.old.lines.end) }
     {
         match form_of(line) {
@@ -108,7 +112,9 @@ impl Reader {
 
     /// Reads the next line; its number stays until the caller counts it.
     pub fn read_line(&mut self, alloc: Global, line: &[u8]) -> Result<(), EventFault>
-        ensures read { (bytes : List ℕ) (rest : List (List ℕ)) → IsReading bytes self.old.begun self.old.lines self.old.lines.end (line.now ∷ rest) → HasRead bytes self.new rest result }
+        ensures read { (bytes : List ℕ) (rest : List (List ℕ))
+            → IsReading bytes self.old.begun self.old.lines self.old.lines.end (line.now ∷ rest)
+            → HasRead bytes self.new rest result }
         ensures end { OnOk result (self.new.lines.end ≡ self.old.lines.end) }
     {
         if self.begun {

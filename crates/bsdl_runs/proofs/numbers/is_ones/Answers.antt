@@ -1,7 +1,7 @@
 use Rattle.std.proofs.Common.{◌≡◌, ℕ, ◌-◌, ◌<◌, ◌≤◌, ◌^◌, ◌==◌, Bool, true, false, refl, arith, eqb-true, leb-true}
 use Rattle.std.proofs.Math.Dec.{leb}
 use Rattle.std.proofs.Math.Pow.{pow_mono}
-use Rattle.bsdl_checks.proofs.instructions.is_ones.Goals as goal
+use Rattle.bsdl_runs.proofs.numbers.is_ones.Goals as goal
 
 too_long : (len value : ℕ) → value < 2 ^ 32 → 32 < len → leb len 32 ≡ value == 2 ^ len - 1
 too_long len value fits long = by (leb len 32) (value == 2 ^ len - 1) refl refl
