@@ -1,7 +1,7 @@
 -- Parts one behind another, as they were read or where one was at fault.
-use Rattle.std.proofs.Common.{◌≡◌, List, Option, Some, None, refl, ap, ◌∙◌, Result, Ok, Err, IsErrAnd}
+use Rattle.std.proofs.Common.{◌≡◌, List, Option, Some, None, ap, ◌∙◌, Result, Ok, Err, IsErrAnd}
 use Rattle.bsdl_lexicon.specs.declared.token.BsdlToken.{BsdlToken}
-use Rattle.bsdl_reading.specs.Readers.{Read, done, after, pair_at, skip_at, ended_at, marks_at}
+use Rattle.bsdl_reading.specs.Readers.{Read, done, after, skip_at, ended_at, marks_at}
 use Rattle.bsdl_files.specs.Parsing.{Gives, GivesAs}
 use Rattle.bsdl_files.specs.declared.fault.ParseFault.{ParseFault}
 use Rattle.bsdl_files.specs.declared.fault.ParseFault.TheVariants as fault
@@ -19,12 +19,6 @@ passed_on (Err fault.OutOfMemory) e left read all same h k = tt
 passed_on (Err fault.Syntax) fault.OutOfMemory left read all same h k = absurd (cc)
 passed_on (Err fault.Syntax) fault.Syntax left read all same h k = k h
 
-pub passed_on_as : {X Y Z : Type 0} (view : Y → Z) (result : Result Y ParseFault) (e : ParseFault) (left : List BsdlToken) (read : Read BsdlToken X) (all : Read BsdlToken Z) → IsErrAnd result (λ f. f ≡ e) → (let r : Result X ParseFault = Err e in Gives r left read) → (read ≡ (None, left) → all ≡ (None, left)) → GivesAs view result left all
-passed_on_as view (Ok y) e left read all same h k = absurd same
-passed_on_as view (Err fault.OutOfMemory) e left read all same h k = tt
-passed_on_as view (Err fault.Syntax) fault.OutOfMemory left read all same h k = absurd (cc)
-passed_on_as view (Err fault.Syntax) fault.Syntax left read all same h k = k h
-
 -- Marks, a part and marks again, where the last ones are at fault.
 pub closing_fault : {X : Type 0} (before behind : List (BsdlToken → Option (Unit {0}))) (one : List BsdlToken → Read BsdlToken X) (ws a b left : List BsdlToken) (u : Unit {0}) (x : X) → marks_at before ws ≡ (Some u, a) → one a ≡ (Some x, b) → marks_at behind b ≡ (None, left) → ended_at (skip_at before one) behind ws ≡ (None, left)
 closing_fault before behind one ws a b left u x h k m =
@@ -32,22 +26,7 @@ closing_fault before behind one ws a b left u x h k m =
     (then_read (marks_at before ws) (λ _ c. one c) u a (Some x, b) h k)
     (then_fault (marks_at behind b) (λ _ d. done x d) left m)
 
-pub pair_none : {X Y : Type 0} (first : List BsdlToken → Read BsdlToken X) (second : X → List BsdlToken → Read BsdlToken Y) (ws a left : List BsdlToken) (x : X) → first ws ≡ (Some x, a) → second x a ≡ (None, left) → pair_at first second ws ≡ (None, left)
-pair_none first second ws a left x h k = then_read (first ws) (λ y b. after (second y b) (λ z d. done (y, z) d)) x a (None, left) h (then_fault (second x a) (λ z d. done (x, z) d) left k)
-
-pub pair_some : {X Y : Type 0} (first : List BsdlToken → Read BsdlToken X) (second : X → List BsdlToken → Read BsdlToken Y) (ws a left : List BsdlToken) (x : X) (y : Y) → first ws ≡ (Some x, a) → second x a ≡ (Some y, left) → pair_at first second ws ≡ (Some (x, y), left)
-pair_some first second ws a left x y h k = then_read (first ws) (λ u b. after (second u b) (λ z d. done (u, z) d)) x a (Some (x, y), left) h (then_read (second x a) (λ z d. done (x, z) d) y left (Some (x, y), left) k refl)
-
-pub pair_fault : {X Y : Type 0} (first : List BsdlToken → Read BsdlToken X) (second : X → List BsdlToken → Read BsdlToken Y) (ws left : List BsdlToken) → first ws ≡ (None, left) → pair_at first second ws ≡ (None, left)
-pair_fault first second ws left h = then_fault (first ws) (λ y b. after (second y b) (λ z d. done (y, z) d)) left h
-
 -- The same, of a part that a view sees.
-pub seen_on : {U X Y Z : Type 0} (seen : U → X) (view : Y → Z) (result : Result Y ParseFault) (e : ParseFault) (left : List BsdlToken) (read : Read BsdlToken X) (all : Read BsdlToken Z) → IsErrAnd result (λ f. f ≡ e) → (let r : Result U ParseFault = Err e in GivesAs seen r left read) → (read ≡ (None, left) → all ≡ (None, left)) → GivesAs view result left all
-seen_on seen view (Ok y) e left read all same h k = absurd same
-seen_on seen view (Err fault.OutOfMemory) e left read all same h k = tt
-seen_on seen view (Err fault.Syntax) fault.OutOfMemory left read all same h k = absurd (cc)
-seen_on seen view (Err fault.Syntax) fault.Syntax left read all same h k = k h
-
 pub seen_whole : {U X Y : Type 0} (seen : U → X) (result : Result Y ParseFault) (e : ParseFault) (left : List BsdlToken) (read : Read BsdlToken X) (all : Read BsdlToken Y) → IsErrAnd result (λ f. f ≡ e) → (let r : Result U ParseFault = Err e in GivesAs seen r left read) → (read ≡ (None, left) → all ≡ (None, left)) → Gives result left all
 seen_whole seen (Ok y) e left read all same h k = absurd same
 seen_whole seen (Err fault.OutOfMemory) e left read all same h k = tt

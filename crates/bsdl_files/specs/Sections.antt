@@ -1,4 +1,4 @@
--- The sections of a file, and what follows from one of them on to the end, as the parser reads them.
+-- The sections of a file as the parser reads them, one by one and in groups.
 -- IEEE Std 1149.1-2001: the annex on BSDL; the one order of the sections is own.
 use Rattle.std.specs.Prelude.{ℕ, List, Option, codes}
 use Rattle.bsdl_lexicon.specs.declared.token.BsdlToken.{BsdlToken}
@@ -6,13 +6,14 @@ use Rattle.bsdl_device.specs.declared.values.Stop.{Stop}
 use Rattle.bsdl_device.specs.declared.written.PortDeclaration.{PortDeclaration}
 use Rattle.bsdl_device.specs.declared.written.IntegerAttribute.{IntegerAttribute}
 use Rattle.bsdl_device.specs.declared.written.StringAttribute.{StringAttribute}
+use Rattle.bsdl_device.specs.declared.written.TapNames.{TapNames}
 use Rattle.bsdl_device.specs.declared.written.File.{File}
-use Rattle.bsdl_reading.specs.Readers.{Read, pair_at, made_at}
+use Rattle.bsdl_reading.specs.Readers.{Read, done}
 use Rattle.bsdl_reading.specs.Files as files
+use Rattle.bsdl_files.specs.Parsing.{then}
 use Rattle.bsdl_files.specs.Rests as rests
 use Rattle.bsdl_files.specs.declared.sections.BoundarySections.{BoundarySections}
 use Rattle.bsdl_files.specs.declared.sections.InstructionSections.{InstructionSections}
-use Rattle.bsdl_files.specs.declared.sections.ClockSections.{ClockSections}
 use Rattle.bsdl_files.specs.declared.sections.ScanSections.{ScanSections}
 use Rattle.bsdl_files.specs.declared.sections.MappingSections.{MappingSections}
 
@@ -63,53 +64,78 @@ registers_at ws = files.registers_at ws
 unfoldable pub end_at : List BsdlToken → Read BsdlToken (List ℕ)
 end_at ws = files.end_section_at ws
 
--- From a section on to the end.
+-- Groups of sections, and the file.
 
-abbrev pub BoundaryParts : Type 0
-BoundaryParts = IntegerAttribute × (StringAttribute × (List ℕ))
+unfoldable pub mapping_at : List BsdlToken → Read BsdlToken MappingSections
+mapping_at ws =
+    then (conformance_at ws) (λ conformance_entity a.
+    then (pin_map_at a) (λ pin_map_entity b.
+    then (constant_at b) (λ constant d.
+    then (closed_strings_at d) (λ strings e.
+    done (record { conformance_entity = conformance_entity; pin_map_entity = pin_map_entity; «package» = constant; pin_map = strings }) e))))
 
-abbrev pub boundary_parts : BoundarySections → BoundaryParts
-boundary_parts s = (s.length, (s.rows, s.end))
+unfoldable pub tap_at : List BsdlToken → Read BsdlToken TapNames
+tap_at ws =
+    then (scan_port_at (codes "TAP_SCAN_IN") ws) (λ tdi a.
+    then (scan_port_at (codes "TAP_SCAN_MODE") a) (λ tms b.
+    then (scan_port_at (codes "TAP_SCAN_OUT") b) (λ tdo d.
+    then (scan_port_at (codes "TAP_SCAN_RESET") d) (λ trst e.
+    then (clock_port_at e) (λ tck f.
+    done (record { tdi = tdi; tms = tms; tdo = tdo; trst = trst; tck = tck }) f)))))
 
-unfoldable pub boundary_on : List BsdlToken → Read BsdlToken BoundaryParts
-boundary_on ws = pair_at (integer_attribute_at (codes "BOUNDARY_LENGTH")) (λ _ a. pair_at (string_attribute_at (codes "BOUNDARY_REGISTER")) (λ _ b. end_at b) a) ws
+unfoldable pub scan_at : List BsdlToken → Read BsdlToken ScanSections
+scan_at ws =
+    then (tap_at ws) (λ tap a.
+    then (frequency_at a) (λ clock b.
+    then (stop_at b) (λ stop d.
+    done (record { tap = tap; clock = clock; stop = stop }) d)))
 
-abbrev pub InstructionParts : Type 0
-InstructionParts = IntegerAttribute × (StringAttribute × (StringAttribute × ((Option StringAttribute × StringAttribute) × BoundaryParts)))
+unfoldable pub instruction_at : List BsdlToken → Read BsdlToken InstructionSections
+instruction_at ws =
+    then (integer_attribute_at (codes "INSTRUCTION_LENGTH") ws) (λ length a.
+    then (string_attribute_at (codes "INSTRUCTION_OPCODE") a) (λ opcodes b.
+    then (string_attribute_at (codes "INSTRUCTION_CAPTURE") b) (λ capture d.
+    done (record { length = length; opcodes = opcodes; capture = capture }) d)))
 
-abbrev pub instruction_parts : InstructionSections → InstructionParts
-instruction_parts s = (s.length, (s.opcodes, (s.capture, (rests.register_pair s.registers, boundary_parts s.boundary))))
+unfoldable pub boundary_at : List BsdlToken → Read BsdlToken BoundarySections
+boundary_at ws =
+    then (integer_attribute_at (codes "BOUNDARY_LENGTH") ws) (λ length a.
+    then (string_attribute_at (codes "BOUNDARY_REGISTER") a) (λ rows b.
+    then (end_at b) (λ end d.
+    done (record { length = length; rows = rows; end = end }) d)))
 
-unfoldable pub instruction_on : List BsdlToken → Read BsdlToken InstructionParts
-instruction_on ws = pair_at (integer_attribute_at (codes "INSTRUCTION_LENGTH")) (λ _ a. pair_at (string_attribute_at (codes "INSTRUCTION_OPCODE")) (λ _ b. pair_at (string_attribute_at (codes "INSTRUCTION_CAPTURE")) (λ _ d. pair_at registers_at (λ _ e. boundary_on e) d) b) a) ws
-
-abbrev pub ClockParts : Type 0
-ClockParts = (List ℕ) × ((List ℕ) × (Stop × InstructionParts))
-
-abbrev pub clock_parts : ClockSections → ClockParts
-clock_parts s = (s.port, (s.frequency, (s.stop, instruction_parts s.instruction)))
-
-unfoldable pub clock_on : List BsdlToken → Read BsdlToken ClockParts
-clock_on ws = pair_at clock_port_at (λ _ a. pair_at frequency_at (λ _ b. pair_at stop_at (λ _ d. instruction_on d) b) a) ws
-
-abbrev pub ScanParts : Type 0
-ScanParts = (List ℕ) × ((List ℕ) × ((List ℕ) × ((List ℕ) × ClockParts)))
-
-abbrev pub scan_parts : ScanSections → ScanParts
-scan_parts s = (s.tdi, (s.tms, (s.tdo, (s.trst, clock_parts s.clock))))
-
-unfoldable pub scan_on : List BsdlToken → Read BsdlToken ScanParts
-scan_on ws = pair_at (scan_port_at (codes "TAP_SCAN_IN")) (λ _ a. pair_at (scan_port_at (codes "TAP_SCAN_MODE")) (λ _ b. pair_at (scan_port_at (codes "TAP_SCAN_OUT")) (λ _ d. pair_at (scan_port_at (codes "TAP_SCAN_RESET")) (λ _ e. clock_on e) d) b) a) ws
-
-abbrev pub MappingParts : Type 0
-MappingParts = (List ℕ) × ((List ℕ) × ((List ℕ) × ((List (List ℕ)) × ScanParts)))
-
-abbrev pub mapping_parts : MappingSections → MappingParts
-mapping_parts s = (s.conformance_entity, (s.pin_map_entity, (s.«package», (s.pin_map, scan_parts s.scan))))
-
-unfoldable pub mapping_on : List BsdlToken → Read BsdlToken MappingParts
-mapping_on ws = pair_at conformance_at (λ _ a. pair_at pin_map_at (λ _ b. pair_at constant_at (λ _ d. pair_at closed_strings_at (λ _ e. scan_on e) d) b) a) ws
+-- the file of its sections
+abbrev pub assembled : List ℕ → List ℕ → List PortDeclaration → MappingSections → ScanSections → InstructionSections → Option StringAttribute × StringAttribute → BoundarySections → File
+assembled entity default_package declarations mapping scan instruction registers boundary = record {
+  entity = entity;
+  default_package = default_package;
+  declarations = declarations;
+  conformance_entity = mapping.conformance_entity;
+  pin_map_entity = mapping.pin_map_entity;
+  «package» = mapping.«package»;
+  pin_map = mapping.pin_map;
+  tap = scan.tap;
+  clock = scan.clock;
+  stop = scan.stop;
+  length = instruction.length;
+  opcodes = instruction.opcodes;
+  capture = instruction.capture;
+  idcode = registers.0;
+  access = registers.1;
+  boundary_length = boundary.length;
+  boundary = boundary.rows;
+  end = boundary.end;
+}
 
 -- a whole file, and perhaps more
 unfoldable pub sections_at : List BsdlToken → Read BsdlToken File
-sections_at ws = made_at files.file_of (pair_at entity_at (λ _ a. pair_at generic_at (λ _ b. pair_at ports_at (λ _ d. mapping_on d) b) a)) ws
+sections_at ws =
+    then (entity_at ws) (λ entity a.
+    then (generic_at a) (λ default_package b.
+    then (ports_at b) (λ declarations d.
+    then (mapping_at d) (λ mapping e.
+    then (scan_at e) (λ scan f.
+    then (instruction_at f) (λ instruction g.
+    then (registers_at g) (λ registers h.
+    then (boundary_at h) (λ boundary i.
+    done (assembled entity default_package declarations mapping scan instruction registers boundary) i))))))))

@@ -81,7 +81,8 @@ pub fn name_between(
     before: &[Mark],
     behind: &[Mark],
 ) -> Result<Text, ParseFault>
-    ensures { Gives result reader.new (ended_at (skip_at (views (patterns before.now)) name_at) (views (patterns behind.now)) reader.old) }
+    ensures { Gives result reader.new (ended_at (skip_at (views (patterns before.now)) name_at)
+        (views (patterns behind.now)) reader.old) }
 {
     marks(reader, before)?;
     let name = name(alloc, reader)?;

@@ -1,64 +1,48 @@
-ghost use Rattle.std.specs.Prelude.{◌≡◌};
-ghost use Rattle.bsdl_files.specs.Parsing.{Gives, GivesAs};
-ghost use Rattle.bsdl_files.specs.Sections.{entity_at, generic_at, conformance_at, pin_map_at, constant_at, end_at, boundary_parts, boundary_on, instruction_parts, instruction_on, clock_parts, clock_on, scan_parts, scan_on, mapping_parts, mapping_on, sections_at};
-ghost use Rattle.bsdl_files.specs.Assembled.{assembled};
+ghost use Rattle.bsdl_files.specs.Parsing.{Gives};
+ghost use Rattle.bsdl_files.specs.Sections.{entity_at, generic_at, conformance_at, pin_map_at, constant_at, end_at, mapping_at, tap_at, scan_at, instruction_at, boundary_at, sections_at};
 
-use crate::attributes::{RegisterAttributes, integer_attribute, registers, string_attribute};
+use crate::attributes::{integer_attribute, registers, string_attribute};
 use crate::fault::ParseFault;
 use crate::marks::{Mark, marks};
 use crate::parts::{closed_strings, name_between, string};
 use crate::ports::port_section;
 use crate::scan::{clock_port, frequency, scan_port, stop};
-use bsdl_device::{File, IntegerAttribute, PortDeclaration, Stop, StringAttribute, TapNames};
+use bsdl_device::{File, IntegerAttribute, Stop, StringAttribute, TapNames};
 use bsdl_lexicon::{BsdlReader, BsdlSymbol};
 use edge_io::{Row, Text};
 use std::alloc::Global;
 
-/// The sections from the boundary register's length on.
-#[derive(Drop)]
-struct BoundarySections {
-    length: IntegerAttribute,
-    rows: StringAttribute,
-    end: Text,
-}
-
-/// The sections from the instruction register's length on.
-#[derive(Drop)]
-struct InstructionSections {
-    length: IntegerAttribute,
-    opcodes: StringAttribute,
-    capture: StringAttribute,
-    registers: RegisterAttributes,
-    boundary: BoundarySections,
-}
-
-/// The sections from the scan port's clock on.
-#[derive(Drop)]
-struct ClockSections {
-    port: Text,
-    frequency: Text,
-    stop: Stop,
-    instruction: InstructionSections,
-}
-
-/// The sections from the scan port on.
-#[derive(Drop)]
-struct ScanSections {
-    tdi: Text,
-    tms: Text,
-    tdo: Text,
-    trst: Text,
-    clock: ClockSections,
-}
-
-/// The sections behind the ports.
+/// The map from ports to pins, and what stands before it.
 #[derive(Drop)]
 struct MappingSections {
     conformance_entity: Text,
     pin_map_entity: Text,
     package: Text,
     pin_map: Row<Text>,
-    scan: ScanSections,
+}
+
+/// The scan port, and how fast its clock is and where it may stop.
+#[derive(Drop)]
+struct ScanSections {
+    tap: TapNames,
+    clock: Text,
+    stop: Stop,
+}
+
+/// The instruction register.
+#[derive(Drop)]
+struct InstructionSections {
+    length: IntegerAttribute,
+    opcodes: StringAttribute,
+    capture: StringAttribute,
+}
+
+/// The boundary register, and the file's end.
+#[derive(Drop)]
+struct BoundarySections {
+    length: IntegerAttribute,
+    rows: StringAttribute,
+    end: Text,
 }
 
 #[tactic(auto, unfolding(crate::specs::Sections::entity_at))]
@@ -174,9 +158,67 @@ fn end_section(alloc: Global, reader: &mut BsdlReader) -> Result<Text, ParseFaul
     )
 }
 
-#[tactic(auto, unfolding(crate::specs::Sections::boundary_on))]
-fn boundary_sections(alloc: Global, reader: &mut BsdlReader) -> Result<BoundarySections, ParseFault>
-    ensures { GivesAs boundary_parts result reader.new (boundary_on reader.old) }
+#[tactic(auto, unfolding(crate::specs::Sections::mapping_at, crate::specs::Parsing::then))]
+fn mapping(alloc: Global, reader: &mut BsdlReader) -> Result<MappingSections, ParseFault>
+    ensures { Gives result reader.new (mapping_at reader.old) }
+{
+    let conformance_entity = conformance_section(alloc, reader)?;
+    let pin_map_entity = pin_map_section(alloc, reader)?;
+    let package = constant(alloc, reader)?;
+    let pin_map = closed_strings(alloc, reader)?;
+    Ok(MappingSections {
+        conformance_entity,
+        pin_map_entity,
+        package,
+        pin_map,
+    })
+}
+
+#[tactic(auto, unfolding(crate::specs::Sections::tap_at, crate::specs::Parsing::then))]
+fn tap(alloc: Global, reader: &mut BsdlReader) -> Result<TapNames, ParseFault>
+    ensures { Gives result reader.new (tap_at reader.old) }
+{
+    let tdi = scan_port(alloc, reader, b"TAP_SCAN_IN")?;
+    let tms = scan_port(alloc, reader, b"TAP_SCAN_MODE")?;
+    let tdo = scan_port(alloc, reader, b"TAP_SCAN_OUT")?;
+    let trst = scan_port(alloc, reader, b"TAP_SCAN_RESET")?;
+    let tck = clock_port(alloc, reader)?;
+    Ok(TapNames {
+        tdi,
+        tms,
+        tdo,
+        trst,
+        tck,
+    })
+}
+
+#[tactic(auto, unfolding(crate::specs::Sections::scan_at, crate::specs::Parsing::then))]
+fn scan(alloc: Global, reader: &mut BsdlReader) -> Result<ScanSections, ParseFault>
+    ensures { Gives result reader.new (scan_at reader.old) }
+{
+    let tap = tap(alloc, reader)?;
+    let clock = frequency(alloc, reader)?;
+    let stop = stop(reader)?;
+    Ok(ScanSections { tap, clock, stop })
+}
+
+#[tactic(auto, unfolding(crate::specs::Sections::instruction_at, crate::specs::Parsing::then))]
+fn instruction(alloc: Global, reader: &mut BsdlReader) -> Result<InstructionSections, ParseFault>
+    ensures { Gives result reader.new (instruction_at reader.old) }
+{
+    let length = integer_attribute(alloc, reader, b"INSTRUCTION_LENGTH")?;
+    let opcodes = string_attribute(alloc, reader, b"INSTRUCTION_OPCODE")?;
+    let capture = string_attribute(alloc, reader, b"INSTRUCTION_CAPTURE")?;
+    Ok(InstructionSections {
+        length,
+        opcodes,
+        capture,
+    })
+}
+
+#[tactic(auto, unfolding(crate::specs::Sections::boundary_at, crate::specs::Parsing::then))]
+fn boundary(alloc: Global, reader: &mut BsdlReader) -> Result<BoundarySections, ParseFault>
+    ensures { Gives result reader.new (boundary_at reader.old) }
 {
     let length = integer_attribute(alloc, reader, b"BOUNDARY_LENGTH")?;
     let rows = string_attribute(alloc, reader, b"BOUNDARY_REGISTER")?;
@@ -184,150 +226,37 @@ fn boundary_sections(alloc: Global, reader: &mut BsdlReader) -> Result<BoundaryS
     Ok(BoundarySections { length, rows, end })
 }
 
-#[tactic(auto, unfolding(crate::specs::Sections::instruction_on))]
-fn instruction_sections(
-    alloc: Global,
-    reader: &mut BsdlReader,
-) -> Result<InstructionSections, ParseFault>
-    ensures { GivesAs instruction_parts result reader.new (instruction_on reader.old) }
-{
-    let length = integer_attribute(alloc, reader, b"INSTRUCTION_LENGTH")?;
-    let opcodes = string_attribute(alloc, reader, b"INSTRUCTION_OPCODE")?;
-    let capture = string_attribute(alloc, reader, b"INSTRUCTION_CAPTURE")?;
-    let registers = registers(alloc, reader)?;
-    let boundary = boundary_sections(alloc, reader)?;
-    Ok(InstructionSections {
-        length,
-        opcodes,
-        capture,
-        registers,
-        boundary,
-    })
-}
-
-#[tactic(auto, unfolding(crate::specs::Sections::clock_on))]
-fn clock_sections(alloc: Global, reader: &mut BsdlReader) -> Result<ClockSections, ParseFault>
-    ensures { GivesAs clock_parts result reader.new (clock_on reader.old) }
-{
-    let port = clock_port(alloc, reader)?;
-    let frequency = frequency(alloc, reader)?;
-    let stop = stop(reader)?;
-    let instruction = instruction_sections(alloc, reader)?;
-    Ok(ClockSections {
-        port,
-        frequency,
-        stop,
-        instruction,
-    })
-}
-
-#[tactic(auto, unfolding(crate::specs::Sections::scan_on))]
-fn scan_sections(alloc: Global, reader: &mut BsdlReader) -> Result<ScanSections, ParseFault>
-    ensures { GivesAs scan_parts result reader.new (scan_on reader.old) }
-{
-    let tdi = scan_port(alloc, reader, b"TAP_SCAN_IN")?;
-    let tms = scan_port(alloc, reader, b"TAP_SCAN_MODE")?;
-    let tdo = scan_port(alloc, reader, b"TAP_SCAN_OUT")?;
-    let trst = scan_port(alloc, reader, b"TAP_SCAN_RESET")?;
-    let clock = clock_sections(alloc, reader)?;
-    Ok(ScanSections {
-        tdi,
-        tms,
-        tdo,
-        trst,
-        clock,
-    })
-}
-
-#[tactic(auto, unfolding(crate::specs::Sections::mapping_on))]
-fn mapping_sections(alloc: Global, reader: &mut BsdlReader) -> Result<MappingSections, ParseFault>
-    ensures { GivesAs mapping_parts result reader.new (mapping_on reader.old) }
-{
-    let conformance_entity = conformance_section(alloc, reader)?;
-    let pin_map_entity = pin_map_section(alloc, reader)?;
-    let package = constant(alloc, reader)?;
-    let pin_map = closed_strings(alloc, reader)?;
-    let scan = scan_sections(alloc, reader)?;
-    Ok(MappingSections {
-        conformance_entity,
-        pin_map_entity,
-        package,
-        pin_map,
-        scan,
-    })
-}
-
-// The file of its sections.
-fn assemble(
-    entity: Text,
-    default_package: Text,
-    declarations: Row<PortDeclaration>,
-    mapping: MappingSections,
-) -> File
-    ensures { result ≡ assembled entity default_package declarations mapping }
-{
-    let MappingSections {
-        conformance_entity,
-        pin_map_entity,
-        package,
-        pin_map,
-        scan,
-    } = mapping;
-    let ScanSections {
-        tdi,
-        tms,
-        tdo,
-        trst,
-        clock: ClockSections {
-            port: tck,
-            frequency: clock,
-            stop,
-            instruction,
-        },
-    } = scan;
-    let InstructionSections {
-        length,
-        opcodes,
-        capture,
-        registers: RegisterAttributes { idcode, access },
-        boundary,
-    } = instruction;
-    File {
-        entity,
-        default_package,
-        declarations,
-        conformance_entity,
-        pin_map_entity,
-        package,
-        pin_map,
-        tap: TapNames {
-            tdi,
-            tms,
-            tdo,
-            trst,
-            tck,
-        },
-        clock,
-        stop,
-        length,
-        opcodes,
-        capture,
-        idcode,
-        access,
-        boundary_length: boundary.length,
-        boundary: boundary.rows,
-        end: boundary.end,
-    }
-}
-
 /// The file of the words from here on; the reader then stands behind it, or where the fault is.
-#[tactic(auto, unfolding(crate::specs::Sections::sections_at))]
+#[tactic(auto, unfolding(crate::specs::Sections::sections_at, crate::specs::Parsing::then))]
 pub fn file(alloc: Global, reader: &mut BsdlReader) -> Result<File, ParseFault>
     ensures { Gives result reader.new (sections_at reader.old) }
 {
     let entity = entity_section(alloc, reader)?;
     let default_package = generic_section(alloc, reader)?;
     let declarations = port_section(alloc, reader)?;
-    let mapping = mapping_sections(alloc, reader)?;
-    Ok(assemble(entity, default_package, declarations, mapping))
+    let mapping = mapping(alloc, reader)?;
+    let scan = scan(alloc, reader)?;
+    let instruction = instruction(alloc, reader)?;
+    let registers = registers(alloc, reader)?;
+    let boundary = boundary(alloc, reader)?;
+    Ok(File {
+        entity,
+        default_package,
+        declarations,
+        conformance_entity: mapping.conformance_entity,
+        pin_map_entity: mapping.pin_map_entity,
+        package: mapping.package,
+        pin_map: mapping.pin_map,
+        tap: scan.tap,
+        clock: scan.clock,
+        stop: scan.stop,
+        length: instruction.length,
+        opcodes: instruction.opcodes,
+        capture: instruction.capture,
+        idcode: registers.idcode,
+        access: registers.access,
+        boundary_length: boundary.length,
+        boundary: boundary.rows,
+        end: boundary.end,
+    })
 }
