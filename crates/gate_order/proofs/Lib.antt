@@ -3,3 +3,5 @@ pub mod WalkRecords
 pub mod Rows
 pub mod Acyclic
 pub mod Orders
+pub mod Forward
+pub mod Backward

@@ -91,7 +91,8 @@ fn are_below(row: &[u32], bound: usize) -> bool
 
 // Adds a row at the end; where memory is refused, nothing is added.
 fn push_row(items: &mut Vec<u32>, ends: &mut Vec<usize>, row: &[u32]) -> Result<(), OutOfMemory>
-    ensures ok { OnOk result ((items.new.items ≡ items.old.items ++ row.now) × (ends.new.items ≡ ends.old.items ++ length (items.old.items ++ row.now) ∷ [])) }
+    ensures ok { OnOk result ((items.new.items ≡ items.old.items ++ row.now)
+        × (ends.new.items ≡ ends.old.items ++ length (items.old.items ++ row.now) ∷ [])) }
     ensures err { OnErr result ((items.new.items ≡ items.old.items) × (ends.new.items ≡ ends.old.items)) }
 {
     let start = items.len();

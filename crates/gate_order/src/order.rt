@@ -33,7 +33,8 @@ fn visit(alloc: Global, graph: &Graph, walk: &mut Walk, root: u32) -> Result<(),
     requires walk { Walks graph.now walk.old }
     requires ready { walk.old.path.items ≡ [] }
     requires root { root < length graph.now }
-    ensures ok { OnOk result (Walks graph.now walk.new × (walk.new.path.items ≡ []) × KeepsSeen walk.old walk.new × (state walk.new.states.items root ≢ State.Unseen)) }
+    ensures ok { OnOk result (Walks graph.now walk.new × (walk.new.path.items ≡ [])
+        × KeepsSeen walk.old walk.new × (state walk.new.states.items root ≢ State.Unseen)) }
     ensures fault { IfErr result (λ fault. NamesCycle graph.now fault) }
 {
     begin(graph, walk, root)?;
@@ -51,7 +52,8 @@ fn begin(graph: &Graph, walk: &mut Walk, root: u32) -> Result<(), OutOfMemory>
     requires walk { Walks graph.now walk.old }
     requires ready { walk.old.path.items ≡ [] }
     requires root { root < length graph.now }
-    ensures { OnOk result (Walks graph.now walk.new × KeepsSeen walk.old walk.new × (state walk.new.states.items root ≢ State.Unseen)) }
+    ensures { OnOk result (Walks graph.now walk.new × KeepsSeen walk.old walk.new
+        × (state walk.new.states.items root ≢ State.Unseen)) }
 {
     match state_at(walk.states.as_slice(), root) {
         State::Unseen => {

@@ -32,8 +32,11 @@ impl Walk {
     /// A search that has seen nothing.
     pub fn new(alloc: Global, graph: &Graph) -> Result<Walk, OutOfMemory>
         requires { length graph.now ≤ 2 ^ 32 }
-        ensures { IfOk result (λ w. (w.states.items ≡ replicate (length graph.now) State.Unseen) × (w.path.items ≡ []) × (w.order.items ≡ [])
-            × (length w.left.items ≡ length graph.now) × ((v : ℕ) → v < length graph.now → slice_index w.left.items v ≡ length (reads_of graph.now v))) }
+        ensures { IfOk result (λ w. (w.states.items ≡ replicate (length graph.now) State.Unseen)
+            × (w.path.items ≡ []) × (w.order.items ≡ [])
+            × (length w.left.items ≡ length graph.now)
+            × ((v : ℕ) → v < length graph.now → slice_index w.left.items v
+            ≡ length (reads_of graph.now v))) }
     {
         let states = vec![in alloc; State::Unseen; graph.count()]?;
         let mut left = Vec::new(alloc);
@@ -51,7 +54,8 @@ impl Walk {
     /// Puts an unseen vertex at the end of the path.
     pub fn enter(&mut self, vertex: u32) -> Result<(), OutOfMemory>
         requires { vertex < length self.old.states.items }
-        ensures { OnOk result ((self.new.states.items ≡ slice_set self.old.states.items vertex (State.OnPath (length self.old.path.items)))
+        ensures { OnOk result ((self.new.states.items
+            ≡ slice_set self.old.states.items vertex (State.OnPath (length self.old.path.items)))
             × (self.new.path.items ≡ self.old.path.items ++ vertex ∷ [])
             × (self.new.left.items ≡ self.old.left.items)
             × (self.new.order.items ≡ self.old.order.items)) }
@@ -65,7 +69,8 @@ impl Walk {
     /// Takes the last vertex off the path and puts it at the end of the order.
     fn finish(&mut self, vertex: u32) -> Result<(), OutOfMemory>
         requires { vertex < length self.old.states.items }
-        ensures { OnOk result ((self.new.states.items ≡ slice_set self.old.states.items vertex (State.Placed (length self.old.order.items)))
+        ensures { OnOk result ((self.new.states.items
+            ≡ slice_set self.old.states.items vertex (State.Placed (length self.old.order.items)))
             × (self.new.path.items ≡ take (length self.old.path.items - 1) self.old.path.items)
             × (self.new.left.items ≡ self.old.left.items)
             × (self.new.order.items ≡ self.old.order.items ++ vertex ∷ [])) }
@@ -86,7 +91,8 @@ impl Walk {
             ((Walks graph.now self.new) × (steps_of self.new < steps_of self.old) × KeepsSeen self.old self.new)
             (λ place. (self.new.path.items ≡ self.old.path.items)
             × (place < length self.old.path.items)
-            × Contains (reads_of graph.now (slice_index self.old.path.items (length self.old.path.items - 1))) (slice_index self.old.path.items place)
+            × Contains (reads_of graph.now (slice_index self.old.path.items
+            (length self.old.path.items - 1))) (slice_index self.old.path.items place)
             × (Walks graph.now self.new))) }
     {
         let v = self.path[self.path.len() - 1];

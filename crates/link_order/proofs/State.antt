@@ -10,7 +10,7 @@ use Rattle.cell_library.specs.Gates.{is_flop}
 use Rattle.netlist_model.specs.declared.NetId.{NetId}
 use Rattle.netlist_model.specs.declared.Dir.{Dir}
 use Rattle.netlist_model.specs.declared.Dir.TheVariants.{Input, Output, Inout}
-use Rattle.net_cones.specs.Cone.{Marked, ConeHolds}
+use Rattle.gate_order.specs.Cone.{Marked, ConeHolds}
 use Rattle.link_model.specs.Nets.{NamedNet}
 use Rattle.link_model.specs.Cells.{NamedCell}
 use Rattle.link_model.specs.Faults.{is_inout}

@@ -1,5 +1,5 @@
 ghost use Rattle.std.specs.Prelude.{◌≡◌, ◌↔◌, ℕ, ◌<◌, None, Some, true, length, map, MatchOption, IfOk};
-ghost use Rattle.net_cones.specs.Cone.{Marked};
+ghost use Rattle.gate_order.specs.Cone.{Marked};
 ghost use Rattle.link_model.specs.Fits.{FitCells, FitsCell};
 ghost use Rattle.link_model.specs.Nets.{declared_nets, declared_names, nets_in};
 ghost use Rattle.link_model.specs.Faults.{bit_name, cells_in, text_fault};
@@ -15,8 +15,8 @@ use crate::drivers::operand_net;
 use crate::order::CellOrder;
 use cell_library::{PortPlace, is_flop, port_of};
 use edge_io::{OutOfMemory, Row, Text};
+use gate_order::cones_holding;
 use link_model::{ItemCell, LinkFault, NetBit, is_inout};
-use net_cones::cones_holding;
 use std::alloc::Global;
 use verilog_tree::{Item, Link, Module};
 
@@ -54,8 +54,10 @@ fn first_derived(
     requires fits { FitCells (length nets.now) cells.now }
     requires text { text_fault tree.now ≡ None }
     requires drivers { length drivers.now ≡ length nets.now }
-    requires found { (net number : ℕ) → driver_in drivers.now net ≡ Some number → number < length found.now }
-    requires derived { (net : ℕ) → (is_found_net drivers.now found.now net ≡ true) ↔ IsDerived nets.now cells.now net }
+    requires found { (net number : ℕ) → driver_in drivers.now net ≡ Some number
+        → number < length found.now }
+    requires derived { (net : ℕ) → (is_found_net drivers.now found.now net ≡ true)
+        ↔ IsDerived nets.now cells.now net }
     ensures { IfOk result (λ fault. MatchOption fault (HasNoDerived tree.now) (IsDerivedFault tree.now)) }
 {
     for (number, item) in tree.items.as_slice().iter().enumerate() {
@@ -88,7 +90,8 @@ fn cones_of_state(
     requires drivers { HasItsDrivers nets.now cells.now }
     requires order { AreOrdered (length nets.now) cells.now order.now }
     ensures length { IfOk result (λ found. length found ≡ length cells.now) }
-    ensures derived { IfOk result (λ found. (net : ℕ) → (is_found_net order.now.drivers found net ≡ true) ↔ IsDerived nets.now cells.now net) }
+    ensures derived { IfOk result (λ found. (net : ℕ) → (is_found_net order.now.drivers found net ≡ true)
+        ↔ IsDerived nets.now cells.now net) }
 {
     let marks = state_cells(alloc, nets, cells)?;
     cones_holding(alloc, order.graph(), order.numbers(), marks.as_slice())
@@ -125,7 +128,8 @@ fn first_found(
     links: &[Link],
 ) -> Option<u32>
     requires fits { FitsCell (length drivers.now) cell.now }
-    requires found { (net number : ℕ) → driver_in drivers.now net ≡ Some number → number < length found.now }
+    requires found { (net number : ℕ) → driver_in drivers.now net ≡ Some number
+        → number < length found.now }
     ensures { result ≡ first_in (found_link drivers.now found.now cell.now) links.now }
 {
     for link in links {

@@ -1,10 +1,10 @@
 use Rattle.std.proofs.Common.{◌≡◌, ◌<◌, ◌+◌, ◌-◌, ℕ, arith, rules, length, sym, subst, ap, ◌∙◌, slice_index, slice_index_or, false, true}
 use Rattle.std.proofs.lemmas.List.{get_or_default, with_items_is, places}
 use Rattle.gate_order.specs.Graph.{reads_of}
-use Rattle.net_cones.specs.Marks.{mark_all}
-use Rattle.net_cones.proofs.Backward.{IsSpread, spread_start, spread_past, spread_more, spread_iff}
-use Rattle.net_cones.proofs.spread.in_cones_of.Goals as goal
-use Rattle.net_cones.proofs.spread.in_cones_of.Goals.{then-index, else-index}
+use Rattle.gate_order.specs.Marks.{mark_all}
+use Rattle.gate_order.proofs.Backward.{IsSpread, spread_start, spread_past, spread_more, spread_iff}
+use Rattle.gate_order.proofs.spread.in_cones_of.Goals as goal
+use Rattle.gate_order.proofs.spread.in_cones_of.Goals.{then-index, else-index}
 
 pub loop-passed-init : goal.loop-passed-init
 loop-passed-init c =

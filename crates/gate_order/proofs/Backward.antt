@@ -5,8 +5,8 @@ use Rattle.std.proofs.lemmas.Bool.Decides.{eqb_tells}
 use Rattle.list_laws.proofs.Marks.{length-mark_all, mark_all-keeps, mark_all-marks, mark_all-only, marked_inside}
 use Rattle.gate_order.specs.Graph.{reads_of, IsGraph, IsOrder}
 use Rattle.gate_order.specs.Laws.{ReadsStandEarlier}
-use Rattle.net_cones.specs.Cone.{InCone, top, back, Marked, InConeOf}
-use Rattle.net_cones.specs.Marks.{mark_all}
+use Rattle.gate_order.specs.Cone.{InCone, top, back, Marked, InConeOf}
+use Rattle.gate_order.specs.Marks.{mark_all}
 
 -- of the vertices that stand in the order from i on, what they read is marked where they are
 pub record IsSpread (graph : List (List ℕ)) (order : List ℕ) (roots inside : List Bool) (i : ℕ) : Type 0 where

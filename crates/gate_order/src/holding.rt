@@ -1,10 +1,10 @@
 ghost use Rattle.std.specs.Prelude.{◌≡◌, ◌↔◌, ◌⊎◌, ℕ, ◌<◌, length, IfOk, MatchBool};
 ghost use Rattle.gate_order.specs.Graph.{AllBelow, IsGraph, IsOrder, reads_of};
-ghost use Rattle.net_cones.specs.Cone.{ConeHolds, Marked};
-ghost use Rattle.net_cones.specs.Marks.{SomeMarked};
+ghost use Rattle.gate_order.specs.Cone.{ConeHolds, Marked};
+ghost use Rattle.gate_order.specs.Marks.{SomeMarked};
 
+use crate::Graph;
 use edge_io::{OutOfMemory, Row};
-use gate_order::Graph;
 use std::alloc::Global;
 
 /// Of each vertex, whether its cone holds a marked one: a forward pass over an order of the graph, linear in
@@ -19,7 +19,8 @@ pub fn cones_holding(
     requires order { IsOrder graph.now order.now }
     requires marks { length marks.now ≡ length graph.now }
     ensures length { IfOk result (λ found. length found ≡ length graph.now) }
-    ensures cones { IfOk result (λ found. (v : ℕ) → v < length graph.now → Marked found v ↔ ConeHolds graph.now marks.now v) }
+    ensures cones { IfOk result (λ found. (v : ℕ) → v < length graph.now → Marked found v
+        ↔ ConeHolds graph.now marks.now v) }
 {
     let mut found = vec![in alloc; false; graph.count()]?;
     for vertex in order {
@@ -36,7 +37,9 @@ fn holds(graph: &Graph, marks: &[bool], found: &[bool], vertex: u32) -> bool
     requires vertex { vertex < length graph.now }
     requires marks { length marks.now ≡ length graph.now }
     requires found { length found.now ≡ length graph.now }
-    ensures { MatchBool result (Marked marks.now vertex ⊎ SomeMarked found.now (reads_of graph.now vertex)) ((Marked marks.now vertex → ⊥) × (SomeMarked found.now (reads_of graph.now vertex) → ⊥)) }
+    ensures { MatchBool result (Marked marks.now vertex ⊎ SomeMarked found.now
+        (reads_of graph.now vertex)) ((Marked marks.now vertex → ⊥)
+        × (SomeMarked found.now (reads_of graph.now vertex) → ⊥)) }
 {
     marks[vertex as usize] || is_any_marked(found, graph.reads(vertex))
 }
@@ -44,7 +47,8 @@ fn holds(graph: &Graph, marks: &[bool], found: &[bool], vertex: u32) -> bool
 // Whether one of these vertices is marked.
 fn is_any_marked(marks: &[bool], vertices: &[u32]) -> bool
     requires { AllBelow vertices.now (length marks.now) }
-    ensures { MatchBool result (SomeMarked marks.now vertices.now) (SomeMarked marks.now vertices.now → ⊥) }
+    ensures { MatchBool result (SomeMarked marks.now vertices.now) (SomeMarked marks.now vertices.now
+        → ⊥) }
 {
     for vertex in vertices {
         if marks[*vertex as usize] {

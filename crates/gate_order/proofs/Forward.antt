@@ -5,8 +5,8 @@ use Rattle.std.proofs.lemmas.Bool.Decides.{eqb_tells, leb_tells}
 use Rattle.std.specs.Bool.{MatchBool}
 use Rattle.list_laws.proofs.Lists.{at_set}
 use Rattle.gate_order.specs.Graph.{reads_of, IsGraph, IsOrder}
-use Rattle.net_cones.specs.Cone.{InCone, top, back, Marked, ConeHolds}
-use Rattle.net_cones.specs.Marks.{SomeMarked}
+use Rattle.gate_order.specs.Cone.{InCone, top, back, Marked, ConeHolds}
+use Rattle.gate_order.specs.Marks.{SomeMarked}
 
 -- what one that the vertex reads has in its cone, the vertex has
 cone_step : (graph : List (List ℕ)) (v w u : ℕ) → Contains (reads_of graph v) w → InCone graph w u → InCone graph v u

@@ -1,7 +1,7 @@
 use Rattle.std.proofs.Common.{◌≡◌, refl, arith, length, replicate, false}
 use Rattle.std.proofs.lemmas.Grind.{common_steps}
-use Rattle.net_cones.proofs.Forward.{found_more, found_none, found_iff}
-use Rattle.net_cones.proofs.holding.cones_holding.Goals as goal
+use Rattle.gate_order.proofs.Forward.{found_more, found_none, found_iff}
+use Rattle.gate_order.proofs.holding.cones_holding.Goals as goal
 
 pub loop-vertex-init : goal.loop-vertex-init
 loop-vertex-init c =

@@ -1,7 +1,7 @@
 -- One step of each pass (own).
 use Rattle.std.specs.Prelude.{ℕ, List, Bool, Contains}
 pub use Rattle.list_laws.specs.Marks.{mark_all}
-use Rattle.net_cones.specs.Cone.{Marked}
+use Rattle.gate_order.specs.Cone.{Marked}
 
 -- one of these vertices is marked
 pub record SomeMarked (marks : List Bool) (vertices : List ℕ) : Type 0 where

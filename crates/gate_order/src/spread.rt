@@ -1,10 +1,10 @@
 ghost use Rattle.std.specs.Prelude.{◌≡◌, ◌↔◌, ℕ, ◌<◌, length, IfOk};
 ghost use Rattle.gate_order.specs.Graph.{AllBelow, IsGraph, IsOrder};
-ghost use Rattle.net_cones.specs.Cone.{InConeOf, Marked};
-ghost use Rattle.net_cones.specs.Marks.{mark_all};
+ghost use Rattle.gate_order.specs.Cone.{InConeOf, Marked};
+ghost use Rattle.gate_order.specs.Marks.{mark_all};
 
+use crate::{Graph, reads_stand_earlier};
 use edge_io::{OutOfMemory, Row};
-use gate_order::{Graph, reads_stand_earlier};
 use std::alloc::Global;
 
 /// Of each vertex, whether it stands in the cone of a marked root: a backward pass over an order of the graph,
@@ -19,7 +19,8 @@ pub fn in_cones_of(
     requires order { IsOrder graph.now order.now }
     requires roots { length roots.now ≡ length graph.now }
     ensures length { IfOk result (λ inside. length inside ≡ length graph.now) }
-    ensures cones { IfOk result (λ inside. (v : ℕ) → v < length graph.now → Marked inside v ↔ InConeOf graph.now roots.now v) }
+    ensures cones { IfOk result (λ inside. (v : ℕ) → v < length graph.now → Marked inside v
+        ↔ InConeOf graph.now roots.now v) }
 {
     // A law that the proof uses.
     reads_stand_earlier();

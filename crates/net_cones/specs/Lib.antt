@@ -1,2 +1,0 @@
-pub mod Cone
-pub mod Marks
