@@ -1,2 +1,3 @@
 pub mod Pins
 pub mod Beside
+pub mod Controls

@@ -1,4 +1,4 @@
--- A netlist that behaves as a wrapped chip does so with its nets and cells numbered anew.
+-- A netlist that behaves as a wrapped chip does so with its nets and cells numbered anew, and has the control ports that it had.
 -- Own. For IEEE Std 1149.1-2001 see wrapped_chip.
 use Rattle.std.specs.Prelude.{◌≡◌, ℕ, Some}
 use Rattle.netlist_model.specs.Lists.{CellView, NetlistView, cell_at}
@@ -6,6 +6,7 @@ use Rattle.netlist_model.specs.Formed.{IsWellFormed}
 use Rattle.netlist_images.specs.Renumbering.{IsRenumbering}
 use Rattle.bsdl_device.specs.declared.values.Device.{Device}
 use Rattle.wrapped_chip.specs.Realises.{Realises, Alone}
+use Rattle.wrapped_chip.specs.Legal.{HasControls}
 
 -- own: the numbers of the chip's cells stay
 abbrev pub KeepsNumbers : NetlistView → (ℕ → ℕ) → Type 0
@@ -18,3 +19,7 @@ RenumberedRealises = (M M' N : NetlistView) (B : Device) (to at : ℕ → ℕ) �
 -- own: and alone
 abbrev pub RenumberedAlone : Type 0
 RenumberedAlone = (M M' N : NetlistView) (B : Device) (to at : ℕ → ℕ) → IsRenumbering M M' to at → IsWellFormed M → KeepsNumbers N at → Alone M B N → Alone M' B N
+
+-- own: and its control ports
+abbrev pub RenumberedControls : Type 0
+RenumberedControls = (M M' N : NetlistView) (to at : ℕ → ℕ) → IsRenumbering M M' to at → HasControls M N → HasControls M' N

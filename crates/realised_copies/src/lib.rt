@@ -2,10 +2,11 @@
 // Own. For IEEE Std 1149.1-2001 see wrapped_chip.
 #![tactic(auto)]
 
-ghost use Rattle.realised_copies.specs.Laws.{RenumberedRealises, RenumberedAlone};
+ghost use Rattle.realised_copies.specs.Laws.{RenumberedRealises, RenumberedAlone, RenumberedControls};
 
 use netlist_images::{
-    renumbered_bits, renumbered_reads, renumbered_runs, renumbering_turns, runs_have_images,
+    renumbered_bits, renumbered_directions, renumbered_ports, renumbered_reads, renumbered_runs,
+    renumbering_turns, runs_have_images,
 };
 use netlist_laws::direction_of_a_bit;
 
@@ -31,4 +32,14 @@ pub fn renumbered_is_alone()
     renumbered_reads();
     renumbered_runs();
     runs_have_images();
+}
+
+/// Its control ports stay, whatever their numbers.
+pub fn renumbered_has_controls()
+    ensures { RenumberedControls }
+{
+    renumbering_turns();
+    renumbered_bits();
+    renumbered_directions();
+    renumbered_ports();
 }

@@ -56,10 +56,10 @@ record IsRead (B : Boundary) (old : CellView) (place other : ℕ) : Type 0 where
   reads : slice_get old.feeds place ≡ Some (Net (record { 0 = net }))
   is : core_side B net ≡ other
 
-record IsAtRow (B : Boundary) (old : CellView) : Type 0 where
-  net : ℕ
-  output : old.output ≡ Some (record { 0 = net })
-  by : DrivenBy B net B.first B.rows
+pub record IsAtRow (B : Boundary) (old : CellView) : Type 0 where
+  pub net : ℕ
+  pub output : old.output ≡ Some (record { 0 = net })
+  pub by : DrivenBy B net B.first B.rows
 
 abbrev feed_net : Feed → ℕ
 feed_net (Net net) = net.0
@@ -108,14 +108,14 @@ pub record IsCoreInside (N : NetlistView) (B : Boundary) (count : ℕ) : Type 0 
   pub rows : AreDriverRows N B
 
 -- no flip-flop of the core stands at a driver's row
-no_flop_row : (N : NetlistView) (B : Boundary) (count : ℕ) → IsCoreInside N B count → (i : ℕ) (old : CellView) → cell_at N i ≡ Some old → (kind : FlopKind) → old.kind ≡ Flop kind → IsAtRow B old → ⊥
+pub no_flop_row : (N : NetlistView) (B : Boundary) (count : ℕ) → IsCoreInside N B count → (i : ℕ) (old : CellView) → cell_at N i ≡ Some old → (kind : FlopKind) → old.kind ≡ Flop kind → IsAtRow B old → ⊥
 no_flop_row N B count in_core i old live kind flop at =
     let three : is_three_state old.kind ≡ true = in_core.rows.three at.by.k at.by.row at.by.there at.net at.by.drives i old (record { live = live; output = at.output }) in
     let none : is_three_state old.kind ≡ false = ap is_three_state flop in
     let clash : true ≡ false = sym three ∙ none in cc
 
 -- and no driver of a control net
-no_control_row : (N : NetlistView) (B : Boundary) (count : ℕ) → IsCoreInside N B count → (i x : ℕ) (old : CellView) → Drives N i old x → IsControlNet N x → IsAtRow B old → ⊥
+pub no_control_row : (N : NetlistView) (B : Boundary) (count : ℕ) → IsCoreInside N B count → (i x : ℕ) (old : CellView) → Drives N i old x → IsControlNet N x → IsAtRow B old → ⊥
 no_control_row N B count in_core i x old d c at =
     let same : at.net ≡ x = ap (λ (n : NetId). n.0) (some_same (let one : NetId = record { 0 = at.net } in one) (let two : NetId = record { 0 = x } in two) old.output at.output d.output) in
     let drives_x : drives B.ports x at.by.row ≡ true = subst (λ (n : ℕ). drives B.ports n at.by.row ≡ true) same at.by.drives in

@@ -14,7 +14,7 @@ use Rattle.netlist_images.specs.Nested.{renamed_net}
 use Rattle.test_logic.specs.declared.TapInput.{TapInput}
 use Rattle.test_logic.specs.declared.TapInput.TheVariants.{Tck, Tms, Tdi, Trst}
 use Rattle.wrapped_chip.specs.Realises.{SameBit, tap_place, IsTapNet}
-use Rattle.wrapped_chip.specs.Legal.{IsKeptControl, IsTapControl}
+use Rattle.wrapped_chip.specs.Legal.{IsClockOrReset, IsKeptControl, IsTapControl}
 use Rattle.plan_texts.specs.declared.plan.Plan.{Plan}
 use Rattle.plan_fitting.specs.declared.fitted.FitRow.{FitRow}
 use Rattle.plan_fitting.specs.declared.fitted.Fitted.{Fitted}
@@ -30,7 +30,7 @@ use Rattle.stitch_model.specs.Sites.{Boundary, row_net, site_of}
 use Rattle.stitch_model.specs.Sides.{is_moved, core_side, is_driven, core_cell}
 use Rattle.stitch_model.specs.Rows.{net_at}
 use Rattle.stitch_model.specs.Stitched.{tap_port, test_logic_cells, boundary_at, first_net, stitched_cells, stitched}
-use Rattle.stitch_laws.specs.Laws.{IsInside, StitchedHoldsTheCore}
+use Rattle.stitch_laws.specs.Laws.{IsInside, StitchedHoldsParts, StitchedHoldsTheCore}
 use Rattle.stitch_cells.specs.Directions.{KeepsDirections, StitchedDirections}
 use Rattle.stitch_ranks.specs.Laws.{StitchedHasCones, StitchedHasControls}
 use Rattle.stitch_ranks.proofs.Moved.{both_true, net_at_is, moved_or_stays}
@@ -41,6 +41,7 @@ use Rattle.stitch_ranks.proofs.PartsSteered.{logic_is_steered}
 use Rattle.stitch_ranks.proofs.RowFacts.{driver_three, input_no_control}
 use Rattle.stitch_ranks.proofs.Kept.{IsKept, kept_tck, kept_trst, kept_core, IsNotKept, control_inside, from_apart, tdo_apart, row_apart, rows_apart}
 use Rattle.stitch_ranks.proofs.Cones.{AreDriverRows, IsStitched, control_is_kept}
+use Rattle.stitch_ranks.proofs.Stays.{control_stays, tap_steers}
 use Rattle.stitch_ranks.proofs.Ordered.{listed_at}
 use Rattle.stitch_ranks.proofs.Pins.{same_bit_net, bit_of, tap_is, tap_once}
 
@@ -251,20 +252,20 @@ tap_way N M ways Tms = ways.tms
 tap_way N M ways Tdi = ways.tdi
 tap_way N M ways Trst = ways.trst
 
-tap_control : (L : LinkedView) (p : Plan) (seen : List PinSeen) (names : TapNames) (there : ℕ) (input : TapInput) → there ≡ length L.arena.lists.nets + tap_place input
+tap_control : (L : LinkedView) (p : Plan) (seen : List PinSeen) (names : TapNames) (there : ℕ) (input : TapInput) → IsClockOrReset input → there ≡ length L.arena.lists.nets + tap_place input
     → IsTapControl (stitched L.arena.lists names (fitted_of L p seen)) L.arena.lists there
-tap_control L p seen names there input e =
+tap_control L p seen names there input which e =
     let N : NetlistView = L.arena.lists in
     let M : NetlistView = stitched N names (fitted_of L p seen) in
-    record { input = input; tap = subst (IsTapNet M N (tap_place input)) (sym e) (tap_is N names (fitted_of L p seen) input) }
+    record { input = input; which = which; tap = subst (IsTapNet M N (tap_place input)) (sym e) (tap_is N names (fitted_of L p seen) input) }
 
 -- which ones there are
 only_these : DirectionHasBit → (L : LinkedView) (p : Plan) (seen : List PinSeen) (names : TapNames) → IsBuilt L p seen names → IsLaidOut L.arena.lists → (there : ℕ)
     → direction (stitched L.arena.lists names (fitted_of L p seen)).ports there ≡ Some Input
     → IsKept L.arena.lists (boundary_at L.arena.lists (fitted_of L p seen)) (length L.arena.lists.nets) there
     → IsKeptControl (stitched L.arena.lists names (fitted_of L p seen)) L.arena.lists there ⊎ IsTapControl (stitched L.arena.lists names (fitted_of L p seen)) L.arena.lists there
-only_these law L p seen names is laid there way (kept_tck e) = inr (tap_control L p seen names there Tck (let z : length L.arena.lists.nets ≡ length L.arena.lists.nets + 0 = omega arith in e ∙ z))
-only_these law L p seen names is laid there way (kept_trst e) = inr (tap_control L p seen names there Trst e)
+only_these law L p seen names is laid there way (kept_tck e) = inr (tap_control L p seen names there Tck (inl refl) (let z : length L.arena.lists.nets ≡ length L.arena.lists.nets + 0 = omega arith in e ∙ z))
+only_these law L p seen names is laid there way (kept_trst e) = inr (tap_control L p seen names there Trst (inr refl) e)
 only_these law L p seen names is laid there way (kept_core x c e) =
     let N : NetlistView = L.arena.lists in
     let f : Fitted = fitted_of L p seen in
@@ -282,8 +283,8 @@ only_these law L p seen names is laid there way (kept_core x c e) =
 same_way : (N M : NetlistView) → KeepsDirections N M → (net there : ℕ) → there ≡ net → net < length N.nets → direction M.ports there ≡ direction N.ports net
 same_way N M ways net there e low = ap (direction M.ports) e ∙ ways.core net low
 
-pub controls : DirectionHasBit → ControlLaws → StitchedHasControls
-controls law laws L p seen names fits laid dense =
+pub controls : DirectionHasBit → StitchedHoldsParts → ControlLaws → StitchedHasControls
+controls law parts laws L p seen names fits laid dense =
     let N : NetlistView = L.arena.lists in
     let f : Fitted = fitted_of L p seen in
     let M : NetlistView = stitched N names f in
@@ -298,6 +299,17 @@ controls law laws L p seen names fits laid dense =
             sym (same_way N M is.ways net there e low) ∙ port.0,
             kept_control L p seen names is net low
                 (subst (IsKept N (boundary_at N f) (length N.nets)) e (kept_here L p seen names is there port.1)),
+          );
+      stays = λ net there same port.
+          let e : there ≡ net = same_bit_net N names f net there same in (
+            same_way N M is.ways net there e (inside net there same) ∙ port.0,
+            subst (IsControlNet M) (is.stays net port ∙ sym e)
+                (control_stays N M (boundary_at N f) (length N.nets) is.whole.core is.inside.stands net port.1),
+          );
+      added = λ input there which h.
+          let e : there ≡ length N.nets + tap_place input = tap_once N names f input there h in (
+            ap (direction M.ports) e ∙ tap_way N M is.ways input,
+            subst (IsControlNet M) (sym e) (tap_steers M N f (parts N names f) input which),
           );
       only = λ there port. only_these law L p seen names is laid there port.0 (kept_here L p seen names is there port.1);
     }

@@ -16,4 +16,5 @@ pub mod PartsSteered
 pub mod RowFacts
 pub mod Kept
 pub mod Cones
+pub mod Stays
 pub mod Controls

@@ -26,7 +26,7 @@ abbrev pub StitchedHasCones : Type 0
 StitchedHasCones = (L : LinkedView) (p : Plan) (seen : List PinSeen) (names : TapNames) → IsFitting L p seen → IsLaidOut L.arena.lists → IsDense L.arena.lists
     → (net : ℕ) → IsControlNet (stitched L.arena.lists names (fitted_of L p seen)) net → IsCombinational (stitched L.arena.lists names (fitted_of L p seen)) net
 
--- own: the control ports are the core's, and TCK and TRST
+-- own: the control ports are the core's, TCK and TRST
 abbrev pub StitchedHasControls : Type 0
 StitchedHasControls = (L : LinkedView) (p : Plan) (seen : List PinSeen) (names : TapNames) → IsFitting L p seen → IsLaidOut L.arena.lists → IsDense L.arena.lists
     → HasControls (stitched L.arena.lists names (fitted_of L p seen)) L.arena.lists

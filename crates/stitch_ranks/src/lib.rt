@@ -14,7 +14,7 @@ use part_levels::{
 use plan_devices::{plans_suit_netlists, rows_stand_at_bits, rows_take_the_core};
 use plan_fitting::control_cells_are_there;
 use stitch_cells::stitched_directions;
-use stitch_laws::stitched_holds_the_core;
+use stitch_laws::{stitched_holds_its_parts, stitched_holds_the_core};
 
 /// The nets can be numbered so that what a gate reads has smaller numbers than what it drives.
 pub fn stitched_is_ordered()
@@ -63,6 +63,7 @@ pub fn stitched_has_controls()
     rows_take_the_core();
     plans_suit_netlists();
     rows_stand_at_bits();
+    stitched_holds_its_parts();
     stitched_holds_the_core();
     stitched_directions();
 }

@@ -1,4 +1,5 @@
--- The stitched netlist behaves as the wrapped chip of the plan's device, and as the netlist alone.
+-- The stitched netlist behaves as the wrapped chip of the plan's device, and as the netlist alone; TCK and TRST are the control ports
+-- that it has more.
 -- Own. For IEEE Std 1149.1-2001 (normal operation of the system logic under BYPASS, IDCODE, SAMPLE and PRELOAD) see `Alone`.
 use Rattle.std.specs.Prelude.{List}
 use Rattle.netlist_model.specs.Formed.{IsLaidOut, IsWellFormed}
@@ -37,3 +38,8 @@ FittingPlansRealise = (L : LinkedView) (p : Plan) (seen : List PinSeen) (names :
 abbrev pub FittingPlansAreAlone : Type 0
 FittingPlansAreAlone = (L : LinkedView) (p : Plan) (seen : List PinSeen) (names : TapNames) → IsFitting L p seen → IsLaidOut L.arena.lists → IsDense L.arena.lists
     → Alone (stitched L.arena.lists names (fitted_of L p seen)) (device_of L p seen) L.arena.lists
+
+-- the control ports are the netlist's, TCK and TRST
+abbrev pub FittingPlansHaveControls : Type 0
+FittingPlansHaveControls = (L : LinkedView) (p : Plan) (seen : List PinSeen) (names : TapNames) → IsFitting L p seen → IsLaidOut L.arena.lists → IsDense L.arena.lists
+    → HasControls (stitched L.arena.lists names (fitted_of L p seen)) L.arena.lists

@@ -4,9 +4,10 @@
 #![tactic(auto)]
 
 ghost use Rattle.stitch_runs.specs.Laws.{StitchedRealises, StitchedIsAlone, FittingPlansRealise, FittingPlansAreAlone};
+ghost use Rattle.stitch_runs.specs.Laws.{FittingPlansHaveControls};
 
 use plan_devices::plans_suit_netlists;
-use stitch_formed::stitched_is_formed;
+pub use stitch_formed::stitched_is_formed;
 use stitch_inside::stitched_surrounds;
 use stitch_ranks::{stitched_has_controls, stitched_has_pins};
 use surrounded_core::surrounded_core_realises;
@@ -46,5 +47,12 @@ pub fn fitting_plans_are_alone()
     stitched_is_alone();
     stitched_is_formed();
     stitched_has_pins();
+    stitched_has_controls();
+}
+
+/// The input bits that clock, clear and preset are the netlist's, TCK and TRST.
+pub fn fitting_plans_have_controls()
+    ensures { FittingPlansHaveControls }
+{
     stitched_has_controls();
 }

@@ -8,7 +8,8 @@ use Rattle.netlist_link.specs.Linked.{LinkedView}
 use Rattle.netlist_link.specs.Links.{IsLinkOf}
 use Rattle.netlist_unlink.specs.Renumbered.{IsWrittenAs}
 use Rattle.wrapped_chip.specs.Realises.{Realises, Alone}
-use Rattle.realised_copies.specs.Laws.{KeepsNumbers, RenumberedRealises, RenumberedAlone}
+use Rattle.wrapped_chip.specs.Legal.{HasControls}
+use Rattle.realised_copies.specs.Laws.{KeepsNumbers, RenumberedRealises, RenumberedAlone, RenumberedControls}
 use Rattle.plan_texts.specs.declared.plan.Plan.{Plan}
 use Rattle.plan_fitting.specs.declared.fitted.Fitted.{Fitted}
 use Rattle.plan_fitting.specs.Devices.{fitted_of, device_of}
@@ -17,11 +18,11 @@ use Rattle.plan_devices.specs.Laws.{FittedIsFitting}
 use Rattle.stitch_model.specs.declared.TapNames.{TapNames}
 use Rattle.stitch_model.specs.Stitched.{stitched}
 use Rattle.stitch_laws.specs.Laws.{StitchedKeeps}
-use Rattle.stitch_formed.specs.Laws.{StitchedIsFormed}
 use Rattle.stitch_texts.specs.Laws.{IsStitching, StitchedIsRenumbered}
 use Rattle.stitch_texts.specs.Written.{IsNumberedAnew}
-use Rattle.stitch_runs.specs.Laws.{FittingPlansRealise, FittingPlansAreAlone}
-use Rattle.written_runs.specs.Laws.{WrittenRealises, WrittenIsAlone}
+use Rattle.stitch_runs.specs.FormedLaws.{StitchedIsFormed}
+use Rattle.stitch_runs.specs.Laws.{FittingPlansRealise, FittingPlansAreAlone, FittingPlansHaveControls}
+use Rattle.written_runs.specs.Laws.{WrittenRealises, WrittenIsAlone, WrittenHasControls}
 
 -- what is known of it on the way
 record Steps (L : LinkedView) (p : Plan) (f : Fitted) (names : TapNames) (M : NetlistView) : Type 0 where
@@ -62,3 +63,12 @@ written_is_alone fitting formed renumbered keeps alone copies m L p f after s la
     copies (stitched L.arena.lists names f) written.arena.lists L.arena.lists (device_of L p s.fits.seen) t.anew.to t.anew.at t.anew.is t.formed t.stay
     (subst (λ (g : Fitted). Alone (stitched L.arena.lists names g) (device_of L p s.fits.seen) L.arena.lists) (sym s.fits.is)
     (alone L p s.fits.seen names fits s.laid s.linked.dense))
+
+pub written_has_controls : FittedIsFitting → StitchedIsRenumbered → FittingPlansHaveControls → RenumberedControls → WrittenHasControls
+written_has_controls fitting renumbered controls copies m L p f after s laid tree writes written link =
+    let fits : IsFitting L p s.fits.seen = fitting m L p f s.tree s.linked s.plan s.fits in
+    let names = s.is.names in
+    let anew = renumbered L f after s.is p.prefix tree laid writes written link in
+    copies (stitched L.arena.lists names f) written.arena.lists L.arena.lists anew.to anew.at anew.is
+    (subst (λ (g : Fitted). HasControls (stitched L.arena.lists names g) L.arena.lists) (sym s.fits.is)
+    (controls L p s.fits.seen names fits s.laid s.linked.dense))

@@ -1,4 +1,5 @@
--- The netlist that is written with its test logic behaves as the wrapped chip of the plan's device, and as the netlist alone.
+-- The netlist that is written with its test logic behaves as the wrapped chip of the plan's device, and as the netlist alone; TCK and
+-- TRST are the control ports that it has more.
 -- Own. For IEEE Std 1149.1-2001 (normal operation of the system logic under BYPASS, IDCODE, SAMPLE and PRELOAD) see `Alone`.
 use Rattle.verilog_tree.specs.declared.tree.Module.{Module}
 use Rattle.netlist_model.specs.Formed.{IsLaidOut}
@@ -6,6 +7,7 @@ use Rattle.netlist_link.specs.Linked.{LinkedView}
 use Rattle.netlist_link.specs.Links.{IsLinkOf}
 use Rattle.netlist_unlink.specs.Renumbered.{IsWrittenAs}
 use Rattle.wrapped_chip.specs.Realises.{Realises, Alone}
+use Rattle.wrapped_chip.specs.Legal.{HasControls}
 use Rattle.plan_texts.specs.declared.plan.Plan.{Plan}
 use Rattle.plan_fitting.specs.declared.fitted.Fitted.{Fitted}
 use Rattle.plan_fitting.specs.Devices.{device_of}
@@ -22,3 +24,9 @@ abbrev pub WrittenIsAlone : Type 0
 WrittenIsAlone = (m : Module) (L : LinkedView) (p : Plan) (f : Fitted) (after : LinkedView) (s : IsStitching m L p f after) → IsLaidOut after.arena.lists
     → (tree : Module) → IsWrittenAs after p.prefix tree → (written : LinkedView) → IsLinkOf tree written
     → Alone written.arena.lists (device_of L p s.fits.seen) L.arena.lists
+
+-- the control ports are the netlist's, TCK and TRST
+abbrev pub WrittenHasControls : Type 0
+WrittenHasControls = (m : Module) (L : LinkedView) (p : Plan) (f : Fitted) (after : LinkedView) (s : IsStitching m L p f after) → IsLaidOut after.arena.lists
+    → (tree : Module) → IsWrittenAs after p.prefix tree → (written : LinkedView) → IsLinkOf tree written
+    → HasControls written.arena.lists L.arena.lists

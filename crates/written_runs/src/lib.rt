@@ -3,14 +3,16 @@
 // IEEE Std 1149.1-2001: test logic architecture.
 #![tactic(auto)]
 
-ghost use Rattle.written_runs.specs.Laws.{WrittenRealises, WrittenIsAlone};
+ghost use Rattle.written_runs.specs.Laws.{WrittenRealises, WrittenIsAlone, WrittenHasControls};
 
 use plan_devices::fitted_is_fitting;
-use realised_copies::{renumbered_is_alone, renumbered_realises};
-use stitch_formed::stitched_is_formed;
+use realised_copies::{renumbered_has_controls, renumbered_is_alone, renumbered_realises};
 use stitch_laws::stitched_keeps;
-use stitch_runs::{fitting_plans_are_alone, fitting_plans_realise};
+use stitch_runs::{
+    fitting_plans_are_alone, fitting_plans_have_controls, fitting_plans_realise, stitched_is_formed,
+};
 use stitch_texts::stitched_is_renumbered;
+pub use stitch_texts::{stitched_can_be_written, stitched_is_written};
 
 /// Every pin of the written netlist reads as the chip that the plan's device makes of the netlist.
 pub fn written_realises()
@@ -34,4 +36,14 @@ pub fn written_is_alone()
     stitched_is_renumbered();
     stitched_keeps();
     renumbered_is_alone();
+}
+
+/// Its control ports are the netlist's, TCK and TRST.
+pub fn written_has_controls()
+    ensures { WrittenHasControls }
+{
+    fitted_is_fitting();
+    fitting_plans_have_controls();
+    stitched_is_renumbered();
+    renumbered_has_controls();
 }

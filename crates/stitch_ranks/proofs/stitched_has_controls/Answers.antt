@@ -2,7 +2,7 @@ use Rattle.stitch_ranks.proofs.Controls.{controls as lemma}
 use Rattle.stitch_ranks.proofs.stitched_has_controls.Goals as goal
 
 pub returns : goal.returns
-returns c = lemma c.bit_of_a_direction.ensures
+returns c = lemma c.bit_of_a_direction.ensures c.stitched_holds_its_parts.ensures
     (record {
       bits = c.direction_of_a_bit.ensures;
       found = c.driver_is_found.ensures;
