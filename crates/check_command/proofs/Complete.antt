@@ -36,7 +36,8 @@ use Rattle.command_faults.specs.declared.status.Status.TheVariants as status
 use Rattle.command_faults.specs.Statuses.{status_of, text_status, link_status, device_status, event_status, script_status}
 use Rattle.command_edges.specs.Seen.{ShelfSeen, SinkSeen, SinkRose}
 use Rattle.command_edges.proofs.Told.{reading_memory}
-use Rattle.check_command.specs.Checks.{HasLinkFault, HasLinesFault, HaveOtherPorts, IsCheckable, AreCheckable}
+use Rattle.command_edges.specs.Spelled.{HasLinkFault}
+use Rattle.check_command.specs.Checks.{HasLinesFault, HaveOtherPorts, IsCheckable, AreCheckable}
 use Rattle.check_command.specs.CheckFaults.{StandsInDevice, StandsInTexts, StandsInCheck, CompletesCheck}
 
 -- the laws that keep faults apart from what is free of them

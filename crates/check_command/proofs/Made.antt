@@ -25,7 +25,9 @@ use Rattle.command_edges.specs.Lengths.{IsShort}
 use Rattle.command_edges.specs.Seen.{ShelfSeen, SinkSeen}
 use Rattle.command_edges.specs.EdgeFaults.{StandsInPutting}
 use Rattle.command_edges.proofs.Told.{IsTold, told_as, both_told}
-use Rattle.check_command.specs.Checks.{SpellsLinked, SpellsOneDevice, IsCheck, HasLinkFault, SpellsLinkable, SpellsSomeDevice, SpellsEvents, HaveSamePorts, HaveOtherPorts, HasLinesFault, check_status}
+use Rattle.command_edges.specs.Ends.{run_status}
+use Rattle.command_edges.specs.Spelled.{HasLinkFault, SpellsLinkable, SpellsSomeDevice, SpellsEvents}
+use Rattle.check_command.specs.Checks.{SpellsLinked, SpellsOneDevice, IsCheck, HaveSamePorts, HaveOtherPorts, HasLinesFault}
 use Rattle.check_command.specs.CheckFaults.{WhereAllTold, AreAllShort, StandsInDevice, AreMatched, HasCheck, StandsInTexts, StandsInCheck, IsReported, FinishesCheck, IsFrontOfCheck, GaveInCheck}
 use Rattle.check_command.specs.Parts.{AreRead, StandsInDeviceFor, IsCheckOf, HasFaultAt, StandsInOthers, StandsInNetlist, StandsInAll}
 use Rattle.check_command.proofs.DeviceKinds.{no_ports_fault}
@@ -155,7 +157,7 @@ put_gave net text events put missed sink before after (fault.WriteFault name) c 
 put_gave net text events put missed sink before after f c stands front = absurd stands
 
 pub reported : (net text events put : List ℕ) (missed : ℕ) (sink : SinkSeen) (end : Status) → IsCheck net text events put missed → sink.given_after ≡ appended put sink.given
-    → end ≡ check_status missed → IsReported (Some net) (Some text) (Some events) sink end
+    → end ≡ run_status missed → IsReported (Some net) (Some text) (Some events) sink end
 reported net text events put missed sink end c gives is = record {
   matched = matched_of net text events put missed c;
   lines = (c.lines, c.spells_lines);

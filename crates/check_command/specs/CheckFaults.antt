@@ -15,7 +15,9 @@ use Rattle.command_faults.specs.Statuses.{status_of}
 use Rattle.command_edges.specs.Seen.{ShelfSeen, SinkSeen, NameRose, SinkRose, WhereBothTold}
 use Rattle.command_edges.specs.Lengths.{IsShort}
 use Rattle.command_edges.specs.EdgeFaults.{StandsInReading, StandsInReadingTwo, AreShort, StandsInPutting}
-use Rattle.check_command.specs.Checks.{IsCheck, HasLinkFault, SpellsLinkable, SpellsSomeDevice, SpellsEvents, HaveSamePorts, HaveOtherPorts, HasLinesFault, IsCheckable, check_status}
+use Rattle.command_edges.specs.Ends.{run_status}
+use Rattle.command_edges.specs.Spelled.{HasLinkFault, SpellsLinkable, SpellsSomeDevice, SpellsEvents}
+use Rattle.check_command.specs.Checks.{IsCheck, HaveSamePorts, HaveOtherPorts, HasLinesFault, IsCheckable}
 
 -- a fact of three texts, where all are told
 abbrev pub WhereAllTold : Option (List ℕ) → Option (List ℕ) → Option (List ℕ) → (List ℕ → List ℕ → List ℕ → Type 0) → Type 0
@@ -80,7 +82,7 @@ pub record IsReported (net text events : Option (List ℕ)) (sink : SinkSeen) (e
   pub missed : ℕ
   pub check : WhereAllTold net text events (λ n t e. IsCheck n t e put missed)
   pub gives : sink.given_after ≡ appended put sink.given
-  pub status_is : end ≡ check_status missed
+  pub status_is : end ≡ run_status missed
 
 -- The texts under the three names are short, and their check is reported.
 abbrev pub FinishesCheck : List ℕ → List ℕ → List ℕ → ShelfSeen → SinkSeen → Status → Type 0

@@ -1,13 +1,12 @@
 -- What `check` makes of the bytes of a netlist, of a BSDL text and of events.
 -- IEEE Std 1364-2001 for the netlist; IEEE Std 1149.1-2001 for the device: test access port, the annex on BSDL. The texts of events and
 -- what a check puts are own.
-use Rattle.std.specs.Prelude.{◌≡◌, ℕ, ◌==◌, ◌⊎◌, List, if◌then◌else◌}
+use Rattle.std.specs.Prelude.{◌≡◌, ℕ, List}
 use Rattle.verilog_tree.specs.declared.tree.Module.{Module}
 use Rattle.verilog_tree.specs.Texts as verilog
 use Rattle.link_model.specs.Late.{IsLinkable}
-use Rattle.link_model.specs.declared.fault.LinkFault.{LinkFault}
 use Rattle.netlist_link.specs.Linked.{LinkedView}
-use Rattle.netlist_link.specs.Links.{IsLinkOf, IsLinkFault}
+use Rattle.netlist_link.specs.Links.{IsLinkOf}
 use Rattle.bsdl_device.specs.declared.values.Device.{Device}
 use Rattle.bsdl_device.specs.Spelled as bsdl
 use Rattle.scan_vectors.specs.declared.lines.Lines.{Lines}
@@ -17,8 +16,6 @@ use Rattle.event_scripts.specs.Rules.{AreLegal}
 use Rattle.conformance_report.specs.Agreement.{PortsAgree}
 use Rattle.check_runs.specs.Rules.{KeepsTapRule, IsLinesFault}
 use Rattle.check_runs.specs.Checks.{IsChecked}
-use Rattle.command_faults.specs.declared.status.Status.{Status}
-use Rattle.command_faults.specs.declared.status.Status.TheVariants as status
 use Rattle.command_edges.specs.Lengths.{IsShort}
 
 -- The netlist's bytes spell one tree, which is linked to this netlist.
@@ -44,27 +41,6 @@ pub record IsCheck (net text events put : List ℕ) (missed : ℕ) : Type 0 wher
   pub lines : Lines
   pub spells_lines : SpellsLines events lines
   pub checked : IsChecked linked device lines put missed
-
--- own: the netlist's bytes spell a tree in which this fault of linking stands
-pub record HasLinkFault (f : LinkFault) (net : List ℕ) : Type 0 where
-  pub tree : Module
-  pub spells : verilog.SpellsText net tree
-  pub only : (other : Module) → verilog.SpellsText net other → other ≡ tree
-  pub fault : IsLinkFault tree f
-
--- own: the netlist's bytes spell a tree that can be linked
-pub record SpellsLinkable (net : List ℕ) : Type 0 where
-  pub tree : Module
-  pub spells : verilog.SpellsText net tree
-  pub linkable : IsLinkable tree
-
--- own: the bytes spell a device
-abbrev pub SpellsSomeDevice : List ℕ → Type 0
-SpellsSomeDevice text = (device : Device) × bsdl.SpellsText text device
-
--- own: the bytes spell lines of events
-abbrev pub SpellsEvents : List ℕ → Type 0
-SpellsEvents events = (lines : Lines) × SpellsLines events lines
 
 -- own: the bytes spell one netlist and one device, and their ports agree
 pub record HaveSamePorts (net text : List ℕ) : Type 0 where
@@ -111,11 +87,3 @@ pub record IsCheckable (net text events : List ℕ) : Type 0 where
   pub lines : Lines
   pub spells_lines : SpellsLines events lines
   pub free : (linked : LinkedView) → IsLinkOf tree linked → AreCheckable linked device lines
-
--- own: the status at the end of a check in which so many expectations aren't met
-abbrev pub check_status : ℕ → Status
-check_status missed = if missed == 0 then status.Done else status.Missed
-
--- own: the command came to its end
-abbrev pub IsEnd : Status → Type 0
-IsEnd s = (s ≡ status.Done) ⊎ (s ≡ status.Missed)

@@ -18,7 +18,8 @@ use Rattle.check_runs.specs.Checks.{IsChecked}
 use Rattle.command_faults.specs.declared.fault.Fault.{Fault}
 use Rattle.command_faults.specs.declared.fault.Fault.TheVariants as fault
 use Rattle.command_edges.specs.Lengths.{IsShort}
-use Rattle.check_command.specs.Checks.{SpellsLinked, SpellsOneDevice, HasLinkFault}
+use Rattle.command_edges.specs.Spelled.{HasLinkFault}
+use Rattle.check_command.specs.Checks.{SpellsLinked, SpellsOneDevice}
 
 -- these are the texts under the three names, wherever they are told, and none is too long
 pub record AreRead (held : List ℕ → Option (List ℕ)) (netlist bsdl events net text lines : List ℕ) : Type 0 where

@@ -2,7 +2,7 @@ ghost use Rattle.std.specs.Prelude.{◌≡◌, ◌≤◌, Some, IfErr, IfOk};
 ghost use Rattle.edge_io.specs.Shelf.{NoneFell, SameTold};
 ghost use Rattle.command_faults.specs.Statuses.{status_of};
 ghost use Rattle.command_edges.specs.Seen.{shelf_seen, sink_seen};
-ghost use Rattle.check_command.specs.Checks.{IsEnd, check_status};
+ghost use Rattle.command_edges.specs.Ends.{IsEnd, run_status};
 ghost use Rattle.check_command.specs.CheckFaults.{CompletesCheck, FinishesCheck, GaveInCheck, IsReported, StandsInCheck, StandsInTexts};
 
 use crate::reading::{Texts, read_texts};
@@ -17,7 +17,7 @@ use std::alloc::Global;
 
 // The status at the end of a check in which so many expectations aren't met.
 fn status_after(missed: usize) -> Status
-    ensures status { result ≡ check_status missed }
+    ensures status { result ≡ run_status missed }
     ensures end { IsEnd result }
 {
     if missed == 0 {
@@ -31,9 +31,11 @@ fn status_after(missed: usize) -> Status
 fn report<'a, O: Sink>(alloc: Global, texts: Texts, out: &mut O) -> Result<Status, Fault<'a>>
     ensures done { IfOk result (IsReported (Some texts.netlist) (Some texts.device) (Some texts.events)
         (sink_seen O.given O.faults out.old out.new)) }
-    ensures fault { IfErr result (StandsInTexts (Some texts.netlist) (Some texts.device) (Some texts.events)
+    ensures fault { IfErr result (StandsInTexts (Some texts.netlist) (Some texts.device)
+        (Some texts.events)
         (sink_seen O.given O.faults out.old out.new)) }
-    ensures gave { IfErr result (λ fault. GaveInCheck (Some texts.netlist) (Some texts.device) (Some texts.events) fault
+    ensures gave { IfErr result (λ fault. GaveInCheck (Some texts.netlist) (Some texts.device)
+        (Some texts.events) fault
         (O.given out.old) (O.given out.new)) }
     ensures ended { IfOk result IsEnd }
     ensures later { O.faults out.old ≤ O.faults out.new }
@@ -68,7 +70,8 @@ pub fn check<'a, S: Shelf, O: Sink>(
         (sink_seen O.given O.faults out.old out.new)) }
 
     // Nothing was given before the fault; or, where giving failed, a front of the text.
-    ensures gave { IfErr result (λ fault. GaveInCheck (S.held shelf.old netlist.now) (S.held shelf.old bsdl.now)
+    ensures gave { IfErr result (λ fault. GaveInCheck (S.held shelf.old netlist.now)
+        (S.held shelf.old bsdl.now)
         (S.held shelf.old events.now) fault (O.given out.old) (O.given out.new)) }
     ensures ended { IfOk result IsEnd }
 

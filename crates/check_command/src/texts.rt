@@ -48,7 +48,8 @@ fn checked_linked<'a>(
     text: Text,
     events: Text,
 ) -> Result<Checked, Fault<'a>>
-    ensures checked { IfOk result (λ checked. IsCheckOf linked.now text events checked.text checked.missed) }
+    ensures checked { IfOk result (λ checked.
+        IsCheckOf linked.now text events checked.text checked.missed) }
     ensures fault { IfErr result (StandsInOthers linked.now text events) }
 {
     let device = device_of(alloc, linked, text)?;

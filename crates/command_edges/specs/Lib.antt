@@ -3,3 +3,4 @@ pub mod Seen
 pub mod EdgeFaults
 pub mod Ends
 pub mod OneText
+pub mod Spelled

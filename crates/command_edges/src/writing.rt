@@ -29,7 +29,8 @@ pub fn write_text<'a, S: Shelf>(shelf: &mut S, name: &'a str, text: &Text) -> Re
 /// Puts a text on the sink.
 pub fn put_text<'a, O: Sink>(out: &mut O, text: &Text) -> Result<(), Fault<'a>>
     ensures ok { OnOk result (O.given out.new ≡ appended text.now (O.given out.old)) }
-    ensures cut_short { OnErr result ((k : ℕ) × (O.given out.new ≡ appended (take k text.now) (O.given out.old))) }
+    ensures cut_short { OnErr result ((k : ℕ)
+        × (O.given out.new ≡ appended (take k text.now) (O.given out.old))) }
     ensures fault { IfErr result (StandsInPutting (sink_seen O.given O.faults out.old out.new)) }
     ensures later { O.faults out.old ≤ O.faults out.new }
 {

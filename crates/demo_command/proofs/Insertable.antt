@@ -17,7 +17,7 @@ use Rattle.netlist_link.specs.Links.{IsLinkOf}
 use Rattle.plan_fitting.specs.declared.fitted.Fitted.{Fitted}
 use Rattle.plan_fitting.specs.Rows.{rows}
 use Rattle.plan_fitting.specs.Devices.{IsFitted}
-use Rattle.insertion_inputs.specs.Inputs.{HasRoomFor}
+use Rattle.insert_command.specs.Inputs.{HasRoomFor}
 use Rattle.insert_command.specs.Free.{HasNoFault}
 use Rattle.demo_chips.specs.Netlists.{gate_count, demo_module}
 use Rattle.demo_chips.specs.Plans.{demo_plan}

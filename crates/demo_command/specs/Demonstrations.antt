@@ -1,12 +1,12 @@
 -- What `demo` writes and puts, when each fault stands in it, and what it leaves. Own.
-use Rattle.std.specs.Prelude.{◌≡◌, ℕ, ◌+◌, ◌⊎◌, List, [], ◌∷◌, length, codes}
+use Rattle.std.specs.Prelude.{◌≡◌, ℕ, ◌+◌, ◌⊎◌, List, [], ◌∷◌, length, codes, Option}
 use Rattle.std.specs.Fmt.{decimal}
 use Rattle.verilog_tree.specs.Canonical.{canonical}
 use Rattle.netlist_model.specs.Lists.{cell_count}
 use Rattle.output_lines.specs.Lines.{words_line}
 use Rattle.plan_texts.specs.Canonical.{canonical_plan}
 use Rattle.plan_fitting.specs.Devices.{device_of}
-use Rattle.insertions.specs.Insertions.{IsInsertion}
+use Rattle.insert_command.specs.Insertions.{IsInsertionText}
 use Rattle.command_faults.specs.declared.fault.Fault.{Fault}
 use Rattle.command_faults.specs.declared.status.Status.{Status}
 use Rattle.command_faults.specs.declared.status.Status.TheVariants as status
@@ -29,9 +29,9 @@ demo_line number = words_line (codes "demo") (decimal number ∷ codes "kept" �
 -- that netlist and the boundary cells of the device.
 pub record IsDemo (number : ℕ) (verilog bsdl : List ℕ) : Type 0 where
   pub report : List ℕ
-  pub insertion : IsInsertion (canonical (demo_module number)) (canonical_plan demo_plan) verilog bsdl report
-  pub kept : kept_cells number ≡ cell_count insertion.linked.arena.lists
-  pub boundary : boundary_cells ≡ length (device_of insertion.linked insertion.wanted insertion.fits.seen).cells
+  pub insertion : IsInsertionText (canonical (demo_module number)) (canonical_plan demo_plan) verilog bsdl report
+  pub kept : kept_cells number ≡ cell_count insertion.is.linked.arena.lists
+  pub boundary : boundary_cells ≡ length (device_of insertion.is.linked insertion.is.wanted insertion.is.fits.seen).cells
 
 -- They are written under their names, and the line was given.
 pub record IsDemonstrated (number : ℕ) (outnet outbsdl : List ℕ) (shelf : ShelfSeen) (sink : SinkSeen) : Type 0 where
@@ -41,15 +41,16 @@ pub record IsDemonstrated (number : ℕ) (outnet outbsdl : List ℕ) (shelf : Sh
   pub written_out : IsWrittenOut outnet outbsdl verilog bsdl (demo_line number) shelf sink
 
 -- what comes of the number couldn't be written
-pub record StandsInDemoWriting (number : ℕ) (outnet outbsdl : List ℕ) (shelf : ShelfSeen) (sink : SinkSeen) (f : Fault) : Type 0 where
+pub record StandsInDemoWriting (number : ℕ) (outnet outbsdl : List ℕ) (shelf : ShelfSeen) (sink : SinkSeen) (f : Fault) (after : Option (List ℕ)) : Type 0 where
   pub verilog : List ℕ
   pub bsdl : List ℕ
   pub made : IsDemo number verilog bsdl
-  pub stands : StandsInWritings outnet outbsdl verilog bsdl shelf sink f
+  pub stands : StandsInWritings outnet outbsdl verilog bsdl (demo_line number) shelf sink f after
 
--- The fault is want of memory, or stands in writing: no other is there.
-abbrev pub StandsInDemo : ℕ → List ℕ → List ℕ → ShelfSeen → SinkSeen → Fault → Type 0
-StandsInDemo number outnet outbsdl shelf sink f = (status_of f ≡ status.Memory) ⊎ StandsInDemoWriting number outnet outbsdl shelf sink f
+-- The fault is want of memory, and nothing was given; or it stands in writing, and then so much was given. No other is there.
+abbrev pub StandsInDemo : ℕ → List ℕ → List ℕ → ShelfSeen → SinkSeen → Fault → Option (List ℕ) → Type 0
+StandsInDemo number outnet outbsdl shelf sink f after = ((status_of f ≡ status.Memory) × (after ≡ sink.given))
+    ⊎ StandsInDemoWriting number outnet outbsdl shelf sink f after
 
 -- A refusal with this status, where no count of both names and of the sink rises, is want of memory.
 abbrev pub CompletesDemo : List ℕ → List ℕ → ShelfSeen → SinkSeen → Status → Type 0

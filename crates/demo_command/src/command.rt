@@ -4,8 +4,7 @@ ghost use Rattle.edge_io.specs.Shelf.{NoneFell, SameTold};
 ghost use Rattle.command_faults.specs.Statuses.{status_of};
 ghost use Rattle.command_faults.specs.declared.status.Status.{Status};
 ghost use Rattle.command_edges.specs.Seen.{shelf_seen, sink_seen};
-ghost use Rattle.insert_command.specs.Runs.{GavePart};
-ghost use Rattle.demo_command.specs.Demonstrations.{CompletesDemo, IsDemonstrated, StandsInDemo, demo_line};
+ghost use Rattle.demo_command.specs.Demonstrations.{CompletesDemo, IsDemonstrated, StandsInDemo};
 
 use crate::demonstrating::demonstrate;
 use command_faults::Fault;
@@ -31,9 +30,9 @@ pub fn demo<'a, S: Shelf, O: Sink>(
         (sink_seen O.given O.faults out.old out.new)) }
 
     // It is refused only where memory is short, or a write fails.
-    ensures fault { IfErr result (StandsInDemo number outnet.now outbsdl.now
+    ensures fault { IfErr result (λ fault. StandsInDemo number outnet.now outbsdl.now
         (shelf_seen S.tells S.held S.written S.faults shelf.old shelf.new)
-        (sink_seen O.given O.faults out.old out.new)) }
+        (sink_seen O.given O.faults out.old out.new) fault (O.given out.new)) }
     ensures complete { IfErr result (λ fault. CompletesDemo outnet.now outbsdl.now
         (shelf_seen S.tells S.held S.written S.faults shelf.old shelf.new)
         (sink_seen O.given O.faults out.old out.new) (status_of fault)) }
@@ -41,7 +40,6 @@ pub fn demo<'a, S: Shelf, O: Sink>(
     // Only a write that failed leaves anything changed.
     ensures unwritten { IfErr result (λ fault. (status_of fault ≢ Status.WriteFault)
         → SameTold (S.written shelf.old) (S.written shelf.new)) }
-    ensures gave { IfErr result (λ fault. GavePart (demo_line number) fault (O.given out.old) (O.given out.new)) }
     ensures others { (name : List ℕ) → name ≢ outnet.now → name ≢ outbsdl.now
         → S.written shelf.new name ≡ S.written shelf.old name }
     ensures held { SameTold (S.held shelf.old) (S.held shelf.new) }

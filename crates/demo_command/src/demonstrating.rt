@@ -6,9 +6,8 @@ ghost use Rattle.link_model.specs.Late.{IsLinkable};
 ghost use Rattle.command_faults.specs.Statuses.{status_of};
 ghost use Rattle.command_faults.specs.declared.status.Status.{Status};
 ghost use Rattle.command_edges.specs.Seen.{shelf_seen, sink_seen};
-ghost use Rattle.insert_command.specs.Runs.{GavePart};
 ghost use Rattle.demo_chips.specs.Netlists.{demo_module};
-ghost use Rattle.demo_command.specs.Demonstrations.{CompletesDemo, IsDemonstrated, StandsInDemo, demo_line};
+ghost use Rattle.demo_command.specs.Demonstrations.{CompletesDemo, IsDemonstrated, StandsInDemo};
 
 use crate::texts::{inserted_demo, line_text};
 use crate::writing::write_out;
@@ -34,15 +33,14 @@ pub fn demonstrate<'a, S: Shelf, O: Sink>(
     ensures done { OnOk result (IsDemonstrated number outnet.now outbsdl.now
         (shelf_seen S.tells S.held S.written S.faults shelf.old shelf.new)
         (sink_seen O.given O.faults out.old out.new)) }
-    ensures fault { IfErr result (StandsInDemo number outnet.now outbsdl.now
+    ensures fault { IfErr result (λ fault. StandsInDemo number outnet.now outbsdl.now
         (shelf_seen S.tells S.held S.written S.faults shelf.old shelf.new)
-        (sink_seen O.given O.faults out.old out.new)) }
+        (sink_seen O.given O.faults out.old out.new) fault (O.given out.new)) }
     ensures complete { IfErr result (λ fault. CompletesDemo outnet.now outbsdl.now
         (shelf_seen S.tells S.held S.written S.faults shelf.old shelf.new)
         (sink_seen O.given O.faults out.old out.new) (status_of fault)) }
     ensures unwritten { IfErr result (λ fault. (status_of fault ≢ Status.WriteFault)
         → SameTold (S.written shelf.old) (S.written shelf.new)) }
-    ensures gave { IfErr result (λ fault. GavePart (demo_line number) fault (O.given out.old) (O.given out.new)) }
     ensures others { (name : List ℕ) → name ≢ outnet.now → name ≢ outbsdl.now
         → S.written shelf.new name ≡ S.written shelf.old name }
     ensures held { SameTold (S.held shelf.old) (S.held shelf.new) }

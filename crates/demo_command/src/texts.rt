@@ -6,8 +6,8 @@ ghost use Rattle.verilog_tree.specs.IsTree.{IsTree};
 ghost use Rattle.link_model.specs.Late.{IsLinkable};
 ghost use Rattle.output_lines.specs.Lines.{blank_word};
 ghost use Rattle.plan_texts.specs.Canonical.{canonical_plan};
-ghost use Rattle.insertion_inputs.specs.Faults.{StandsInTexts};
-ghost use Rattle.insertions.specs.Insertions.{IsInsertion};
+ghost use Rattle.insert_command.specs.InputFaults.{StandsInTexts};
+ghost use Rattle.insert_command.specs.Insertions.{IsInsertionText};
 ghost use Rattle.command_faults.specs.Statuses.{status_of};
 ghost use Rattle.command_faults.specs.declared.status.Status.{Status};
 ghost use Rattle.insert_command.specs.Faults.{fault_of};
@@ -21,8 +21,7 @@ use demo_chips::{demo_module, demo_plan};
 use demo_netlists::demo_has_its_cells;
 use demo_plans::{demo_chips_are_counted, demo_plan_is_spelled};
 use edge_io::{OutOfMemory, Text};
-use insert_command::insertion_faults_stand_apart;
-use insertions::{InsertFault, Inserted, insert_texts};
+use insert_command::{InsertFault, Inserted, free_texts_want_memory, insert_texts};
 use itoa::Buffer;
 use plan_texts::print_plan;
 use std::alloc::Global;
@@ -64,8 +63,10 @@ fn plan_text(alloc: Global) -> Result<Text, OutOfMemory>
 // Inserts into the netlist of a number.
 fn insert_demo(alloc: Global, number: u32) -> Result<Inserted, InsertFault>
     requires { number < 10000 }
-    ensures inserted { IfOk result (λ made. IsInsertion (canonical (demo_module number)) (canonical_plan demo_plan) made.verilog made.bsdl made.report) }
-    ensures fault { IfErr result (StandsInTexts (canonical (demo_module number)) (canonical_plan demo_plan)) }
+    ensures inserted { IfOk result (λ made. IsInsertionText (canonical (demo_module number))
+        (canonical_plan demo_plan) made.verilog made.bsdl made.report) }
+    ensures fault { IfErr result (StandsInTexts (canonical (demo_module number))
+        (canonical_plan demo_plan)) }
 {
     let net = netlist_text(alloc, number)?;
     let plan = plan_text(alloc)?;
@@ -82,7 +83,7 @@ pub fn inserted_demo<'a>(alloc: Global, number: u32) -> Result<Inserted, Fault<'
 {
     // Laws that the proof uses.
     canonical_texts_spell_their_trees();
-    insertion_faults_stand_apart();
+    free_texts_want_memory();
     demo_plan_is_spelled();
     demo_has_its_cells();
     demo_chips_are_counted();

@@ -2,14 +2,14 @@
 ghost use Rattle.std.specs.Prelude.{◌≡◌, ◌≢◌, ◌≤◌, ℕ, List, IfErr, OnOk};
 ghost use Rattle.edge_io.specs.Shelf.{NoneFell, SameTold};
 ghost use Rattle.command_edges.specs.Seen.{shelf_seen, sink_seen};
-ghost use Rattle.insert_command.specs.Runs.{GavePart, IsWrittenOut, StandsInWritings};
+ghost use Rattle.insert_command.specs.Runs.{IsWrittenOut, StandsInWritings};
 
 use command_edges::{put_text, write_text};
 use command_faults::Fault;
 use edge_io::Text;
 use edge_io::shelf::Shelf;
 use edge_io::sink::Sink;
-use insertions::Inserted;
+use insert_command::Inserted;
 
 /// Writes the netlist's text, then the device's, and puts the line.
 pub fn write_out<'a, S: Shelf, O: Sink>(
@@ -21,13 +21,14 @@ pub fn write_out<'a, S: Shelf, O: Sink>(
     line: &Text,
 ) -> Result<(), Fault<'a>>
     requires apart { outbsdl.now ≢ outnet.now }
-    ensures done { OnOk result (IsWrittenOut outnet.now outbsdl.now inserted.now.verilog inserted.now.bsdl line.now
+    ensures done { OnOk result (IsWrittenOut outnet.now outbsdl.now inserted.now.verilog inserted.now.bsdl
+        line.now
         (shelf_seen S.tells S.held S.written S.faults shelf.old shelf.new)
         (sink_seen O.given O.faults out.old out.new)) }
-    ensures fault { IfErr result (StandsInWritings outnet.now outbsdl.now inserted.now.verilog inserted.now.bsdl
+    ensures fault { IfErr result (λ fault. StandsInWritings outnet.now outbsdl.now
+        inserted.now.verilog inserted.now.bsdl line.now
         (shelf_seen S.tells S.held S.written S.faults shelf.old shelf.new)
-        (sink_seen O.given O.faults out.old out.new)) }
-    ensures gave { IfErr result (λ fault. GavePart line.now fault (O.given out.old) (O.given out.new)) }
+        (sink_seen O.given O.faults out.old out.new) fault (O.given out.new)) }
     ensures others { (name : List ℕ) → name ≢ outnet.now → name ≢ outbsdl.now
         → S.written shelf.new name ≡ S.written shelf.old name }
     ensures held { SameTold (S.held shelf.old) (S.held shelf.new) }

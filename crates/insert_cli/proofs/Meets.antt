@@ -2,9 +2,9 @@
 use Rattle.std.proofs.Common.{◌≡◌, ◌≢◌, ℕ, List, length, Option, Some, inr, sym, subst, ap, ◌∙◌}
 use Rattle.command_faults.specs.declared.status.Status.{Status}
 use Rattle.command_faults.specs.declared.status.Status.TheVariants as status
-use Rattle.command_edges.specs.Ends.{IsEnd}
+use Rattle.command_edges.specs.Ends.{IsEnd, run_status}
 use Rattle.command_edges.specs.Seen.{ShelfSeen, SinkSeen}
-use Rattle.check_command.specs.Checks.{IsCheck, check_status}
+use Rattle.check_command.specs.Checks.{IsCheck}
 use Rattle.check_command.specs.CheckFaults.{WhereAllTold, FinishesCheck}
 use Rattle.program_checks.specs.Laws.{WrittenProgramsMissNothing}
 use Rattle.insert_cli.specs.Forms.{Form}
@@ -21,8 +21,8 @@ none_missed law net text lines put missed of c =
 done_missed : status.Done ≢ status.Missed
 done_missed e = cc
 
-status_apart : (missed : ℕ) → missed ≡ 0 → check_status missed ≢ status.Missed
-status_apart missed none = subst (λ (n : ℕ). check_status n ≢ status.Missed) (sym none) done_missed
+status_apart : (missed : ℕ) → missed ≡ 0 → run_status missed ≢ status.Missed
+status_apart missed none = subst (λ (n : ℕ). run_status n ≢ status.Missed) (sym none) done_missed
 
 all_told : (a b c : Option (List ℕ)) (x y z : List ℕ) (P : List ℕ → List ℕ → List ℕ → Type 0) → a ≡ Some x → b ≡ Some y → c ≡ Some z → WhereAllTold a b c P → P x y z
 all_told a b c x y z P one two three holds =

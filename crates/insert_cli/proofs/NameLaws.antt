@@ -10,4 +10,4 @@ one_none name (other ∷ others) none (inr later) = one_none name others none.1 
 pub apart_none : (name : List ℕ) (reads writes : List (List ℕ)) → AreApart reads writes → IsRepeated name reads writes → ⊥
 apart_none name reads [] apart repeated = repeated
 apart_none name reads (output ∷ more) apart (inl (is, one)) = one_none output (reads ++ more) apart.0 one
-apart_none name reads (output ∷ more) apart (inr later) = apart_none name reads more apart.1 later
+apart_none name reads (output ∷ more) apart (inr (none, later)) = apart_none name reads more apart.1 later

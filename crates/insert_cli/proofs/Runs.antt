@@ -1,5 +1,5 @@
 -- What a command comes to is what its words come to.
-use Rattle.std.proofs.Common.{◌≡◌, ℕ, Result, Ok, Err, OnOk, OnErr, IfOk, IfErr, ◌⊎◌, List, Option, inl, inr, sym, subst}
+use Rattle.std.proofs.Common.{◌≡◌, ℕ, Result, Ok, Err, OnOk, OnErr, IfOk, IfErr, ◌⊎◌, List, Option, inl, inr, sym, subst, ◌∙◌}
 use Rattle.command_faults.specs.declared.fault.Fault.{Fault}
 use Rattle.command_faults.specs.declared.fault.Fault.TheVariants as fault
 use Rattle.command_faults.specs.declared.status.Status.{Status}
@@ -7,11 +7,12 @@ use Rattle.command_faults.specs.Statuses.{status_of}
 use Rattle.command_edges.specs.Seen.{ShelfSeen, SinkSeen, SinkRose}
 use Rattle.sim_command.proofs.Simulated.{sim_later, sim_completes_later}
 use Rattle.insert_command.proofs.Later.{insert_later, writings_later, insert_completes_later}
-use Rattle.check_command.specs.CheckFaults.{StandsInTexts, StandsInCheck, CompletesCheck}
-use Rattle.demo_command.specs.Demonstrations.{StandsInDemo}
+use Rattle.sim_command.specs.Runs.{GaveInPlay}
+use Rattle.check_command.specs.CheckFaults.{StandsInTexts, StandsInCheck, GaveInCheck, CompletesCheck}
+use Rattle.demo_command.specs.Demonstrations.{StandsInDemo, demo_line}
 use Rattle.insert_cli.specs.Forms.{Form, HasForm, IsNoCommand}
 use Rattle.insert_cli.specs.Names.{Runs, Writes, IsOneOf, IsRepeated, inputs, outputs}
-use Rattle.insert_cli.specs.Commands.{FinishesIn, StandsIn, GaveIn, CompletesIn}
+use Rattle.insert_cli.specs.Commands.{FinishesIn, StandsIn, CompletesIn}
 use Rattle.insert_cli.specs.Causes.{Finishes, Stands, Completes}
 use Rattle.insert_cli.proofs.FormLaws.{form_once}
 use Rattle.insert_cli.proofs.NameLaws.{apart_none}
@@ -20,10 +21,10 @@ pub run_done : (r : Result Status Fault) (words : List (List ℕ)) (form : Form)
 run_done (Ok end) words form shelf sink runs finishes = record { form = form; runs = runs; finishes = finishes }
 run_done (Err f) words form shelf sink runs finishes = tt
 
-pub run_fault : (r : Result Status Fault) (words : List (List ℕ)) (form : Form) (shelf : ShelfSeen) (sink : SinkSeen) (before : Option (List ℕ)) → Runs words form → IfErr r (StandsIn form shelf sink)
-    → IfErr r (λ f. GaveIn form shelf f sink.given before) → IfErr r (λ f. Stands words shelf sink f before)
-run_fault (Ok end) words form shelf sink before runs stands gave = tt
-run_fault (Err f) words form shelf sink before runs stands gave = inr (record { form = form; runs = runs; stands = stands; gave = gave })
+pub run_fault : (r : Result Status Fault) (words : List (List ℕ)) (form : Form) (shelf : ShelfSeen) (sink : SinkSeen) (before : Option (List ℕ)) → Runs words form
+    → IfErr r (λ f. StandsIn form shelf sink f before) → IfErr r (λ f. Stands words shelf sink f before)
+run_fault (Ok end) words form shelf sink before runs stands = tt
+run_fault (Err f) words form shelf sink before runs stands = inr (record { form = form; runs = runs; stands = stands })
 
 -- words have one form, so its completeness is theirs
 pub run_completes : (r : Result Status Fault) (words : List (List ℕ)) (form : Form) (shelf : ShelfSeen) (sink : SinkSeen) → Runs words form → IfErr r (λ f. CompletesIn form shelf sink (status_of f))
@@ -61,29 +62,34 @@ check_completes_later : (netlist bsdl events : List ℕ) (shelf : ShelfSeen) (a 
 check_completes_later netlist bsdl events shelf a b end later completes net text lines told also too ok calm calm_bsdl calm_events still =
     completes net text lines told also too ok calm calm_bsdl calm_events (λ rose. still (later rose))
 
-demo_later : (number : ℕ) (outnet outbsdl : List ℕ) (shelf : ShelfSeen) (a b : SinkSeen) (f : Fault) → (SinkRose a → SinkRose b) → StandsInDemo number outnet outbsdl shelf a f
-    → StandsInDemo number outnet outbsdl shelf b f
-demo_later number outnet outbsdl shelf a b f later (inl memory) = inl memory
-demo_later number outnet outbsdl shelf a b f later (inr s) =
-    inr (record { verilog = s.verilog; bsdl = s.bsdl; made = s.made; stands = writings_later outnet outbsdl s.verilog s.bsdl shelf a b f later s.stands })
+demo_later : (number : ℕ) (outnet outbsdl : List ℕ) (shelf : ShelfSeen) (a b : SinkSeen) (f : Fault) (before : Option (List ℕ)) → a.given ≡ b.given → (SinkRose a → SinkRose b)
+    → StandsInDemo number outnet outbsdl shelf a f before → StandsInDemo number outnet outbsdl shelf b f before
+demo_later number outnet outbsdl shelf a b f before same later (inl (memory, kept)) = inl (memory, kept ∙ same)
+demo_later number outnet outbsdl shelf a b f before same later (inr s) = inr (record {
+  verilog = s.verilog;
+  bsdl = s.bsdl;
+  made = s.made;
+  stands = writings_later outnet outbsdl s.verilog s.bsdl (demo_line number) shelf a b f before same later s.stands;
+})
 
-stands_later : (form : Form) (shelf : ShelfSeen) (a b : SinkSeen) (f : Fault) → (SinkRose a → SinkRose b) → StandsIn form shelf a f → StandsIn form shelf b f
-stands_later (Form.Converts c input output) shelf a b f later stands = stands
-stands_later (Form.Simulates netlist events) shelf a b f later stands = sim_later netlist events shelf a b f later stands
-stands_later (Form.Inserts netlist plan outnet outbsdl) shelf a b f later stands = insert_later netlist plan outnet outbsdl shelf a b f later stands
-stands_later (Form.MakesVectors bsdl output) shelf a b f later stands = stands
-stands_later (Form.Checks netlist bsdl events) shelf a b f later stands = check_later netlist bsdl events shelf a b f later stands
-stands_later (Form.Demonstrates number outnet outbsdl) shelf a b f later stands = demo_later number outnet outbsdl shelf a b f later stands
+stands_later : (form : Form) (shelf : ShelfSeen) (a b : SinkSeen) (f : Fault) (before : Option (List ℕ)) → a.given ≡ b.given → (SinkRose a → SinkRose b) → StandsIn form shelf a f before
+    → StandsIn form shelf b f before
+stands_later (Form.Converts c input output) shelf a b f before same later (stands, kept) = (stands, kept ∙ same)
+stands_later (Form.Simulates netlist events) shelf a b f before same later (stands, gave) =
+    (sim_later netlist events shelf a b f later stands, subst (λ (g : Option (List ℕ)). GaveInPlay (shelf.held netlist) (shelf.held events) f g before) same gave)
+stands_later (Form.Inserts netlist plan outnet outbsdl) shelf a b f before same later stands = insert_later netlist plan outnet outbsdl shelf a b f before same later stands
+stands_later (Form.MakesVectors bsdl output) shelf a b f before same later (stands, kept) = (stands, kept ∙ same)
+stands_later (Form.Checks netlist bsdl events) shelf a b f before same later (stands, gave) = (
+  check_later netlist bsdl events shelf a b f later stands,
+  subst (λ (g : Option (List ℕ)). GaveInCheck (shelf.held netlist) (shelf.held bsdl) (shelf.held events) f g before) same gave,
+)
+stands_later (Form.Demonstrates number outnet outbsdl) shelf a b f before same later stands = demo_later number outnet outbsdl shelf a b f before same later stands
 
 pub fault_later : (words : List (List ℕ)) (shelf : ShelfSeen) (a b : SinkSeen) (f : Fault) (before : Option (List ℕ)) → a.given ≡ b.given → (SinkRose a → SinkRose b) → Stands words shelf a f before
     → Stands words shelf b f before
-fault_later words shelf a b f before same later (inl (stands, kept)) = inl (stands, subst (λ (g : Option (List ℕ)). before ≡ g) same kept)
-fault_later words shelf a b f before same later (inr s) = inr (record {
-  form = s.form;
-  runs = s.runs;
-  stands = stands_later s.form shelf a b f later s.stands;
-  gave = subst (λ (g : Option (List ℕ)). GaveIn s.form shelf f g before) same s.gave;
-})
+fault_later words shelf a b f before same later (inl (stands, kept)) = inl (stands, kept ∙ same)
+fault_later words shelf a b f before same later (inr s) =
+    inr (record { form = s.form; runs = s.runs; stands = stands_later s.form shelf a b f before same later s.stands })
 
 form_completes_later : (form : Form) (shelf : ShelfSeen) (a b : SinkSeen) (end : Status) → (SinkRose a → SinkRose b) → CompletesIn form shelf a end → CompletesIn form shelf b end
 form_completes_later (Form.Converts c input output) shelf a b end later completes = completes

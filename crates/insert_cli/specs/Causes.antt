@@ -9,7 +9,7 @@ use Rattle.command_faults.specs.Statuses.{status_of}
 use Rattle.command_edges.specs.Seen.{ShelfSeen, SinkSeen, SinkRose}
 use Rattle.insert_cli.specs.Forms.{Form, HasForm, IsNoCommand}
 use Rattle.insert_cli.specs.Names.{Runs, IsRepeated, inputs, outputs}
-use Rattle.insert_cli.specs.Commands.{FinishesIn, StandsIn, GaveIn, CompletesIn}
+use Rattle.insert_cli.specs.Commands.{FinishesIn, StandsIn, CompletesIn}
 
 -- The words are a command, which came to its end with this status.
 pub record Finishes (words : List (List ℕ)) (shelf : ShelfSeen) (sink : SinkSeen) (end : Status) : Type 0 where
@@ -17,7 +17,7 @@ pub record Finishes (words : List (List ℕ)) (shelf : ShelfSeen) (sink : SinkSe
   pub runs : Runs words form
   pub finishes : FinishesIn form shelf sink end
 
--- an output of the command has the name of another of its files
+-- an output of the command has the name of another of its files, and it is the first that has
 pub record RepeatsName (words : List (List ℕ)) (name : List ℕ) : Type 0 where
   pub form : Form
   pub has : HasForm words form
@@ -33,8 +33,7 @@ StandsInWords words f = ⊥
 pub record StandsInCommand (words : List (List ℕ)) (shelf : ShelfSeen) (sink : SinkSeen) (f : Fault) (before : Option (List ℕ)) : Type 0 where
   pub form : Form
   pub runs : Runs words form
-  pub stands : StandsIn form shelf sink f
-  pub gave : GaveIn form shelf f sink.given before
+  pub stands : StandsIn form shelf sink f before
 
 -- The fault stands in the words, and nothing was given before it; or it stands in the command that they are.
 abbrev pub Stands : List (List ℕ) → ShelfSeen → SinkSeen → Fault → Option (List ℕ) → Type 0

@@ -6,10 +6,10 @@ use Rattle.command_faults.specs.declared.status.Status.TheVariants as status
 use Rattle.command_edges.specs.Seen.{ShelfSeen, SinkSeen}
 use Rattle.convert_command.specs.Runs.{IsConvertedTo, StandsInConvert, CompletesConvert}
 use Rattle.sim_command.specs.Runs.{IsSimulated, StandsInSim, GaveInPlay, CompletesSim}
-use Rattle.insert_command.specs.Runs.{IsInserted, StandsInInsert, GaveInInsert, CompletesInsert, GavePart}
+use Rattle.insert_command.specs.Runs.{IsInserted, StandsInInsert, CompletesInsert}
 use Rattle.vectors_command.specs.Runs.{IsProgramWritten, StandsInVectors, CompletesVectors}
 use Rattle.check_command.specs.CheckFaults.{FinishesCheck, StandsInCheck, GaveInCheck, CompletesCheck}
-use Rattle.demo_command.specs.Demonstrations.{IsDemonstrated, StandsInDemo, CompletesDemo, demo_line}
+use Rattle.demo_command.specs.Demonstrations.{IsDemonstrated, StandsInDemo, CompletesDemo}
 use Rattle.insert_cli.specs.Forms.{Form}
 
 -- the end of a command that puts nothing
@@ -25,23 +25,17 @@ FinishesIn (Form.MakesVectors bsdl output) shelf sink end = IsQuietEnd sink end 
 FinishesIn (Form.Checks netlist bsdl events) shelf sink end = FinishesCheck netlist bsdl events shelf sink end
 FinishesIn (Form.Demonstrates number outnet outbsdl) shelf sink end = (end ≡ status.Done) × IsDemonstrated number outnet outbsdl shelf sink
 
--- The fault stands in the command. One of writing says what it leaves.
-abbrev pub StandsIn : Form → ShelfSeen → SinkSeen → Fault → Type 0
-StandsIn (Form.Converts c input output) shelf sink f = StandsInConvert c input output shelf f
-StandsIn (Form.Simulates netlist events) shelf sink f = StandsInSim netlist events shelf sink f
-StandsIn (Form.Inserts netlist plan outnet outbsdl) shelf sink f = StandsInInsert netlist plan outnet outbsdl shelf sink f
-StandsIn (Form.MakesVectors bsdl output) shelf sink f = StandsInVectors bsdl output shelf f
-StandsIn (Form.Checks netlist bsdl events) shelf sink f = StandsInCheck netlist bsdl events shelf sink f
-StandsIn (Form.Demonstrates number outnet outbsdl) shelf sink f = StandsInDemo number outnet outbsdl shelf sink f
-
--- What was given before the fault's line: nothing, or where giving failed a front of what the command puts.
-abbrev pub GaveIn : Form → ShelfSeen → Fault → Option (List ℕ) → Option (List ℕ) → Type 0
-GaveIn (Form.Converts c input output) shelf f before after = after ≡ before
-GaveIn (Form.Simulates netlist events) shelf f before after = GaveInPlay (shelf.held netlist) (shelf.held events) f before after
-GaveIn (Form.Inserts netlist plan outnet outbsdl) shelf f before after = GaveInInsert (shelf.held netlist) (shelf.held plan) f before after
-GaveIn (Form.MakesVectors bsdl output) shelf f before after = after ≡ before
-GaveIn (Form.Checks netlist bsdl events) shelf f before after = GaveInCheck (shelf.held netlist) (shelf.held bsdl) (shelf.held events) f before after
-GaveIn (Form.Demonstrates number outnet outbsdl) shelf f before after = GavePart (demo_line number) f before after
+-- The fault stands in the command, and before its line so much was given: nothing, or where giving failed a front of what the command
+-- puts. One of writing says what it leaves.
+abbrev pub StandsIn : Form → ShelfSeen → SinkSeen → Fault → Option (List ℕ) → Type 0
+StandsIn (Form.Converts c input output) shelf sink f before = StandsInConvert c input output shelf f × (before ≡ sink.given)
+StandsIn (Form.Simulates netlist events) shelf sink f before =
+    StandsInSim netlist events shelf sink f × GaveInPlay (shelf.held netlist) (shelf.held events) f sink.given before
+StandsIn (Form.Inserts netlist plan outnet outbsdl) shelf sink f before = StandsInInsert netlist plan outnet outbsdl shelf sink f before
+StandsIn (Form.MakesVectors bsdl output) shelf sink f before = StandsInVectors bsdl output shelf f × (before ≡ sink.given)
+StandsIn (Form.Checks netlist bsdl events) shelf sink f before =
+    StandsInCheck netlist bsdl events shelf sink f × GaveInCheck (shelf.held netlist) (shelf.held bsdl) (shelf.held events) f sink.given before
+StandsIn (Form.Demonstrates number outnet outbsdl) shelf sink f before = StandsInDemo number outnet outbsdl shelf sink f before
 
 -- A refusal with this status, where no fault stands in what the command reads, and no count of its names or of the sink rises, is want
 -- of memory.

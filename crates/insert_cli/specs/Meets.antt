@@ -4,7 +4,7 @@ use Rattle.std.specs.Prelude.{◌≡◌, ◌≢◌, ℕ, List, Some}
 use Rattle.command_faults.specs.declared.status.Status.{Status}
 use Rattle.command_faults.specs.declared.status.Status.TheVariants as status
 use Rattle.command_edges.specs.Seen.{ShelfSeen}
-use Rattle.insertions.specs.Insertions.{IsInsertion}
+use Rattle.program_checks.specs.Insertions.{IsInsertion}
 use Rattle.vectors_command.specs.Programs.{IsProgramText}
 use Rattle.insert_cli.specs.Forms.{Form}
 use Rattle.insert_cli.specs.Names.{Runs}

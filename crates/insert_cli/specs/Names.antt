@@ -29,10 +29,11 @@ abbrev pub IsNoneOf : List ℕ → List (List ℕ) → Type 0
 IsNoneOf name [] = Unit {0}
 IsNoneOf name (other ∷ others) = (name ≢ other) × IsNoneOf name others
 
--- the name is that of an output and of an input, or of a later output
+-- the name is that of the first output that is an input too, or a later output
 abbrev pub IsRepeated : List ℕ → List (List ℕ) → List (List ℕ) → Type 0
 IsRepeated name reads [] = ⊥
-IsRepeated name reads (output ∷ more) = ((name ≡ output) × IsOneOf output (reads ++ more)) ⊎ IsRepeated name reads more
+IsRepeated name reads (output ∷ more) =
+    ((name ≡ output) × IsOneOf output (reads ++ more)) ⊎ (IsNoneOf output (reads ++ more) × IsRepeated name reads more)
 
 -- no output has the name of an input, or of a later output
 abbrev pub AreApart : List (List ℕ) → List (List ℕ) → Type 0

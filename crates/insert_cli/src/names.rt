@@ -19,8 +19,10 @@ fn taken_in_insert<'a>(
     outnet: &'a str,
     outbsdl: &'a str,
 ) -> Option<&'a str>
-    ensures same { IfSome result (λ name. IsRepeated name.now (netlist.now ∷ plan.now ∷ []) (outnet.now ∷ outbsdl.now ∷ [])) }
-    ensures apart { result ≡ None → AreApart (netlist.now ∷ plan.now ∷ []) (outnet.now ∷ outbsdl.now ∷ []) }
+    ensures same { IfSome result (λ name. IsRepeated name.now (netlist.now ∷ plan.now ∷ [])
+        (outnet.now ∷ outbsdl.now ∷ [])) }
+    ensures apart { result ≡ None → AreApart (netlist.now ∷ plan.now ∷ [])
+        (outnet.now ∷ outbsdl.now ∷ []) }
 {
     if outnet == netlist || outnet == plan || outnet == outbsdl {
         return Some(outnet);
@@ -33,8 +35,10 @@ fn taken_in_insert<'a>(
 
 /// The first output that has the name of another file of the command.
 pub fn same_name<'a>(command: Command<'a>) -> Option<&'a str>
-    ensures same { IfSome result (λ name. IsRepeated name.now (inputs (form_of command.entry)) (outputs (form_of command.entry))) }
-    ensures apart { result ≡ None → AreApart (inputs (form_of command.entry)) (outputs (form_of command.entry)) }
+    ensures same { IfSome result (λ name. IsRepeated name.now (inputs (form_of command.entry))
+        (outputs (form_of command.entry))) }
+    ensures apart { result ≡ None → AreApart (inputs (form_of command.entry))
+        (outputs (form_of command.entry)) }
 {
     match command {
         Command::Convert { input, output, .. } => taken(output, input),

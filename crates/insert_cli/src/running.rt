@@ -5,7 +5,7 @@ ghost use Rattle.command_faults.specs.declared.status.Status.{Status};
 ghost use Rattle.command_edges.specs.Ends.{IsEnd};
 ghost use Rattle.command_edges.specs.Seen.{shelf_seen, sink_seen};
 ghost use Rattle.insert_cli.specs.Names.{AreApart, IsOneOf, inputs, outputs};
-ghost use Rattle.insert_cli.specs.Commands.{CompletesIn, FinishesIn, GaveIn, StandsIn};
+ghost use Rattle.insert_cli.specs.Commands.{CompletesIn, FinishesIn, StandsIn};
 ghost use Rattle.insert_cli.specs.Parsed.{HasSmallNumber, form_of};
 
 use crate::command::Command;
@@ -33,12 +33,9 @@ pub fn run_command<'a, S: Shelf, O: Sink>(
         (shelf_seen S.tells S.held S.written S.faults shelf.old shelf.new)
         (sink_seen O.given O.faults out.old out.new)) }
     ensures ended { IfOk result IsEnd }
-    ensures fault { IfErr result (StandsIn (form_of command.entry)
+    ensures fault { IfErr result (λ fault. StandsIn (form_of command.entry)
         (shelf_seen S.tells S.held S.written S.faults shelf.old shelf.new)
-        (sink_seen O.given O.faults out.old out.new)) }
-    ensures gave { IfErr result (λ fault. GaveIn (form_of command.entry)
-        (shelf_seen S.tells S.held S.written S.faults shelf.old shelf.new) fault
-        (O.given out.old) (O.given out.new)) }
+        (sink_seen O.given O.faults out.old out.new) fault (O.given out.new)) }
     ensures complete { IfErr result (λ fault. CompletesIn (form_of command.entry)
         (shelf_seen S.tells S.held S.written S.faults shelf.old shelf.new)
         (sink_seen O.given O.faults out.old out.new) (status_of fault)) }

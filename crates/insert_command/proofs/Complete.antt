@@ -8,7 +8,6 @@ use Rattle.verilog_texts.specs.declared.fault.TextFault.TheVariants as text
 use Rattle.verilog_texts.specs.TextFaults.{IsTextFault}
 use Rattle.link_model.specs.declared.fault.LinkFault.{LinkFault}
 use Rattle.link_model.specs.Late.{IsLinkable}
-use Rattle.netlist_arena.specs.declared.room.ReserveFault.{ReserveFault}
 use Rattle.netlist_arena.specs.declared.room.ReserveFault.TheVariants as reserve
 use Rattle.netlist_link.specs.Linked.{LinkedView}
 use Rattle.netlist_link.specs.Links.{IsLinkOf, IsLinkFault}
@@ -26,14 +25,13 @@ use Rattle.command_faults.specs.declared.fault.Fault.{Fault}
 use Rattle.command_faults.specs.declared.fault.Fault.TheVariants as fault
 use Rattle.command_faults.specs.declared.status.Status.TheVariants as status
 use Rattle.command_faults.specs.Statuses.{status_of, text_status, link_status, plan_status, fit_status}
-use Rattle.insertion_inputs.specs.declared.fault.InsertFault.TheVariants as insert
-use Rattle.insertion_inputs.specs.Faults.{HasLinkFault, HasPlanFault, HasTooMany}
 use Rattle.command_edges.specs.Seen.{ShelfSeen, SinkSeen, NameRose, SinkRose}
 use Rattle.command_edges.proofs.Told.{reading_memory, write_rose}
 use Rattle.command_edges.proofs.Written.{put_rose}
-use Rattle.insert_command.specs.Faults.{StandsInInputs}
+use Rattle.insert_command.specs.Faults.{fault_of, StandsInInputs}
 use Rattle.insert_command.specs.Runs.{StandsInInsert, StandsInWritings, CompletesInsert}
-use Rattle.insert_command.specs.Free.{HasNoFault, IsInsertable}
+use Rattle.insert_command.specs.Free.{HasNoFault, IsInsertable, FreeTextsWantMemory}
+use Rattle.insert_command.proofs.Made.{inputs_stand}
 
 -- the laws that keep faults apart from what is free of them
 pub record Laws : Type 0 where
@@ -101,23 +99,28 @@ inputs_memory laws (fault.TooMany what count limit) net text ok stands =
 inputs_memory laws fault.OutOfMemory net text ok stands = refl
 inputs_memory laws f net text ok stands = absurd stands
 
-writings_free : (outnet outbsdl verilog bsdl : List ℕ) (shelf : ShelfSeen) (sink : SinkSeen) (f : Fault) → (NameRose shelf outnet → ⊥) → (NameRose shelf outbsdl → ⊥) → (SinkRose sink → ⊥)
-    → StandsInWritings outnet outbsdl verilog bsdl shelf sink f → ⊥
-writings_free outnet outbsdl verilog bsdl shelf sink f calm_net calm_bsdl still (inl s) = calm_net (write_rose outnet shelf f s.fault_is)
-writings_free outnet outbsdl verilog bsdl shelf sink f calm_net calm_bsdl still (inr (inl s)) = calm_bsdl (write_rose outbsdl shelf f s.fault_is)
-writings_free outnet outbsdl verilog bsdl shelf sink f calm_net calm_bsdl still (inr (inr s)) = still (put_rose sink f s.fault_is)
+pub free_memory : Laws → FreeTextsWantMemory
+free_memory laws net text f ok stands = inputs_memory laws (fault_of f) net text ok (inputs_stand net text f stands)
 
-insert_memory : Laws → (netlist plan outnet outbsdl : List ℕ) (shelf : ShelfSeen) (sink : SinkSeen) (f : Fault) → StandsInInsert netlist plan outnet outbsdl shelf sink f
+writings_free : (outnet outbsdl verilog bsdl report : List ℕ) (shelf : ShelfSeen) (sink : SinkSeen) (f : Fault) (after : Option (List ℕ)) → (NameRose shelf outnet → ⊥) → (NameRose shelf outbsdl → ⊥)
+    → (SinkRose sink → ⊥) → StandsInWritings outnet outbsdl verilog bsdl report shelf sink f after → ⊥
+writings_free outnet outbsdl verilog bsdl report shelf sink f after calm_net calm_bsdl still (inl s) = calm_net (write_rose outnet shelf f s.fault_is)
+writings_free outnet outbsdl verilog bsdl report shelf sink f after calm_net calm_bsdl still (inr (inl s)) = calm_bsdl (write_rose outbsdl shelf f s.fault_is)
+writings_free outnet outbsdl verilog bsdl report shelf sink f after calm_net calm_bsdl still (inr (inr s)) = still (put_rose sink f s.fault_is)
+
+insert_memory : Laws → (netlist plan outnet outbsdl : List ℕ) (shelf : ShelfSeen) (sink : SinkSeen) (f : Fault) (after : Option (List ℕ)) → StandsInInsert netlist plan outnet outbsdl shelf sink f after
     → CompletesInsert netlist plan outnet outbsdl shelf sink (status_of f)
-insert_memory laws netlist plan outnet outbsdl shelf sink f (inl (inl stands)) net text told too ok calm calm_plan calm_net calm_bsdl still = reading_memory netlist net shelf f told ok.short calm stands
-insert_memory laws netlist plan outnet outbsdl shelf sink f (inl (inr (short, stands))) net text told too ok calm calm_plan calm_net calm_bsdl still = reading_memory plan text shelf f too ok.short_plan calm_plan stands
-insert_memory laws netlist plan outnet outbsdl shelf sink f (inr (inl (short, stands))) net text told too ok calm calm_plan calm_net calm_bsdl still =
+insert_memory laws netlist plan outnet outbsdl shelf sink f after (inl (inl (inl stands), same)) net text told too ok calm calm_plan calm_net calm_bsdl still =
+    reading_memory netlist net shelf f told ok.short calm stands
+insert_memory laws netlist plan outnet outbsdl shelf sink f after (inl (inl (inr (short, stands)), same)) net text told too ok calm calm_plan calm_net calm_bsdl still =
+    reading_memory plan text shelf f too ok.short_plan calm_plan stands
+insert_memory laws netlist plan outnet outbsdl shelf sink f after (inl (inr (short, stands), same)) net text told too ok calm calm_plan calm_net calm_bsdl still =
     inputs_memory laws f net text ok
     (subst (λ (t : Option (List ℕ)). StandsInInputs (Some net) t f) too (subst (λ (t : Option (List ℕ)). StandsInInputs t (shelf.held plan) f) told stands))
-insert_memory laws netlist plan outnet outbsdl shelf sink f (inr (inr s)) net text told too ok calm calm_plan calm_net calm_bsdl still =
-    absurd (writings_free outnet outbsdl s.verilog s.bsdl shelf sink f calm_net calm_bsdl still s.stands)
+insert_memory laws netlist plan outnet outbsdl shelf sink f after (inr s) net text told too ok calm calm_plan calm_net calm_bsdl still =
+    absurd (writings_free outnet outbsdl s.verilog s.bsdl s.report shelf sink f after calm_net calm_bsdl still s.stands)
 
-pub insert_completes : {T : Type 0} (r : Result T Fault) → Laws → (netlist plan outnet outbsdl : List ℕ) (shelf : ShelfSeen) (sink : SinkSeen) → IfErr r (StandsInInsert netlist plan outnet outbsdl shelf sink)
-    → IfErr r (λ f. CompletesInsert netlist plan outnet outbsdl shelf sink (status_of f))
-insert_completes (Ok x) laws netlist plan outnet outbsdl shelf sink stands = tt
-insert_completes (Err f) laws netlist plan outnet outbsdl shelf sink stands = insert_memory laws netlist plan outnet outbsdl shelf sink f stands
+pub insert_completes : {T : Type 0} (r : Result T Fault) → Laws → (netlist plan outnet outbsdl : List ℕ) (shelf : ShelfSeen) (sink : SinkSeen) (after : Option (List ℕ))
+    → IfErr r (λ f. StandsInInsert netlist plan outnet outbsdl shelf sink f after) → IfErr r (λ f. CompletesInsert netlist plan outnet outbsdl shelf sink (status_of f))
+insert_completes (Ok x) laws netlist plan outnet outbsdl shelf sink after stands = tt
+insert_completes (Err f) laws netlist plan outnet outbsdl shelf sink after stands = insert_memory laws netlist plan outnet outbsdl shelf sink f after stands

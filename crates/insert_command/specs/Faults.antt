@@ -1,5 +1,5 @@
 -- When each fault of the texts of a netlist and of a plan stands. Own.
-use Rattle.std.specs.Prelude.{◌≡◌, ℕ, List, Option}
+use Rattle.std.specs.Prelude.{ℕ, List, Option}
 use Rattle.edge_io.specs.Shelf.{WhereTold}
 use Rattle.command_faults.specs.declared.fault.Fault.{Fault}
 use Rattle.command_faults.specs.declared.fault.Fault.TheVariants as fault
@@ -8,10 +8,10 @@ use Rattle.netlist_link.specs.Linked.{LinkedView}
 use Rattle.plan_texts.specs.declared.plan.Plan.{Plan}
 use Rattle.plan_texts.specs.Grammar.{SpellsPlan}
 use Rattle.plan_texts.specs.Faults as plans
-use Rattle.insertion_inputs.specs.declared.fault.InsertFault.{InsertFault}
-use Rattle.insertion_inputs.specs.declared.fault.InsertFault.TheVariants as insert
-use Rattle.insertion_inputs.specs.Inputs.{IsNetlistOf}
-use Rattle.insertion_inputs.specs.Faults.{HasLinkFault, HasPlanFault}
+use Rattle.insertions.specs.InsertFault.{InsertFault}
+use Rattle.insertions.specs.InsertFault.TheVariants as insert
+use Rattle.insertions.specs.Inputs.{IsNetlistOf}
+use Rattle.insertions.specs.Faults.{HasLinkFault, HasPlanFault}
 use Rattle.command_edges.specs.Seen.{WhereBothTold}
 
 -- the fault of a command, for one of inserting

@@ -1,4 +1,4 @@
--- Texts of a netlist and of a plan in which no fault stands. Own.
+-- Texts of a netlist and of a plan in which no fault stands; what is told of them all the same is want of memory. Own.
 use Rattle.std.specs.Prelude.{◌≡◌, ℕ, List, slice_get, Some, None}
 use Rattle.verilog_tree.specs.declared.tree.Module.{Module}
 use Rattle.verilog_tree.specs.Texts.{SpellsText}
@@ -13,8 +13,13 @@ use Rattle.plan_fitting.specs.declared.fitted.Fitted.{Fitted}
 use Rattle.plan_fitting.specs.Pins.{PinSeen, NamesBit, AreSeen}
 use Rattle.plan_fitting.specs.Fits.{fault_with}
 use Rattle.plan_fitting.specs.Devices.{IsFitted}
-use Rattle.insertion_inputs.specs.Inputs.{HasRoomFor}
+use Rattle.insertions.specs.Inputs.{HasRoomFor}
+use Rattle.insertions.specs.InsertFault.{InsertFault}
+use Rattle.insertions.specs.Faults.{StandsInTexts}
+use Rattle.command_faults.specs.declared.status.Status.TheVariants as status
+use Rattle.command_faults.specs.Statuses.{status_of}
 use Rattle.command_edges.specs.Lengths.{IsShort}
+use Rattle.insert_command.specs.Faults.{fault_of}
 
 -- no fault of fitting stands in the plan, and with its test logic there isn't too much
 pub record HasNoFault (linked : LinkedView) (p : Plan) : Type 0 where
@@ -32,3 +37,7 @@ pub record IsInsertable (net text : List ℕ) : Type 0 where
   pub plan : Plan
   pub spells_plan : SpellsPlan text plan
   pub free : (linked : LinkedView) → IsLinkOf tree linked → HasNoFault linked plan
+
+-- a fault of such texts is want of memory
+abbrev pub FreeTextsWantMemory : Type 0
+FreeTextsWantMemory = (net text : List ℕ) (f : InsertFault) → IsInsertable net text → StandsInTexts net text f → status_of (fault_of f) ≡ status.Memory

@@ -1,3 +1,7 @@
+pub use Rattle.insertions.specs.Insertions
+pub use Rattle.insertions.specs.Inputs
+pub use Rattle.insertions.specs.Faults as InputFaults
+pub use Rattle.insertions.specs.InsertFault
 pub mod Faults
 pub mod Free
 pub mod Runs

@@ -2,12 +2,11 @@
 use Rattle.std.specs.Prelude.{◌≡◌, ℕ, ◌⊎◌, List, take, Option, Some}
 use Rattle.edge_io.specs.Shelf.{WhereTold, appended, told_if}
 use Rattle.command_faults.specs.declared.fault.Fault.{Fault}
-use Rattle.command_faults.specs.declared.fault.Fault.TheVariants as fault
 use Rattle.command_faults.specs.declared.status.Status.{Status}
 use Rattle.command_faults.specs.declared.status.Status.TheVariants as status
-use Rattle.insertions.specs.Insertions.{IsInsertion}
+use Rattle.insertions.specs.Insertions.{IsInsertionText}
 use Rattle.command_edges.specs.Seen.{ShelfSeen, SinkSeen, NameRose, SinkRose, WhereBothTold, IsCutOff}
-use Rattle.command_edges.specs.EdgeFaults.{StandsInReadingTwo, AreShort, StandsInWriting, StandsInPutting, standard_output}
+use Rattle.command_edges.specs.EdgeFaults.{StandsInReadingTwo, AreShort, StandsInWriting, StandsInPutting}
 use Rattle.insert_command.specs.Free.{IsInsertable}
 use Rattle.insert_command.specs.Faults.{SpellsNetlist, SpellsSomePlan, StandsInInputs}
 
@@ -19,39 +18,33 @@ pub record IsWrittenOut (netlist_name device_name netlist device report : List �
   pub device_written : shelf.written_after device_name ≡ told_if shelf.tells device
   pub gives : sink.given_after ≡ appended report sink.given
 
--- the netlist couldn't be written, and the device is as before
-pub record StandsInNetlistWrite (netlist_name device_name netlist : List ℕ) (shelf : ShelfSeen) (f : Fault) : Type 0 where
+-- the netlist couldn't be written; the device is as before, and nothing was given
+pub record StandsInNetlistWrite (netlist_name device_name netlist : List ℕ) (shelf : ShelfSeen) (sink : SinkSeen) (f : Fault) (after : Option (List ℕ)) : Type 0 where
   pub fault_is : StandsInWriting netlist_name shelf f
   pub netlist_cut : IsCutOff netlist_name netlist shelf
   pub device_kept : shelf.written_after device_name ≡ shelf.written device_name
+  pub gives_nothing : after ≡ sink.given
 
--- the device couldn't be written, and the netlist stands whole
-pub record StandsInDeviceWrite (netlist_name device_name netlist device : List ℕ) (shelf : ShelfSeen) (f : Fault) : Type 0 where
+-- the device couldn't be written; the netlist stands whole, and nothing was given
+pub record StandsInDeviceWrite (netlist_name device_name netlist device : List ℕ) (shelf : ShelfSeen) (sink : SinkSeen) (f : Fault) (after : Option (List ℕ)) : Type 0 where
   pub fault_is : StandsInWriting device_name shelf f
   pub netlist_whole : shelf.written_after netlist_name ≡ told_if shelf.tells netlist
   pub device_cut : IsCutOff device_name device shelf
+  pub gives_nothing : after ≡ sink.given
 
--- the report couldn't be given, and both stand whole
-pub record StandsInReport (netlist_name device_name netlist device : List ℕ) (shelf : ShelfSeen) (sink : SinkSeen) (f : Fault) : Type 0 where
+-- the report couldn't be given whole, but a front of it was; both texts stand whole
+pub record StandsInReport (netlist_name device_name netlist device report : List ℕ) (shelf : ShelfSeen) (sink : SinkSeen) (f : Fault) (after : Option (List ℕ)) : Type 0 where
   pub fault_is : StandsInPutting sink f
   pub netlist_whole : shelf.written_after netlist_name ≡ told_if shelf.tells netlist
   pub device_whole : shelf.written_after device_name ≡ told_if shelf.tells device
+  pub gives_front : (k : ℕ) × (after ≡ appended (take k report) sink.given)
 
--- The fault stands in writing the netlist, then the device, then the report.
-abbrev pub StandsInWritings : List ℕ → List ℕ → List ℕ → List ℕ → ShelfSeen → SinkSeen → Fault → Type 0
-StandsInWritings netlist_name device_name netlist device shelf sink f =
-    StandsInNetlistWrite netlist_name device_name netlist shelf f
-    ⊎ (StandsInDeviceWrite netlist_name device_name netlist device shelf f
-    ⊎ StandsInReport netlist_name device_name netlist device shelf sink f)
-
--- the fault is one of giving
-abbrev pub IsSinkFault : Fault → Type 0
-IsSinkFault (fault.WriteFault name) = name.now ≡ standard_output
-IsSinkFault f = ⊥
-
--- nothing was given; or, where giving failed, a front of the report
-abbrev pub GavePart : List ℕ → Fault → Option (List ℕ) → Option (List ℕ) → Type 0
-GavePart report f before after = (after ≡ before) ⊎ (IsSinkFault f × ((k : ℕ) × (after ≡ appended (take k report) before)))
+-- The fault stands in writing the netlist, then the device, then the report; and then so much was given.
+abbrev pub StandsInWritings : List ℕ → List ℕ → List ℕ → List ℕ → List ℕ → ShelfSeen → SinkSeen → Fault → Option (List ℕ) → Type 0
+StandsInWritings netlist_name device_name netlist device report shelf sink f after =
+    StandsInNetlistWrite netlist_name device_name netlist shelf sink f after
+    ⊎ (StandsInDeviceWrite netlist_name device_name netlist device shelf sink f after
+    ⊎ StandsInReport netlist_name device_name netlist device report shelf sink f after)
 
 -- The whole.
 
@@ -60,7 +53,7 @@ pub record AreInserted (netlist plan : List ℕ) (shelf : ShelfSeen) (verilog bs
   pub short : AreShort netlist plan shelf
   pub netlist_spelled : WhereTold (shelf.held netlist) SpellsNetlist
   pub plan_spelled : WhereTold (shelf.held plan) SpellsSomePlan
-  pub insertion : WhereBothTold (shelf.held netlist) (shelf.held plan) (λ n p. IsInsertion n p verilog bsdl report)
+  pub insertion : WhereBothTold (shelf.held netlist) (shelf.held plan) (λ n p. IsInsertionText n p verilog bsdl report)
 
 -- The netlist with the test logic is written under one name and its BSDL text under the other, and the report was given.
 pub record IsInserted (netlist plan outnet outbsdl : List ℕ) (shelf : ShelfSeen) (sink : SinkSeen) : Type 0 where
@@ -71,37 +64,22 @@ pub record IsInserted (netlist plan outnet outbsdl : List ℕ) (shelf : ShelfSee
   pub written_out : IsWrittenOut outnet outbsdl verilog bsdl report shelf sink
 
 -- what comes of the texts couldn't be written
-pub record StandsInOutput (netlist plan outnet outbsdl : List ℕ) (shelf : ShelfSeen) (sink : SinkSeen) (f : Fault) : Type 0 where
+pub record StandsInOutput (netlist plan outnet outbsdl : List ℕ) (shelf : ShelfSeen) (sink : SinkSeen) (f : Fault) (after : Option (List ℕ)) : Type 0 where
   pub verilog : List ℕ
   pub bsdl : List ℕ
   pub report : List ℕ
   pub made : AreInserted netlist plan shelf verilog bsdl report
-  pub stands : StandsInWritings outnet outbsdl verilog bsdl shelf sink f
+  pub stands : StandsInWritings outnet outbsdl verilog bsdl report shelf sink f after
 
--- The fault stands in `insert`: in reading one of its texts, in texts that were read, or in writing what comes of them.
-abbrev pub StandsInInsert : List ℕ → List ℕ → List ℕ → List ℕ → ShelfSeen → SinkSeen → Fault → Type 0
-StandsInInsert netlist plan outnet outbsdl shelf sink f = StandsInReadingTwo netlist plan shelf f
-    ⊎ ((AreShort netlist plan shelf × StandsInInputs (shelf.held netlist) (shelf.held plan) f)
-    ⊎ StandsInOutput netlist plan outnet outbsdl shelf sink f)
+-- the fault stands in reading one of the texts, or in texts that were read
+abbrev pub StandsBeforeOutput : List ℕ → List ℕ → ShelfSeen → Fault → Type 0
+StandsBeforeOutput netlist plan shelf f = StandsInReadingTwo netlist plan shelf f
+    ⊎ (AreShort netlist plan shelf × StandsInInputs (shelf.held netlist) (shelf.held plan) f)
 
--- the bytes are a front of the report on what comes of the texts
-pub record IsFrontOfReport (front net plan : List ℕ) : Type 0 where
-  pub verilog : List ℕ
-  pub bsdl : List ℕ
-  pub report : List ℕ
-  pub insertion : IsInsertion net plan verilog bsdl report
-  pub count : ℕ
-  pub front_is : front ≡ take count report
-
--- a front of the report was given
-pub record GaveReport (net plan before after : Option (List ℕ)) : Type 0 where
-  pub front : List ℕ
-  pub gives : after ≡ appended front before
-  pub of_report : WhereBothTold net plan (IsFrontOfReport front)
-
--- nothing was given before the fault; or, where giving failed, a front of the report
-abbrev pub GaveInInsert : Option (List ℕ) → Option (List ℕ) → Fault → Option (List ℕ) → Option (List ℕ) → Type 0
-GaveInInsert net plan f before after = (after ≡ before) ⊎ (IsSinkFault f × GaveReport net plan before after)
+-- The fault stands in `insert`: before anything was written or given, or in writing what comes of the texts; and then so much was given.
+abbrev pub StandsInInsert : List ℕ → List ℕ → List ℕ → List ℕ → ShelfSeen → SinkSeen → Fault → Option (List ℕ) → Type 0
+StandsInInsert netlist plan outnet outbsdl shelf sink f after = (StandsBeforeOutput netlist plan shelf f × (after ≡ sink.given))
+    ⊎ StandsInOutput netlist plan outnet outbsdl shelf sink f after
 
 -- A refusal with this status, where no fault stands in both texts and no count of the names or of the sink rises, is want of memory.
 abbrev pub CompletesInsert : List ℕ → List ℕ → List ℕ → List ℕ → ShelfSeen → SinkSeen → Status → Type 0

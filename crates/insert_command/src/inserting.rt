@@ -3,7 +3,7 @@ ghost use Rattle.edge_io.specs.Shelf.{NoneFell, SameTold};
 ghost use Rattle.command_faults.specs.Statuses.{status_of};
 ghost use Rattle.command_faults.specs.declared.status.Status.{Status};
 ghost use Rattle.command_edges.specs.Seen.{shelf_seen, sink_seen};
-ghost use Rattle.insert_command.specs.Runs.{CompletesInsert, GaveInInsert, GavePart, IsInserted, IsWrittenOut, StandsInInsert, StandsInWritings};
+ghost use Rattle.insert_command.specs.Runs.{CompletesInsert, IsInserted, IsWrittenOut, StandsInInsert, StandsInWritings};
 
 use crate::laws::insertion_faults_stand_apart;
 use crate::texts::inserted;
@@ -23,13 +23,14 @@ fn write_out<'a, S: Shelf, O: Sink>(
     inserted: &Inserted,
 ) -> Result<(), Fault<'a>>
     requires apart { outbsdl.now ≢ outnet.now }
-    ensures done { OnOk result (IsWrittenOut outnet.now outbsdl.now inserted.now.verilog inserted.now.bsdl inserted.now.report
+    ensures done { OnOk result (IsWrittenOut outnet.now outbsdl.now inserted.now.verilog inserted.now.bsdl
+        inserted.now.report
         (shelf_seen S.tells S.held S.written S.faults shelf.old shelf.new)
         (sink_seen O.given O.faults out.old out.new)) }
-    ensures fault { IfErr result (StandsInWritings outnet.now outbsdl.now inserted.now.verilog inserted.now.bsdl
+    ensures fault { IfErr result (λ fault. StandsInWritings outnet.now outbsdl.now
+        inserted.now.verilog inserted.now.bsdl inserted.now.report
         (shelf_seen S.tells S.held S.written S.faults shelf.old shelf.new)
-        (sink_seen O.given O.faults out.old out.new)) }
-    ensures gave { IfErr result (λ fault. GavePart inserted.now.report fault (O.given out.old) (O.given out.new)) }
+        (sink_seen O.given O.faults out.old out.new) fault (O.given out.new)) }
     ensures others { (name : List ℕ) → name ≢ outnet.now → name ≢ outbsdl.now
         → S.written shelf.new name ≡ S.written shelf.old name }
     ensures held { SameTold (S.held shelf.old) (S.held shelf.new) }
@@ -61,13 +62,11 @@ fn insert_files<'a, S: Shelf, O: Sink>(
     ensures done { OnOk result (IsInserted netlist.now plan.now outnet.now outbsdl.now
         (shelf_seen S.tells S.held S.written S.faults shelf.old shelf.new)
         (sink_seen O.given O.faults out.old out.new)) }
-    ensures fault { IfErr result (StandsInInsert netlist.now plan.now outnet.now outbsdl.now
+    ensures fault { IfErr result (λ fault. StandsInInsert netlist.now plan.now outnet.now outbsdl.now
         (shelf_seen S.tells S.held S.written S.faults shelf.old shelf.new)
-        (sink_seen O.given O.faults out.old out.new)) }
+        (sink_seen O.given O.faults out.old out.new) fault (O.given out.new)) }
     ensures unwritten { IfErr result (λ fault. (status_of fault ≢ Status.WriteFault)
         → SameTold (S.written shelf.old) (S.written shelf.new)) }
-    ensures gave { IfErr result (λ fault. GaveInInsert (S.held shelf.old netlist.now)
-        (S.held shelf.old plan.now) fault (O.given out.old) (O.given out.new)) }
     ensures others { (name : List ℕ) → name ≢ outnet.now → name ≢ outbsdl.now
         → S.written shelf.new name ≡ S.written shelf.old name }
     ensures held { SameTold (S.held shelf.old) (S.held shelf.new) }
@@ -95,9 +94,9 @@ pub fn insert<'a, S: Shelf, O: Sink>(
     ensures done { OnOk result (IsInserted netlist.now plan.now outnet.now outbsdl.now
         (shelf_seen S.tells S.held S.written S.faults shelf.old shelf.new)
         (sink_seen O.given O.faults out.old out.new)) }
-    ensures fault { IfErr result (StandsInInsert netlist.now plan.now outnet.now outbsdl.now
+    ensures fault { IfErr result (λ fault. StandsInInsert netlist.now plan.now outnet.now outbsdl.now
         (shelf_seen S.tells S.held S.written S.faults shelf.old shelf.new)
-        (sink_seen O.given O.faults out.old out.new)) }
+        (sink_seen O.given O.faults out.old out.new) fault (O.given out.new)) }
 
     // Where no fault stands in the texts, and no count rises, it wants memory.
     ensures complete { IfErr result (λ fault. CompletesInsert netlist.now plan.now outnet.now outbsdl.now
@@ -107,8 +106,6 @@ pub fn insert<'a, S: Shelf, O: Sink>(
     // Only a write that failed leaves anything changed.
     ensures unwritten { IfErr result (λ fault. (status_of fault ≢ Status.WriteFault)
         → SameTold (S.written shelf.old) (S.written shelf.new)) }
-    ensures gave { IfErr result (λ fault. GaveInInsert (S.held shelf.old netlist.now)
-        (S.held shelf.old plan.now) fault (O.given out.old) (O.given out.new)) }
     ensures others { (name : List ℕ) → name ≢ outnet.now → name ≢ outbsdl.now
         → S.written shelf.new name ≡ S.written shelf.old name }
     ensures held { SameTold (S.held shelf.old) (S.held shelf.new) }

@@ -1,5 +1,6 @@
 ghost use Rattle.netlist_link.specs.Laws.{FaultsForbidLinks};
 ghost use Rattle.plan_texts.specs.Exactly.{SpelledOnce, SpelledIsFaultless};
+ghost use Rattle.insert_command.specs.Free.{FreeTextsWantMemory};
 
 use netlist_link::faults_forbid_links;
 use plan_texts::texts_of_plans_are_spelled_or_at_fault;
@@ -12,4 +13,11 @@ pub fn insertion_faults_stand_apart()
 {
     faults_forbid_links();
     texts_of_plans_are_spelled_or_at_fault();
+}
+
+/// A law: what is told of texts that are free of faults is want of memory.
+pub fn free_texts_want_memory()
+    ensures { FreeTextsWantMemory }
+{
+    insertion_faults_stand_apart();
 }

@@ -8,4 +8,5 @@ mod laws;
 mod texts;
 
 pub use inserting::insert;
-pub use laws::insertion_faults_stand_apart;
+pub use insertions::{InsertFault, Inserted, insert_texts};
+pub use laws::free_texts_want_memory;

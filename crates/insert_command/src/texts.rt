@@ -1,6 +1,6 @@
 // From texts that were read to texts to be written.
 ghost use Rattle.std.specs.Prelude.{◌≡◌, Some, IfErr, IfOk};
-ghost use Rattle.insertions.specs.Insertions.{IsInsertion};
+ghost use Rattle.insertions.specs.Insertions.{IsInsertionText};
 ghost use Rattle.insert_command.specs.Faults.{fault_of, StandsInInputs};
 
 use command_faults::Fault;
@@ -24,7 +24,7 @@ fn fault_of<'a>(fault: InsertFault) -> Fault<'a>
 
 /// Builds the test logic of the plan that one text spells into the netlist that the other spells.
 pub fn inserted<'a>(alloc: Global, net: Text, plan: Text) -> Result<Inserted, Fault<'a>>
-    ensures inserted { IfOk result (λ made. IsInsertion net plan made.verilog made.bsdl made.report) }
+    ensures inserted { IfOk result (λ made. IsInsertionText net plan made.verilog made.bsdl made.report) }
     ensures fault { IfErr result (StandsInInputs (Some net) (Some plan)) }
 {
     match insert_texts(alloc, net, plan.as_bytes()) {

@@ -10,3 +10,4 @@ mod plan;
 pub use fault::InsertFault;
 pub use netlist::link_text;
 pub use plan::{Fitting, fit_text};
+pub use scan_stitch::stitch;

@@ -63,7 +63,8 @@ fn prepare_plan(alloc: Global, plan: &Plan, linked: &mut Linked) -> Result<Fitte
 /// The plan that a text spells, fitted to a netlist, in which room is made for its test logic.
 pub fn fit_text(alloc: Global, text: &[u8], linked: &mut Linked) -> Result<Fitting, InsertFault>
     requires { IsLinkedTree linked.old }
-    ensures fitting { IfOk result (λ made. IsFittingAs text.now linked.old made.plan made.fitted made.device linked.new) }
+    ensures fitting { IfOk result (λ made. IsFittingAs text.now linked.old made.plan made.fitted
+        made.device linked.new) }
     ensures fault { IfErr result (StandsInPlan linked.old text.now) }
 {
     let plan = read_plan(alloc, text)?;

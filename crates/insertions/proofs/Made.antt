@@ -15,11 +15,12 @@ use Rattle.netlist_arena.specs.Arena.{bit_count}
 use Rattle.netlist_link.specs.Linked.{LinkedView}
 use Rattle.netlist_link.specs.Links.{IsLinkOf}
 use Rattle.netlist_unlink.specs.Prefixes.{IsFreePrefix}
+use Rattle.netlist_unlink.specs.Trees.{tree_of}
 use Rattle.plan_texts.specs.declared.plan.Plan.{Plan}
 use Rattle.plan_texts.specs.Exactly.{SpelledOnce}
 use Rattle.plan_texts.specs.Grammar.{SpellsPlan}
 use Rattle.plan_fitting.specs.declared.fitted.Fitted.{Fitted}
-use Rattle.plan_fitting.specs.Devices.{IsFitted, device_of}
+use Rattle.plan_fitting.specs.Devices.{IsFitted, fitted_of, device_of}
 use Rattle.stitch_model.specs.declared.TapNames.{TapNames}
 use Rattle.stitch_model.specs.declared.TapPort.{TapPort}
 use Rattle.stitch_model.specs.Stitched.{tap_ports, tap_port}
@@ -29,13 +30,14 @@ use Rattle.insertion_inputs.specs.declared.fault.InsertFault.TheVariants as faul
 use Rattle.insertion_inputs.specs.Inputs.{IsNetlistOf, IsLinkedTree, IsFittingAs}
 use Rattle.insertion_inputs.specs.Faults.{StandsInNetlist, StandsInPlan, StandsInTexts}
 use Rattle.plan_devices.specs.Laws.{FittedIsFitting}
-use Rattle.stitch_names.specs.Prepared.{prepared}
-use Rattle.scan_stitch.specs.Stitch.{CanStitch, IsStitched}
-use Rattle.stitch_texts.specs.Written.{IsStitchedOf, WritesStitched}
-use Rattle.stitch_texts.specs.Laws.{IsStitching, StitchedCanBeWritten, StitchedIsWritten}
-use Rattle.written_runs.specs.Laws.{WrittenRealises, WrittenIsAlone}
+use Rattle.stitch_names.specs.Prepared.{prepared, with_tap_names, AreTapNames}
+use Rattle.insertion_inputs.specs.Stitch.{CanStitch, IsStitched}
+use Rattle.written_runs.specs.Written.{IsStitchedOf, WritesStitched}
+use Rattle.written_runs.specs.TextLaws.{IsStitching, StitchedCanBeWritten, StitchedIsWritten}
+use Rattle.written_runs.specs.Laws.{WrittenRealises, WrittenIsAlone, WrittenHasControls}
 use Rattle.insertions.specs.declared.texts.Inserted.{Inserted}
-use Rattle.insertions.specs.Insertions.{IsNetlistText, IsDeviceText, IsInsertion}
+use Rattle.insertions.specs.Insertions.{IsNetlistText, IsDeviceText, IsInsertion, IsInsertionText, with_test_logic}
+use Rattle.insertions.proofs.Trees.{tree_is}
 
 -- Faults.
 
@@ -91,6 +93,9 @@ stitched_of before ready after f is made =
     let s : IsStitched (prepared f before) after f = subst (λ (l : LinkedView). IsStitched l after f) is made in
     record { names = s.tap; table = s.names; are = s.tap_is; same = s.netlist }
 
+pub title_kept : (before ready after : LinkedView) (f : Fitted) → ready ≡ prepared f before → IsStitched ready after f → after.module_name ≡ before.module_name
+title_kept before ready after f is made = made.title ∙ ap (λ (l : LinkedView). l.module_name) is
+
 -- The report.
 
 tap_bits : (names : TapNames) (port : TapPort) → bit_count (tap_ports names port) ≡ 5
@@ -114,17 +119,18 @@ device_kept text before readied p f d made = subst IsDevice (sym made.device_is)
 
 -- The whole.
 
-pub insertion_made : SpelledOnce → StitchedIsWritten → WrittenRealises → WrittenIsAlone → (net text verilog bsdl report : List ℕ) (before after : LinkedView) (p : Plan) (f : Fitted) (d : Device) → (is : IsNetlistOf net before)
+-- what it does
+insertion_does : SpelledOnce → StitchedIsWritten → WrittenRealises → WrittenIsAlone → WrittenHasControls → (net text verilog bsdl report : List ℕ) (before after : LinkedView) (p : Plan) (f : Fitted) (d : Device) → (is : IsNetlistOf net before)
     → (s : IsStitching is.tree before p f after) → IsLaidOut after.arena.lists → SpellsPlan text p → d ≡ device_of before p s.fits.seen → IsNetlistText after p.prefix verilog → IsDeviceText d bsdl
     → report ≡ report_of (bit_count after.arena.lists.ports) f.kept d → IsInsertion net text verilog bsdl report
-insertion_made once law realise single net text verilog bsdl report before after p f d is s laid_after spelled device_is out device told =
+insertion_does once law realise single steer net text verilog bsdl report before after p f d is s laid_after spelled device_is out device told =
     let w : WritesStitched before p out.tree = law is.tree before p f after s out.tree out.is out.writes in
-    written_made once realise single net text verilog bsdl report before after p f d is s laid_after spelled device_is out device told w w.linked.0 w.linked.1
+    written_made once realise single steer net text verilog bsdl report before after p f d is s laid_after spelled device_is out device told w w.linked.0 w.linked.1
   where
-    written_made : SpelledOnce → WrittenRealises → WrittenIsAlone → (net text verilog bsdl report : List ℕ) (before after : LinkedView) (p : Plan) (f : Fitted) (d : Device) → (is : IsNetlistOf net before)
+    written_made : SpelledOnce → WrittenRealises → WrittenIsAlone → WrittenHasControls → (net text verilog bsdl report : List ℕ) (before after : LinkedView) (p : Plan) (f : Fitted) (d : Device) → (is : IsNetlistOf net before)
         → (s : IsStitching is.tree before p f after) → IsLaidOut after.arena.lists → SpellsPlan text p → d ≡ device_of before p s.fits.seen → (out : IsNetlistText after p.prefix verilog) → IsDeviceText d bsdl
         → report ≡ report_of (bit_count after.arena.lists.ports) f.kept d → WritesStitched before p out.tree → (written : LinkedView) → IsLinkOf out.tree written → IsInsertion net text verilog bsdl report
-    written_made once realise single net text verilog bsdl report before after p f d is s laid_after spelled device_is out device told w written links =
+    written_made once realise single steer net text verilog bsdl report before after p f d is s laid_after spelled device_is out device told w written links =
         let bits : bit_count after.arena.lists.ports ≡ bit_count written.arena.lists.ports = five_more before after f s.is ∙ sym (w.bits written links) in
         let kept : f.kept ≡ cell_count before.arena.lists = ap (λ (g : Fitted). g.kept) s.fits.is in
         record {
@@ -151,7 +157,25 @@ insertion_made once law realise single net text verilog bsdl report before after
               ∙ ap (λ (e : Device). report_of (bit_count written.arena.lists.ports) (cell_count before.arena.lists) e) device_is;
           realises = realise is.tree before p f after s laid_after out.tree out.writes written links;
           alone = single is.tree before p f after s laid_after out.tree out.writes written links;
+          controls = steer is.tree before p f after s laid_after out.tree out.writes written links;
         }
+
+-- the tree that was written, in the words of what was fitted
+written_tree : (m : Module) (before after : LinkedView) (p : Plan) (f : Fitted) → (s : IsStitching m before p f after) → after.module_name ≡ before.module_name → (tree : Module) → tree ≡ tree_of after p.prefix
+    → tree ≡ tree_of (with_test_logic before s.is.names (fitted_of before p s.fits.seen)) p.prefix
+written_tree m before after p f s title tree is =
+    is ∙ tree_is before after s.is.names f p.prefix title s.is.table s.is.same ∙ ap (λ (g : Fitted). tree_of (with_test_logic before s.is.names g) p.prefix) s.fits.is
+
+pub insertion_made : SpelledOnce → StitchedIsWritten → WrittenRealises → WrittenIsAlone → WrittenHasControls → (net text verilog bsdl report : List ℕ) (before after : LinkedView) (p : Plan) (f : Fitted) (d : Device) → (is : IsNetlistOf net before)
+    → (s : IsStitching is.tree before p f after) → after.module_name ≡ before.module_name → IsLaidOut after.arena.lists → SpellsPlan text p → d ≡ device_of before p s.fits.seen → IsNetlistText after p.prefix verilog
+    → IsDeviceText d bsdl → report ≡ report_of (bit_count after.arena.lists.ports) f.kept d → IsInsertionText net text verilog bsdl report
+unfolding insertion_does
+insertion_made once law realise single steer net text verilog bsdl report before after p f d is s title laid_after spelled device_is out device told = record {
+  is = insertion_does once law realise single steer net text verilog bsdl report before after p f d is s laid_after spelled device_is out device told;
+  names = s.is.names;
+  names_are = subst (λ (g : Fitted). AreTapNames (with_tap_names g before.names) g s.is.names) s.fits.is s.is.are;
+  written_is = written_tree is.tree before after p f s title out.tree out.tree_is;
+}
 
 -- The device's text.
 
@@ -165,13 +189,14 @@ device_told law (Ok text) d is told =
 device_told law (Err e) d is told = tt
 
 -- so it is of whatever was written, where memory lasted
-pub insertions_made : {E : Type 0} → SpelledOnce → StitchedIsWritten → WrittenRealises → WrittenIsAlone → (net text : List ℕ) (r : Result Inserted E) (before readied after : LinkedView) (p : Plan) (f : Fitted) (d : Device)
+pub insertions_made : {E : Type 0} → SpelledOnce → StitchedIsWritten → WrittenRealises → WrittenIsAlone → WrittenHasControls → (net text : List ℕ) (r : Result Inserted E) (before readied after : LinkedView) (p : Plan) (f : Fitted) (d : Device)
     → IsNetlistOf net before → IsLaidOut before.arena.lists → IsLaidOut after.arena.lists → IsFittingAs text before p f d readied → IsStitched readied after f
     → IfOk r (λ made. IsNetlistText after p.prefix made.verilog) → IfOk r (λ made. IsDeviceText d made.bsdl)
-    → IfOk r (λ made. made.report ≡ report_of (bit_count after.arena.lists.ports) f.kept d) → IfOk r (λ made. IsInsertion net text made.verilog made.bsdl made.report)
-insertions_made once law realise single net text (Ok made) before readied after p f d is laid laid_after fitting built out device told =
+    → IfOk r (λ made. made.report ≡ report_of (bit_count after.arena.lists.ports) f.kept d) → IfOk r (λ made. IsInsertionText net text made.verilog made.bsdl made.report)
+insertions_made once law realise single steer net text (Ok made) before readied after p f d is laid laid_after fitting built out device told =
     let stitched = stitched_of before readied after f fitting.prepares.after_is built in
     let same = stitching_fits net text before readied after p f d is laid fitting stitched in
-    insertion_made once law realise single net text made.verilog made.bsdl made.report before after p f d is (stitching net text before readied after p f d is laid fitting stitched) laid_after fitting.spells
+    insertion_made once law realise single steer net text made.verilog made.bsdl made.report before after p f d is (stitching net text before readied after p f d is laid fitting stitched)
+    (title_kept before readied after f fitting.prepares.after_is built) laid_after fitting.spells
     (fitting.device_is ∙ sym (ap (λ (fits : IsFitted before p f). device_of before p fits.seen) same)) out device told
-insertions_made once law realise single net text (Err e) before readied after p f d is laid laid_after fitting built out device told = tt
+insertions_made once law realise single steer net text (Err e) before readied after p f d is laid laid_after fitting built out device told = tt

@@ -14,22 +14,28 @@ use Rattle.netlist_arena.specs.Arena.{bit_count}
 use Rattle.netlist_link.specs.Linked.{LinkedView}
 use Rattle.netlist_link.specs.Links.{IsLinkOf}
 use Rattle.netlist_link.specs.ViewLaws.{IsSameView}
+use Rattle.netlist_unlink.specs.Trees.{tree_of}
 use Rattle.netlist_unlink.specs.Renumbered.{IsWrittenAs}
 use Rattle.plan_texts.specs.declared.plan.Plan.{Plan}
 use Rattle.plan_texts.specs.Grammar.{SpellsPlan}
 use Rattle.plan_fitting.specs.declared.fitted.Fitted.{Fitted}
 use Rattle.plan_fitting.specs.Fits.{Fits}
-use Rattle.plan_fitting.specs.Devices.{device_of}
+use Rattle.plan_fitting.specs.Devices.{fitted_of, device_of}
 use Rattle.wrapped_chip.specs.Realises.{Keeps, Realises, Alone}
+use Rattle.wrapped_chip.specs.Legal.{HasControls}
 use Rattle.insertion_report.specs.Reports.{report_of}
 use Rattle.insertion_inputs.specs.Inputs.{IsNetlistOf, IsFittingAs}
-use Rattle.stitch_texts.specs.Written.{spelt, tap_of}
+use Rattle.stitch_model.specs.declared.TapNames.{TapNames}
+use Rattle.stitch_model.specs.Stitched.{stitched}
+use Rattle.stitch_names.specs.Prepared.{with_tap_names, AreTapNames}
+use Rattle.written_runs.specs.Written.{spelt, tap_of}
 
 -- Texts that are written.
 
--- own: the text is the canonical one of a module that the netlist is written as
+-- own: the text is the canonical one of the module that the netlist is written as
 pub record IsNetlistText (linked : LinkedView) (prefix text : List ℕ) : Type 0 where
   pub tree : Module
+  pub tree_is : tree ≡ tree_of linked prefix
   pub is : IsTree tree
   pub writes : IsWrittenAs linked prefix tree
   pub text_is : text ≡ canonical tree
@@ -46,7 +52,7 @@ pub record IsDeviceText (device : Device) (text : List ℕ) : Type 0 where
 -- written text is the canonical text of a tree, which it spells alone; no fault stands in that tree, which has one netlist, and
 -- that keeps the first one's ports and cells, with the test access port. The BSDL text is the canonical text of the plan's device,
 -- which it spells alone. The report is on that device. The written netlist behaves as the first one wrapped in that device's test
--- logic, and as the first one alone while a transparent instruction is in effect.
+-- logic, and as the first one alone while a transparent instruction is in effect; its control ports are the first one's, TCK and TRST.
 pub record IsInsertion (net plan verilog bsdl report : List ℕ) : Type 0 where
   pub tree : Module
   pub spells : SpellsText net tree
@@ -72,6 +78,27 @@ pub record IsInsertion (net plan verilog bsdl report : List ℕ) : Type 0 where
   -- netlist's alone while a transparent instruction is in effect
   pub realises : Realises written.arena.lists (device_of linked wanted fits.seen) linked.arena.lists
   pub alone : Alone written.arena.lists (device_of linked wanted fits.seen) linked.arena.lists
+  -- and it takes events where the netlist and the test access port do; what clocks, clears or presets in it are the netlist's own control
+  -- ports, TCK and TRST
+  pub controls : HasControls written.arena.lists linked.arena.lists
+
+-- The whole, byte by byte.
+
+-- own: what was fitted
+abbrev pub fitted_in : {net plan verilog bsdl report : List ℕ} → IsInsertion net plan verilog bsdl report → Fitted
+fitted_in i = fitted_of i.linked i.wanted i.fits.seen
+
+-- own: a linked netlist with the test logic of what was fitted built in, by these names of the test access port; the module's name stays
+abbrev pub with_test_logic : LinkedView → TapNames → Fitted → LinkedView
+with_test_logic L names f = record L { arena = record L.arena { lists = stitched L.arena.lists names f }; names = with_tap_names f L.names }
+
+-- The insertion, of which the written text tells the gates of the test logic one by one: it is the canonical text of the tree of the
+-- netlist with the test logic built in, under the module's own name, where added nets and cells have the plan's prefix.
+pub record IsInsertionText (net plan verilog bsdl report : List ℕ) : Type 0 where
+  pub is : IsInsertion net plan verilog bsdl report
+  pub names : TapNames
+  pub names_are : AreTapNames (with_tap_names (fitted_in is) is.linked.names) (fitted_in is) names
+  pub written_is : is.written_tree ≡ tree_of (with_test_logic is.linked names (fitted_in is)) is.wanted.prefix
 
 -- What is stitched.
 

@@ -4,18 +4,19 @@ ghost use Rattle.netlist_model.specs.Formed.{IsLaidOut};
 ghost use Rattle.netlist_link.specs.Linked.{LinkedView};
 ghost use Rattle.insertion_inputs.specs.Faults.{StandsInTexts};
 ghost use Rattle.insertion_inputs.specs.Inputs.{IsNetlistOf, IsFittingAs};
-ghost use Rattle.insertions.specs.Insertions.{IsInsertion, IsReadied};
+ghost use Rattle.insertions.specs.Insertions.{IsInsertionText, IsReadied};
 
 use crate::texts::{Inserted, write_texts};
 use edge_io::{OutOfMemory, Text};
-use insertion_inputs::{Fitting, InsertFault, fit_text, link_text};
+use insertion_inputs::{Fitting, InsertFault, fit_text, link_text, stitch};
 use netlist_link::Linked;
 use plan_devices::fitted_is_fitting;
 use plan_texts::texts_of_plans_are_spelled_or_at_fault;
-use scan_stitch::stitch;
 use std::alloc::Global;
-use stitch_texts::{stitched_can_be_written, stitched_is_written};
-use written_runs::{written_is_alone, written_realises};
+use written_runs::{
+    stitched_can_be_written, stitched_is_written, written_has_controls, written_is_alone,
+    written_realises,
+};
 
 // Builds the test logic into the netlist that a plan was fitted to, and writes the texts.
 fn write_stitched(
@@ -24,9 +25,10 @@ fn write_stitched(
     fitting: &Fitting,
 ) -> Result<Inserted, OutOfMemory>
     requires { IsReadied linked.old fitting.now.plan fitting.now.fitted fitting.now.device }
-    ensures { (net text : List ℕ) (before : LinkedView) → IsNetlistOf net before → IsLaidOut before.arena.lists
+    ensures { (net text : List ℕ) (before : LinkedView) → IsNetlistOf net before
+        → IsLaidOut before.arena.lists
         → IsFittingAs text before fitting.now.plan fitting.now.fitted fitting.now.device linked.old
-        → IfOk result (λ made. IsInsertion net text made.verilog made.bsdl made.report) }
+        → IfOk result (λ made. IsInsertionText net text made.verilog made.bsdl made.report) }
 {
     // Laws that the proof uses.
     texts_of_plans_are_spelled_or_at_fault();
@@ -35,6 +37,7 @@ fn write_stitched(
     stitched_is_written();
     written_realises();
     written_is_alone();
+    written_has_controls();
     stitch(linked, &fitting.fitted);
     linked.netlist().is_laid_out();
     write_texts(alloc, linked, fitting)
@@ -44,8 +47,9 @@ fn write_stitched(
 fn insert_into(alloc: Global, linked: &mut Linked, plan: &[u8]) -> Result<Inserted, InsertFault>
     requires { (net : List ℕ) × IsNetlistOf net linked.old }
     ensures inserted { (net : List ℕ) → IsNetlistOf net linked.old
-        → IfOk result (λ made. IsInsertion net plan.now made.verilog made.bsdl made.report) }
-    ensures fault { (net : List ℕ) → IsNetlistOf net linked.old → IfErr result (StandsInTexts net plan.now) }
+        → IfOk result (λ made. IsInsertionText net plan.now made.verilog made.bsdl made.report) }
+    ensures fault { (net : List ℕ) → IsNetlistOf net linked.old
+        → IfErr result (StandsInTexts net plan.now) }
 {
     linked.netlist().is_laid_out();
     let fitting = fit_text(alloc, plan, linked)?;
@@ -55,7 +59,8 @@ fn insert_into(alloc: Global, linked: &mut Linked, plan: &[u8]) -> Result<Insert
 /// Builds the test logic of the plan that one text spells into the netlist that the other spells. The netlist's text is let go
 /// before the netlist is made.
 pub fn insert_texts(alloc: Global, net: Text, plan: &[u8]) -> Result<Inserted, InsertFault>
-    ensures inserted { IfOk result (λ made. IsInsertion net plan.now made.verilog made.bsdl made.report) }
+    ensures inserted { IfOk result (λ made. IsInsertionText net plan.now made.verilog made.bsdl
+        made.report) }
     ensures fault { IfErr result (StandsInTexts net plan.now) }
 {
     let mut linked = link_text(alloc, net)?;

@@ -52,9 +52,11 @@ pub fn write_texts(
 ) -> Result<Inserted, OutOfMemory>
     requires prefix { IsFreePrefix linked.now fitting.now.plan.prefix }
     requires device { IsDevice fitting.now.device }
-    ensures netlist { IfOk result (λ made. IsNetlistText linked.now fitting.now.plan.prefix made.verilog) }
+    ensures netlist { IfOk result (λ made. IsNetlistText linked.now fitting.now.plan.prefix
+        made.verilog) }
     ensures bsdl { IfOk result (λ made. IsDeviceText fitting.now.device made.bsdl) }
-    ensures report { IfOk result (λ made. made.report ≡ report_of (bit_count linked.now.arena.lists.ports) fitting.now.fitted.kept fitting.now.device) }
+    ensures report { IfOk result (λ made. made.report
+        ≡ report_of (bit_count linked.now.arena.lists.ports) fitting.now.fitted.kept fitting.now.device) }
 {
     let verilog = netlist_text(alloc, linked, fitting.plan.prefix.as_bytes())?;
     let bsdl = device_text(alloc, &fitting.device)?;

@@ -25,7 +25,7 @@ use Rattle.scan_programs.specs.Program.{program_of}
 use Rattle.conformance_report.specs.Agreement.{PortsAgree}
 use Rattle.program_scripts.specs.Beside.{IsDescribed}
 use Rattle.program_scripts.specs.Laws.{HasChip, ProgramsAreLegal, ScriptsAreMet}
-use Rattle.stitch_texts.specs.Written.{spelt, tap_of}
+use Rattle.insertions.specs.Written.{spelt, tap_of}
 use Rattle.insertions.specs.Insertions.{IsInsertion}
 use Rattle.program_checks.specs.Laws.{IsRead, InsertionsHaveChips, InsertionsAgree, ProgramsOfInsertionsAreLegal, InsertionsMissNothing, WrittenProgramsMissNothing}
 use Rattle.program_checks.proofs.Same.{same_realises}

@@ -23,7 +23,7 @@ use Rattle.command_faults.specs.declared.fault.Fault.{Fault}
 use Rattle.command_faults.specs.declared.fault.Fault.TheVariants as fault
 use Rattle.command_faults.specs.declared.status.Status.TheVariants as status
 use Rattle.command_faults.specs.Statuses.{status_of, text_status, link_status, event_status, script_status}
-use Rattle.insertion_inputs.specs.Faults.{HasLinkFault}
+use Rattle.command_edges.specs.Spelled.{HasLinkFault}
 use Rattle.command_edges.specs.Seen.{ShelfSeen, SinkSeen, SinkRose}
 use Rattle.command_edges.proofs.Told.{reading_memory}
 use Rattle.sim_command.specs.Simulations.{IsSimulable, HasScriptFault}

@@ -16,11 +16,11 @@ use Rattle.event_scripts.specs.declared.script.ScriptLine.{ScriptLine}
 use Rattle.event_scripts.specs.Scripts.{IsResolved, IsScriptFault}
 use Rattle.event_scripts.specs.declared.fault.ScriptFault.{ScriptFault}
 use Rattle.sim_runs.specs.Outputs.{IsOutput}
-use Rattle.insertion_inputs.specs.Faults.{HasLinkFault}
+use Rattle.command_edges.specs.Spelled.{HasLinkFault, SpellsLinkable, SpellsEvents}
 use Rattle.command_edges.specs.Ends.{run_status}
 use Rattle.command_edges.specs.Seen.{ShelfSeen, SinkSeen, SinkRose}
 use Rattle.command_edges.proofs.Told.{IsTold, told_as, both_told, AreRead, are_short}
-use Rattle.sim_command.specs.Simulations.{IsSimulation, SpellsLinkable, SpellsEvents, HasScriptFault}
+use Rattle.sim_command.specs.Simulations.{IsSimulation, HasScriptFault}
 use Rattle.sim_command.specs.Faults.{HasRun, StandsInNetlist, StandsInPlay}
 use Rattle.sim_command.specs.Runs.{StandsInSim, IsPlayed, IsFrontOfRun, GaveFront, GaveInPlay, IsSimulated, CompletesSim}
 

@@ -5,10 +5,10 @@ use Rattle.command_faults.specs.declared.fault.Fault.{Fault}
 use Rattle.command_faults.specs.declared.fault.Fault.TheVariants as fault
 use Rattle.verilog_texts.specs.TextFaults.{IsTextFault}
 use Rattle.scan_vectors.specs.Faults.{IsFault}
-use Rattle.insertion_inputs.specs.Faults.{HasLinkFault}
+use Rattle.command_edges.specs.Spelled.{HasLinkFault, SpellsLinkable, SpellsEvents}
 use Rattle.command_edges.specs.Seen.{SinkSeen, WhereBothTold}
 use Rattle.command_edges.specs.EdgeFaults.{StandsInPutting}
-use Rattle.sim_command.specs.Simulations.{IsSimulation, SpellsLinkable, SpellsEvents, HasScriptFault}
+use Rattle.sim_command.specs.Simulations.{IsSimulation, HasScriptFault}
 
 -- some run's text
 pub record HasRun (net events : List ℕ) : Type 0 where

@@ -8,7 +8,8 @@ use Rattle.command_faults.specs.Statuses.{status_of}
 use Rattle.command_edges.specs.Ends.{run_status}
 use Rattle.command_edges.specs.Seen.{ShelfSeen, SinkSeen, NameRose, SinkRose, WhereBothTold}
 use Rattle.command_edges.specs.EdgeFaults.{StandsInReadingTwo, AreShort}
-use Rattle.sim_command.specs.Simulations.{IsSimulation, IsSimulable, SpellsLinkable, SpellsEvents}
+use Rattle.command_edges.specs.Spelled.{SpellsLinkable, SpellsEvents}
+use Rattle.sim_command.specs.Simulations.{IsSimulation, IsSimulable}
 use Rattle.sim_command.specs.Faults.{HasRun, StandsInPlay}
 
 -- The fault stands in `sim`: in reading one of its texts, or in texts that were read.

@@ -29,16 +29,6 @@ pub record IsSimulation (net events text : List ℕ) (missed : ℕ) : Type 0 whe
   pub resolved : IsResolved linked lines script
   pub output : IsOutput linked lines.list script text missed
 
--- own: the netlist's bytes spell a tree that can be linked
-pub record SpellsLinkable (net : List ℕ) : Type 0 where
-  pub tree : Module
-  pub spells : SpellsText net tree
-  pub linkable : IsLinkable tree
-
--- own: the bytes spell lines of events
-abbrev pub SpellsEvents : List ℕ → Type 0
-SpellsEvents events = (lines : Lines) × SpellsLines events lines
-
 -- own: the lines of the events have this fault for the netlist
 pub record HasScriptFault (f : ScriptFault) (net events : List ℕ) : Type 0 where
   pub tree : Module

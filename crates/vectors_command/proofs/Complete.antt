@@ -10,7 +10,8 @@ use Rattle.command_faults.specs.declared.fault.Fault.TheVariants as fault
 use Rattle.command_faults.specs.declared.status.Status.TheVariants as status
 use Rattle.command_faults.specs.Statuses.{status_of, device_status}
 use Rattle.command_edges.specs.Lengths.{IsShort}
-use Rattle.vectors_command.specs.Programs.{SpellsSomeDevice, IsAccepted}
+use Rattle.command_edges.specs.Spelled.{SpellsSomeDevice}
+use Rattle.vectors_command.specs.Programs.{IsAccepted}
 use Rattle.vectors_command.specs.Faults.{StandsInText}
 
 -- a text that spells a device has no fault but want of memory

@@ -1,7 +1,5 @@
-use Rattle.std.proofs.Common.{List, ℕ, IfErr, subst}
 use Rattle.edge_io.specs.Shelf.{SameTold}
 use Rattle.command_edges.specs.Seen.{ShelfSeen, SinkSeen, shelf_seen, sink_seen}
-use Rattle.insert_command.specs.Runs.{GavePart}
 use Rattle.insert_command.proofs.Made.{unwritten}
 use Rattle.demo_command.proofs.Made.{demo_done, demo_fault, demo_complete}
 use Rattle.demo_command.proofs.demonstrating.demonstrate.Goals as goal
@@ -17,21 +15,20 @@ pub returns-clause-fault : goal.returns-clause-fault
 returns-clause-fault g c =
     let shelf : ShelfSeen = shelf_seen g.S.Shelf.tells g.S.Shelf.held g.S.Shelf.written g.S.Shelf.faults c.args.shelf.now c.write_out.new.shelf in
     let sink : SinkSeen = sink_seen g.O.Sink.given g.O.Sink.faults c.args.out.now c.write_out.new.out in
-    demo_fault c.write_out.result c.args.number c.args.outnet.now c.args.outbsdl.now c.in-Ok.inserted.verilog c.in-Ok.inserted.bsdl shelf sink c.in-Ok.ensures.made c.write_out.ensures.fault
+    demo_fault c.write_out.result c.args.number c.args.outnet.now c.args.outbsdl.now c.in-Ok.inserted.verilog c.in-Ok.inserted.bsdl c.in-Ok-line_text.line shelf sink sink.given_after
+    c.in-Ok.ensures.made c.in-Ok-line_text.ensures c.write_out.ensures.fault
 
 pub returns-clause-complete : goal.returns-clause-complete
 returns-clause-complete g c =
     let shelf : ShelfSeen = shelf_seen g.S.Shelf.tells g.S.Shelf.held g.S.Shelf.written g.S.Shelf.faults c.args.shelf.now c.write_out.new.shelf in
     let sink : SinkSeen = sink_seen g.O.Sink.given g.O.Sink.faults c.args.out.now c.write_out.new.out in
-    demo_complete c.write_out.result c.args.outnet.now c.args.outbsdl.now c.in-Ok.inserted.verilog c.in-Ok.inserted.bsdl shelf sink c.write_out.ensures.fault
+    demo_complete c.write_out.result c.args.outnet.now c.args.outbsdl.now c.in-Ok.inserted.verilog c.in-Ok.inserted.bsdl c.in-Ok-line_text.line shelf sink sink.given_after
+    c.write_out.ensures.fault
 
 pub returns-clause-unwritten : goal.returns-clause-unwritten
 returns-clause-unwritten g c =
     let shelf : ShelfSeen = shelf_seen g.S.Shelf.tells g.S.Shelf.held g.S.Shelf.written g.S.Shelf.faults c.args.shelf.now c.write_out.new.shelf in
     let sink : SinkSeen = sink_seen g.O.Sink.given g.O.Sink.faults c.args.out.now c.write_out.new.out in
-    unwritten c.write_out.result c.args.outnet.now c.args.outbsdl.now c.in-Ok.inserted.verilog c.in-Ok.inserted.bsdl shelf sink (SameTold (g.S.Shelf.written c.args.shelf.now) (g.S.Shelf.written c.write_out.new.shelf))
+    unwritten c.write_out.result c.args.outnet.now c.args.outbsdl.now c.in-Ok.inserted.verilog c.in-Ok.inserted.bsdl c.in-Ok-line_text.line shelf sink sink.given_after
+    (SameTold (g.S.Shelf.written c.args.shelf.now) (g.S.Shelf.written c.write_out.new.shelf))
     c.write_out.ensures.fault
-
-pub returns-clause-gave : goal.returns-clause-gave
-returns-clause-gave g c =
-    subst (λ (l : List ℕ). IfErr c.write_out.result (λ fault. GavePart l fault (g.O.Sink.given c.args.out.now) (g.O.Sink.given c.write_out.new.out))) c.in-Ok-line_text.ensures c.write_out.ensures.gave

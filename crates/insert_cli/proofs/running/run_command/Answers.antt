@@ -1,4 +1,4 @@
-use Rattle.std.proofs.Common.{ℕ, List, IfErr, sym, subst, inl, inr}
+use Rattle.std.proofs.Common.{IfErr, sym, subst, inl, inr}
 use Rattle.command_edges.specs.Seen.{ShelfSeen, SinkSeen, shelf_seen, sink_seen}
 use Rattle.insert_cli.specs.declared.command.Command.{Command}
 use Rattle.command_faults.specs.Statuses.{status_of}
@@ -11,7 +11,7 @@ pub returns-in-Err-insert-clause-fault : goal.returns-in-Err-insert-clause-fault
 returns-in-Err-insert-clause-fault g c =
     let shelf : ShelfSeen = shelf_seen g.S.Shelf.tells g.S.Shelf.held g.S.Shelf.written g.S.Shelf.faults c.args.shelf.now c.insert.new.shelf in
     let sink : SinkSeen = sink_seen g.O.Sink.given g.O.Sink.faults c.args.out.now c.insert.new.out in
-    subst (λ (k : Command). StandsIn (form_of k) shelf sink c.in-Err-insert.fault) (sym c.in-Insert.is) c.in-Err-insert.ensures.fault
+    subst (λ (k : Command). StandsIn (form_of k) shelf sink c.in-Err-insert.fault sink.given_after) (sym c.in-Insert.is) c.in-Err-insert.ensures.fault
 
 pub returns-in-Sim-clause-complete : goal.returns-in-Sim-clause-complete
 returns-in-Sim-clause-complete g c =

@@ -10,4 +10,4 @@ returns-clause-complete g c =
       links = c.insertion_faults_stand_apart.ensures.links;
       once = c.insertion_faults_stand_apart.ensures.once;
       faultless = c.insertion_faults_stand_apart.ensures.faultless;
-    }) c.args.netlist.now c.args.plan.now c.args.outnet.now c.args.outbsdl.now shelf sink c.insert_files.ensures.fault
+    }) c.args.netlist.now c.args.plan.now c.args.outnet.now c.args.outbsdl.now shelf sink sink.given_after c.insert_files.ensures.fault

@@ -1,6 +1,6 @@
 use Rattle.std.proofs.Common.{List, ℕ, Some, sym, subst}
 use Rattle.command_faults.specs.declared.fault.Fault.{Fault}
-use Rattle.insertion_inputs.specs.Faults.{StandsInTexts}
+use Rattle.insertions.specs.Faults.{StandsInTexts}
 use Rattle.insert_command.specs.Faults.{StandsInInputs}
 use Rattle.insert_command.proofs.Made.{inputs_stand}
 use Rattle.insert_command.proofs.texts.inserted.Goals as goal

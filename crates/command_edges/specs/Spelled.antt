@@ -1,0 +1,33 @@
+-- What the bytes of a text spell, for every command that reads it.
+-- IEEE Std 1364-2001 for netlists, IEEE Std 1149.1-2001 (the annex on BSDL) for devices; the texts of events are own.
+use Rattle.std.specs.Prelude.{◌≡◌, ℕ, List}
+use Rattle.verilog_tree.specs.declared.tree.Module.{Module}
+use Rattle.verilog_tree.specs.Texts as verilog
+use Rattle.link_model.specs.Late.{IsLinkable}
+use Rattle.link_model.specs.declared.fault.LinkFault.{LinkFault}
+use Rattle.netlist_link.specs.Links.{IsLinkFault}
+use Rattle.bsdl_device.specs.declared.values.Device.{Device}
+use Rattle.bsdl_device.specs.Spelled as bsdl
+use Rattle.scan_vectors.specs.declared.lines.Lines.{Lines}
+use Rattle.scan_vectors.specs.Grammar.{SpellsLines}
+
+-- own: the netlist's bytes spell a tree in which this fault of linking stands
+pub record HasLinkFault (f : LinkFault) (net : List ℕ) : Type 0 where
+  pub tree : Module
+  pub spells : verilog.SpellsText net tree
+  pub only : (other : Module) → verilog.SpellsText net other → other ≡ tree
+  pub fault : IsLinkFault tree f
+
+-- own: the netlist's bytes spell a tree that can be linked
+pub record SpellsLinkable (net : List ℕ) : Type 0 where
+  pub tree : Module
+  pub spells : verilog.SpellsText net tree
+  pub linkable : IsLinkable tree
+
+-- own: the bytes spell a device
+abbrev pub SpellsSomeDevice : List ℕ → Type 0
+SpellsSomeDevice text = (device : Device) × bsdl.SpellsText text device
+
+-- own: the bytes spell lines of events
+abbrev pub SpellsEvents : List ℕ → Type 0
+SpellsEvents events = (lines : Lines) × SpellsLines events lines
