@@ -84,7 +84,8 @@ fn drive(netlist: &mut Netlist, read: NetId, output: NetId)
     requires there { output.0 < length netlist.old.lists.nets }
     requires free { IsFree netlist.old.lists output.0 }
     requires outside { direction netlist.old.lists.ports output.0 ≡ None }
-    ensures added { Appended netlist.old netlist.new 0 (buffer (cell_count netlist.old.lists) read output ∷ []) }
+    ensures added { Appended netlist.old netlist.new 0
+        (buffer (cell_count netlist.old.lists) read output ∷ []) }
     ensures formed { IsWellFormed netlist.new.lists }
     ensures driven { IsDriven netlist.new.lists output.0 }
 {
@@ -100,7 +101,8 @@ fn add_port(netlist: &mut Netlist, number: u32, output: NetId)
     requires there { output.0 < length netlist.old.lists.nets }
     requires outside { direction netlist.old.lists.ports output.0 ≡ None }
     requires driven { IsDriven netlist.old.lists output.0 }
-    ensures lists { netlist.new.lists ≡ with_port (scalar (Name.Original number) Dir.Output output) netlist.old.lists }
+    ensures lists { netlist.new.lists ≡ with_port
+        (scalar (Name.Original number) Dir.Output output) netlist.old.lists }
     ensures formed { IsWellFormed netlist.new.lists }
 {
     port_is_formed();

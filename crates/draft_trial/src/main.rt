@@ -1,8 +1,8 @@
-// Drafts linked netlists: adds an output to each, and writes and links it again.
+// Links netlists and drafts them: adds an output to each, and writes and links it again.
 // It stands on `link` and the drafts of netlist_link, `unlink` of netlist_unlink and `print_module` of verilog_printing, whose
 // contracts say what they answer, and on the laws of draft_laws, by which what is added leaves a netlist well formed and well named.
-// Own: each argument names the file of a module. Behind the word `keep` netlists are drafted without a change, and behind `time` it is
-// told how long that takes.
+// Own: each argument names the file of a module. Behind the word `read` files are only read, and behind `link` it is told how long
+// linking takes. Behind `keep` netlists are drafted without a change, and behind `time` it is told how long that takes.
 #![tactic(auto)]
 
 ghost use Rattle.verilog_tree.specs.IsTree.{IsTree};
@@ -24,24 +24,34 @@ use verilog_tree::Module;
 /// What is done with the files after a word.
 #[derive(Clone, Copy)]
 enum Wanted {
+    Read,
+    Linked,
+    Drafted(Draft),
+}
+
+/// What a draft is for.
+#[derive(Clone, Copy)]
+enum Draft {
     Added,
     Kept,
     Timed,
 }
 
 fn main(rt: HostRuntime) -> Result<()> {
-    let mut wanted = Wanted::Added;
+    let mut wanted = Wanted::Drafted(Draft::Added);
     for word in env::args(&rt)?.skip(1) {
         match word.as_str() {
-            "keep" => wanted = Wanted::Kept,
-            "time" => wanted = Wanted::Timed,
+            "read" => wanted = Wanted::Read,
+            "link" => wanted = Wanted::Linked,
+            "keep" => wanted = Wanted::Drafted(Draft::Kept),
+            "time" => wanted = Wanted::Drafted(Draft::Timed),
             name => try_file(&rt, name, wanted)?,
         }
     }
     Ok(())
 }
 
-// Links the module of a file and drafts it.
+// Reads the module of a file, and links and drafts it where that is wanted.
 fn try_file(rt: &HostRuntime, name: &str, wanted: Wanted) -> Result<()> {
     let text = fs::read_to_string(rt, name)?;
     let text = Text::from_bytes(rt.alloc(), text.as_bytes())?;
@@ -54,19 +64,45 @@ fn try_file(rt: &HostRuntime, name: &str, wanted: Wanted) -> Result<()> {
 fn try_tree(rt: &HostRuntime, name: &str, wanted: Wanted, tree: &Module) -> Result<()>
     requires { IsTree tree.now }
 {
+    match wanted {
+        Wanted::Read => Ok(println!(rt; "{name}: read")?),
+        Wanted::Linked => time_link(rt, name, tree),
+        Wanted::Drafted(draft) => draft_tree(rt, name, draft, tree),
+    }
+}
+
+// Tells how long linking takes.
+fn time_link(rt: &HostRuntime, name: &str, tree: &Module) -> Result<()>
+    requires { IsTree tree.now }
+{
+    let start = Instant::now(rt)?;
     match link(rt.alloc(), tree) {
-        Ok(mut linked) => try_linked(rt, name, wanted, &mut linked),
+        Ok(linked) => {
+            let spent = start.elapsed(rt)?.as_micros();
+            let cells = linked.netlist().cell_count();
+            println!(rt; "{name}: {cells} cells linked in {spent} us")?;
+            Ok(())
+        }
         Err(_) => Ok(println!(rt; "{name}: no netlist")?),
     }
 }
 
-fn try_linked(rt: &HostRuntime, name: &str, wanted: Wanted, linked: &mut Linked) -> Result<()>
+fn draft_tree(rt: &HostRuntime, name: &str, draft: Draft, tree: &Module) -> Result<()>
+    requires { IsTree tree.now }
+{
+    match link(rt.alloc(), tree) {
+        Ok(mut linked) => try_linked(rt, name, draft, &mut linked),
+        Err(_) => Ok(println!(rt; "{name}: no netlist")?),
+    }
+}
+
+fn try_linked(rt: &HostRuntime, name: &str, draft: Draft, linked: &mut Linked) -> Result<()>
     requires { IsDense linked.old.arena.lists }
 {
-    match wanted {
-        Wanted::Added => try_draft(rt, name, linked),
-        Wanted::Kept => keep_draft(rt, name, linked),
-        Wanted::Timed => time_draft(rt, name, linked),
+    match draft {
+        Draft::Added => try_draft(rt, name, linked),
+        Draft::Kept => keep_draft(rt, name, linked),
+        Draft::Timed => time_draft(rt, name, linked),
     }
 }
 

@@ -35,7 +35,8 @@ pub(crate) fn close_unchanged(linked: &mut Linked)
 /// output's name.
 pub(crate) fn add_to_draft(linked: &mut Linked) -> Result<bool>
     requires { IsDense linked.old.arena.lists }
-    ensures { IfOk result (λ added. IsTrue added → IsLonger linked.old.arena.lists linked.new.arena.lists) }
+    ensures { IfOk result (λ added. IsTrue added
+        → IsLonger linked.old.arena.lists linked.new.arena.lists) }
 {
     match first_input(linked.netlist()) {
         Some(source) => add_from(linked, source),
@@ -78,7 +79,8 @@ fn add_from(linked: &mut Linked, source: NetId) -> Result<bool>
     requires dense { IsDense linked.old.arena.lists }
     requires there { source.0 < length linked.old.arena.lists.nets }
     requires input { direction linked.old.arena.lists.ports source.0 ≡ Some Dir.Input }
-    ensures { IfOk result (λ added. IsTrue added → IsLonger linked.old.arena.lists linked.new.arena.lists) }
+    ensures { IfOk result (λ added. IsTrue added
+        → IsLonger linked.old.arena.lists linked.new.arena.lists) }
 {
     linked.reserve(3, 3, 1)?;
     let entered = enter_unless_there(linked, OUTPUT)?;
