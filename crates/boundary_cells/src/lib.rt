@@ -47,7 +47,8 @@ pub fn add_observe_cell(netlist: &mut Netlist, scan: &ScanNets, pin: NetId, scan
     ensures added { Appended netlist.old netlist.new 3
         (observe_cells (length netlist.old.lists.nets) (cell_count netlist.old.lists) scan.now pin scan_in) }
     ensures dense { IsDense netlist.new.lists }
-    ensures free { (net : ℕ) → net < length netlist.old.lists.nets → IsFree netlist.old.lists net → IsFree netlist.new.lists net }
+    ensures free { (net : ℕ) → net < length netlist.old.lists.nets → IsFree netlist.old.lists net
+        → IsFree netlist.new.lists net }
 {
     part_leaves_free_nets();
     let steering = Steering {
@@ -80,7 +81,8 @@ pub fn add_input_cell(
     ensures added { Appended netlist.old netlist.new 5
         (input_cells (length netlist.old.lists.nets) (cell_count netlist.old.lists) scan.now pin into scan_in) }
     ensures dense { IsDense netlist.new.lists }
-    ensures free { (net : ℕ) → net ≢ into.0 → net < length netlist.old.lists.nets → IsFree netlist.old.lists net → IsFree netlist.new.lists net }
+    ensures free { (net : ℕ) → net ≢ into.0 → net < length netlist.old.lists.nets
+        → IsFree netlist.old.lists net → IsFree netlist.new.lists net }
 {
     let given = [
         Feed::Net(scan.tck),
@@ -118,7 +120,8 @@ pub fn add_output_cell(
     ensures added { Appended netlist.old netlist.new (stage_count cell)
         (output_cells cell (length netlist.old.lists.nets) (cell_count netlist.old.lists) scan.now core into scan_in) }
     ensures dense { IsDense netlist.new.lists }
-    ensures free { (net : ℕ) → net ≢ into.0 → net < length netlist.old.lists.nets → IsFree netlist.old.lists net → IsFree netlist.new.lists net }
+    ensures free { (net : ℕ) → net ≢ into.0 → net < length netlist.old.lists.nets
+        → IsFree netlist.old.lists net → IsFree netlist.new.lists net }
 {
     let given = [
         Feed::Net(scan.tck),
@@ -158,7 +161,8 @@ pub(crate) fn add_cell_onto(
     ensures added { Appended netlist.old netlist.new (length gates.now)
         (cells_onto gates.now choice given.now (length netlist.old.lists.nets) (cell_count netlist.old.lists) into) }
     ensures dense { IsDense netlist.new.lists }
-    ensures free { (net : ℕ) → net ≢ into.0 → net < length netlist.old.lists.nets → IsFree netlist.old.lists net → IsFree netlist.new.lists net }
+    ensures free { (net : ℕ) → net ≢ into.0 → net < length netlist.old.lists.nets
+        → IsFree netlist.old.lists net → IsFree netlist.new.lists net }
 {
     appended_count();
     appended_more();
@@ -177,7 +181,8 @@ fn operand(first: NetId, count: u32, given: &[Feed], pin: Pin) -> Feed
     requires fits { first.0 + count < 2 ^ 32 }
     requires sound { IsTrue (is_sound_pin count (length given.now) pin) }
     ensures value { result ≡ feed_of first.0 given.now pin }
-    ensures below { (nets : ℕ) → first.0 + count ≤ nets → AreFeedsBelow nets given.now → IsFeedBelow nets result }
+    ensures below { (nets : ℕ) → first.0 + count ≤ nets → AreFeedsBelow nets given.now
+        → IsFeedBelow nets result }
 {
     match pin {
         Pin::Own(k) => Feed::Net(NetId(first.0 + u32::from(k))),

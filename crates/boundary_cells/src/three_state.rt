@@ -40,7 +40,8 @@ pub fn add_control_cell(
     ensures added { Appended netlist.old netlist.new (control_count cell)
         (control_cells cell (length netlist.old.lists.nets) (cell_count netlist.old.lists) scan.now core active_high into scan_in) }
     ensures dense { IsDense netlist.new.lists }
-    ensures free { (net : ℕ) → net ≢ into.0 → net < length netlist.old.lists.nets → IsFree netlist.old.lists net → IsFree netlist.new.lists net }
+    ensures free { (net : ℕ) → net ≢ into.0 → net < length netlist.old.lists.nets
+        → IsFree netlist.old.lists net → IsFree netlist.new.lists net }
 {
     let given = [
         Feed::Net(scan.tck),
@@ -88,7 +89,8 @@ pub fn add_bidir_cell(
     ensures added { Appended netlist.old netlist.new 7
         (bidir_cells (length netlist.old.lists.nets) (cell_count netlist.old.lists) scan.now core enable active_high pin into scan_in) }
     ensures dense { IsDense netlist.new.lists }
-    ensures free { (net : ℕ) → net ≢ into.0 → net < length netlist.old.lists.nets → IsFree netlist.old.lists net → IsFree netlist.new.lists net }
+    ensures free { (net : ℕ) → net ≢ into.0 → net < length netlist.old.lists.nets
+        → IsFree netlist.old.lists net → IsFree netlist.new.lists net }
 {
     let given = [
         Feed::Net(scan.tck),

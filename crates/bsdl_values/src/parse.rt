@@ -115,7 +115,8 @@ fn described(alloc: Global, words: &BsdlWords, file: &File) -> Result<Device, De
 /// The device that the words spell. It is refused where they spell none, or memory is.
 pub fn parse_device(alloc: Global, words: &BsdlWords) -> Result<Device, DeviceFault>
     ensures spelled { IfOk result (λ made. SpellsDevice words.now.list made) }
-    ensures only { IfOk result (λ made. (other : DeviceOf) → SpellsDevice words.now.list other → other ≡ made) }
+    ensures only { IfOk result (λ made. (other : DeviceOf) → SpellsDevice words.now.list other
+        → other ≡ made) }
     ensures fault { IfErr result (IsDeviceFault words.now) }
 {
     spells_one_file();

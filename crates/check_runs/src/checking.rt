@@ -30,7 +30,8 @@ pub fn check_lines(
     lines: &Lines,
 ) -> Result<Checked, ScriptFault>
     requires { IsSpelled lines.now }
-    ensures ok { IfOk result (λ checked. IsChecked linked.now device.now lines.now checked.text checked.missed) }
+    ensures ok { IfOk result (λ checked. IsChecked linked.now device.now lines.now checked.text
+        checked.missed) }
     ensures fault { IfErr result (IsLinesFault linked.now device.now lines.now) }
 {
     let script = resolve_both(alloc, linked, device, lines)?;

@@ -47,7 +47,8 @@ fn put_line(text: &mut Text, first: &[u8], words: &[&[u8]]) -> Result<(), OutOfM
 
 // The line of an expectation that isn't met.
 fn put_miss(text: &mut Text, miss: &Missed, line: &Line) -> Result<(), OutOfMemory>
-    ensures { OnOk result (text.new ≡ text.old ++ missed_line miss.now.line (pin_of line.now) miss.now.want miss.now.got) }
+    ensures { OnOk result (text.new ≡ text.old
+        ++ missed_line miss.now.line (pin_of line.now) miss.now.want miss.now.got) }
 {
     let mut digits = Buffer::new();
     let number = digits.format(miss.line).as_bytes();

@@ -14,7 +14,8 @@ use signal_values::PinSig;
 /// The number of the first line that breaks the rule.
 pub fn first_break(device: &Device, lines: &Lines) -> Option<u64>
     requires { IsSpelled lines.now }
-    ensures { MatchOption result (KeepsTapRule device.now lines.now.list) (IsFirstTapBroken device.now lines.now) }
+    ensures { MatchOption result (KeepsTapRule device.now lines.now.list)
+        (IsFirstTapBroken device.now lines.now) }
 {
     let numbers = lines.numbers.as_slice();
     for (place, line) in lines.list.as_slice().iter().enumerate() {

@@ -59,9 +59,11 @@ fn take_line(verdict: &mut Verdict, sim: &mut Sim, line: &ScriptLine) -> Result<
     requires met { verdict.old.met + 1 < 2 ^ 64 }
     ensures linked { sim.new.linked ≡ sim.old.linked }
     ensures started { sim.new.started ≡ true }
-    ensures moves { Moves line.now.act sim.old.linked.arena.lists line.now (moment_of sim.old.moment) (moment_of sim.new.moment) }
+    ensures moves { Moves line.now.act sim.old.linked.arena.lists line.now (moment_of sim.old.moment)
+        (moment_of sim.new.moment) }
     ensures sets { OnOk result (verdict.new.sets ≡ sets_with line.now.act verdict.old.sets) }
-    ensures judges { OnOk result (Judges (expected_by line.now.act sim.old.linked.arena.lists line.now (moment_of sim.old.moment)) verdict.old verdict.new) }
+    ensures judges { OnOk result (Judges (expected_by line.now.act sim.old.linked.arena.lists line.now
+        (moment_of sim.old.moment)) verdict.old verdict.new) }
 {
     match line.act {
         Act::Start => Ok(()),

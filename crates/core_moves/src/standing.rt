@@ -38,9 +38,11 @@ fn stand_row(netlist: &mut Netlist, rows: &[FitRow], first: NetId, row: &FitRow,
     requires few { AreFew rows.now }
     requires fits { first.0 + 2 * length rows.now < 2 ^ 32 }
     requires control { MatchOption row.now.control ⊤ (λ number. number < length rows.now) }
-    requires ready { CanStandBy netlist.old.lists (sites.row_net netlist.old.lists.ports row.now) (sites.site_of netlist.old.lists.ports row.now)
+    requires ready { CanStandBy netlist.old.lists (sites.row_net netlist.old.lists.ports row.now)
+        (sites.site_of netlist.old.lists.ports row.now)
         side (model.level_net (between netlist.old.lists.ports rows.now first) row.now) }
-    ensures lists { netlist.new.lists ≡ stood_by (sites.row_net netlist.old.lists.ports row.now) (sites.site_of netlist.old.lists.ports row.now)
+    ensures lists { netlist.new.lists ≡ stood_by (sites.row_net netlist.old.lists.ports row.now)
+        (sites.site_of netlist.old.lists.ports row.now)
         side (model.level_net (between netlist.old.lists.ports rows.now first) row.now) netlist.old.lists }
     ensures spare { netlist.new.spare ≡ netlist.old.spare }
 {
@@ -64,7 +66,8 @@ fn stand_row(netlist: &mut Netlist, rows: &[FitRow], first: NetId, row: &FitRow,
 /// Puts the core behind the cells of these rows. The nets between it and them are there from `first` on, and nothing drives them.
 pub fn stand_behind(netlist: &mut Netlist, rows: &[FitRow], first: NetId)
     requires { CanStandBehind netlist.old.lists rows.now first.0 }
-    ensures lists { netlist.new.lists ≡ with_core_behind (between netlist.old.lists.ports rows.now first) netlist.old.lists }
+    ensures lists { netlist.new.lists ≡ with_core_behind
+        (between netlist.old.lists.ports rows.now first) netlist.old.lists }
     ensures spare { netlist.new.spare ≡ netlist.old.spare }
 {
     let mut side = first.0;

@@ -153,7 +153,8 @@ fn push_gates(
 ) -> Result<(), OutOfMemory>
     requires number { number < 10000 }
     requires state { draws.old.state ≡ state number 0 }
-    ensures items { OnOk result (items.new ≡ items.old ++ map (model.gate_item number) (model.from_zero (model.gate_count number))) }
+    ensures items { OnOk result (items.new ≡ items.old
+        ++ map (model.gate_item number) (model.from_zero (model.gate_count number))) }
     ensures state { OnOk result (draws.new.state ≡ state number (3 * model.gate_count number)) }
 {
     for place in 0..100 + 10 * number {
@@ -172,7 +173,8 @@ fn push_flops(
 ) -> Result<(), OutOfMemory>
     requires number { number < 10000 }
     requires state { draws.old.state ≡ state number (3 * model.gate_count number) }
-    ensures items { OnOk result (items.new ≡ items.old ++ map (model.flop_item number) (model.from_zero 32)) }
+    ensures items { OnOk result (items.new ≡ items.old
+        ++ map (model.flop_item number) (model.from_zero 32)) }
     ensures state { OnOk result (draws.new.state ≡ state number (3 * model.gate_count number + 32)) }
 {
     for place in 0..32 {
@@ -191,7 +193,8 @@ fn push_outputs(
 ) -> Result<(), OutOfMemory>
     requires number { number < 10000 }
     requires state { draws.old.state ≡ state number (3 * model.gate_count number + 32) }
-    ensures items { OnOk result (items.new ≡ items.old ++ map (model.output_item number) (model.from_zero 16)) }
+    ensures items { OnOk result (items.new ≡ items.old
+        ++ map (model.output_item number) (model.from_zero 16)) }
 {
     for place in 0..16 {
         let item = output_item(alloc, draws, number, place)?;

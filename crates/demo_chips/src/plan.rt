@@ -38,7 +38,8 @@ fn push_vector(
     first: u32,
 ) -> Result<(), OutOfMemory>
     requires { first < 1000 }
-    ensures { OnOk result (lines.new ≡ lines.old ++ map (model.vector_line name.now first) (from_zero 16)) }
+    ensures { OnOk result (lines.new ≡ lines.old
+        ++ map (model.vector_line name.now first) (from_zero 16)) }
 {
     for place in 0..16 {
         let word = bit_word(alloc, name, 15 - place)?;

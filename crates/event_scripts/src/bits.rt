@@ -21,7 +21,8 @@ pub struct Bit {
 
 /// The bit that a word names.
 pub fn find_bit(linked: &Linked, word: &[u8]) -> Option<Bit>
-    ensures { MatchOption result ((pin : PinBit) → Names linked.now word.now pin → ⊥) (IsWordBit linked.now word.now) }
+    ensures { MatchOption result ((pin : PinBit) → Names linked.now word.now pin
+        → ⊥) (IsWordBit linked.now word.now) }
 {
     match linked.find_pin(word) {
         Some(pin) => Some(bit_at(linked, pin)),
@@ -33,7 +34,9 @@ pub fn find_bit(linked: &Linked, word: &[u8]) -> Option<Bit>
 fn bit_at(linked: &Linked, pin: PinBit) -> Bit
     requires { (word : List ℕ) × Names linked.now word pin }
     ensures pin { result.pin ≡ pin }
-    ensures same { (word : List ℕ) → Names linked.now word pin → ((other : PinBit) → Names linked.now word other → other ≡ pin) → IsWordBit linked.now word result }
+    ensures same { (word : List ℕ) → Names linked.now word pin
+        → ((other : PinBit) → Names linked.now word other → other ≡ pin)
+        → IsWordBit linked.now word result }
 {
     direction_of_a_bit();
     let netlist = linked.netlist();

@@ -40,7 +40,8 @@ pub fn resolve(alloc: Global, lines: &Lines, linked: &Linked) -> Result<Script, 
 fn take_line(starts: &mut Starts, linked: &Linked, line: &Line, number: u64) -> Option<ScriptLine>
     requires { length starts.old ≡ length linked.now.arena.lists.nets }
     ensures { (before : List Line) → IsAfter linked.now before starts.old
-        → MatchOption result (BreaksRule linked.now before line.now) (TakesLine linked.now before line.now number starts.new) }
+        → MatchOption result (BreaksRule linked.now before line.now)
+        (TakesLine linked.now before line.now number starts.new) }
 {
     let parts = parts_of(line);
     let bit = find_bit(linked, parts.word)?;

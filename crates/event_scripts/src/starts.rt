@@ -59,7 +59,8 @@ impl Starts {
 
     fn take_start(&mut self, net: NetId) -> bool
         requires { net.0 < length self.old }
-        ensures { MatchBool result (HasStarted self.old self.new net.0) (slice_get self.old net.0 ≡ Some false) }
+        ensures { MatchBool result (HasStarted self.old self.new net.0) (slice_get self.old net.0
+            ≡ Some false) }
     {
         let wants = self.wanted[net.0 as usize];
         if wants {

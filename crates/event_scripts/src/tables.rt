@@ -11,7 +11,8 @@ use std::alloc::Global;
 
 /// Of each net, whether it is that of an input or inout bit.
 pub fn taken_nets(alloc: Global, linked: &Linked) -> Result<Vec<bool>, OutOfMemory>
-    ensures { IfOk result (λ flags. AreMarked linked.now.arena.lists (IsPortBefore (length linked.now.arena.lists.ports)) flags.items) }
+    ensures { IfOk result (λ flags. AreMarked linked.now.arena.lists
+        (IsPortBefore (length linked.now.arena.lists.ports)) flags.items) }
 {
     let netlist = linked.netlist();
     let mut flags: Vec<bool> = vec![in alloc; false; netlist.net_count() as usize]?;

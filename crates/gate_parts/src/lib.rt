@@ -1,6 +1,6 @@
 // Parts of a chip, each a constant table of gates, and the call that adds one to a netlist.
 // Contracts cite specs/Parts.antt for the cells of a table and specs/Appended.antt for what was added.
-// Own: tables of gates in the terms of IEEE 1364's gate level modelling.
+// Own: tables of gates in the terms of IEEE Std 1364-2001's gate level modelling.
 #![tactic(auto)]
 
 ghost use Rattle.std.specs.Prelude.{◌≡◌, ◌≢◌, ℕ, ◌+◌, ◌<◌, ◌≤◌, ◌^◌, [], ◌∷◌, length, IsTrue, Some};
@@ -87,7 +87,8 @@ pub fn add_driver(netlist: &mut Netlist, kind: Kind, feeds: &[Feed], output: Net
       output = Some output;
     } ∷ []) }
     ensures dense { IsDense netlist.new.lists }
-    ensures free { (net : ℕ) → net ≢ output.0 → IsFree netlist.old.lists net → IsFree netlist.new.lists net }
+    ensures free { (net : ℕ) → net ≢ output.0 → IsFree netlist.old.lists net
+        → IsFree netlist.new.lists net }
 {
     let name = next_cell_name(netlist);
     let _cell = netlist.add_cell(kind, Some(name), feeds, Some(output));
@@ -128,7 +129,8 @@ fn add_gate(
     ensures added { Appended netlist.old netlist.new 0
         (gate_cell first given.now (cell_count netlist.old.lists) output.0 gate.now ∷ []) }
     ensures dense { IsDense netlist.new.lists }
-    ensures free { (net : ℕ) → net ≢ output.0 → IsFree netlist.old.lists net → IsFree netlist.new.lists net }
+    ensures free { (net : ℕ) → net ≢ output.0 → IsFree netlist.old.lists net
+        → IsFree netlist.new.lists net }
 {
     match gate.pins {
         Pins::One(a) => {
@@ -164,7 +166,8 @@ fn feed(first: u32, count: u32, given: &[Feed], pin: Pin) -> Feed
     requires fits { first + count < 2 ^ 32 }
     requires sound { IsTrue (is_sound_pin count (length given.now) pin) }
     ensures value { result ≡ feed_of first given.now pin }
-    ensures below { (nets : ℕ) → first + count ≤ nets → AreFeedsBelow nets given.now → IsFeedBelow nets result }
+    ensures below { (nets : ℕ) → first + count ≤ nets → AreFeedsBelow nets given.now
+        → IsFeedBelow nets result }
 {
     match pin {
         Pin::Own(k) => Feed::Net(NetId(first + u32::from(k))),

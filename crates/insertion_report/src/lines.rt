@@ -84,7 +84,8 @@ fn put_instructions(text: &mut Text, opcodes: &[Opcode]) -> Result<(), OutOfMemo
 
 // A register, and how many bits it has.
 fn put_size(text: &mut Text, register: &[u8], bits: usize) -> Result<(), OutOfMemory>
-    ensures { OnOk result (text.new ≡ text.old ++ (blank_word register.now ++ blank_word (decimal bits))) }
+    ensures { OnOk result (text.new ≡ text.old
+        ++ (blank_word register.now ++ blank_word (decimal bits))) }
 {
     put_word(text, register)?;
     let mut digits = Buffer::new();

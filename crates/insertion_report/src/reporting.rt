@@ -17,7 +17,8 @@ pub fn report(
     fitted: &Fitted,
     device: &Device,
 ) -> Result<Text, OutOfMemory>
-    ensures { IfOk result (λ text. text ≡ report_of (bit_count linked.now.arena.lists.ports) fitted.now.kept device.now) }
+    ensures { IfOk result (λ text. text ≡ report_of
+        (bit_count linked.now.arena.lists.ports) fitted.now.kept device.now) }
 {
     report_text(alloc, linked.netlist().pin_count(), fitted.kept, device)
 }

@@ -39,7 +39,8 @@ fn add_latch(netlist: &mut Netlist, latching: &Latching, shift: NetId, preset: F
     requires nets { 3 ≤ netlist.old.spare.nets }
     requires cells { 3 ≤ netlist.old.spare.cells }
     requires clock { AreNetsBelow (length netlist.old.lists.nets) latching.now.tck latching.now.trst }
-    requires steps { AreNetsBelow (length netlist.old.lists.nets) latching.now.load latching.now.in_reset }
+    requires steps { AreNetsBelow (length netlist.old.lists.nets) latching.now.load
+        latching.now.in_reset }
     requires shift { shift.0 < length netlist.old.lists.nets }
     ensures added { Appended netlist.old netlist.new 3
         (latch_cells latching.now shift.0 (length netlist.old.lists.nets) (cell_count netlist.old.lists) preset) }
@@ -74,7 +75,8 @@ pub fn add_latches(
     requires nets { 3 * length presets.now ≤ netlist.old.spare.nets }
     requires cells { 3 * length presets.now ≤ netlist.old.spare.cells }
     requires clock { AreNetsBelow (length netlist.old.lists.nets) latching.now.tck latching.now.trst }
-    requires steps { AreNetsBelow (length netlist.old.lists.nets) latching.now.load latching.now.in_reset }
+    requires steps { AreNetsBelow (length netlist.old.lists.nets) latching.now.load
+        latching.now.in_reset }
     requires shifts { shifts.0 + 3 * length presets.now ≤ length netlist.old.lists.nets }
     ensures first { result.0 ≡ length netlist.old.lists.nets }
     ensures added { Appended netlist.old netlist.new (3 * length presets.now)

@@ -77,7 +77,8 @@ pub fn add_selections(
     requires dense { IsDense netlist.old.lists }
     requires nets { 9 ≤ netlist.old.spare.nets }
     requires cells { 9 ≤ netlist.old.spare.cells }
-    requires given { AreFeedsBelow (length netlist.old.lists.nets) (selections_given tap.now matched.now) }
+    requires given { AreFeedsBelow (length netlist.old.lists.nets)
+        (selections_given tap.now matched.now) }
     ensures nets { result ≡ selection_nets (length netlist.old.lists.nets) tap.now last }
     ensures added { Appended netlist.old netlist.new 9
         (selections_cells (length netlist.old.lists.nets) (cell_count netlist.old.lists) tap.now matched.now) }

@@ -49,11 +49,13 @@ pub fn add_stages(
     requires steps { AreNetsBelow (length netlist.old.lists.nets) tap.now.capture_ir tap.now.shift_ir }
     requires loads { AreNetsBelow (length netlist.old.lists.nets) tap.now.update_ir tap.now.in_reset }
     requires tdi { tdi.0 < length netlist.old.lists.nets }
-    requires captured { (nets : ℕ) → length netlist.old.lists.nets ≤ nets → AreFeedsBelow nets captured.now }
+    requires captured { (nets : ℕ) → length netlist.old.lists.nets ≤ nets
+        → AreFeedsBelow nets captured.now }
     requires as_many { length presets.now ≡ length captured.now }
     ensures last { result.last ≡ chain_last (length netlist.old.lists.nets + 1) tdi captured.now }
     ensures latches { result.latches.0 ≡ length netlist.old.lists.nets + (1 + 3 * length captured.now) }
-    ensures added { Appended netlist.old netlist.new (1 + 3 * length captured.now + 3 * length presets.now)
+    ensures added { Appended netlist.old netlist.new
+        (1 + 3 * length captured.now + 3 * length presets.now)
         (stages_cells (length netlist.old.lists.nets) (cell_count netlist.old.lists) tap.now tdi captured.now presets.now) }
     ensures dense { IsDense netlist.new.lists }
 {

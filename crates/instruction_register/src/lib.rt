@@ -34,7 +34,8 @@ pub fn add_instruction(netlist: &mut Netlist, tap: &TapNets, tdi: NetId, codes: 
     requires clock { AreNetsBelow (length netlist.old.lists.nets) tap.now.tck tap.now.trst }
     requires steps { AreNetsBelow (length netlist.old.lists.nets) tap.now.capture_ir tap.now.shift_ir }
     requires loads { AreNetsBelow (length netlist.old.lists.nets) tap.now.update_ir tap.now.in_reset }
-    requires data_steps { AreNetsBelow (length netlist.old.lists.nets) tap.now.capture_dr tap.now.shift_dr }
+    requires data_steps { AreNetsBelow (length netlist.old.lists.nets) tap.now.capture_dr
+        tap.now.shift_dr }
     requires data_update { tap.now.update_dr.0 < length netlist.old.lists.nets }
     requires tdi { tdi.0 < length netlist.old.lists.nets }
     ensures nets { result ≡ instruction_nets (length netlist.old.lists.nets) tap.now tdi codes.now }

@@ -53,7 +53,8 @@ fn add_opcode(netlist: &mut Netlist, latches: NetId, codes: &Codes, instruction:
     ensures added { Appended netlist.old netlist.new (opcode_size codes.now instruction)
         (opcode_cells (length netlist.old.lists.nets) (cell_count netlist.old.lists) latches.0 codes.now instruction) }
     ensures below { (nets : ℕ) → length netlist.new.lists.nets ≤ nets → IsFeedBelow nets result }
-    ensures count { length netlist.new.lists.nets ≡ length netlist.old.lists.nets + opcode_size codes.now instruction }
+    ensures count { length netlist.new.lists.nets
+        ≡ length netlist.old.lists.nets + opcode_size codes.now instruction }
     ensures nets_left { netlist.old.spare.nets ≤ netlist.new.spare.nets + 2 * codes.now.length }
     ensures cells_left { netlist.old.spare.cells ≤ netlist.new.spare.cells + 2 * codes.now.length }
     ensures dense { IsDense netlist.new.lists }
@@ -81,7 +82,8 @@ pub fn add_opcodes(netlist: &mut Netlist, latches: NetId, codes: &Codes) -> Matc
     ensures added { Appended netlist.old netlist.new (opcodes_size codes.now matched_instructions)
         (opcodes_cells (length netlist.old.lists.nets) (cell_count netlist.old.lists) latches.0 codes.now matched_instructions) }
     ensures below { AreToldBelow (length netlist.new.lists.nets) result }
-    ensures count { length netlist.new.lists.nets ≡ length netlist.old.lists.nets + opcodes_size codes.now matched_instructions }
+    ensures count { length netlist.new.lists.nets
+        ≡ length netlist.old.lists.nets + opcodes_size codes.now matched_instructions }
     ensures nets_left { netlist.old.spare.nets ≤ netlist.new.spare.nets + 12 * codes.now.length }
     ensures cells_left { netlist.old.spare.cells ≤ netlist.new.spare.cells + 12 * codes.now.length }
     ensures dense { IsDense netlist.new.lists }

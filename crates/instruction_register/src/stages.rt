@@ -27,12 +27,14 @@ pub fn add_coded_stages(netlist: &mut Netlist, tap: &TapNets, tdi: NetId, codes:
     requires steps { AreNetsBelow (length netlist.old.lists.nets) tap.now.capture_ir tap.now.shift_ir }
     requires loads { AreNetsBelow (length netlist.old.lists.nets) tap.now.update_ir tap.now.in_reset }
     requires tdi { tdi.0 < length netlist.old.lists.nets }
-    ensures last { result.last ≡ chain_last (length netlist.old.lists.nets + 1) tdi (pattern_bits codes.now codes.now.capture) }
+    ensures last { result.last ≡ chain_last (length netlist.old.lists.nets + 1) tdi
+        (pattern_bits codes.now codes.now.capture) }
     ensures latches { result.latches.0 ≡ latches_from (length netlist.old.lists.nets) codes.now }
     ensures added { Appended netlist.old netlist.new (stages_size codes.now)
         (stages_cells (length netlist.old.lists.nets) (cell_count netlist.old.lists) tap.now tdi
         (pattern_bits codes.now codes.now.capture) (pattern_bits codes.now codes.now.reset)) }
-    ensures count { length netlist.new.lists.nets ≡ length netlist.old.lists.nets + (1 + 6 * codes.now.length) }
+    ensures count { length netlist.new.lists.nets
+        ≡ length netlist.old.lists.nets + (1 + 6 * codes.now.length) }
     ensures nets_left { netlist.new.spare.nets + (1 + 6 * codes.now.length) ≡ netlist.old.spare.nets }
     ensures cells_left { netlist.new.spare.cells + (1 + 6 * codes.now.length) ≡ netlist.old.spare.cells }
     ensures dense { IsDense netlist.new.lists }

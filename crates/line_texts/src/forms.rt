@@ -7,7 +7,8 @@ use crate::words::next_word;
 
 /// What follows the first word of a line, where that is the key.
 pub fn after_key<'a>(key: &[u8], line: &'a [u8]) -> Option<&'a [u8]>
-    ensures { MatchOption result (forms.after_key key.now (words_of line.now) ≡ None) (λ rest. forms.after_key key.now (words_of line.now) ≡ Some (words_of rest.now)) }
+    ensures { MatchOption result (forms.after_key key.now (words_of line.now)
+        ≡ None) (λ rest. forms.after_key key.now (words_of line.now) ≡ Some (words_of rest.now)) }
 {
     let (first, rest) = next_word(line);
     if !first.is_empty() && first == key {
@@ -19,7 +20,8 @@ pub fn after_key<'a>(key: &[u8], line: &'a [u8]) -> Option<&'a [u8]>
 
 /// The word of a line that has no other.
 pub fn one_word(line: &[u8]) -> Option<&[u8]>
-    ensures { MatchOption result (forms.one_of (words_of line.now) ≡ None) (λ a. forms.one_of (words_of line.now) ≡ Some a.now) }
+    ensures { MatchOption result (forms.one_of (words_of line.now)
+        ≡ None) (λ a. forms.one_of (words_of line.now) ≡ Some a.now) }
 {
     let (a, rest) = next_word(line);
     let (more, _) = next_word(rest);
@@ -31,7 +33,8 @@ pub fn one_word(line: &[u8]) -> Option<&[u8]>
 
 /// The words of a line of two.
 pub fn two_words(line: &[u8]) -> Option<(&[u8], &[u8])>
-    ensures { MatchOption result (forms.two_of (words_of line.now) ≡ None) (λ (a, b). forms.two_of (words_of line.now) ≡ Some (a.now, b.now)) }
+    ensures { MatchOption result (forms.two_of (words_of line.now)
+        ≡ None) (λ (a, b). forms.two_of (words_of line.now) ≡ Some (a.now, b.now)) }
 {
     let (a, rest) = next_word(line);
     let (b, rest) = next_word(rest);
@@ -44,7 +47,8 @@ pub fn two_words(line: &[u8]) -> Option<(&[u8], &[u8])>
 
 /// The words of a line of three.
 pub fn three_words(line: &[u8]) -> Option<(&[u8], &[u8], &[u8])>
-    ensures { MatchOption result (forms.three_of (words_of line.now) ≡ None) (λ (a, b, c). forms.three_of (words_of line.now) ≡ Some (a.now, b.now, c.now)) }
+    ensures { MatchOption result (forms.three_of (words_of line.now)
+        ≡ None) (λ (a, b, c). forms.three_of (words_of line.now) ≡ Some (a.now, b.now, c.now)) }
 {
     let (a, rest) = next_word(line);
     let (b, rest) = next_word(rest);
@@ -58,7 +62,8 @@ pub fn three_words(line: &[u8]) -> Option<(&[u8], &[u8], &[u8])>
 
 /// The words of a line of four.
 pub fn four_words(line: &[u8]) -> Option<(&[u8], &[u8], &[u8], &[u8])>
-    ensures { MatchOption result (forms.four_of (words_of line.now) ≡ None) (λ (a, b, c, d). forms.four_of (words_of line.now) ≡ Some (a.now, b.now, c.now, d.now)) }
+    ensures { MatchOption result (forms.four_of (words_of line.now)
+        ≡ None) (λ (a, b, c, d). forms.four_of (words_of line.now) ≡ Some (a.now, b.now, c.now, d.now)) }
 {
     let (a, rest) = next_word(line);
     let (b, rest) = next_word(rest);

@@ -69,7 +69,8 @@ impl<'a> LineReader<'a> {
 
     /// This line.
     pub fn line(&self) -> Option<&'a [u8]>
-        ensures { MatchOption result (self.now.rows ≡ []) (λ line. self.now.rows ≡ (first_number self.now.end self.now.rows, words_of line.now) ∷ rest_of self.now.rows) }
+        ensures { MatchOption result (self.now.rows ≡ []) (λ line. self.now.rows
+            ≡ (first_number self.now.end self.now.rows, words_of line.now) ∷ rest_of self.now.rows) }
     {
         if self.text.is_empty() {
             return None;

@@ -25,7 +25,8 @@ pub fn add_ports(
     requires none { netlist.old.lists.ports ≡ [] }
     requires no_cells { netlist.old.lists.cells ≡ [] }
     requires names { ArePortsEntered names.now ports.now }
-    ensures ports { OnOk result (AreAll (IsPort names.now) netlist.new.lists.ports (ports_from 0 ports.now)) }
+    ensures ports { OnOk result (AreAll (IsPort names.now) netlist.new.lists.ports
+        (ports_from 0 ports.now)) }
     ensures nets { OnOk result (netlist.new.lists.nets ≡ netlist.old.lists.nets) }
     ensures cells { OnOk result (netlist.new.lists.cells ≡ netlist.old.lists.cells) }
     ensures spare { OnOk result (netlist.new.spare.cells ≡ netlist.old.spare.cells) }

@@ -18,7 +18,8 @@ pub fn netlist_with_room(
     requires cells { cells ≤ 262144 }
     requires nets { nets ≤ 524288 }
     requires ports { bits_in (map port_nets tree.now.ports) ≤ 4096 }
-    ensures { IfOk result (λ netlist. HasRoomFor netlist cells nets (bits_in (map port_nets tree.now.ports))) }
+    ensures { IfOk result (λ netlist. HasRoomFor netlist cells nets
+        (bits_in (map port_nets tree.now.ports))) }
 {
     let mut netlist = Netlist::new(alloc);
     match netlist.reserve(cells as u32, nets as u32, port_bits(tree.ports.as_slice())) {

@@ -29,7 +29,8 @@ pub fn uses_of_nets(
 ) -> Result<Vec<NetUses>, OutOfMemory>
     requires { FitCells nets cells.now }
     ensures length { IfOk result (λ uses. length uses.items ≡ nets) }
-    ensures each { IfOk result (λ uses. (net : ℕ) → net < nets → uses_at uses.items net ≡ uses_among cells.now net) }
+    ensures each { IfOk result (λ uses. (net : ℕ) → net < nets
+        → uses_at uses.items net ≡ uses_among cells.now net) }
 {
     let unused = NetUses {
         drivers: 0,
@@ -48,7 +49,8 @@ pub fn uses_of_nets(
 fn note_output(uses: &mut [NetUses], cell: &ItemCell)
     requires fits { FitsCell (length uses.old) cell.now }
     requires few { (net : ℕ) → net < length uses.old → (uses_at uses.old net).drivers < 2 ^ 63 }
-    ensures { (net : ℕ) → net < length uses.old → uses_at uses.new net ≡ with_output net cell.now (uses_at uses.old net) }
+    ensures { (net : ℕ) → net < length uses.old
+        → uses_at uses.new net ≡ with_output net cell.now (uses_at uses.old net) }
 {
     match cell.output() {
         Some(net) => note_driver(uses, net, is_bufif(cell.kind())),
@@ -73,7 +75,8 @@ fn note_driver(uses: &mut [NetUses], net: NetId, bufif: bool)
 // Notes the nets that a cell reads.
 fn note_feeds(uses: &mut [NetUses], feeds: &[Feed])
     requires { AreFeedsBelow (length uses.old) feeds.now }
-    ensures { (net : ℕ) → net < length uses.old → uses_at uses.new net ≡ with_feeds net feeds.now (uses_at uses.old net) }
+    ensures { (net : ℕ) → net < length uses.old
+        → uses_at uses.new net ≡ with_feeds net feeds.now (uses_at uses.old net) }
 {
     for feed in feeds {
         match *feed {

@@ -93,7 +93,12 @@ impl<'a> ItemCell<'a> {
         feeds: SmallVec<Feed, 4>,
         output: Option<NetId>,
     ) -> ItemCell<'a>
-        ensures { result ≡ record { kind = kind; name = bytes_of name.entry; feeds = feeds.items; output = output } }
+        ensures { result ≡ record {
+          kind = kind;
+          name = bytes_of name.entry;
+          feeds = feeds.items;
+          output = output;
+        } }
     {
         ItemCell {
             kind,

@@ -59,7 +59,8 @@ impl Netlist {
             (record { kind = kind; name = name; feeds = feeds.now; output = output })) }
         ensures err { OnErr result (self.new.lists ≡ self.old.lists) }
         ensures walks { OnErr result (self.new.walks ≡ self.old.walks) }
-        ensures spare { self.new.spare ≡ (if is_ok result then record self.old.spare { cells = self.old.spare.cells - 1 }
+        ensures spare { self.new.spare ≡ (if is_ok result then record self.old.spare
+            { cells = self.old.spare.cells - 1 }
             else self.old.spare) }
     {
         let feeds = SmallVec::from_slice(self.alloc, feeds)?;
@@ -126,7 +127,8 @@ impl Netlist {
     /// The kind of a cell.
     pub fn kind(&self, cell: CellId) -> Kind
         requires { IsLive self.now.lists cell.0 }
-        ensures { option_map (λ (found : CellView). found.kind) (cell_at self.now.lists cell.0) ≡ Some result }
+        ensures { option_map (λ (found : CellView). found.kind) (cell_at self.now.lists cell.0)
+            ≡ Some result }
     {
         self.cell(cell).kind
     }
@@ -134,7 +136,8 @@ impl Netlist {
     /// The name of a cell, if it has one.
     pub fn cell_name(&self, cell: CellId) -> Option<Name>
         requires { IsLive self.now.lists cell.0 }
-        ensures { option_map (λ (found : CellView). found.name) (cell_at self.now.lists cell.0) ≡ Some result }
+        ensures { option_map (λ (found : CellView). found.name) (cell_at self.now.lists cell.0)
+            ≡ Some result }
     {
         self.cell(cell).name
     }
@@ -142,7 +145,8 @@ impl Netlist {
     /// The net that a cell drives, if it is connected.
     pub fn output(&self, cell: CellId) -> Option<NetId>
         requires { IsLive self.now.lists cell.0 }
-        ensures value { option_map (λ (found : CellView). found.output) (cell_at self.now.lists cell.0) ≡ Some result }
+        ensures value { option_map (λ (found : CellView). found.output) (cell_at self.now.lists cell.0)
+            ≡ Some result }
         ensures below { MatchOption result ⊤ (IsNetBelow (length self.now.lists.nets)) }
     {
         self.cell(cell).output
@@ -153,7 +157,8 @@ impl Netlist {
     pub fn feed_count(&self, cell: CellId) -> u32
         requires { IsLive self.now.lists cell.0 }
         ensures takes { IfSome (cell_at self.now.lists cell.0) (λ found. Takes found.kind result) }
-        ensures count { option_map (λ (found : CellView). length found.feeds) (cell_at self.now.lists cell.0) ≡ Some result }
+        ensures count { option_map (λ (found : CellView). length found.feeds)
+            (cell_at self.now.lists cell.0) ≡ Some result }
     {
         let found = self.cell(cell);
         found.feeds.len() as u32

@@ -1,6 +1,6 @@
 // An arena that holds a netlist: adding ports, nets and cells, moving what is connected, and looking.
 // Contracts cite specs/Arena.antt, specs/Adds.antt and specs/Moves.antt: each call is its substitution on the lists.
-// IEEE 1364: module instances and ports, gate level modelling; the numbering and the room are own.
+// IEEE Std 1364-2001: module instances and ports, gate level modelling; the numbering and the room are own.
 #![tactic(auto)]
 
 ghost use Rattle.std.specs.Prelude.{◌≡◌, [], length};

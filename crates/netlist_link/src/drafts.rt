@@ -56,7 +56,8 @@ impl Linked {
     /// The name of the table with these bytes, which enters it unless it is there.
     pub fn enter_name(&mut self, name: &[u8]) -> Result<Name, OutOfMemory>
         requires { IsTreeName name.now }
-        ensures names { OnOk result (self.new ≡ record self.old { names = with_name name.now self.old.names }) }
+        ensures names { OnOk result (self.new ≡ record self.old
+            { names = with_name name.now self.old.names }) }
         ensures entered { IfOk result (λ entered. name_bytes self.new.names entered ≡ Some name.now) }
         ensures err { OnErr result (self.new ≡ self.old) }
     {
@@ -68,7 +69,8 @@ impl Linked {
 
     /// The name of the table with these bytes. It takes no memory.
     pub fn find_name(&self, name: &[u8]) -> Option<Name>
-        ensures { (found : NameNumber) → (result ≡ Some found) ↔ (name_bytes self.now.names found ≡ Some name.now) }
+        ensures { (found : NameNumber) → (result ≡ Some found)
+            ↔ (name_bytes self.now.names found ≡ Some name.now) }
     {
         match self.names.find(name) {
             Some(number) => Some(Name::Original(number)),

@@ -39,7 +39,8 @@ fn number_of(digits: &[u8]) -> u32
 // Where the digits at the end of the bytes begin.
 fn digits_from(bytes: &[u8]) -> usize
     ensures within { result ≤ length bytes.now }
-    ensures digits { (k : ℕ) → result ≤ k → k < length bytes.now → IsTrue (is_digit (slice_index bytes.now k)) }
+    ensures digits { (k : ℕ) → result ≤ k → k < length bytes.now
+        → IsTrue (is_digit (slice_index bytes.now k)) }
     ensures before { 0 < result → IsFalse (is_digit (slice_index bytes.now (result - 1))) }
 {
     let mut start = bytes.len();
@@ -60,7 +61,9 @@ struct Digits<'a> {
 fn split_digits(bytes: &[u8]) -> Digits<'_>
     ensures joined { bytes.now ≡ result.before.now ++ result.digits.now }
     ensures digits { AllByRecursion (λ c. IsTrue (is_digit c)) result.digits.now }
-    ensures only { (name digits : List ℕ) → bytes.now ≡ name ++ 91 ∷ digits → AllByRecursion (λ c. IsTrue (is_digit c)) digits → IsSplit result.before.now result.digits.now name digits }
+    ensures only { (name digits : List ℕ) → bytes.now ≡ name ++ 91 ∷ digits
+        → AllByRecursion (λ c. IsTrue (is_digit c)) digits
+        → IsSplit result.before.now result.digits.now name digits }
 {
     let start = digits_from(bytes);
     let (before, digits) = bytes.split_at(start);
@@ -69,7 +72,8 @@ fn split_digits(bytes: &[u8]) -> Digits<'_>
 
 // The bytes before the last, where that is this one.
 fn without_last(bytes: &[u8], last: u8) -> Option<&[u8]>
-    ensures { MatchOption result ((front : List ℕ) → bytes.now ≡ front ++ last ∷ [] → ⊥) (λ front. bytes.now ≡ front.now ++ last ∷ []) }
+    ensures { MatchOption result ((front : List ℕ) → bytes.now ≡ front ++ last ∷ []
+        → ⊥) (λ front. bytes.now ≡ front.now ++ last ∷ []) }
 {
     let count = bytes.len();
     if count == 0 || bytes[count - 1] != last {
@@ -80,7 +84,8 @@ fn without_last(bytes: &[u8], last: u8) -> Option<&[u8]>
 
 /// The word's name and index, if it is a name and an index of 1 to 9 digits in brackets.
 pub fn split_index(word: &[u8]) -> Option<IndexedWord<'_>>
-    ensures { MatchOption result ((name : List ℕ) (index : ℕ) → IsIndexed word.now name index → ⊥) (λ found. IsIndexed word.now found.name.now found.index) }
+    ensures { MatchOption result ((name : List ℕ) (index : ℕ) → IsIndexed word.now name index
+        → ⊥) (λ found. IsIndexed word.now found.name.now found.index) }
 {
     match without_last(word, b']') {
         Some(front) => split_front(front),
@@ -90,7 +95,8 @@ pub fn split_index(word: &[u8]) -> Option<IndexedWord<'_>>
 
 // The name and index of a word without its closing bracket.
 fn split_front(front: &[u8]) -> Option<IndexedWord<'_>>
-    ensures { MatchOption result ((name : List ℕ) (index : ℕ) → IsOpenIndexed front.now name index → ⊥) (λ found. IsOpenIndexed front.now found.name.now found.index) }
+    ensures { MatchOption result ((name : List ℕ) (index : ℕ) → IsOpenIndexed front.now name index
+        → ⊥) (λ found. IsOpenIndexed front.now found.name.now found.index) }
 {
     let split = split_digits(front);
     if split.digits.is_empty() || split.digits.len() > 9 {

@@ -1,6 +1,6 @@
 // What a netlist is, as the crates that hold one share it, and in specs/ what it means.
 // Contracts cite specs/Lists.antt for the lists, specs/Settled.antt for the values and specs/Runs.antt for the runs.
-// IEEE 1364: module instances and ports, gate level modelling, nets; zero delay and the flip-flops are own.
+// IEEE Std 1364-2001: module instances and ports, gate level modelling, nets; zero delay and the flip-flops are own.
 #![tactic(auto)]
 
 ghost use Rattle.std.specs.Prelude.{◌≡◌, ◌≤◌, ◌^◌, false};

@@ -52,7 +52,8 @@ fn value_of(values: &[Sig], feed: Feed) -> Sig
 pub(crate) fn gather(netlist: &Netlist, cell: CellId, values: &[Sig], buffer: &mut [Sig]) -> usize
     requires live { IsLive netlist.now.lists cell.0 }
     requires room { length buffer.old ≡ 256 }
-    ensures inputs { take result buffer.new ≡ feed_values (value_at values.now) (feeds_of (cell_at netlist.now.lists cell.0)) }
+    ensures inputs { take result buffer.new ≡ feed_values (value_at values.now)
+        (feeds_of (cell_at netlist.now.lists cell.0)) }
     ensures takes { IfSome (cell_at netlist.now.lists cell.0) (λ found. Takes found.kind result) }
     ensures few { result ≤ length buffer.new }
 {

@@ -48,7 +48,8 @@ fn next_of(
     requires live { IsLive netlist.now.lists cell.0 }
     requires was { length was.old ≡ 256 }
     requires is { length is.old ≡ 256 }
-    ensures { result ≡ place_next (cell_at netlist.now.lists cell.0) (value_at before.now) (value_at after.now) kept }
+    ensures { result ≡ place_next (cell_at netlist.now.lists cell.0) (value_at before.now)
+        (value_at after.now) kept }
 {
     match netlist.kind(cell) {
         Kind::Flop(kind) => {

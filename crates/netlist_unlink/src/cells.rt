@@ -18,7 +18,8 @@ use verilog_tree::{Gate, GateKind, Instance, Item};
 
 /// The items of the cells, by rising number.
 pub fn tree_items(alloc: Global, linked: &Linked, prefix: &[u8]) -> Result<Row<Item>, OutOfMemory>
-    ensures items { IfOk result (λ items. items ≡ items_from (naming_of linked.now prefix.now) 0 linked.now.arena.lists.cells) }
+    ensures items { IfOk result (λ items. items
+        ≡ items_from (naming_of linked.now prefix.now) 0 linked.now.arena.lists.cells) }
     ensures numbers { OnOk result ((i : ℕ) → IsLive linked.now.arena.lists i → i < 2 ^ 32) }
 {
     let live = linked.netlist().cell_count();
@@ -40,7 +41,8 @@ pub fn tree_items(alloc: Global, linked: &Linked, prefix: &[u8]) -> Result<Row<I
 // A cell as a gate, as an instance of a library cell, or as an `assign`.
 fn item(alloc: Global, linked: &Linked, prefix: &[u8], cell: CellId) -> Result<Item, OutOfMemory>
     requires { IsLive linked.now.arena.lists cell.0 }
-    ensures { IfOk result (λ item. option_map (item_of (naming_of linked.now prefix.now) cell.0) (cell_at linked.now.arena.lists cell.0) ≡ Some item) }
+    ensures { IfOk result (λ item. option_map (item_of (naming_of linked.now prefix.now) cell.0)
+        (cell_at linked.now.arena.lists cell.0) ≡ Some item) }
 {
     let kind = linked.netlist().kind(cell);
     match gate_kind(kind) {
@@ -61,8 +63,11 @@ fn gate_item(
 ) -> Result<Item, OutOfMemory>
     requires linked { IsLinked linked.now.arena.lists linked.now.names linked.now.order }
     requires live { IsLive linked.now.arena.lists cell.0 }
-    requires gate { IfSome (cell_at linked.now.arena.lists cell.0) (λ found. gate_of found.kind ≡ Some gate) }
-    ensures { IfOk result (λ item. option_map (λ found. written (naming_of linked.now prefix.now) cell.0 found (Some gate) None) (cell_at linked.now.arena.lists cell.0) ≡ Some item) }
+    requires gate { IfSome (cell_at linked.now.arena.lists cell.0) (λ found. gate_of found.kind
+        ≡ Some gate) }
+    ensures { IfOk result (λ item. option_map
+        (λ found. written (naming_of linked.now prefix.now) cell.0 found (Some gate) None)
+        (cell_at linked.now.arena.lists cell.0) ≡ Some item) }
 {
     Ok(Item::Gate(Gate {
         kind: gate,
@@ -84,7 +89,9 @@ fn instance(
     requires live { IsLive linked.now.arena.lists cell.0 }
     requires kind { IfSome (cell_at linked.now.arena.lists cell.0) (λ found. found.kind ≡ kind) }
     requires library { cell_name kind ≡ Some library.now }
-    ensures { IfOk result (λ item. option_map (λ found. written (naming_of linked.now prefix.now) cell.0 found None (Some library.now)) (cell_at linked.now.arena.lists cell.0) ≡ Some item) }
+    ensures { IfOk result (λ item. option_map
+        (λ found. written (naming_of linked.now prefix.now) cell.0 found None (Some library.now))
+        (cell_at linked.now.arena.lists cell.0) ≡ Some item) }
 {
     Ok(Item::Instance(Instance {
         cell: Text::from_bytes(alloc, library)?,
@@ -97,7 +104,9 @@ fn assign(alloc: Global, linked: &Linked, prefix: &[u8], cell: CellId) -> Result
     requires linked { IsLinked linked.now.arena.lists linked.now.names linked.now.order }
     requires live { IsLive linked.now.arena.lists cell.0 }
     requires kind { IfSome (cell_at linked.now.arena.lists cell.0) (λ found. found.kind ≡ Kind.Assign) }
-    ensures { IfOk result (λ item. option_map (λ found. written (naming_of linked.now prefix.now) cell.0 found None None) (cell_at linked.now.arena.lists cell.0) ≡ Some item) }
+    ensures { IfOk result (λ item. option_map
+        (λ found. written (naming_of linked.now prefix.now) cell.0 found None None)
+        (cell_at linked.now.arena.lists cell.0) ≡ Some item) }
 {
     Ok(Item::Assign {
         output: driven_bit(alloc, linked, prefix, cell)?,

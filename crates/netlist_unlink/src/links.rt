@@ -24,8 +24,10 @@ pub fn cell_links(
     kind: Kind,
 ) -> Result<Row<Link>, OutOfMemory>
     requires live { IsLive linked.now.arena.lists cell.0 }
-    requires ports { length (feeds_of (cell_at linked.now.arena.lists cell.0)) ≤ length (operand_ports kind) }
-    ensures { IfOk result (λ links. links ≡ operand_links (naming_of linked.now prefix.now) (operand_ports kind) (feeds_of (cell_at linked.now.arena.lists cell.0))
+    requires ports { length (feeds_of (cell_at linked.now.arena.lists cell.0)) ≤ length
+        (operand_ports kind) }
+    ensures { IfOk result (λ links. links ≡ operand_links (naming_of linked.now prefix.now)
+        (operand_ports kind) (feeds_of (cell_at linked.now.arena.lists cell.0))
         ++ output_links (naming_of linked.now prefix.now) (port_of_output kind) (output_of (cell_at linked.now.arena.lists cell.0))) }
 {
     let mut links = links_to_operands(alloc, linked, prefix, cell, kind)?;
@@ -41,8 +43,10 @@ fn links_to_operands(
     kind: Kind,
 ) -> Result<Row<Link>, OutOfMemory>
     requires live { IsLive linked.now.arena.lists cell.0 }
-    requires ports { length (feeds_of (cell_at linked.now.arena.lists cell.0)) ≤ length (operand_ports kind) }
-    ensures { IfOk result (λ links. links ≡ operand_links (naming_of linked.now prefix.now) (operand_ports kind) (feeds_of (cell_at linked.now.arena.lists cell.0))) }
+    requires ports { length (feeds_of (cell_at linked.now.arena.lists cell.0)) ≤ length
+        (operand_ports kind) }
+    ensures { IfOk result (λ links. links ≡ operand_links (naming_of linked.now prefix.now)
+        (operand_ports kind) (feeds_of (cell_at linked.now.arena.lists cell.0))) }
 {
     let netlist = linked.netlist();
     let mut links = Row::new(alloc);
@@ -67,7 +71,9 @@ fn link_output(
     links: &mut Row<Link>,
 ) -> Result<(), OutOfMemory>
     requires { IsLive linked.now.arena.lists cell.0 }
-    ensures { OnOk result (links.new ≡ links.old ++ output_links (naming_of linked.now prefix.now) (port_of_output kind) (output_of (cell_at linked.now.arena.lists cell.0))) }
+    ensures { OnOk result (links.new ≡ links.old
+        ++ output_links (naming_of linked.now prefix.now) (port_of_output kind)
+        (output_of (cell_at linked.now.arena.lists cell.0))) }
 {
     let Some(port) = output_port(kind) else {
         return Ok(());

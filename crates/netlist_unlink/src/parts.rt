@@ -20,7 +20,8 @@ pub fn cell_name(
     cell: CellId,
 ) -> Result<Option<Text>, OutOfMemory>
     requires { IsLive linked.now.arena.lists cell.0 }
-    ensures { IfOk result (λ name. name ≡ option_map (cell_text (naming_of linked.now prefix.now) cell.0) (name_of (cell_at linked.now.arena.lists cell.0))) }
+    ensures { IfOk result (λ name. name ≡ option_map (cell_text (naming_of linked.now prefix.now) cell.0)
+        (name_of (cell_at linked.now.arena.lists cell.0))) }
 {
     match linked.netlist().cell_name(cell) {
         Some(name) => Ok(Some(spell(alloc, linked, prefix, b'c', cell.0, name)?)),
@@ -37,7 +38,9 @@ pub fn instance_name(
 ) -> Result<Text, OutOfMemory>
     requires live { IsLive linked.now.arena.lists cell.0 }
     requires named { IsSome (name_of (cell_at linked.now.arena.lists cell.0)) }
-    ensures { IfOk result (λ name. name ≡ unwrap_or (option_map (cell_text (naming_of linked.now prefix.now) cell.0) (name_of (cell_at linked.now.arena.lists cell.0))) []) }
+    ensures { IfOk result (λ name. name ≡ unwrap_or
+        (option_map (cell_text (naming_of linked.now prefix.now) cell.0)
+        (name_of (cell_at linked.now.arena.lists cell.0))) []) }
 {
     match cell_name(alloc, linked, prefix, cell)? {
         Some(name) => Ok(name),
@@ -54,7 +57,8 @@ pub fn driven_bit(
 ) -> Result<Bit, OutOfMemory>
     requires live { IsLive linked.now.arena.lists cell.0 }
     requires driven { IsSome (output_of (cell_at linked.now.arena.lists cell.0)) }
-    ensures { IfOk result (λ bit. bit ≡ output_bit (naming_of linked.now prefix.now) (output_of (cell_at linked.now.arena.lists cell.0))) }
+    ensures { IfOk result (λ bit. bit ≡ output_bit (naming_of linked.now prefix.now)
+        (output_of (cell_at linked.now.arena.lists cell.0))) }
 {
     match linked.netlist().output(cell) {
         Some(net) => bit(alloc, linked, prefix, net),
@@ -70,7 +74,8 @@ pub fn cell_inputs(
     cell: CellId,
 ) -> Result<Row<Operand>, OutOfMemory>
     requires { IsLive linked.now.arena.lists cell.0 }
-    ensures { IfOk result (λ inputs. inputs ≡ map (operand_of (naming_of linked.now prefix.now)) (feeds_of (cell_at linked.now.arena.lists cell.0))) }
+    ensures { IfOk result (λ inputs. inputs ≡ map (operand_of (naming_of linked.now prefix.now))
+        (feeds_of (cell_at linked.now.arena.lists cell.0))) }
 {
     let netlist = linked.netlist();
     let mut inputs = Row::new(alloc);
@@ -90,7 +95,8 @@ pub fn first_input(
 ) -> Result<Operand, OutOfMemory>
     requires live { IsLive linked.now.arena.lists cell.0 }
     requires reads { 0 < length (feeds_of (cell_at linked.now.arena.lists cell.0)) }
-    ensures { IfOk result (λ input. input ≡ first_operand (naming_of linked.now prefix.now) (feeds_of (cell_at linked.now.arena.lists cell.0))) }
+    ensures { IfOk result (λ input. input ≡ first_operand (naming_of linked.now prefix.now)
+        (feeds_of (cell_at linked.now.arena.lists cell.0))) }
 {
     let feed = linked.netlist().feed(cell, 0);
     operand(alloc, linked, prefix, feed)

@@ -21,7 +21,8 @@ pub fn tree_ports(alloc: Global, linked: &Linked) -> Result<Row<Port>, OutOfMemo
 
 fn tree_port(alloc: Global, linked: &Linked, port: PortId) -> Result<Port, OutOfMemory>
     requires { port.0 < length linked.now.arena.lists.ports }
-    ensures { IfOk result (λ made. option_map (port_of linked.now.names) (slice_get linked.now.arena.lists.ports port.0) ≡ Some made) }
+    ensures { IfOk result (λ made. option_map (port_of linked.now.names)
+        (slice_get linked.now.arena.lists.ports port.0) ≡ Some made) }
 {
     let netlist = linked.netlist();
     let name = netlist.port_name(port);

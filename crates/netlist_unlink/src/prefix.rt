@@ -84,7 +84,8 @@ fn cells_are_free(linked: &Linked, prefix: &[u8]) -> bool
 
 fn is_free_cell(linked: &Linked, prefix: &[u8], cell: CellId) -> bool
     requires { IsLive linked.now.arena.lists cell.0 }
-    ensures { result ≡ named.is_free_cell linked.now.names prefix.now (cell_at linked.now.arena.lists cell.0) }
+    ensures { result ≡ named.is_free_cell linked.now.names prefix.now
+        (cell_at linked.now.arena.lists cell.0) }
 {
     match linked.netlist().cell_name(cell) {
         Some(name) => is_free_name(linked, prefix, name),

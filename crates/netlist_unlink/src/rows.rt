@@ -18,7 +18,8 @@ pub struct NetRow {
 
 /// The rows of nets that stand in no port, in order. Each net is looked at once.
 pub fn wire_rows(alloc: Global, linked: &Linked) -> Result<Vec<NetRow>, OutOfMemory>
-    ensures { IfOk result (λ found. found.items ≡ rows_of linked.now.arena.lists.ports linked.now.arena.lists.nets) }
+    ensures { IfOk result (λ found. found.items
+        ≡ rows_of linked.now.arena.lists.ports linked.now.arena.lists.nets) }
 {
     let flags = port_flags(alloc, linked)?;
     let mut rows = Vec::new(alloc);
@@ -37,7 +38,8 @@ pub fn wire_rows(alloc: Global, linked: &Linked) -> Result<Vec<NetRow>, OutOfMem
 
 // Takes a row with the next one, or puts it after the others and goes on with the next.
 fn follow(rows: &mut Vec<NetRow>, last: Option<NetRow>, next: NetRow) -> Result<NetRow, OutOfMemory>
-    ensures { IfOk result (λ row. (rest : List NetRow) → rows.new.items ++ before row rest ≡ rows.old.items ++ with_row last (before next rest)) }
+    ensures { IfOk result (λ row. (rest : List NetRow)
+        → rows.new.items ++ before row rest ≡ rows.old.items ++ with_row last (before next rest)) }
 {
     let Some(row) = last else {
         return Ok(next);
@@ -68,7 +70,8 @@ fn join(first: Option<Range>, last: Option<Range>) -> Option<Range>
 fn net_row(linked: &Linked, flags: &[bool], net: NetId) -> Option<NetRow>
     requires there { net.0 < length linked.now.arena.lists.nets }
     requires flags { ArePortFlags linked.now.names linked.now.arena.lists.ports flags.now }
-    ensures { option_map (row_of linked.now.arena.lists.ports) (slice_get linked.now.arena.lists.nets net.0) ≡ Some result }
+    ensures { option_map (row_of linked.now.arena.lists.ports)
+        (slice_get linked.now.arena.lists.nets net.0) ≡ Some result }
 {
     let netlist = linked.netlist();
     let index = netlist.net_index(net);
@@ -92,7 +95,8 @@ fn net_row(linked: &Linked, flags: &[bool], net: NetId) -> Option<NetRow>
 
 // Of each number of a name, whether a port has it.
 fn port_flags(alloc: Global, linked: &Linked) -> Result<Vec<bool>, OutOfMemory>
-    ensures { IfOk result (λ flags. ArePortFlags linked.now.names linked.now.arena.lists.ports flags.items) }
+    ensures { IfOk result (λ flags. ArePortFlags linked.now.names linked.now.arena.lists.ports
+        flags.items) }
 {
     let mut flags = vec![in alloc; false; linked.name_count() as usize]?;
     for number in 0..linked.netlist().port_count() {

@@ -14,7 +14,8 @@ use verilog_tree::Wire;
 
 /// The original wires in the order of their first nets, and then the added nets.
 pub fn tree_wires(alloc: Global, linked: &Linked, prefix: &[u8]) -> Result<Row<Wire>, OutOfMemory>
-    ensures { IfOk result (λ wires. wires ≡ map (wire_of linked.now.names) (rows_of linked.now.arena.lists.ports linked.now.arena.lists.nets)
+    ensures { IfOk result (λ wires. wires ≡ map (wire_of linked.now.names)
+        (rows_of linked.now.arena.lists.ports linked.now.arena.lists.nets)
         ++ added_from prefix.now 0 linked.now.arena.lists.nets) }
 {
     linked.netlist().is_laid_out();
@@ -63,7 +64,9 @@ fn add_wire(
     wires: &mut Row<Wire>,
 ) -> Result<(), OutOfMemory>
     requires { net.0 < length linked.now.arena.lists.nets }
-    ensures { OnOk result (option_map (λ (view : NetView). wires.old ++ added_wire prefix.now net.0 view.name) (slice_get linked.now.arena.lists.nets net.0) ≡ Some wires.new) }
+    ensures { OnOk result (option_map (λ (view : NetView). wires.old
+        ++ added_wire prefix.now net.0 view.name) (slice_get linked.now.arena.lists.nets net.0)
+        ≡ Some wires.new) }
 {
     match linked.netlist().net_name(net) {
         Name::Original(_) => Ok(()),

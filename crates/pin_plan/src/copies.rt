@@ -61,7 +61,8 @@ pub fn opcodes_copy(alloc: Global, opcodes: &[Opcode]) -> Result<Row<Opcode>, Ou
 
 /// The texts of a plan.
 pub fn own_texts(alloc: Global, plan: &Plan) -> Result<OwnTexts, OutOfMemory>
-    ensures { IfOk result (λ texts. texts ≡ record { entity = plan.now.entity; «package» = plan.now.«package»; clock = plan.now.clock }) }
+    ensures { IfOk result (λ texts. texts ≡ record
+        { entity = plan.now.entity; «package» = plan.now.«package»; clock = plan.now.clock }) }
 {
     Ok(OwnTexts {
         entity: text_copy(alloc, &plan.entity)?,
@@ -72,7 +73,13 @@ pub fn own_texts(alloc: Global, plan: &Plan) -> Result<OwnTexts, OutOfMemory>
 
 /// The test access port of a plan.
 pub fn tap_lines(alloc: Global, plan: &Plan) -> Result<TapLines, OutOfMemory>
-    ensures { IfOk result (λ tap. tap ≡ record { tck = plan.now.tck; tms = plan.now.tms; tdi = plan.now.tdi; tdo = plan.now.tdo; trst = plan.now.trst }) }
+    ensures { IfOk result (λ tap. tap ≡ record {
+      tck = plan.now.tck;
+      tms = plan.now.tms;
+      tdi = plan.now.tdi;
+      tdo = plan.now.tdo;
+      trst = plan.now.trst;
+    }) }
 {
     Ok(TapLines {
         tck: line_copy(alloc, &plan.tck)?,

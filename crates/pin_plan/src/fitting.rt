@@ -30,7 +30,8 @@ fn find_text_fault(
     plan: &Plan,
     linked: &Linked,
 ) -> Result<Option<FitFault>, OutOfMemory>
-    ensures { IfOk result (λ found. found ≡ or_else (name_fault linked.now plan.now) (prefix_fault linked.now plan.now)) }
+    ensures { IfOk result (λ found. found ≡ or_else (name_fault linked.now plan.now)
+        (prefix_fault linked.now plan.now)) }
 {
     let ports = port_names(alloc, linked)?;
     let inner = inner_names(alloc, linked)?;

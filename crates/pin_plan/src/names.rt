@@ -29,8 +29,10 @@ fn has_name(names: &[&[u8]], name: &[u8]) -> bool
 
 // Adds a name to those before it, and says whether it is new.
 fn note<'a>(before: &mut IndexSet<NameKey<'a>>, name: &'a [u8]) -> Result<bool, OutOfMemory>
-    ensures fresh { IfOk result (λ fresh. fresh ≡ not (list_any (is_same_name name.now) (names_in before.old.keys))) }
-    ensures added { IfOk result (λ fresh. fresh ≡ true → names_in before.new.keys ≡ names_in before.old.keys ++ name.now ∷ []) }
+    ensures fresh { IfOk result (λ fresh. fresh
+        ≡ not (list_any (is_same_name name.now) (names_in before.old.keys))) }
+    ensures added { IfOk result (λ fresh. fresh ≡ true
+        → names_in before.new.keys ≡ names_in before.old.keys ++ name.now ∷ []) }
 {
     Ok(before.insert(NameKey(name))?)
 }
@@ -41,8 +43,10 @@ fn is_barred<'a>(
     others: &[&[u8]],
     name: &'a [u8],
 ) -> Result<bool, OutOfMemory>
-    ensures barred { IfOk result (λ barred. barred ≡ fits.is_barred (texts others.now) (names_in before.old.keys) name.now) }
-    ensures added { IfOk result (λ barred. barred ≡ false → names_in before.new.keys ≡ names_in before.old.keys ++ name.now ∷ []) }
+    ensures barred { IfOk result (λ barred. barred
+        ≡ fits.is_barred (texts others.now) (names_in before.old.keys) name.now) }
+    ensures added { IfOk result (λ barred. barred ≡ false
+        → names_in before.new.keys ≡ names_in before.old.keys ++ name.now ∷ []) }
 {
     let fresh = note(before, name)?;
     Ok(!is_identifier(name) || is_reserved(name) || !fresh || has_name(others, name))
@@ -55,8 +59,10 @@ fn find_barred<'a>(
     others: &[&[u8]],
     names: &[&'a [u8]],
 ) -> Result<Option<FitFault>, OutOfMemory>
-    ensures found { IfOk result (λ found. found ≡ fits.barred_after (texts others.now) (names_in before.old.keys) (texts names.now)) }
-    ensures added { IfOk result (λ found. found ≡ None → names_in before.new.keys ≡ names_in before.old.keys ++ texts names.now) }
+    ensures found { IfOk result (λ found. found
+        ≡ fits.barred_after (texts others.now) (names_in before.old.keys) (texts names.now)) }
+    ensures added { IfOk result (λ found. found ≡ None
+        → names_in before.new.keys ≡ names_in before.old.keys ++ texts names.now) }
 {
     for name in names {
         let name = *name;
@@ -100,7 +106,8 @@ pub fn find_name_fault<'a>(
     ports: &[&'a [u8]],
     inner: &[&'a [u8]],
 ) -> Result<Option<FitFault>, OutOfMemory>
-    ensures { IfOk result (λ found. found ≡ name_fault_among plan.now (texts ports.now) (texts inner.now)) }
+    ensures { IfOk result (λ found. found ≡ name_fault_among plan.now (texts ports.now)
+        (texts inner.now)) }
 {
     let own = [plan.entity.as_bytes(), plan.package.as_bytes()];
     let mut before = IndexSet::new(alloc);

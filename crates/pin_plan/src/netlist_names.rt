@@ -39,7 +39,8 @@ fn text_of(linked: &Linked, name: Name) -> Option<&[u8]>
 /// The name of a port.
 pub fn text_of_port(linked: &Linked, port: PortId) -> &[u8]
     requires { port.0 < length linked.now.arena.lists.ports }
-    ensures { option_and_then (λ p. name_bytes linked.now.names p.name) (slice_get linked.now.arena.lists.ports port.0) ≡ Some result.now }
+    ensures { option_and_then (λ p. name_bytes linked.now.names p.name)
+        (slice_get linked.now.arena.lists.ports port.0) ≡ Some result.now }
 {
     linked.name_text(linked.netlist().port_name(port))
 }
@@ -57,7 +58,8 @@ pub fn port_names(alloc: Global, linked: &Linked) -> Result<Vec<&[u8]>, OutOfMem
 
 // Adds a name, if there is one.
 fn add_name<'a>(names: &mut Vec<&'a [u8]>, name: Option<&'a [u8]>) -> Result<(), OutOfMemory>
-    ensures { OnOk result (texts names.new.items ≡ texts names.old.items ++ cons_option (bytes_of name.entry) []) }
+    ensures { OnOk result (texts names.new.items ≡ texts names.old.items
+        ++ cons_option (bytes_of name.entry) []) }
 {
     match name {
         None => Ok(()),
@@ -70,7 +72,8 @@ fn add_name<'a>(names: &mut Vec<&'a [u8]>, name: Option<&'a [u8]>) -> Result<(),
 
 // Adds the names of the ports' nets, and of wires.
 fn add_net_names<'a>(names: &mut Vec<&'a [u8]>, linked: &'a Linked) -> Result<(), OutOfMemory>
-    ensures { OnOk result (texts names.new.items ≡ texts names.old.items ++ fitting.net_names linked.now) }
+    ensures { OnOk result (texts names.new.items ≡ texts names.old.items
+        ++ fitting.net_names linked.now) }
 {
     let netlist = linked.netlist();
     for number in 0..netlist.net_count() {
@@ -82,7 +85,8 @@ fn add_net_names<'a>(names: &mut Vec<&'a [u8]>, linked: &'a Linked) -> Result<()
 
 // The name of a cell, if it has one of the table.
 fn text_of_cell(linked: &Linked, cell: CellId) -> Option<&[u8]>
-    ensures { bytes_of result ≡ fitting.name_of_cell linked.now.names (cell_at linked.now.arena.lists cell.0) }
+    ensures { bytes_of result ≡ fitting.name_of_cell linked.now.names
+        (cell_at linked.now.arena.lists cell.0) }
 {
     let netlist = linked.netlist();
     if !netlist.is_live(cell) {
@@ -93,7 +97,8 @@ fn text_of_cell(linked: &Linked, cell: CellId) -> Option<&[u8]>
 
 // Adds the names of gates and instances.
 fn add_cell_names<'a>(names: &mut Vec<&'a [u8]>, linked: &'a Linked) -> Result<(), OutOfMemory>
-    ensures { OnOk result (texts names.new.items ≡ texts names.old.items ++ fitting.cell_names linked.now) }
+    ensures { OnOk result (texts names.new.items ≡ texts names.old.items
+        ++ fitting.cell_names linked.now) }
 {
     for number in 0..linked.netlist().cell_bound() {
         add_name(names, text_of_cell(linked, CellId(number)))?;
@@ -103,7 +108,8 @@ fn add_cell_names<'a>(names: &mut Vec<&'a [u8]>, linked: &'a Linked) -> Result<(
 
 /// The names of the ports' nets and of wires, and those of gates and instances.
 pub fn inner_names(alloc: Global, linked: &Linked) -> Result<Vec<&[u8]>, OutOfMemory>
-    ensures { IfOk result (λ names. texts names.items ≡ fitting.net_names linked.now ++ fitting.cell_names linked.now) }
+    ensures { IfOk result (λ names. texts names.items ≡ fitting.net_names linked.now
+        ++ fitting.cell_names linked.now) }
 {
     let mut names = Vec::new(alloc);
     add_net_names(&mut names, linked)?;

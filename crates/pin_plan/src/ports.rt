@@ -16,7 +16,8 @@ use std::alloc::Global;
 
 // The physical pin of the line at a place.
 fn pin_at(alloc: Global, lines: &[PinLine], place: usize) -> Result<Text, OutOfMemory>
-    ensures { IfOk result (λ text. text ≡ option_map_or (λ line. line.pin) (slice_get lines.now place) []) }
+    ensures { IfOk result (λ text. text ≡ option_map_or (λ line. line.pin)
+        (slice_get lines.now place) []) }
 {
     match lines.get(place) {
         Some(line) => text_copy(alloc, &line.pin),
@@ -49,7 +50,9 @@ fn pins_of_port(
     port: PortId,
 ) -> Result<Row<Text>, OutOfMemory>
     requires { port.0 < length linked.now.arena.lists.ports }
-    ensures { IfOk result (λ pins. option_map (λ view. devices.pins_of_port plan.now bits.now (port.0, view)) (slice_get linked.now.arena.lists.ports port.0) ≡ Some pins) }
+    ensures { IfOk result (λ pins. option_map
+        (λ view. devices.pins_of_port plan.now bits.now (port.0, view))
+        (slice_get linked.now.arena.lists.ports port.0) ≡ Some pins) }
 {
     let mut pins = Row::new(alloc);
     for bit in 0..port_width(linked.netlist(), port) {
@@ -66,7 +69,9 @@ fn fit_port(
     port: PortId,
 ) -> Result<FitPort, OutOfMemory>
     requires { port.0 < length linked.now.arena.lists.ports }
-    ensures { IfOk result (λ made. option_map (λ view. devices.fit_port linked.now plan.now bits.now (port.0, view)) (slice_get linked.now.arena.lists.ports port.0) ≡ Some made) }
+    ensures { IfOk result (λ made. option_map
+        (λ view. devices.fit_port linked.now plan.now bits.now (port.0, view))
+        (slice_get linked.now.arena.lists.ports port.0) ≡ Some made) }
 {
     let netlist = linked.netlist();
     Ok(FitPort {
@@ -84,7 +89,8 @@ pub fn fit_ports(
     plan: &Plan,
     bits: &BitTable,
 ) -> Result<Row<FitPort>, OutOfMemory>
-    ensures { IfOk result (λ ports. ports ≡ map (devices.fit_port linked.now plan.now bits.now) (enumerate_from 0 linked.now.arena.lists.ports)) }
+    ensures { IfOk result (λ ports. ports ≡ map (devices.fit_port linked.now plan.now bits.now)
+        (enumerate_from 0 linked.now.arena.lists.ports)) }
 {
     let mut ports = Row::new(alloc);
     for number in 0..linked.netlist().port_count() {

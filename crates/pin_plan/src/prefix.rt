@@ -37,7 +37,8 @@ pub fn find_prefix_fault(
     ports: &[&[u8]],
     inner: &[&[u8]],
 ) -> Result<Option<FitFault>, OutOfMemory>
-    ensures { IfOk result (λ found. found ≡ prefix_fault_among plan.now (texts ports.now) (texts inner.now)) }
+    ensures { IfOk result (λ found. found ≡ prefix_fault_among plan.now (texts ports.now)
+        (texts inner.now)) }
 {
     let prefix = plan.prefix.as_bytes();
     match find_begun(alloc, prefix, ports)? {

@@ -57,7 +57,8 @@ fn note<K: Eq + Hash + Copy + Drop>(
     key: K,
     number: u32,
 ) -> Result<(), OutOfMemory>
-    ensures ok { OnOk result ((k : K) → get K.eq table.new k ≡ (if K.eq k key then Some number else get K.eq table.old k)) }
+    ensures ok { OnOk result ((k : K) → get K.eq table.new k
+        ≡ (if K.eq k key then Some number else get K.eq table.old k)) }
     ensures err { OnErr result (table.new.entries ≡ table.old.entries) }
 {
     table.insert(key, number)?;

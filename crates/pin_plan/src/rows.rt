@@ -85,7 +85,8 @@ fn add_controlled(
     driver: Driver,
 ) -> Result<(), OutOfMemory>
     requires { is_function Function.Control function ≡ false }
-    ensures { OnOk result (rows.new ≡ rows.old ++ boundary.controlled_rows kind rows.old function line.now one.now driver) }
+    ensures { OnOk result (rows.new ≡ rows.old
+        ++ boundary.controlled_rows kind rows.old function line.now one.now driver) }
 {
     match rows.control_of(driver) {
         Some(number) => rows.push(data_row(function, line, one, driver, number)),
@@ -105,7 +106,8 @@ fn add_rows(
     line: &PinLine,
     one: &PinAt,
 ) -> Result<(), OutOfMemory>
-    ensures { OnOk result (rows.new ≡ rows.old ++ boundary.rows_at kind highz rows.old line.now one.now one.now.side) }
+    ensures { OnOk result (rows.new ≡ rows.old
+        ++ boundary.rows_at kind highz rows.old line.now one.now one.now.side) }
 {
     match one.side {
         Dir::Input => rows.push(input_row(line, one)),

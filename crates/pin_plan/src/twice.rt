@@ -44,7 +44,8 @@ impl<'a> Taken<'a> {
 }
 
 fn take_lines<'a>(taken: &mut Vec<Taken<'a>>, lines: &'a [TapLine]) -> Result<(), OutOfMemory>
-    ensures { OnOk result (map taken_view taken.new.items ≡ map taken_view taken.old.items ++ map fits.taken_alone lines.now) }
+    ensures { OnOk result (map taken_view taken.new.items ≡ map taken_view taken.old.items
+        ++ map fits.taken_alone lines.now) }
 {
     for line in lines {
         taken.push(Taken::PhysicalPin(line.pin.as_bytes()))?;
@@ -53,7 +54,8 @@ fn take_lines<'a>(taken: &mut Vec<Taken<'a>>, lines: &'a [TapLine]) -> Result<()
 }
 
 fn take_tap<'a>(taken: &mut Vec<Taken<'a>>, plan: &'a Plan) -> Result<(), OutOfMemory>
-    ensures { OnOk result (map taken_view taken.new.items ≡ map taken_view taken.old.items ++ map fits.taken_alone (fits.tap_lines plan.now)) }
+    ensures { OnOk result (map taken_view taken.new.items ≡ map taken_view taken.old.items
+        ++ map fits.taken_alone (fits.tap_lines plan.now)) }
 {
     taken.push(Taken::PhysicalPin(plan.tck.pin.as_bytes()))?;
     taken.push(Taken::PhysicalPin(plan.tms.pin.as_bytes()))?;
@@ -68,7 +70,8 @@ fn take_pins<'a>(
     lines: &'a [PinLine],
     pins: &[PinAt],
 ) -> Result<(), OutOfMemory>
-    ensures { OnOk result (map taken_view taken.new.items ≡ map taken_view taken.old.items ++ fits.taken_by lines.now pins.now) }
+    ensures { OnOk result (map taken_view taken.new.items ≡ map taken_view taken.old.items
+        ++ fits.taken_by lines.now pins.now) }
 {
     for (line, one) in lines.iter().zip(pins) {
         taken.push(Taken::PortBit(one.pin, line.port.as_bytes()))?;
@@ -96,7 +99,8 @@ fn all_taken<'a>(
 fn note<'a>(before: &mut IndexSet<TakenKey<'a>>, one: Taken<'a>) -> Result<bool, OutOfMemory>
     ensures fresh { IfOk result (λ fresh. (taken : List Taken) → before.old.keys ≡ map key_of_taken taken
         → fresh ≡ not (list_any (fits.same_taken (taken_view one.entry)) (map taken_view taken))) }
-    ensures added { IfOk result (λ fresh. (taken : List Taken) → before.old.keys ≡ map key_of_taken taken → fresh ≡ true
+    ensures added { IfOk result (λ fresh. (taken : List Taken) → before.old.keys ≡ map key_of_taken taken
+        → fresh ≡ true
         → before.new.keys ≡ map key_of_taken (taken ++ one.entry ∷ [])) }
 {
     Ok(before.insert(one.key())?)

@@ -23,7 +23,8 @@ pub fn add_shift_chain(
     requires nets { 3 * length captured.now ≤ netlist.old.spare.nets }
     requires cells { 3 * length captured.now ≤ netlist.old.spare.cells }
     requires steering { AreNetsBelow (length netlist.old.lists.nets) steering.now.tck steering.now.trst }
-    requires steps { AreNetsBelow (length netlist.old.lists.nets) steering.now.capture steering.now.shift }
+    requires steps { AreNetsBelow (length netlist.old.lists.nets) steering.now.capture
+        steering.now.shift }
     requires tdi { tdi.0 < length netlist.old.lists.nets }
     requires captured { AreFeedsBelow (length netlist.old.lists.nets) captured.now }
     ensures last { result ≡ chain_last (length netlist.old.lists.nets) tdi captured.now }

@@ -104,7 +104,8 @@ pub fn add_shift_bit(
     requires nets { 3 ≤ netlist.old.spare.nets }
     requires cells { 3 ≤ netlist.old.spare.cells }
     requires steering { AreNetsBelow (length netlist.old.lists.nets) steering.now.tck steering.now.trst }
-    requires steps { AreNetsBelow (length netlist.old.lists.nets) steering.now.capture steering.now.shift }
+    requires steps { AreNetsBelow (length netlist.old.lists.nets) steering.now.capture
+        steering.now.shift }
     requires captured { IsFeedBelow (length netlist.old.lists.nets) captured }
     requires next { next.0 < length netlist.old.lists.nets }
     ensures first { result.0 ≡ length netlist.old.lists.nets }

@@ -76,7 +76,8 @@ pub fn add_tdo(
     requires cells { 7 ≤ netlist.old.spare.cells }
     requires clock { AreNetsBelow (length netlist.old.lists.nets) tap.now.tck tap.now.trst }
     requires steps { AreNetsBelow (length netlist.old.lists.nets) tap.now.shift_dr tap.now.shift_ir }
-    requires selections { AreNetsBelow (length netlist.old.lists.nets) instruction.now.bypass_on instruction.now.ident_on }
+    requires selections { AreNetsBelow (length netlist.old.lists.nets) instruction.now.bypass_on
+        instruction.now.ident_on }
     requires last { instruction.now.last.0 < length netlist.old.lists.nets }
     requires bits { AreNetsBelow (length netlist.old.lists.nets) bypass boundary }
     requires ident { AreIdentBelow (length netlist.old.lists.nets) ident }

@@ -68,7 +68,8 @@ pub fn add_logic(netlist: &mut Netlist, port: &TapPort, fitted: &Fitted) -> Logi
     ensures nets_left { netlist.old.spare.nets ≤ netlist.new.spare.nets + logic_room fitted.now }
     ensures cells_left { netlist.old.spare.cells ≤ netlist.new.spare.cells + logic_room fitted.now }
     ensures dense { IsDense netlist.new.lists }
-    ensures free { (net : ℕ) → net < length netlist.old.lists.nets → IsFree netlist.old.lists net → IsFree netlist.new.lists net }
+    ensures free { (net : ℕ) → net < length netlist.old.lists.nets → IsFree netlist.old.lists net
+        → IsFree netlist.new.lists net }
 {
     appended_count();
     appended_more();

@@ -37,8 +37,10 @@ pub fn add_port_nets(netlist: &mut Netlist, names: &TapNames) -> TapPort
 pub fn add_sides(netlist: &mut Netlist, count: u32) -> NetId
     requires room { count ≤ netlist.old.spare.nets }
     ensures first { result.0 ≡ length netlist.old.lists.nets }
-    ensures lists { netlist.new.lists ≡ with_nets (added_nets (length netlist.old.lists.nets) count) netlist.old.lists }
-    ensures spare { netlist.new.spare ≡ record netlist.old.spare { nets = netlist.old.spare.nets - count } }
+    ensures lists { netlist.new.lists ≡ with_nets
+        (added_nets (length netlist.old.lists.nets) count) netlist.old.lists }
+    ensures spare { netlist.new.spare ≡ record netlist.old.spare
+        { nets = netlist.old.spare.nets - count } }
 {
     let first = netlist.net_count();
     for _ in 0..count {
@@ -53,8 +55,10 @@ fn add_scalar(netlist: &mut Netlist, name: Name, dir: Dir, net: NetId)
     requires room { 0 < netlist.old.spare.port_bits }
     requires net { CanBePin netlist.old.lists dir net }
     ensures lists { netlist.new.lists ≡ with_port (scalar name dir net) netlist.old.lists }
-    ensures spare { netlist.new.spare ≡ record netlist.old.spare { port_bits = netlist.old.spare.port_bits - 1 } }
-    ensures others { (side : Direction) (other : NetNumber) → other.0 ≢ net.0 → CanBePin netlist.old.lists side other
+    ensures spare { netlist.new.spare ≡ record netlist.old.spare
+        { port_bits = netlist.old.spare.port_bits - 1 } }
+    ensures others { (side : Direction) (other : NetNumber) → other.0 ≢ net.0
+        → CanBePin netlist.old.lists side other
         → CanBePin netlist.new.lists side other }
 {
     let _port = netlist.add_port_bit(name, dir, net);
@@ -65,7 +69,8 @@ pub fn add_ports(netlist: &mut Netlist, names: &TapNames, port: &TapPort)
     requires room { 5 ≤ netlist.old.spare.port_bits }
     requires port { CanBePort netlist.old.lists port.now }
     ensures lists { netlist.new.lists ≡ with_ports (tap_ports names.now port.now) netlist.old.lists }
-    ensures spare { netlist.new.spare ≡ record netlist.old.spare { port_bits = netlist.old.spare.port_bits - 5 } }
+    ensures spare { netlist.new.spare ≡ record netlist.old.spare
+        { port_bits = netlist.old.spare.port_bits - 5 } }
 {
     add_scalar(netlist, names.tck, Dir::Input, port.tck);
     add_scalar(netlist, names.tms, Dir::Input, port.tms);

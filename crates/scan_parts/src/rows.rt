@@ -58,21 +58,26 @@ fn add_driven_output(
     requires cells { 8 ≤ netlist.old.spare.cells }
     requires scan { AreScanNetsBelow (length netlist.old.lists.nets) scan.now }
     requires boundary { IsBoundary (between netlist.old.lists.ports rows.now first) }
-    requires ready { IsReady (between netlist.old.lists.ports rows.now first) (length netlist.old.lists.nets) row.now }
-    requires level { (sides.level_net (between netlist.old.lists.ports rows.now first) row.now).0 < length netlist.old.lists.nets }
+    requires ready { IsReady (between netlist.old.lists.ports rows.now first)
+        (length netlist.old.lists.nets) row.now }
+    requires level { (sides.level_net (between netlist.old.lists.ports rows.now first) row.now).0 < length
+        netlist.old.lists.nets }
     requires net { at.net ≡ model.net_at (between netlist.old.lists.ports rows.now first) row.now }
     requires side { at.side.0 + 1 < 2 ^ 32 }
     requires next { at.next.0 < length netlist.old.lists.nets }
     requires free { AreFree netlist.old.lists
         (into_at (between netlist.old.lists.ports rows.now first) at.side.0 row.now places.AddedDriver) }
-    requires apart { AreApart (into_at (between netlist.old.lists.ports rows.now first) at.side.0 row.now places.AddedDriver) }
+    requires apart { AreApart (into_at (between netlist.old.lists.ports rows.now first) at.side.0 row.now
+        places.AddedDriver) }
     ensures shift { result.0 ≡ length netlist.old.lists.nets }
     ensures added { Appended netlist.old netlist.new (stage_count row.now.cell)
         (model.site_cells (between netlist.old.lists.ports rows.now first) scan.now (length netlist.old.lists.nets)
         (cell_count netlist.old.lists) at.side.0 row.now at.next places.AddedDriver) }
     ensures dense { IsDense netlist.new.lists }
-    ensures free { (net : ℕ) → IsApart (into_at (between netlist.old.lists.ports rows.now first) at.side.0 row.now places.AddedDriver) net
-        → net < length netlist.old.lists.nets → IsFree netlist.old.lists net → IsFree netlist.new.lists net }
+    ensures free { (net : ℕ) → IsApart (into_at
+        (between netlist.old.lists.ports rows.now first) at.side.0 row.now places.AddedDriver) net
+        → net < length netlist.old.lists.nets → IsFree netlist.old.lists net
+        → IsFree netlist.new.lists net }
 {
     let into = NetId(at.side.0 + 1);
     let level = level_net(netlist, rows, first, row);
@@ -97,7 +102,8 @@ fn add_inout(
     requires cells { 8 ≤ netlist.old.spare.cells }
     requires scan { AreScanNetsBelow (length netlist.old.lists.nets) scan.now }
     requires boundary { IsBoundary (between netlist.old.lists.ports rows.now first) }
-    requires ready { IsReady (between netlist.old.lists.ports rows.now first) (length netlist.old.lists.nets) row.now }
+    requires ready { IsReady (between netlist.old.lists.ports rows.now first)
+        (length netlist.old.lists.nets) row.now }
     requires control { IsSome row.now.control }
     requires net { at.net ≡ model.net_at (between netlist.old.lists.ports rows.now first) row.now }
     requires next { at.next.0 < length netlist.old.lists.nets }
@@ -108,7 +114,8 @@ fn add_inout(
         (model.site_cells (between netlist.old.lists.ports rows.now first) scan.now (length netlist.old.lists.nets)
         (cell_count netlist.old.lists) at.side.0 row.now at.next places.Inout) }
     ensures dense { IsDense netlist.new.lists }
-    ensures free { (net : ℕ) → net ≢ at.side.0 → net < length netlist.old.lists.nets → IsFree netlist.old.lists net
+    ensures free { (net : ℕ) → net ≢ at.side.0 → net < length netlist.old.lists.nets
+        → IsFree netlist.old.lists net
         → IsFree netlist.new.lists net }
 {
     let Some(number) = row.control else {
@@ -144,20 +151,26 @@ fn add_row(
     requires scan { AreScanNetsBelow (length netlist.old.lists.nets) scan.now }
     requires boundary { IsBoundary (between netlist.old.lists.ports rows.now first) }
     requires pin { IsPinThere netlist.old.lists.ports row.now }
-    requires ready { IsReady (between netlist.old.lists.ports rows.now first) (length netlist.old.lists.nets) row.now }
+    requires ready { IsReady (between netlist.old.lists.ports rows.now first)
+        (length netlist.old.lists.nets) row.now }
     requires net { at.net ≡ model.net_at (between netlist.old.lists.ports rows.now first) row.now }
-    requires side { at.side.0 + sites.row_sides netlist.old.lists.ports row.now ≤ length netlist.old.lists.nets }
+    requires side { at.side.0 + sites.row_sides netlist.old.lists.ports row.now ≤ length
+        netlist.old.lists.nets }
     requires next { at.next.0 < length netlist.old.lists.nets }
-    requires free { AreFree netlist.old.lists (into_of (between netlist.old.lists.ports rows.now first) at.side.0 row.now) }
-    requires apart { AreApart (into_of (between netlist.old.lists.ports rows.now first) at.side.0 row.now) }
+    requires free { AreFree netlist.old.lists
+        (into_of (between netlist.old.lists.ports rows.now first) at.side.0 row.now) }
+    requires apart { AreApart (into_of (between netlist.old.lists.ports rows.now first) at.side.0
+        row.now) }
     requires fits { at.side.0 + 1 < 2 ^ 32 }
     ensures shift { result.0 ≡ length netlist.old.lists.nets }
     ensures added { Appended netlist.old netlist.new (model.row_nets netlist.old.lists.ports row.now)
         (model.row_cells (between netlist.old.lists.ports rows.now first) scan.now (length netlist.old.lists.nets)
         (cell_count netlist.old.lists) at.side.0 row.now at.next) }
     ensures dense { IsDense netlist.new.lists }
-    ensures free { (net : ℕ) → IsApart (into_of (between netlist.old.lists.ports rows.now first) at.side.0 row.now) net
-        → net < length netlist.old.lists.nets → IsFree netlist.old.lists net → IsFree netlist.new.lists net }
+    ensures free { (net : ℕ) → IsApart (into_of
+        (between netlist.old.lists.ports rows.now first) at.side.0 row.now) net
+        → net < length netlist.old.lists.nets → IsFree netlist.old.lists net
+        → IsFree netlist.new.lists net }
 {
     let Place { net, side, next } = at;
     match site_of(netlist, row) {
@@ -192,13 +205,16 @@ pub fn add_rows(
     requires scan { AreScanNetsBelow (length netlist.old.lists.nets) scan.now }
     requires end { end.0 ≡ first.0 + sites.sides_of netlist.old.lists.ports rows.now }
     requires tdi { tdi.0 < length netlist.old.lists.nets }
-    ensures last { result ≡ model.last_bit netlist.old.lists.ports (length netlist.old.lists.nets) tdi rows.now }
+    ensures last { result ≡ model.last_bit netlist.old.lists.ports
+        (length netlist.old.lists.nets) tdi rows.now }
     ensures added { Appended netlist.old netlist.new (model.nets_of_rows netlist.old.lists.ports rows.now)
         (model.rows_cells (between netlist.old.lists.ports rows.now first) scan.now (length netlist.old.lists.nets)
         (cell_count netlist.old.lists) tdi first.0 rows.now) }
     ensures dense { IsDense netlist.new.lists }
-    ensures free { (net : ℕ) → IsApart (into_from (between netlist.old.lists.ports rows.now first) first.0 rows.now) net
-        → net < length netlist.old.lists.nets → IsFree netlist.old.lists net → IsFree netlist.new.lists net }
+    ensures free { (net : ℕ) → IsApart (into_from
+        (between netlist.old.lists.ports rows.now first) first.0 rows.now) net
+        → net < length netlist.old.lists.nets → IsFree netlist.old.lists net
+        → IsFree netlist.new.lists net }
 {
     appended_none();
     appended_count();

@@ -28,7 +28,8 @@ pub fn add_test_logic(
     first: NetId,
     end: NetId,
 )
-    requires can { CanTakeLogic netlist.old (between netlist.old.lists.ports fitted.now.rows first) fitted.now port.now }
+    requires can { CanTakeLogic netlist.old (between netlist.old.lists.ports fitted.now.rows first)
+        fitted.now port.now }
     requires end { end.0 ≡ first.0 + sites.sides_of netlist.old.lists.ports fitted.now.rows }
     ensures added { Appended netlist.old netlist.new
         (test_logic_nets (between netlist.old.lists.ports fitted.now.rows first) fitted.now)
@@ -36,8 +37,10 @@ pub fn add_test_logic(
         (cell_count netlist.old.lists) port.now fitted.now) }
     ensures nets_left { netlist.old.spare.nets ≤ netlist.new.spare.nets + net_room fitted.now }
     ensures cells_left { netlist.old.spare.cells ≤ netlist.new.spare.cells + cell_room fitted.now }
-    ensures free { (net : ℕ) → IsApart (into_from (between netlist.old.lists.ports fitted.now.rows first) first.0 fitted.now.rows) net
-        → net ≢ port.now.tdo.0 → net < length netlist.old.lists.nets → IsFree netlist.old.lists net → IsFree netlist.new.lists net }
+    ensures free { (net : ℕ) → IsApart (into_from
+        (between netlist.old.lists.ports fitted.now.rows first) first.0 fitted.now.rows) net
+        → net ≢ port.now.tdo.0 → net < length netlist.old.lists.nets → IsFree netlist.old.lists net
+        → IsFree netlist.new.lists net }
 {
     appended_count();
     appended_more();

@@ -47,7 +47,11 @@ impl<'a> Bench<'a> {
     /// In reset, with TMS at 1 and no lines.
     pub fn new(alloc: Global, device: &'a Device) -> Result<Bench<'a>, OutOfMemory>
         requires { IsDevice device.now }
-        ensures { IfOk result (λ b. b ≡ record { device = device.now; bench = definition.first_bench device.now; list = [] }) }
+        ensures { IfOk result (λ b. b ≡ record {
+          device = device.now;
+          bench = definition.first_bench device.now;
+          list = [];
+        }) }
     {
         Ok(Bench {
             alloc,
@@ -70,14 +74,16 @@ impl<'a> Bench<'a> {
 
     // An input of the test access port, by its place, is set.
     fn set(&mut self, place: u32, level: bool) -> Result<(), OutOfMemory>
-        ensures { OnOk result (self.new ≡ adds self.old (definition.set_line self.old.device place level ∷ [])) }
+        ensures { OnOk result (self.new ≡ adds self.old
+            (definition.set_line self.old.device place level ∷ [])) }
     {
         put_set(self.alloc, &mut self.list, self.device, place, level)
     }
 
     /// TRST is set to 1.
     pub fn end_reset(&mut self) -> Result<(), OutOfMemory>
-        ensures { OnOk result (self.new ≡ adds self.old (definition.set_line self.old.device self.old.device.trst true ∷ [])) }
+        ensures { OnOk result (self.new ≡ adds self.old
+            (definition.set_line self.old.device self.old.device.trst true ∷ [])) }
     {
         let trst = self.device.trst;
         self.set(trst, true)
@@ -85,7 +91,9 @@ impl<'a> Bench<'a> {
 
     /// TRST is set to 0.
     pub fn reset(&mut self) -> Result<(), OutOfMemory>
-        ensures { OnOk result (self.new ≡ adds (with_machine self.old (definition.in_reset self.old.device)) (definition.set_line self.old.device self.old.device.trst false ∷ [])) }
+        ensures { OnOk result (self.new ≡ adds (with_machine self.old
+            (definition.in_reset self.old.device))
+            (definition.set_line self.old.device self.old.device.trst false ∷ [])) }
     {
         let trst = self.device.trst;
         self.machine.reset();
@@ -93,13 +101,15 @@ impl<'a> Bench<'a> {
     }
 
     fn look_at_tdo(&mut self) -> Result<(), OutOfMemory>
-        ensures { OnOk result (self.new ≡ adds self.old (definition.tdo_lines self.old.device self.old.bench.machine)) }
+        ensures { OnOk result (self.new ≡ adds self.old
+            (definition.tdo_lines self.old.device self.old.bench.machine)) }
     {
         put_tdo(self.alloc, &mut self.list, self.device, &self.machine)
     }
 
     fn look_at_pins(&mut self) -> Result<(), OutOfMemory>
-        ensures { OnOk result (self.new ≡ adds self.old (definition.pin_lines self.old.device self.old.bench.machine)) }
+        ensures { OnOk result (self.new ≡ adds self.old
+            (definition.pin_lines self.old.device self.old.bench.machine)) }
     {
         put_pins(
             self.alloc,
@@ -112,7 +122,8 @@ impl<'a> Bench<'a> {
 
     /// TDO and the outputs and inouts are looked at.
     pub fn look(&mut self) -> Result<(), OutOfMemory>
-        ensures { OnOk result (self.new ≡ adds self.old (definition.look self.old.device self.old.bench.machine)) }
+        ensures { OnOk result (self.new ≡ adds self.old
+            (definition.look self.old.device self.old.bench.machine)) }
     {
         self.look_at_tdo()?;
         self.look_at_pins()
@@ -128,7 +139,8 @@ impl<'a> Bench<'a> {
     }
 
     fn look_after(&mut self) -> Result<(), OutOfMemory>
-        ensures { OnOk result (self.new ≡ adds self.old (definition.look_after self.old.device self.old.bench.machine)) }
+        ensures { OnOk result (self.new ≡ adds self.old
+            (definition.look_after self.old.device self.old.bench.machine)) }
     {
         self.look_at_tdo()?;
         if self.is_in_update() {
@@ -138,7 +150,8 @@ impl<'a> Bench<'a> {
     }
 
     fn set_tms(&mut self, level: bool) -> Result<(), OutOfMemory>
-        ensures { OnOk result (self.new ≡ adds (with_tms self.old level) (definition.set_if self.old.device self.old.device.tms self.old.bench.tms level)) }
+        ensures { OnOk result (self.new ≡ adds (with_tms self.old level)
+            (definition.set_if self.old.device self.old.device.tms self.old.bench.tms level)) }
     {
         let (place, before) = (self.device.tms, self.tms);
         self.tms = level;
@@ -153,7 +166,8 @@ impl<'a> Bench<'a> {
     }
 
     fn set_tdi(&mut self, level: bool) -> Result<(), OutOfMemory>
-        ensures { OnOk result (self.new ≡ adds (with_tdi self.old level) (definition.set_if self.old.device self.old.device.tdi self.old.bench.tdi level)) }
+        ensures { OnOk result (self.new ≡ adds (with_tdi self.old level)
+            (definition.set_if self.old.device self.old.device.tdi self.old.bench.tdi level)) }
     {
         let (place, before) = (self.device.tdi, self.tdi);
         self.tdi = level;
@@ -169,7 +183,8 @@ impl<'a> Bench<'a> {
 
     // What the cells capture matters in Capture-DR alone.
     fn rise(&mut self, clock: Clock) -> Result<(), OutOfMemory>
-        ensures { OnOk result (self.new ≡ with_machine self.old (risen self.old.device clock self.old.bench.machine)) }
+        ensures { OnOk result (self.new ≡ with_machine self.old
+            (risen self.old.device clock self.old.bench.machine)) }
     {
         let tdi = bit(clock.tdi);
         match self.machine.state() {

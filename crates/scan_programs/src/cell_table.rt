@@ -61,7 +61,8 @@ fn enter_cell(
 }
 
 fn first_places(alloc: Global, cells: &[CellRow]) -> Result<IndexMap<BitKey, usize>, OutOfMemory>
-    ensures { IfOk result (λ table. (key : BitKey) → lookup (same_key key) table.entries ≡ position (is_key key) cells.now) }
+    ensures { IfOk result (λ table. (key : BitKey)
+        → lookup (same_key key) table.entries ≡ position (is_key key) cells.now) }
 {
     let mut places = IndexMap::new(alloc);
     for number in (0..cells.len()).rev() {

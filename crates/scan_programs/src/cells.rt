@@ -220,7 +220,8 @@ pub fn captured(alloc: Global, device: &Device, machine: &Machine) -> Result<Vec
     requires logic { machine.now.logic ≡ test_logic_of device.now }
     requires rows { AreInRange device.now.cells }
     requires few { length device.now.cells < 10 ^ 9 }
-    ensures bits { IfOk result (λ bits. bits.items ≡ definition.captured device.now machine.now.holds definition.unknown_core) }
+    ensures bits { IfOk result (λ bits. bits.items
+        ≡ definition.captured device.now machine.now.holds definition.unknown_core) }
     ensures len { IfOk result (λ bits. length bits.items ≡ length device.now.cells) }
 {
     let cells = device.cells.as_slice();

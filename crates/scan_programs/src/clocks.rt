@@ -126,7 +126,8 @@ fn push_alternating(
     count: usize,
     first: bool,
 ) -> Result<(), OutOfMemory>
-    ensures { OnOk result (clocks.new.items ≡ clocks.old.items ++ scans.dr_scan (scans.alternating count first)) }
+    ensures { OnOk result (clocks.new.items ≡ clocks.old.items
+        ++ scans.dr_scan (scans.alternating count first)) }
 {
     let bits = alternating(alloc, count, first)?;
     push_dr_scan(clocks, bits.as_slice())
@@ -138,7 +139,8 @@ fn push_instruction(
     device: &Device,
     opcode: Opcode,
 ) -> Result<(), OutOfMemory>
-    ensures { OnOk result (clocks.new.items ≡ clocks.old.items ++ scans.instruction_scans device.now opcode) }
+    ensures { OnOk result (clocks.new.items ≡ clocks.old.items
+        ++ scans.instruction_scans device.now opcode) }
 {
     let count = register_length(device, selected_register(opcode.instr));
     let bits = low_bits(alloc, opcode.bits)?;
@@ -153,7 +155,8 @@ fn push_instructions(
     device: &Device,
     opcodes: &[Opcode],
 ) -> Result<(), OutOfMemory>
-    ensures { OnOk result (clocks.new.items ≡ clocks.old.items ++ flat_map (scans.instruction_scans device.now) opcodes.now) }
+    ensures { OnOk result (clocks.new.items ≡ clocks.old.items
+        ++ flat_map (scans.instruction_scans device.now) opcodes.now) }
 {
     for opcode in opcodes {
         push_instruction(alloc, clocks, device, *opcode)?;

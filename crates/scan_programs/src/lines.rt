@@ -40,7 +40,8 @@ fn put_start(
     value: PinSig,
     indices: &[Option<u32>],
 ) -> Result<(), OutOfMemory>
-    ensures { OnOk result (list.new ≡ list.old ++ map (λ index. Start (pins.bit_word name.now index) value) indices.now) }
+    ensures { OnOk result (list.new ≡ list.old
+        ++ map (λ index. Start (pins.bit_word name.now index) value) indices.now) }
 {
     for index in indices {
         let pin = bit_word(alloc, name, *index)?;

@@ -137,7 +137,8 @@ fn push_bits(
     name: &[u8],
     indices: &[Option<u32>],
 ) -> Result<(), OutOfMemory>
-    ensures { OnOk result (list.new.items ≡ list.old.items ++ map (definition.reader_at table.now place name.now) indices.now) }
+    ensures { OnOk result (list.new.items ≡ list.old.items
+        ++ map (definition.reader_at table.now place name.now) indices.now) }
 {
     for index in indices {
         let reader = reader_at(alloc, table, place, name, *index)?;
@@ -156,7 +157,8 @@ fn push_readers(
     port: &DevPort,
 ) -> Result<(), OutOfMemory>
     requires { table.now ≡ device.now.cells }
-    ensures { OnOk result (list.new.items ≡ list.old.items ++ definition.readers_of device.now (place, port.now)) }
+    ensures { OnOk result (list.new.items ≡ list.old.items
+        ++ definition.readers_of device.now (place, port.now)) }
 {
     if !is_read_port(device, place, port) {
         return Ok(());

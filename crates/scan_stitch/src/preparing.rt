@@ -32,7 +32,8 @@ fn port_room(fitted: &Fitted) -> u32
 pub fn prepare(linked: &mut Linked, fitted: &Fitted) -> Result<(), ReserveFault>
     requires small { IsSmall fitted.now }
     requires names { HasTapNames fitted.now }
-    ensures answer { MatchOption (too_many linked.old.arena.lists (room_of fitted.now) (room_of fitted.now) (ports_of fitted.now))
+    ensures answer { MatchOption (too_many linked.old.arena.lists (room_of fitted.now)
+        (room_of fitted.now) (ports_of fitted.now))
         (IsOkUnless result ReserveFault.OutOfMemory) (λ fault. result ≡ Err fault) }
     ensures ok { OnOk result (linked.new ≡ prepared fitted.now linked.old) }
     ensures lists { linked.new.arena.lists ≡ linked.old.arena.lists }
@@ -49,7 +50,8 @@ pub fn prepare(linked: &mut Linked, fitted: &Fitted) -> Result<(), ReserveFault>
 // Enters the names of the test access port.
 fn enter_names(linked: &mut Linked, fitted: &Fitted) -> Result<(), OutOfMemory>
     requires names { HasTapNames fitted.now }
-    ensures ok { OnOk result (linked.new ≡ record linked.old { names = with_tap_names fitted.now linked.old.names }) }
+    ensures ok { OnOk result (linked.new ≡ record linked.old
+        { names = with_tap_names fitted.now linked.old.names }) }
     ensures lists { linked.new.arena.lists ≡ linked.old.arena.lists }
     ensures module_name { linked.new.module_name ≡ linked.old.module_name }
 {

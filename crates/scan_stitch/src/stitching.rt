@@ -33,7 +33,8 @@ fn surround(netlist: &mut Netlist, names: &TapNames, fitted: &Fitted) -> Surroun
     ensures first { result.first.0 ≡ length netlist.old.lists.nets + 5 }
     ensures end { result.end.0 ≡ result.first.0 + sites.sides_of netlist.old.lists.ports fitted.now.rows }
     ensures lists { netlist.new.lists ≡ surrounded netlist.old.lists names.now fitted.now.rows }
-    ensures nets { netlist.new.spare.nets + (5 + sites.sides_of netlist.old.lists.ports fitted.now.rows) ≡ netlist.old.spare.nets }
+    ensures nets { netlist.new.spare.nets + (5 + sites.sides_of netlist.old.lists.ports fitted.now.rows)
+        ≡ netlist.old.spare.nets }
     ensures cells { netlist.new.spare.cells ≡ netlist.old.spare.cells }
     ensures port_bits { netlist.new.spare.port_bits ≡ netlist.old.spare.port_bits }
 {

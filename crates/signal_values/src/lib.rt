@@ -1,6 +1,6 @@
 // Signal values: 0, 1 and unknown inside a chip, and high impedance besides at a pin.
 // The contracts cite specs/Values.antt and, for the laws, specs/Knowledge.antt.
-// IEEE 1364, the chapter on gate level modelling; reading high impedance as unknown is own.
+// IEEE Std 1364-2001, the chapter on gate level modelling; reading high impedance as unknown is own.
 #![tactic(auto)]
 
 ghost use Rattle.std.specs.Prelude.{◌≡◌};

@@ -24,7 +24,8 @@ pub fn begin<'a>(
     requires playable { IsPlayable linked.now.arena.lists script.now }
     ensures linked { IfOk result (λ sim. sim.linked ≡ linked.now) }
     ensures started { IfOk result (λ sim. sim.started ≡ true) }
-    ensures first { IfOk result (λ sim. IsFirst linked.now.arena.lists script.now (moment_of sim.moment)) }
+    ensures first { IfOk result (λ sim. IsFirst linked.now.arena.lists script.now
+        (moment_of sim.moment)) }
 {
     let pins = pins_of(alloc, linked, script)?;
     let state = State::new(alloc, linked)?;
@@ -57,7 +58,8 @@ fn take_start(pins: &mut Pins, line: &ScriptLine)
     requires { CanStart line.now.act pins.old.ports line.now }
     ensures ports { pins.new.ports ≡ pins.old.ports }
     ensures count { length pins.new.values ≡ length pins.old.values }
-    ensures start { TakesStart line.now.act pins.old.ports line.now (outside pins.old) (outside pins.new) }
+    ensures start { TakesStart line.now.act pins.old.ports line.now (outside pins.old)
+        (outside pins.new) }
 {
     match line.act {
         Act::Start => pins.set(line.pin, line.value),

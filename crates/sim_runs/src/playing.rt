@@ -41,9 +41,11 @@ pub fn play<O: Sink>(
     out: &mut O,
 ) -> Result<u64, PlayFault>
     requires { IsResolved linked.now lines.now script.now.list }
-    ensures played { IfOk result (λ missed. (text : List ℕ) × IsOutput linked.now lines.now.list script.now.list text missed
+    ensures played { IfOk result (λ missed. (text : List ℕ)
+        × IsOutput linked.now lines.now.list script.now.list text missed
         × (O.given out.new ≡ appended text (O.given out.old))) }
-    ensures cut_short { IsErrOf result PlayFault.WriteFault → (text : List ℕ) × (missed k : ℕ) × IsOutput linked.now lines.now.list script.now.list text missed
+    ensures cut_short { IsErrOf result PlayFault.WriteFault → (text : List ℕ) × (missed k : ℕ)
+        × IsOutput linked.now lines.now.list script.now.list text missed
         × (O.given out.new ≡ appended (take k text) (O.given out.old)) }
     ensures cause { IsErrOf result PlayFault.WriteFault → Rose (O.faults out.old) (O.faults out.new) }
     ensures memory { IsErrOf result PlayFault.OutOfMemory → O.given out.new ≡ O.given out.old }
@@ -91,10 +93,15 @@ fn put_run<O: Sink>(
     requires count { length script.now ≡ length lines.now }
     requires bits { AreBits linked.now.arena.lists bits.now }
     requires untold { told.old ≡ told_of untold bits.now }
-    ensures ok { (moment : ℕ → Moment) → IsRunOf linked.now.arena.lists script.now moment → SameMoment linked.now.arena.lists (moment_of sim.old.moment) (moment 0)
-        → IfOk result (λ missed. (missed ≡ misses linked.now moment 0 script.now) × (O.given out.new ≡ appended (run_text linked.now lines.now script.now moment) (O.given out.old))) }
-    ensures fault { (moment : ℕ → Moment) → IsRunOf linked.now.arena.lists script.now moment → SameMoment linked.now.arena.lists (moment_of sim.old.moment) (moment 0)
-        → OnErr result ((k : ℕ) × (O.given out.new ≡ appended (take k (run_text linked.now lines.now script.now moment)) (O.given out.old))) }
+    ensures ok { (moment : ℕ → Moment) → IsRunOf linked.now.arena.lists script.now moment
+        → SameMoment linked.now.arena.lists (moment_of sim.old.moment) (moment 0)
+        → IfOk result (λ missed. (missed ≡ misses linked.now moment 0 script.now)
+        × (O.given out.new ≡ appended (run_text linked.now lines.now script.now moment)
+        (O.given out.old))) }
+    ensures fault { (moment : ℕ → Moment) → IsRunOf linked.now.arena.lists script.now moment
+        → SameMoment linked.now.arena.lists (moment_of sim.old.moment) (moment 0)
+        → OnErr result ((k : ℕ) × (O.given out.new
+        ≡ appended (take k (run_text linked.now lines.now script.now moment)) (O.given out.old))) }
     ensures cause { OnErr result (Rose (O.faults out.old) (O.faults out.new)) }
     ensures later { O.faults out.old ≤ O.faults out.new }
 {
@@ -142,15 +149,23 @@ fn play_line<O: Sink>(
     requires started { sim.old.started ≡ true }
     requires can { CanPlay line.now.act linked.now.arena.lists line.now }
     requires bits { AreBits linked.now.arena.lists bits.now }
-    requires told { told.old ≡ told_of (told_at linked.now.arena.lists (moment_of sim.old.moment)) bits.now }
+    requires told { told.old ≡ told_of (told_at linked.now.arena.lists
+        (moment_of sim.old.moment)) bits.now }
     ensures linked { sim.new.linked ≡ linked.now }
     ensures started { sim.new.started ≡ true }
-    ensures moves { Moves line.now.act linked.now.arena.lists line.now (moment_of sim.old.moment) (moment_of sim.new.moment) }
-    ensures told { OnOk result (told.new ≡ told_of (told_at linked.now.arena.lists (moment_of sim.new.moment)) bits.now) }
-    ensures ok { OnOk result (O.given out.new ≡ appended (line_text linked.now line.now.act line.now (pin_of written.now) (moment_of sim.old.moment) (moment_of sim.new.moment)) (O.given out.old)) }
-    ensures missed { IfOk result (λ missed. missed ≡ line_misses linked.now line.now.act line.now (moment_of sim.old.moment)) }
+    ensures moves { Moves line.now.act linked.now.arena.lists line.now (moment_of sim.old.moment)
+        (moment_of sim.new.moment) }
+    ensures told { OnOk result (told.new ≡ told_of
+        (told_at linked.now.arena.lists (moment_of sim.new.moment)) bits.now) }
+    ensures ok { OnOk result (O.given out.new
+        ≡ appended (line_text linked.now line.now.act line.now (pin_of written.now)
+        (moment_of sim.old.moment) (moment_of sim.new.moment)) (O.given out.old)) }
+    ensures missed { IfOk result (λ missed. missed
+        ≡ line_misses linked.now line.now.act line.now (moment_of sim.old.moment)) }
     ensures few { IfOk result (λ missed. missed ≤ 1) }
-    ensures fault { OnErr result ((k : ℕ) × (O.given out.new ≡ appended (take k (line_text linked.now line.now.act line.now (pin_of written.now) (moment_of sim.old.moment) (moment_of sim.new.moment))) (O.given out.old))) }
+    ensures fault { OnErr result ((k : ℕ) × (O.given out.new
+        ≡ appended (take k (line_text linked.now line.now.act line.now (pin_of written.now)
+        (moment_of sim.old.moment) (moment_of sim.new.moment))) (O.given out.old))) }
     ensures cause { OnErr result (Rose (O.faults out.old) (O.faults out.new)) }
     ensures later { O.faults out.old ≤ O.faults out.new }
 {
@@ -179,13 +194,20 @@ fn play_set<O: Sink>(
     requires started { sim.old.started ≡ true }
     requires legal { IsLegalEvent linked.now.arena.lists (line_event line.now) }
     requires bits { AreBits linked.now.arena.lists bits.now }
-    requires told { told.old ≡ told_of (told_at linked.now.arena.lists (moment_of sim.old.moment)) bits.now }
+    requires told { told.old ≡ told_of (told_at linked.now.arena.lists
+        (moment_of sim.old.moment)) bits.now }
     ensures linked { sim.new.linked ≡ linked.now }
     ensures started { sim.new.started ≡ true }
-    ensures step { IsEventStep linked.now.arena.lists (line_event line.now) (moment_of sim.old.moment) (moment_of sim.new.moment) }
-    ensures told { OnOk result (told.new ≡ told_of (told_at linked.now.arena.lists (moment_of sim.new.moment)) bits.now) }
-    ensures ok { OnOk result (O.given out.new ≡ appended (set_text linked.now line.now.number (moment_of sim.old.moment) (moment_of sim.new.moment)) (O.given out.old)) }
-    ensures fault { OnErr result ((k : ℕ) × (O.given out.new ≡ appended (take k (set_text linked.now line.now.number (moment_of sim.old.moment) (moment_of sim.new.moment))) (O.given out.old))) }
+    ensures step { IsEventStep linked.now.arena.lists (line_event line.now) (moment_of sim.old.moment)
+        (moment_of sim.new.moment) }
+    ensures told { OnOk result (told.new ≡ told_of
+        (told_at linked.now.arena.lists (moment_of sim.new.moment)) bits.now) }
+    ensures ok { OnOk result (O.given out.new
+        ≡ appended (set_text linked.now line.now.number (moment_of sim.old.moment)
+        (moment_of sim.new.moment)) (O.given out.old)) }
+    ensures fault { OnErr result ((k : ℕ) × (O.given out.new
+        ≡ appended (take k (set_text linked.now line.now.number (moment_of sim.old.moment)
+        (moment_of sim.new.moment))) (O.given out.old))) }
     ensures cause { OnErr result (Rose (O.faults out.old) (O.faults out.new)) }
     ensures later { O.faults out.old ≤ O.faults out.new }
 {
@@ -219,12 +241,14 @@ fn put_expect<O: Sink>(
 ) -> Result<u64, WriteFault>
     requires started { sim.now.started ≡ true }
     requires pin { IsSome (net_of sim.now.linked.arena.lists.ports line.now.pin) }
-    ensures ok { OnOk result (O.given out.new ≡ appended (expect_text line.now.number (pin_of written.now) line.now.value
+    ensures ok { OnOk result (O.given out.new
+        ≡ appended (expect_text line.now.number (pin_of written.now) line.now.value
         (reading_at sim.now.linked.arena.lists (moment_of sim.now.moment) (net_number sim.now.linked.arena.lists line.now.pin))) (O.given out.old)) }
     ensures missed { IfOk result (λ missed. missed ≡ expect_misses line.now.value
         (reading_at sim.now.linked.arena.lists (moment_of sim.now.moment) (net_number sim.now.linked.arena.lists line.now.pin))) }
     ensures few { IfOk result (λ missed. missed ≤ 1) }
-    ensures fault { OnErr result ((k : ℕ) × (O.given out.new ≡ appended (take k (expect_text line.now.number (pin_of written.now) line.now.value
+    ensures fault { OnErr result ((k : ℕ) × (O.given out.new
+        ≡ appended (take k (expect_text line.now.number (pin_of written.now) line.now.value
         (reading_at sim.now.linked.arena.lists (moment_of sim.now.moment) (net_number sim.now.linked.arena.lists line.now.pin)))) (O.given out.old))) }
     ensures cause { OnErr result (Rose (O.faults out.old) (O.faults out.new)) }
     ensures later { O.faults out.old ≤ O.faults out.new }
@@ -240,9 +264,13 @@ fn put_missed<O: Sink>(
     line: &ScriptLine,
     got: PinSig,
 ) -> Result<u64, WriteFault>
-    ensures ok { OnOk result (O.given out.new ≡ appended (expect_text line.now.number (pin_of written.now) line.now.value got) (O.given out.old)) }
+    ensures ok { OnOk result (O.given out.new
+        ≡ appended (expect_text line.now.number (pin_of written.now) line.now.value got)
+        (O.given out.old)) }
     ensures missed { IfOk result (λ missed. missed ≡ expect_misses line.now.value got) }
-    ensures fault { OnErr result ((k : ℕ) × (O.given out.new ≡ appended (take k (expect_text line.now.number (pin_of written.now) line.now.value got)) (O.given out.old))) }
+    ensures fault { OnErr result ((k : ℕ) × (O.given out.new
+        ≡ appended (take k (expect_text line.now.number (pin_of written.now) line.now.value got))
+        (O.given out.old))) }
     ensures cause { OnErr result (Rose (O.faults out.old) (O.faults out.new)) }
     ensures later { O.faults out.old ≤ O.faults out.new }
 {

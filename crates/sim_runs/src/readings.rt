@@ -31,10 +31,13 @@ pub fn put_readings<O: Sink>(
     requires bits { HavePins linked.now.arena.lists bits.now }
     requires room { length told.old ≡ length bits.now }
     ensures ok { OnOk result ((last : ℕ → Option PinSig) → told.old ≡ told_of last bits.now
-        → O.given out.new ≡ appended (bits_text linked.now last (moment_of sim.now.moment) bits.now) (O.given out.old)) }
+        → O.given out.new ≡ appended (bits_text linked.now last (moment_of sim.now.moment) bits.now)
+        (O.given out.old)) }
     ensures fault { OnErr result ((last : ℕ → Option PinSig) → told.old ≡ told_of last bits.now
-        → (k : ℕ) × (O.given out.new ≡ appended (take k (bits_text linked.now last (moment_of sim.now.moment) bits.now)) (O.given out.old))) }
-    ensures told { OnOk result (told.new ≡ told_of (told_at linked.now.arena.lists (moment_of sim.now.moment)) bits.now) }
+        → (k : ℕ) × (O.given out.new ≡ appended (take k
+        (bits_text linked.now last (moment_of sim.now.moment) bits.now)) (O.given out.old))) }
+    ensures told { OnOk result (told.new ≡ told_of
+        (told_at linked.now.arena.lists (moment_of sim.now.moment)) bits.now) }
     ensures cause { OnErr result (Rose (O.faults out.old) (O.faults out.new)) }
     ensures later { O.faults out.old ≤ O.faults out.new }
 {

@@ -44,7 +44,8 @@ fn add_port(netlist: &Netlist, port: PortId, bits: &mut Vec<Shown>) -> Result<()
     requires there { port.0 < length netlist.now.lists.ports }
     requires pins { HavePins netlist.now.lists bits.old.items }
     ensures pins { OnOk result (HavePins netlist.now.lists bits.new.items) }
-    ensures nets { OnOk result (map net_at bits.new.items ≡ map net_at bits.old.items ++ shown_at (slice_get netlist.now.lists.ports port.0)) }
+    ensures nets { OnOk result (map net_at bits.new.items ≡ map net_at bits.old.items
+        ++ shown_at (slice_get netlist.now.lists.ports port.0)) }
 {
     match netlist.port_dir(port) {
         Dir::Input => Ok(()),
@@ -57,7 +58,8 @@ fn add_bits(netlist: &Netlist, port: PortId, bits: &mut Vec<Shown>) -> Result<()
     requires there { port.0 < length netlist.now.lists.ports }
     requires pins { HavePins netlist.now.lists bits.old.items }
     ensures pins { OnOk result (HavePins netlist.now.lists bits.new.items) }
-    ensures nets { OnOk result (map net_at bits.new.items ≡ map net_at bits.old.items ++ port_nets (slice_get netlist.now.lists.ports port.0)) }
+    ensures nets { OnOk result (map net_at bits.new.items ≡ map net_at bits.old.items
+        ++ port_nets (slice_get netlist.now.lists.ports port.0)) }
 {
     netlist.is_laid_out();
     for bit in 0..width_of(netlist.port_range(port)) {

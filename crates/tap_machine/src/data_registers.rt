@@ -44,7 +44,8 @@ impl DataRegisters {
     )
         requires ident { length self.old.ident.items ≡ length code.now }
         requires boundary { length self.old.boundary.items ≡ length captured.now }
-        ensures bypass { self.new.bypass ≡ definition.bypass_after (is_register register.Bypass selected) state tdi self.old.bypass }
+        ensures bypass { self.new.bypass ≡ definition.bypass_after
+            (is_register register.Bypass selected) state tdi self.old.bypass }
         ensures ident { self.new.ident.items
             ≡ definition.ident_after (is_register register.DeviceId selected) code.now state tdi self.old.ident.items }
         ensures boundary { self.new.boundary.items

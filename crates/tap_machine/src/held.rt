@@ -98,7 +98,8 @@ impl Held {
         requires held { IsHeld logic.now self.old }
         requires captured { length captured.now ≡ length logic.now.kinds.items }
         ensures held { IsHeld logic.now self.new }
-        ensures holds { holds_of self.new ≡ definition.rise (logic_of logic.now) tms tdi captured.now (holds_of self.old) }
+        ensures holds { holds_of self.new ≡ definition.rise (logic_of logic.now) tms tdi captured.now
+            (holds_of self.old) }
     {
         let selected = selected_register(self.instruction);
         act(
@@ -133,7 +134,8 @@ impl Held {
         requires logic { IsLogic logic.now }
         requires held { IsHeld logic.now self.old }
         ensures held { IsHeld logic.now self.new }
-        ensures holds { holds_of self.new ≡ latched_and_updated (logic_of logic.now) selected (holds_of self.old) }
+        ensures holds { holds_of self.new ≡ latched_and_updated (logic_of logic.now) selected
+            (holds_of self.old) }
     {
         match (self.state, selected) {
             (TapState::UpdateIr, _) => {

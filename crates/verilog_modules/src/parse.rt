@@ -44,7 +44,8 @@ fn module_body<'a>(
     names: &[&'a [u8]],
     reader: &mut WordReader<'a>,
 ) -> Result<Body<'a>, ParseFault>
-    ensures { GivesModuleBody (texts names.now) result reader.new (items_at (texts names.now) reader.old) }
+    ensures { GivesModuleBody (texts names.now) result reader.new
+        (items_at (texts names.now) reader.old) }
 {
     let mut body = Body {
         declarations: Declarations::new(alloc, names)?,
@@ -105,7 +106,8 @@ fn module_tree(alloc: Global, reader: &mut WordReader) -> Result<Module, ParseFa
 
 // The fault of the words at which a reader stands.
 fn fault_at(words: &Words, reader: &WordReader) -> SyntaxFault
-    ensures { let word = length words.now.list - length reader.now in result ≡ fault.BadSyntax (place_in words.now word) word }
+    ensures { let word = length words.now.list - length reader.now in result
+        ≡ fault.BadSyntax (place_in words.now word) word }
 {
     let word = words.len().saturating_sub(reader.len());
     SyntaxFault::BadSyntax {
@@ -117,7 +119,8 @@ fn fault_at(words: &Words, reader: &WordReader) -> SyntaxFault
 /// The tree that the words spell. It is refused exactly where they spell none, or memory is.
 pub fn parse_module(alloc: Global, words: &Words) -> Result<Module, SyntaxFault>
     ensures spelled { IfOk result (λ tree. SpellsModule words.now.list tree) }
-    ensures only { IfOk result (λ tree. (other : ModuleTree) → SpellsModule words.now.list other → other ≡ tree) }
+    ensures only { IfOk result (λ tree. (other : ModuleTree) → SpellsModule words.now.list other
+        → other ≡ tree) }
     ensures refused { Refuses words.now result }
 {
     // Laws of reading that the proof uses.

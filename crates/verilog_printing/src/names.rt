@@ -4,6 +4,7 @@ ghost use Rattle.std.specs.Fmt.{decimal};
 ghost use Rattle.verilog_tree.specs.Canonical as text_of;
 
 use edge_io::{OutOfMemory, Text};
+use itoa::Buffer;
 use verilog_lexicon::keywords::{is_simple_name, reserved_of};
 
 fn is_plain(name: &[u8]) -> bool
@@ -25,12 +26,9 @@ pub fn put_name(text: &mut Text, name: &[u8]) -> Result<(), OutOfMemory>
 }
 
 /// Adds a number in decimal, without leading zeros.
-#[tactic(auto, using(std::proofs::lemmas::Fmt::decimal_step, std::proofs::lemmas::Fmt::decimal_digit, std::proofs::lemmas::List::append_assoc))]
 pub fn put_number(text: &mut Text, number: u32) -> Result<(), OutOfMemory>
     ensures { OnOk result (text.new ≡ text.old ++ decimal number) }
 {
-    if number >= 10 {
-        put_number(text, number / 10)?;
-    }
-    text.push(b'0' + (number % 10) as u8)
+    let mut digits = Buffer::new();
+    text.append(digits.format(number).as_bytes())
 }
