@@ -1,7 +1,7 @@
-use Rattle.std.specs.Prelude.{◌≡◌, ℕ, ◌+◌, ◌<◌, ◌≤◌, List, [], length, take, Option, Some, None, Result, Ok, Err}
+use Rattle.std.specs.Prelude.{◌≡◌, ℕ, ◌<◌, ◌≤◌, List, [], length, take, Option, Some, Result, Ok, Err}
 use Rattle.bsdl_lexicon.specs.declared.token.BsdlSpanned.{BsdlSpanned}
 use Rattle.word_cutter.specs.declared.fault.CutFault.{CutFault}
-use Rattle.word_cutter.specs.declared.fault.CutFault.TheVariants.{BadByte, OutOfMemory}
+use Rattle.word_cutter.specs.declared.fault.CutFault.TheVariants.{OutOfMemory}
 use Rattle.word_cutter.specs.Run.{run, IsRefusal, IsStepFault}
 use Rattle.bsdl_words.specs.declared.machine.BsdlMachine.{BsdlMachine}
 use Rattle.bsdl_words.specs.declared.mode.Mode.{Mode}

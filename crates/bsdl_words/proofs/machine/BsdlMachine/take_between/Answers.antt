@@ -1,4 +1,4 @@
-use Rattle.std.proofs.Common.{arith, not, ◌==◌}
+use Rattle.std.proofs.Common.{arith}
 use Rattle.std.proofs.lemmas.List.Sums.{prefix_len-le-length}
 use Rattle.bsdl_lexicon.specs.Bytes.{is_blank}
 use Rattle.bsdl_words.proofs.Runs.{blanks_stay}

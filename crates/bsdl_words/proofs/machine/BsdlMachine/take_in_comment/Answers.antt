@@ -1,6 +1,5 @@
 use Rattle.std.proofs.Common.{arith, not, ◌==◌}
 use Rattle.std.proofs.lemmas.List.Sums.{prefix_len-le-length}
-use Rattle.bsdl_lexicon.specs.Bytes.{is_blank}
 use Rattle.bsdl_words.proofs.Runs.{comment_stays}
 use Rattle.bsdl_words.proofs.machine.BsdlMachine.take_in_comment.Goals as goal
 

@@ -1,4 +1,4 @@
-use Rattle.std.proofs.Common.{◌-◌, arith, refl, length}
+use Rattle.std.proofs.Common.{◌-◌, arith, length}
 use Rattle.std.proofs.lemmas.List.Sums.{prefix_len-le-length}
 use Rattle.bsdl_lexicon.specs.Bytes.{is_letter_or_digit}
 use Rattle.bsdl_words.proofs.Runs.{name_refused}

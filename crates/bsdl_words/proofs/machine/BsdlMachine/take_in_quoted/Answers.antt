@@ -1,4 +1,4 @@
-use Rattle.std.proofs.Common.{List, ℕ, ◌≡◌, ◌≤◌, ◌++◌, Some, arith, ap, sym, ◌∙◌, take, length}
+use Rattle.std.proofs.Common.{List, ℕ, Some, arith, ap, sym, ◌∙◌}
 use Rattle.std.proofs.lemmas.List.Sums.{prefix_len-le-length}
 use Rattle.bsdl_lexicon.specs.Bytes.{is_quotable}
 use Rattle.bsdl_words.specs.declared.mode.Mode.TheVariants as in_

@@ -1,7 +1,6 @@
-use Rattle.std.proofs.Common.{List, Some, ap, sym, ◌∙◌}
+use Rattle.std.proofs.Common.{List, ap}
 use Rattle.std.specs.Option.{option_map}
 use Rattle.bsdl_lexicon.specs.declared.token.BsdlSpanned.{BsdlSpanned}
-use Rattle.bsdl_lexicon.specs.declared.words.BsdlWords.{BsdlWords}
 use Rattle.bsdl_words.specs.Machine.{end}
 use Rattle.bsdl_words.specs.Steps.{state_of}
 use Rattle.bsdl_words.proofs.Text.{text_stops}
