@@ -2,6 +2,7 @@ ghost use Rattle.std.specs.Prelude.{◌≡◌, ℕ, ◌+◌, ◌*◌, ◌-◌, �
 ghost use Rattle.std.specs.List.{prefix_len};
 ghost use Rattle.verilog_lexicon.specs.Bytes.{is_digit, is_letter, is_name_byte, is_escaped_byte, clings};
 ghost use Rattle.std.specs.Bool.{IsFalse};
+ghost use Rattle.word_cutter.specs.Run.{run};
 ghost use Rattle.verilog_lexicon.specs.Pieces.{value_from};
 ghost use Rattle.verilog_words.specs.declared.mode.Mode.{Mode};
 
@@ -56,7 +57,7 @@ fn digits_of(piece: &[u8]) -> (usize, u32)
 }
 
 impl WordMachine {
-    ghost use Rattle.verilog_words.specs.Machine.{state, start, begin, in_line, enclosed, step, end, with_name, with_escaped, with_number, with_constant, with_parenthesis};
+    ghost use Rattle.verilog_words.specs.Machine.{State, state, start, begin, in_line, enclosed, step, end, with_name, with_escaped, with_number, with_constant, with_parenthesis};
     ghost use Rattle.verilog_words.specs.Steps.{state_of, Steps, Closes, EndsAs, Takes, IsTooLong};
 
     /// A machine before its first byte; it takes no memory.
@@ -625,8 +626,8 @@ impl WordMachine {
         Ok(1)
     }
 
-    // Blanks, a name, a number, or one byte that begins another piece.
-    fn take_between(&mut self, at: u64, piece: &[u8]) -> Result<usize, CutFault>
+    // A name, a number, or one byte that begins another piece.
+    fn take_piece(&mut self, at: u64, piece: &[u8]) -> Result<usize, CutFault>
         requires between { self.old.mode ≡ Mode.Between }
         requires some { 0 < length piece.now }
         requires room { at + length piece.now < 2 ^ 64 }
@@ -638,11 +639,36 @@ impl WordMachine {
         if is_digit(piece[0]) {
             return self.take_digits(at, piece);
         }
-        let blanks = run_len::<BlankBytes>(piece);
-        if blanks == 0 {
-            return self.take_first(at, piece);
+        self.take_first(at, piece)
+    }
+
+    // How many bytes so many are with the blanks after them, which begin nothing.
+    fn with_blanks(&self, piece: &[u8], count: usize) -> usize
+        requires within { count ≤ length piece.now }
+        requires room { length piece.now < 2 ^ 64 }
+        ensures least { count ≤ result }
+        ensures most { result ≤ length piece.now }
+        ensures stays { (s : State) (at : ℕ) → run step at s (take count piece.now) ≡ Some (state_of self.now)
+            → run step at s (take result piece.now) ≡ Some (state_of self.now) }
+    {
+        let Mode::Between = self.mode else {
+            return count;
+        };
+        let blanks = run_len::<BlankBytes>(&piece[count..]);
+        count + blanks
+    }
+
+    // A name, a number, or one byte that begins another piece, and the blanks after it.
+    fn take_between(&mut self, at: u64, piece: &[u8]) -> Result<usize, CutFault>
+        requires between { self.old.mode ≡ Mode.Between }
+        requires some { 0 < length piece.now }
+        requires room { at + length piece.now < 2 ^ 64 }
+        ensures { Takes self.new (state_of self.old) at piece.now result }
+    {
+        match self.take_piece(at, piece) {
+            Ok(count) => Ok(self.with_blanks(piece, count)),
+            Err(e) => Err(e),
         }
-        Ok(blanks)
     }
 
     // What comes after `(`.
