@@ -6,13 +6,13 @@ use Rattle.std.proofs.lemmas.Bool.Decides.{nat_tests}
 use Rattle.std.proofs.lemmas.List.{length-take-le}
 use Rattle.std.proofs.lemmas.List.Sums.{prefix_len-le-length, prefix_len_passes, prefix_len_stops}
 use Rattle.verilog_lexicon.specs.declared.word.Spanned.{Spanned}
-use Rattle.verilog_lexicon.specs.Bytes.{is_blank, is_letter, is_name_byte, is_escaped_byte}
+use Rattle.verilog_lexicon.specs.Bytes.{is_blank, is_letter, is_digit, is_name_byte, clings, is_escaped_byte}
 use Rattle.word_cutter.specs.Run.{run, Stops}
 use Rattle.word_cutter.proofs.Runs.{run_byte}
 use Rattle.word_cutter.proofs.Keeping.{keeps, stays, too_long}
 use Rattle.verilog_words.specs.declared.mode.Mode.TheVariants as in_
 use Rattle.verilog_words.specs.declared.mode.Enclosure.{Enclosure}
-use Rattle.verilog_words.specs.Machine.{State, state, between, begin, step, with_name}
+use Rattle.verilog_words.specs.Machine.{State, state, between, begin, step, with_name, with_number}
 use Rattle.verilog_words.proofs.Outcome.{cond_is_true, cond_is_false}
 
 -- Runs of bytes of one kind.
@@ -74,9 +74,9 @@ enclosed_stays e words = stays step (λ b. not (b == 42)) (state words (in_.Encl
 letter_names : (b : ℕ) → is_letter b ≡ true → is_blank b ≡ false
 letter_names b h = grind (arith, nat_tests)
 
-one_of : (v : Bool) (m n : ℕ) → suc n ≤ cond v (1 + m) 0 → n ≤ m
-one_of true m n h = omega arith
-one_of false m n h = absurd (omega arith)
+one_more : (v : Bool) (m n : ℕ) → suc n ≤ cond v (1 + m) 0 → (v ≡ true) × (n ≤ m)
+one_more true m n h = (refl, omega arith)
+one_more false m n h = absurd (omega arith)
 
 first_named : (words : List Spanned) (b at : ℕ) → is_letter b ≡ true → step at (between words) b ≡ Some (named words at (b ∷ []))
 first_named words b at is = cond_is_false (is_blank b) _ _ (letter_names b is) ∙ cond_is_true (is_letter b) _ _ is
@@ -86,7 +86,7 @@ name_taken words [] n at is some all short = absurd (omega arith)
 name_taken words (b ∷ bytes) zero at is some all short = absurd (omega arith)
 name_taken words (b ∷ bytes) (suc n) at is some all short =
     ap (option_and_then (λ t. run step (at + 1) t (take n bytes))) (first_named words b at is)
-    ∙ name_keeps words at bytes (b ∷ []) n (at + 1) (one_of (is_name_byte b) (prefix_len is_name_byte bytes) n all) (omega (arith, short))
+    ∙ name_keeps words at bytes (b ∷ []) n (at + 1) (one_more (is_name_byte b) (prefix_len is_name_byte bytes) n all).1 (omega (arith, short))
 
 pub name_begun_too_long : (words : List Spanned) (piece : List ℕ) (at : ℕ) → is_letter (get_or piece 0 0) ≡ true → 255 < prefix_len is_name_byte piece → Stops step at (between words) piece 255
 name_begun_too_long words piece at is long = record {
@@ -101,3 +101,44 @@ pub name_ended : (words : List Spanned) (piece : List ℕ) (n at : ℕ) → is_l
 name_ended words piece n at is some all within short =
     run_byte step piece n at (between words) (named words at (take n piece)) within (name_taken words piece n at is some (omega (arith, all)) short)
     ∙ cond_is_false (is_name_byte (get_or piece n 0)) _ _ (ap (λ (k : ℕ). is_name_byte (get_or piece k 0)) all ∙ prefix_len_stops is_name_byte piece 0 (omega (arith, all, within)))
+
+-- a number
+
+abbrev numbered : List Spanned → ℕ → List ℕ → State
+numbered words from p = state words in_.Number from p
+
+number_one : (words : List Spanned) (from at : ℕ) (p : List ℕ) (b : ℕ) → is_digit b ≡ true → length p < 9 → step at (numbered words from p) b ≡ Some (numbered words from (p ++ b ∷ []))
+number_one words from at p b is short = cond_is_true (is_digit b) _ _ is ∙ cond_is_true (nat_lt (length p) 9) _ _ (lt-ltb (length p) 9 short)
+
+digit_no_blank : (b : ℕ) → is_digit b ≡ true → is_blank b ≡ false
+digit_no_blank b h = grind (arith, nat_tests)
+
+digit_no_letter : (b : ℕ) → is_digit b ≡ true → is_letter b ≡ false
+digit_no_letter b h = grind (arith, nat_tests)
+
+first_numbered : (words : List Spanned) (b at : ℕ) → is_digit b ≡ true → step at (between words) b ≡ Some (numbered words at (b ∷ []))
+first_numbered words b at is = cond_is_false (is_blank b) _ _ (digit_no_blank b is) ∙ cond_is_false (is_letter b) _ _ (digit_no_letter b is) ∙ cond_is_true (is_digit b) _ _ is
+
+pub number_taken : (words : List Spanned) (piece : List ℕ) (n at : ℕ) → 0 < n → n ≤ prefix_len is_digit piece → n ≤ 9 → run step at (between words) (take n piece) ≡ Some (numbered words at (take n piece))
+number_taken words [] n at some all few = absurd (omega arith)
+number_taken words (b ∷ bytes) zero at some all few = absurd (omega arith)
+number_taken words (b ∷ bytes) (suc n) at some all few =
+    let is = one_more (is_digit b) (prefix_len is_digit bytes) n all in
+    ap (option_and_then (λ t. run step (at + 1) t (take n bytes))) (first_numbered words b at is.0)
+    ∙ keeps step is_digit 9 (numbered words at) (number_one words at) bytes (b ∷ []) n (at + 1) is.1 (omega (arith, few))
+
+free_no_digit : (b : ℕ) → clings b ≡ false → is_digit b ≡ false
+free_no_digit b h = grind (arith, nat_tests)
+
+free_no_quote : (b : ℕ) → clings b ≡ false → (b == 39) ≡ false
+free_no_quote b h = grind (arith, nat_tests)
+
+-- the byte that ends a number
+pub number_over : (words : List Spanned) (from at : ℕ) (p : List ℕ) (b : ℕ) → clings b ≡ false → step at (numbered words from p) b ≡ begin at (with_number words from p) b
+number_over words from at p b free = cond_is_false (is_digit b) _ _ (free_no_digit b free) ∙ cond_is_false (b == 39) _ _ (free_no_quote b free) ∙ cond_is_false (clings b) _ _ free
+
+-- a number and the byte that ends it
+pub number_ended : (words : List Spanned) (piece : List ℕ) (n at : ℕ) → 0 < n → n ≤ prefix_len is_digit piece → n < length piece → n ≤ 9 → clings (get_or piece n 0) ≡ false → run step at (between words) (take (n + 1) piece) ≡ begin (at + n) (with_number words at (take n piece)) (get_or piece n 0)
+number_ended words piece n at some all within few free =
+    run_byte step piece n at (between words) (numbered words at (take n piece)) within (number_taken words piece n at some all few)
+    ∙ number_over words at (at + n) (take n piece) (get_or piece n 0) free

@@ -1,10 +1,14 @@
-use Rattle.std.proofs.Common.{◌≡◌, ℕ, ◌+◌, ◌-◌, ◌<◌, ◌≤◌, List, ◌++◌, length, take, get_or, Some, true, false, not, ◌==◌, sym, ap, subst, ◌∙◌, arith}
+use Rattle.std.proofs.Common.{◌≡◌, ℕ, ◌+◌, ◌-◌, ◌<◌, ◌≤◌, List, [], ◌∷◌, ◌++◌, length, take, get_or, Some, true, false, not, ◌==◌, sym, ap, subst, ◌∙◌, arith}
 use Rattle.std.specs.Prelude.{Result, Ok, Err, IfOk, IfErr}
 use Rattle.std.specs.List.{prefix_len}
 use Rattle.std.proofs.lemmas.Bool.Decides.{nat_tests}
+use Rattle.std.proofs.lemmas.List.{length-take-le}
 use Rattle.std.proofs.lemmas.List.Sums.{prefix_len_stops}
+use Rattle.verilog_lexicon.specs.declared.word.Word.TheVariants as word
 use Rattle.verilog_lexicon.specs.declared.word.Spanned.{Spanned}
-use Rattle.verilog_lexicon.specs.Bytes.{is_blank, is_letter, is_name_byte, is_escaped_byte}
+use Rattle.verilog_lexicon.specs.Words.{spanned}
+use Rattle.verilog_lexicon.specs.Pieces.{value_from}
+use Rattle.verilog_lexicon.specs.Bytes.{is_blank, is_letter, is_digit, is_name_byte, clings, is_escaped_byte}
 use Rattle.word_cutter.specs.declared.fault.CutFault.{CutFault}
 use Rattle.word_cutter.specs.declared.fault.CutFault.TheVariants.{BadByte, OutOfMemory}
 use Rattle.word_cutter.specs.Run.{run, Stops, IsRefusal, IsStepFault}
@@ -13,10 +17,10 @@ use Rattle.verilog_words.specs.declared.mode.Mode.{Mode}
 use Rattle.verilog_words.specs.declared.mode.Mode.TheVariants as in_
 use Rattle.verilog_words.specs.declared.mode.Enclosure.{Enclosure}
 use Rattle.verilog_words.specs.declared.machine.WordMachine.{WordMachine}
-use Rattle.verilog_words.specs.Machine.{State, state, between, begin, step, with_name, with_parenthesis}
+use Rattle.verilog_words.specs.Machine.{State, state, between, begin, step, with_name, with_number, with_parenthesis}
 use Rattle.verilog_words.specs.Steps.{state_of, from_in, pending_in, IsTooLong, Takes}
 use Rattle.verilog_words.proofs.Outcome.{cond_is_false}
-use Rattle.verilog_words.proofs.Runs.{name_keeps, name_too_long, escaped_keeps, escaped_too_long, name_taken, name_begun_too_long, name_ended, blanks_stay, line_stays, enclosed_stays}
+use Rattle.verilog_words.proofs.Runs.{name_keeps, name_too_long, escaped_keeps, escaped_too_long, name_taken, name_begun_too_long, name_ended, number_taken, number_over, number_ended, blanks_stay, line_stays, enclosed_stays}
 
 -- What the code takes in a run.
 
@@ -97,6 +101,25 @@ ended m piece n at is letter some all within short = ap (λ (s : State). run ste
 pub end_refused : (m : WordMachine) (piece : List ℕ) (n at : ℕ) (e : CutFault) → m.mode ≡ in_.Between → is_letter (get_or piece 0 0) ≡ true → 0 < n → n ≡ prefix_len is_name_byte piece → n < length piece → n ≤ 255 → IsStepFault e (at + n) (begin (at + n) (with_name m.words.list at (take n piece)) (get_or piece n 0)) → IsRefusal step at (state_of m) piece e
 end_refused m piece n at e is letter some all within short stops =
     subst (λ (s : State). IsRefusal step at s piece e) (sym (as_state m in_.Between is)) (name_end_refused m.words.list piece n at e letter some all within short stops)
+
+pub between_steps : (m : WordMachine) (at b : ℕ) → m.mode ≡ in_.Between → step at (state_of m) b ≡ begin at m.words.list b
+between_steps m at b is = ap (λ (s : State). step at s b) (as_state m in_.Between is)
+
+-- a number that ends within the piece
+
+pub number_words : (words : List Spanned) (piece : List ℕ) (n at value : ℕ) → value ≡ value_from 0 (take n piece) → n ≤ length piece → words ++ spanned (word.Number value) at n ∷ [] ≡ with_number words at (take n piece)
+number_words words piece n at value is within =
+    ap (λ (v : ℕ). words ++ spanned (word.Number v) at n ∷ []) is
+    ∙ ap (λ (k : ℕ). words ++ spanned (word.Number (value_from 0 (take n piece))) at k ∷ []) (sym (length-take-le n piece within))
+
+pub number_ends : (m : WordMachine) (piece : List ℕ) (n at : ℕ) → m.mode ≡ in_.Between → 0 < n → n ≤ prefix_len is_digit piece → n < length piece → n ≤ 9 → clings (get_or piece n 0) ≡ false → run step at (state_of m) (take (n + 1) piece) ≡ begin (at + n) (with_number m.words.list at (take n piece)) (get_or piece n 0)
+number_ends m piece n at is some all within few free = ap (λ (s : State). run step at s (take (n + 1) piece)) (as_state m in_.Between is) ∙ number_ended m.words.list piece n at some all within few free
+
+pub number_end_refused : (m : WordMachine) (piece : List ℕ) (n at : ℕ) (e : CutFault) → m.mode ≡ in_.Between → 0 < n → n ≤ prefix_len is_digit piece → n < length piece → n ≤ 9 → clings (get_or piece n 0) ≡ false → IsStepFault e (at + n) (begin (at + n) (with_number m.words.list at (take n piece)) (get_or piece n 0)) → IsRefusal step at (state_of m) piece e
+number_end_refused m piece n at e is some all within few free stops =
+    subst (λ (s : State). IsRefusal step at s piece e) (sym (as_state m in_.Between is))
+    (refusal_at step piece n at (between m.words.list) (state m.words.list in_.Number at (take n piece)) e within (number_taken m.words.list piece n at some all few)
+    (subst (IsStepFault e (at + n)) (sym (number_over m.words.list at (at + n) (take n piece) (get_or piece n 0) free)) stops))
 
 -- what the contracts of a machine ask
 

@@ -1,6 +1,8 @@
 ghost use Rattle.std.specs.Prelude.{◌≡◌, ℕ, ◌+◌, ◌*◌, ◌-◌, ◌^◌, ◌<◌, ◌≤◌, [], ◌∷◌, ◌++◌, length, take, Some, OnOk, IfErr, IfOk, IsTrue, slice_index};
 ghost use Rattle.std.specs.List.{prefix_len};
-ghost use Rattle.verilog_lexicon.specs.Bytes.{is_digit, is_letter, is_name_byte, is_escaped_byte};
+ghost use Rattle.verilog_lexicon.specs.Bytes.{is_digit, is_letter, is_name_byte, is_escaped_byte, clings};
+ghost use Rattle.std.specs.Bool.{IsFalse};
+ghost use Rattle.word_cutter.specs.Run.{run};
 ghost use Rattle.verilog_lexicon.specs.Pieces.{value_from};
 ghost use Rattle.verilog_words.specs.declared.mode.Mode.{Mode};
 
@@ -39,8 +41,23 @@ fn with_digit(value: u32, count: usize, digit: u8) -> u32
     10 * value + (digit - 48) as u32
 }
 
+// How many digits stand at the front of a piece, of which up to nine are counted, and their value.
+fn digits_of(piece: &[u8]) -> (usize, u32)
+    ensures all { result.0 ≤ prefix_len is_digit piece.now }
+    ensures few { result.0 ≤ 9 }
+    ensures value { result.1 ≡ value_from 0 (take result.0 piece.now) }
+{
+    let mut count = 0;
+    let mut value = 0;
+    while count < piece.len() && count < 9 && is_digit(piece[count]) {
+        value = with_digit(value, count, piece[count]);
+        count += 1;
+    }
+    (count, value)
+}
+
 impl WordMachine {
-    ghost use Rattle.verilog_words.specs.Machine.{state, start, begin, in_line, enclosed, step, end, with_name, with_escaped, with_number, with_constant, with_parenthesis};
+    ghost use Rattle.verilog_words.specs.Machine.{State, state, start, begin, in_line, enclosed, step, end, with_name, with_escaped, with_number, with_constant, with_parenthesis};
     ghost use Rattle.verilog_words.specs.Steps.{state_of, Steps, Closes, EndsAs, Takes, IsTooLong};
 
     /// A machine before its first byte; it takes no memory.
@@ -88,7 +105,9 @@ impl WordMachine {
         requires between { self.old.mode ≡ Mode.Between }
         ensures { Steps self.new at (begin at self.old.words.list byte) result }
     {
-        if is_blank(byte) {} else if is_letter(byte) {
+        if let Some(symbol) = symbol_with(byte) {
+            self.words.push_symbol(symbol, at)?;
+        } else if is_blank(byte) {} else if is_letter(byte) {
             self.keep_first(at, byte)?;
             self.mode = Mode::Name;
         } else if is_digit(byte) {
@@ -104,8 +123,6 @@ impl WordMachine {
             self.from = at;
             self.pending.clear();
             self.mode = Mode::Escaped;
-        } else if let Some(symbol) = symbol_with(byte) {
-            self.words.push_symbol(symbol, at)?;
         } else {
             return Err(CutFault::BadByte { place: at });
         }
@@ -556,8 +573,61 @@ impl WordMachine {
         Err(CutFault::BadByte { place: at + 255 })
     }
 
-    // Blanks, a name, or one byte that begins another piece.
-    fn take_between(&mut self, at: u64, piece: &[u8]) -> Result<usize, CutFault>
+    // A number that ends within the piece goes to the words as it stands, and the byte after it begins what follows.
+    fn take_number(
+        &mut self,
+        at: u64,
+        piece: &[u8],
+        count: usize,
+        value: u32,
+    ) -> Result<usize, CutFault>
+        requires between { self.old.mode ≡ Mode.Between }
+        requires some { 0 < count }
+        requires all { count ≤ prefix_len is_digit piece.now }
+        requires within { count < length piece.now }
+        requires few { count ≤ 9 }
+        requires free { IsFalse (clings (slice_index piece.now count)) }
+        requires value { value ≡ value_from 0 (take count piece.now) }
+        requires room { at + length piece.now < 2 ^ 64 }
+        ensures { Takes self.new (state_of self.old) at piece.now result }
+    {
+        let Ok(()) = self.words.push_number(value, at, count as u32) else {
+            return Err(CutFault::OutOfMemory);
+        };
+        if let Err(e) = self.begin(at + count as u64, piece[count]) {
+            return Err(e);
+        }
+        Ok(count + 1)
+    }
+
+    // A number; byte by byte where it doesn't end within the piece, or not as a number does.
+    fn take_digits(&mut self, at: u64, piece: &[u8]) -> Result<usize, CutFault>
+        requires between { self.old.mode ≡ Mode.Between }
+        requires some { 0 < length piece.now }
+        requires room { at + length piece.now < 2 ^ 64 }
+        ensures { Takes self.new (state_of self.old) at piece.now result }
+    {
+        let (count, value) = digits_of(piece);
+        if count == 0 || count >= piece.len() || clings(piece[count]) {
+            return self.take_byte(at, piece);
+        }
+        self.take_number(at, piece, count, value)
+    }
+
+    // One byte that begins a piece.
+    fn take_first(&mut self, at: u64, piece: &[u8]) -> Result<usize, CutFault>
+        requires between { self.old.mode ≡ Mode.Between }
+        requires some { 0 < length piece.now }
+        ensures { Takes self.new (state_of self.old) at piece.now result }
+    {
+        if let Err(e) = self.begin(at, piece[0]) {
+            return Err(e);
+        }
+        Ok(1)
+    }
+
+    // A name, a number, or one byte that begins another piece.
+    fn take_piece(&mut self, at: u64, piece: &[u8]) -> Result<usize, CutFault>
         requires between { self.old.mode ≡ Mode.Between }
         requires some { 0 < length piece.now }
         requires room { at + length piece.now < 2 ^ 64 }
@@ -566,11 +636,39 @@ impl WordMachine {
         if is_letter(piece[0]) {
             return self.take_letters(at, piece);
         }
-        let blanks = run_len::<BlankBytes>(piece);
-        if blanks == 0 {
-            return self.take_byte(at, piece);
+        if is_digit(piece[0]) {
+            return self.take_digits(at, piece);
         }
-        Ok(blanks)
+        self.take_first(at, piece)
+    }
+
+    // How many bytes so many are with the blanks after them, which begin nothing.
+    fn with_blanks(&self, piece: &[u8], count: usize) -> usize
+        requires within { count ≤ length piece.now }
+        requires room { length piece.now < 2 ^ 64 }
+        ensures least { count ≤ result }
+        ensures most { result ≤ length piece.now }
+        ensures stays { (s : State) (at : ℕ) → run step at s (take count piece.now) ≡ Some (state_of self.now)
+            → run step at s (take result piece.now) ≡ Some (state_of self.now) }
+    {
+        let Mode::Between = self.mode else {
+            return count;
+        };
+        let blanks = run_len::<BlankBytes>(&piece[count..]);
+        count + blanks
+    }
+
+    // A name, a number, or one byte that begins another piece, and the blanks after it.
+    fn take_between(&mut self, at: u64, piece: &[u8]) -> Result<usize, CutFault>
+        requires between { self.old.mode ≡ Mode.Between }
+        requires some { 0 < length piece.now }
+        requires room { at + length piece.now < 2 ^ 64 }
+        ensures { Takes self.new (state_of self.old) at piece.now result }
+    {
+        match self.take_piece(at, piece) {
+            Ok(count) => Ok(self.with_blanks(piece, count)),
+            Err(e) => Err(e),
+        }
     }
 
     // What comes after `(`.

@@ -1,7 +1,7 @@
 use Rattle.std.proofs.Common.{◌≡◌, ℕ, ◌+◌, ◌-◌, ◌<◌, ◌≤◌, List, [], ◌∷◌, ◌++◌, length, take, drop, get_or, Option, Some, None, suc, zero, refl, sym, ap, subst, ◌∙◌, arith, length-append, length-drop}
 use Rattle.std.specs.Prelude.{option_and_then}
 use Rattle.std.proofs.Math.Seq.{take-add, take-append_seam, drop-append_seam}
-use Rattle.std.proofs.lemmas.List.{take_all, take_rest, take_more, length-take-le, get_or-drop}
+use Rattle.std.proofs.lemmas.List.{take_rest, take_more, length-take-le, get_or-drop}
 use Rattle.std.proofs.lemmas.Option.{same_Some}
 use Rattle.word_cutter.specs.declared.fault.CutFault.{CutFault}
 use Rattle.word_cutter.specs.declared.fault.CutFault.TheVariants.{BadByte, OutOfMemory}

@@ -1,4 +1,4 @@
-use Rattle.std.proofs.Common.{length, take, drop, ap, ◌∙◌, arith, length-drop, ◌≡◌, ℕ, ◌+◌, sym}
+use Rattle.std.proofs.Common.{length, ap, ◌∙◌, arith, length-drop, ◌≡◌, ℕ, ◌+◌, sym}
 use Rattle.std.proofs.lemmas.List.{take_rest, take_all}
 use Rattle.word_cutter.specs.Run.{run}
 use Rattle.word_cutter.proofs.Runs.{loop_goes, loop_stops, fed_on, refusal_on}
