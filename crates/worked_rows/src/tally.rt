@@ -8,13 +8,13 @@ use std::fmt;
 /// How many runs were made, and how many of them differ from what their rows want.
 #[derive(Clone, Copy, Default)]
 pub(crate) struct Tally {
-    rows: u64,
+    runs: u64,
     differ: u64,
 }
 
 impl fmt::Display for Tally {
     fn fmt<W: fmt::Write>(&self, f: &mut fmt::Formatter<W>) -> fmt::Result {
-        write!(f, "rows {} differ {}", self.rows, self.differ)
+        write!(f, "runs {} differ {}", self.runs, self.differ)
     }
 }
 
@@ -61,7 +61,7 @@ impl Tally {
     ) -> Result<Outcome> {
         let outcome = Outcome::of(alloc, trial)?;
         let differences = outcome.differences(alloc, trial)?;
-        self.rows = self.rows.saturating_add(1);
+        self.runs = self.runs.saturating_add(1);
         if !differences.is_empty() {
             self.differ = self.differ.saturating_add(1);
         }
