@@ -58,7 +58,7 @@ impl BsdlMachine {
         Ok(())
     }
 
-    // The next byte is that of a symbol of one byte.
+    // Adds a symbol of one byte.
     fn put_symbol(&mut self, symbol: BsdlSymbol, at: u64) -> Result<(), CutFault>
         requires no_digits { self.old.mode ≡ Mode.Digits → ⊥ }
         ensures ok { OnOk result (self.new.words ≡ self.old.words

@@ -12,7 +12,7 @@ use Rattle.command_faults.specs.declared.fault.Fault.TheVariants as fault
 use Rattle.command_faults.specs.declared.status.Status.{Status}
 use Rattle.command_faults.specs.declared.status.Status.TheVariants as status
 use Rattle.command_faults.specs.Statuses.{status_of}
-use Rattle.command_edges.specs.Seen.{ShelfSeen, SinkSeen, NameRose, SinkRose, WhereBothTold}
+use Rattle.command_edges.specs.Seen.{ShelfSeen, SinkSeen, ReadRose, SinkRose, WhereBothTold}
 use Rattle.command_edges.specs.Lengths.{IsShort}
 use Rattle.command_edges.specs.EdgeFaults.{StandsInReading, StandsInReadingTwo, AreShort, StandsInPutting}
 use Rattle.command_edges.specs.Ends.{run_status}
@@ -110,5 +110,5 @@ GaveInCheck net text events f before after =
 abbrev pub CompletesCheck : List ℕ → List ℕ → List ℕ → ShelfSeen → SinkSeen → Status → Type 0
 CompletesCheck netlist bsdl events shelf sink end = (net text lines : List ℕ)
     → shelf.held netlist ≡ Some net → shelf.held bsdl ≡ Some text → shelf.held events ≡ Some lines → IsCheckable net text lines
-    → (NameRose shelf netlist → ⊥) → (NameRose shelf bsdl → ⊥) → (NameRose shelf events → ⊥) → (SinkRose sink → ⊥)
+    → (ReadRose shelf netlist → ⊥) → (ReadRose shelf bsdl → ⊥) → (ReadRose shelf events → ⊥) → (SinkRose sink → ⊥)
     → end ≡ status.Memory

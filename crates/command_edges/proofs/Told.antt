@@ -6,7 +6,7 @@ use Rattle.command_faults.specs.declared.fault.Fault.TheVariants as fault
 use Rattle.command_faults.specs.declared.status.Status.TheVariants as status
 use Rattle.command_faults.specs.Statuses.{status_of}
 use Rattle.command_edges.specs.Lengths.{IsShort, IsLong}
-use Rattle.command_edges.specs.Seen.{ShelfSeen, NameRose, WhereBothTold}
+use Rattle.command_edges.specs.Seen.{ShelfSeen, ReadRose, WriteRose, WhereBothTold}
 use Rattle.command_edges.specs.EdgeFaults.{StandsInReading, StandsInWriting, AreShort}
 
 -- the text is the bytes that are told
@@ -25,7 +25,7 @@ pub rose_on : (a b c : ℕ) → Rose a b → b ≤ c → Rose a c
 rose_on a b c h k = grind arith
 
 -- a fault in reading stands as well over a longer time
-pub reading_longer : (name : List ℕ) (short long : ShelfSeen) (f : Fault) → short.held name ≡ long.held name → (NameRose short name → NameRose long name)
+pub reading_longer : (name : List ℕ) (short long : ShelfSeen) (f : Fault) → short.held name ≡ long.held name → (ReadRose short name → ReadRose long name)
     → StandsInReading name short f → StandsInReading name long f
 reading_longer name short long (fault.ReadFault n) same longer stands = (stands.0, longer stands.1)
 reading_longer name short long (fault.TooLong n) same longer stands = (stands.0, subst (λ (t : Option (List ℕ)). WhereTold t IsLong) same stands.1)
@@ -39,7 +39,7 @@ both_told (Some bytes) None net events Q is is_too holds = tt
 both_told (Some bytes) (Some more) net events Q is is_too holds = subst (λ (b : List ℕ). Q b more) is (subst (Q net) is_too holds)
 
 -- a short text under a name whose count doesn't rise is read, if memory suffices
-pub reading_memory : (name bytes : List ℕ) (shelf : ShelfSeen) (f : Fault) → shelf.held name ≡ Some bytes → IsShort bytes → (NameRose shelf name → ⊥) → StandsInReading name shelf f
+pub reading_memory : (name bytes : List ℕ) (shelf : ShelfSeen) (f : Fault) → shelf.held name ≡ Some bytes → IsShort bytes → (ReadRose shelf name → ⊥) → StandsInReading name shelf f
     → status_of f ≡ status.Memory
 reading_memory name bytes shelf (fault.ReadFault n) told short calm stands = absurd (calm stands.1)
 reading_memory name bytes shelf (fault.TooLong n) told short calm stands =
@@ -48,7 +48,7 @@ reading_memory name bytes shelf fault.OutOfMemory told short calm stands = refl
 reading_memory name bytes shelf f told short calm stands = absurd stands
 
 -- a write fails only where the count of its name rises
-pub write_rose : (name : List ℕ) (shelf : ShelfSeen) (f : Fault) → StandsInWriting name shelf f → NameRose shelf name
+pub write_rose : (name : List ℕ) (shelf : ShelfSeen) (f : Fault) → StandsInWriting name shelf f → WriteRose shelf name
 write_rose name shelf (fault.WriteFault n) stands = stands.1
 write_rose name shelf f stands = absurd stands
 

@@ -6,7 +6,7 @@ use Rattle.command_faults.specs.declared.fault.Fault.{Fault}
 use Rattle.command_faults.specs.declared.fault.Fault.TheVariants as fault
 use Rattle.command_faults.specs.declared.status.Status.TheVariants as status
 use Rattle.command_faults.specs.Statuses.{status_of}
-use Rattle.command_edges.specs.Seen.{ShelfSeen, SinkSeen, NameRose, SinkRose, IsCutOff}
+use Rattle.command_edges.specs.Seen.{ShelfSeen, SinkSeen, WriteRose, SinkRose, IsCutOff}
 use Rattle.command_edges.specs.EdgeFaults.{StandsInWriting, StandsInPutting}
 
 -- what a call answers of the fault that it hands on
@@ -29,7 +29,7 @@ is_put sink (fault.WriteFault n) stands = refl
 is_put sink f stands = absurd stands
 
 -- a fault in writing stands as well over a longer time, and one in putting where the count that rose goes on as risen
-pub writing_longer : (name : List ℕ) (early long : ShelfSeen) (f : Fault) → (NameRose early name → NameRose long name) → StandsInWriting name early f → StandsInWriting name long f
+pub writing_longer : (name : List ℕ) (early long : ShelfSeen) (f : Fault) → (WriteRose early name → WriteRose long name) → StandsInWriting name early f → StandsInWriting name long f
 writing_longer name early long (fault.WriteFault n) longer stands = (stands.0, longer stands.1)
 writing_longer name early long f longer stands = absurd stands
 
@@ -42,7 +42,7 @@ pub record Longer (early long : ShelfSeen) : Type 0 where
   pub after_same : (name : List ℕ) → long.written_after name ≡ early.written_after name
   pub tells_same : long.tells ≡ early.tells
   pub before_same : (name : List ℕ) → early.written name ≡ long.written name
-  pub rises : (name : List ℕ) → NameRose early name → NameRose long name
+  pub rises : (name : List ℕ) → WriteRose early name → WriteRose long name
 
 pub cut_longer : (name text : List ℕ) (early long : ShelfSeen) → Longer early long → IsCutOff name text early → IsCutOff name text long
 cut_longer name text early long l (inl same) = inl (l.after_same name ∙ same ∙ l.before_same name)

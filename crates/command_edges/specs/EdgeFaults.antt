@@ -4,11 +4,11 @@ use Rattle.edge_io.specs.Shelf.{WhereTold}
 use Rattle.command_faults.specs.declared.fault.Fault.{Fault}
 use Rattle.command_faults.specs.declared.fault.Fault.TheVariants as fault
 use Rattle.command_edges.specs.Lengths.{IsShort, IsLong}
-use Rattle.command_edges.specs.Seen.{ShelfSeen, SinkSeen, NameRose, SinkRose}
+use Rattle.command_edges.specs.Seen.{ShelfSeen, SinkSeen, ReadRose, WriteRose, SinkRose}
 
 -- the fault stands in reading what lies under a name
 abbrev pub StandsInReading : List ℕ → ShelfSeen → Fault → Type 0
-StandsInReading name shelf (fault.ReadFault n) = (n.now ≡ name) × NameRose shelf name
+StandsInReading name shelf (fault.ReadFault n) = (n.now ≡ name) × ReadRose shelf name
 StandsInReading name shelf (fault.TooLong n) = (n.now ≡ name) × WhereTold (shelf.held name) IsLong
 StandsInReading name shelf fault.OutOfMemory = Unit {0}
 StandsInReading name shelf f = ⊥
@@ -24,7 +24,7 @@ AreShort first second shelf = WhereTold (shelf.held first) IsShort × WhereTold 
 
 -- the fault stands in writing under a name
 abbrev pub StandsInWriting : List ℕ → ShelfSeen → Fault → Type 0
-StandsInWriting name shelf (fault.WriteFault n) = (n.now ≡ name) × NameRose shelf name
+StandsInWriting name shelf (fault.WriteFault n) = (n.now ≡ name) × WriteRose shelf name
 StandsInWriting name shelf f = ⊥
 
 -- the name of the sink

@@ -5,7 +5,7 @@ use Rattle.command_faults.specs.declared.fault.Fault.{Fault}
 use Rattle.command_faults.specs.declared.status.Status.{Status}
 use Rattle.command_faults.specs.declared.status.Status.TheVariants as status
 use Rattle.command_edges.specs.Lengths.{IsShort}
-use Rattle.command_edges.specs.Seen.{ShelfSeen, NameRose, IsCutOff}
+use Rattle.command_edges.specs.Seen.{ShelfSeen, ReadRose, WriteRose, IsCutOff}
 use Rattle.command_edges.specs.EdgeFaults.{StandsInReading, StandsInWriting}
 
 -- the bytes under the name, where they are told, are short, and the text is made of them
@@ -31,7 +31,7 @@ StandsInMaking Makes StandsInText input output shelf f = StandsInReading input s
     ⊎ ((WhereTold (shelf.held input) IsShort × StandsInText (shelf.held input) f)
     ⊎ StandsInOutput Makes input output shelf f)
 
--- A refusal with this status, where the text is accepted and no count of both names rises, is want of memory.
+-- A refusal with this status, where the text is accepted and no read of the one name and no write of the other is counted as a fault, is want of memory.
 abbrev pub CompletesMaking : (List ℕ → Type 0) → List ℕ → List ℕ → ShelfSeen → Status → Type 0
 CompletesMaking IsAccepted input output shelf end = (bytes : List ℕ) → shelf.held input ≡ Some bytes → IsAccepted bytes
-    → (NameRose shelf input → ⊥) → (NameRose shelf output → ⊥) → end ≡ status.Memory
+    → (ReadRose shelf input → ⊥) → (WriteRose shelf output → ⊥) → end ≡ status.Memory

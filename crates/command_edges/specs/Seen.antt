@@ -1,15 +1,15 @@
 -- What a command saw of its shelf and its sink, before and after. Own.
 use Rattle.std.specs.Prelude.{◌≡◌, ℕ, ◌⊎◌, List, take, Bool, Option}
-use Rattle.edge_io.specs.Shelf.{Rose, RoseAt, WhereTold, told_if}
+use Rattle.edge_io.specs.Shelf.{Access, Rose, RoseAt, WhereTold, told_if}
 
--- What is held under each name; what was written there, where the shelf tells it; and the counts of faults.
+-- What is held under each name; what was written there, where the shelf tells it; and the counts of faults of reads and of writes.
 pub record ShelfSeen : Type 0 where
   pub tells : Bool
   pub held : List ℕ → Option (List ℕ)
   pub written : List ℕ → Option (List ℕ)
   pub written_after : List ℕ → Option (List ℕ)
-  pub faults : List ℕ → ℕ
-  pub faults_after : List ℕ → ℕ
+  pub faults : Access → List ℕ → ℕ
+  pub faults_after : Access → List ℕ → ℕ
 
 -- What was given, and the count of faults.
 pub record SinkSeen : Type 0 where
@@ -20,7 +20,7 @@ pub record SinkSeen : Type 0 where
 
 -- what is seen of a shelf, by its meanings
 abbrev pub shelf_seen : {S : Type 0} → Bool → (S → List ℕ → Option (List ℕ)) → (S → List ℕ → Option (List ℕ))
-    → (S → List ℕ → ℕ) → S → S → ShelfSeen
+    → (S → Access → List ℕ → ℕ) → S → S → ShelfSeen
 shelf_seen tells held written faults old new = record {
   tells = tells;
   held = held old;
@@ -39,9 +39,13 @@ sink_seen given faults old new = record {
   faults_after = faults new;
 }
 
--- the count of faults under a name rose, or stands at its last value
-abbrev pub NameRose : ShelfSeen → List ℕ → Type 0
-NameRose shelf name = RoseAt shelf.faults shelf.faults_after name
+-- the count of faults of reads under a name rose, or stands at its last value
+abbrev pub ReadRose : ShelfSeen → List ℕ → Type 0
+ReadRose shelf name = RoseAt shelf.faults shelf.faults_after Access.reading name
+
+-- the count of faults of writes under a name rose, or stands at its last value
+abbrev pub WriteRose : ShelfSeen → List ℕ → Type 0
+WriteRose shelf name = RoseAt shelf.faults shelf.faults_after Access.writing name
 
 -- the sink's count of faults rose, or stands at its last value
 abbrev pub SinkRose : SinkSeen → Type 0

@@ -8,7 +8,7 @@ pub enum Status {
     Done,
     /// A text breaks a rule; no file was written.
     Refused,
-    /// The words are no command, or name an output twice.
+    /// The words are no command, or the name of an output is also another file's.
     Usage,
     /// Memory was refused.
     Memory,

@@ -11,7 +11,7 @@ use Rattle.command_faults.specs.declared.fault.Fault.{Fault}
 use Rattle.command_faults.specs.declared.status.Status.{Status}
 use Rattle.command_faults.specs.declared.status.Status.TheVariants as status
 use Rattle.command_faults.specs.Statuses.{status_of}
-use Rattle.command_edges.specs.Seen.{ShelfSeen, SinkSeen, NameRose, SinkRose}
+use Rattle.command_edges.specs.Seen.{ShelfSeen, SinkSeen, WriteRose, SinkRose}
 use Rattle.insert_command.specs.Runs.{IsWrittenOut, StandsInWritings}
 use Rattle.demo_chips.specs.Netlists.{gate_count, demo_module}
 use Rattle.demo_chips.specs.Plans.{demo_plan}
@@ -54,4 +54,4 @@ StandsInDemo number outnet outbsdl shelf sink f after = ((status_of f ≡ status
 
 -- A refusal with this status, where no count of both names and of the sink rises, is want of memory.
 abbrev pub CompletesDemo : List ℕ → List ℕ → ShelfSeen → SinkSeen → Status → Type 0
-CompletesDemo outnet outbsdl shelf sink end = (NameRose shelf outnet → ⊥) → (NameRose shelf outbsdl → ⊥) → (SinkRose sink → ⊥) → end ≡ status.Memory
+CompletesDemo outnet outbsdl shelf sink end = (WriteRose shelf outnet → ⊥) → (WriteRose shelf outbsdl → ⊥) → (SinkRose sink → ⊥) → end ≡ status.Memory

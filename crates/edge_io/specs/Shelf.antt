@@ -5,13 +5,18 @@ use Rattle.std.specs.Option.{option_map}
 abbrev pub Rose : ℕ → ℕ → Type 0
 Rose before now = min (before + 1) (2 ^ 64 - 1) ≤ now
 
--- own: the count of a name rose, or stands at its last value
-abbrev pub RoseAt : (List ℕ → ℕ) → (List ℕ → ℕ) → List ℕ → Type 0
-RoseAt before now name = Rose (before name) (now name)
+-- own: what a call does under its name: it reads, or it writes (a start or an append)
+pub data Access : Type 0 where
+  reading : Access
+  writing : Access
 
--- own: no name's count fell
-abbrev pub NoneFell : (List ℕ → ℕ) → (List ℕ → ℕ) → Type 0
-NoneFell before now = (name : List ℕ) → before name ≤ now name
+-- own: the count of the calls of this kind under a name rose, or stands at its last value
+abbrev pub RoseAt : (Access → List ℕ → ℕ) → (Access → List ℕ → ℕ) → Access → List ℕ → Type 0
+RoseAt before now access name = Rose (before access name) (now access name)
+
+-- own: no count fell
+abbrev pub NoneFell : (Access → List ℕ → ℕ) → (Access → List ℕ → ℕ) → Type 0
+NoneFell before now = (access : Access) (name : List ℕ) → before access name ≤ now access name
 
 -- own: the count after one more fault, which stays at its last value
 abbrev pub raised : ℕ → ℕ

@@ -144,7 +144,7 @@ impl<R: Files> Shelf for FileShelf<'_, R> {
 
     ghost tells = { false };
 
-    ghost faults = { λ s _. s.faults };
+    ghost faults = { λ s _ _. s.faults };
 
     fn read_at(&mut self, name: &str, at: u64, into: &mut [u8]) -> Result<usize, Failed> {
         match self.read(name, at, into) {

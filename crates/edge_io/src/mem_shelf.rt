@@ -2,7 +2,7 @@ ghost use Rattle.std.specs.Prelude.{◌≡◌, ◌↔◌, ◌+◌, ◌-◌, ◌<
 ghost use Rattle.std.specs.Option.{option_copied};
 ghost use Rattle.edge_io.specs.Calls.{call_made};
 ghost use Rattle.edge_io.specs.MemShelf.{FailsToAppend, FailsToRead, FailsToStart, ShelfState, placed_bytes, room_of, spare_room, written_bytes};
-ghost use Rattle.edge_io.specs.Shelf.{ChangesOne, NoneFell, Reads, RoseAt, SameTold, StartedIfTold, WhereTold, appended, told_if};
+ghost use Rattle.edge_io.specs.Shelf.{Access, ChangesOne, NoneFell, Reads, RoseAt, SameTold, StartedIfTold, WhereTold, appended, told_if};
 
 use crate::calls::Calls;
 use crate::entries::{Entry, set_value, value_in};
@@ -122,7 +122,7 @@ impl Shelf for MemShelf {
 
     ghost tells = { true };
 
-    ghost faults = { λ s _. s.calls.faults };
+    ghost faults = { λ s _ _. s.calls.faults };
 
     fn read_at(&mut self, name: &str, at: u64, into: &mut [u8]) -> Result<usize, Failed>
         ensures count { IfOk result (λ n. n ≤ length into.new) }
@@ -130,9 +130,9 @@ impl Shelf for MemShelf {
             (Reads at n into.new)) }
         ensures held { SameTold (placed_bytes self.old) (placed_bytes self.new) }
         ensures written { SameTold (written_bytes self.old) (written_bytes self.new) }
-        ensures later { NoneFell (λ _. self.old.calls.faults) (λ _. self.new.calls.faults) }
-        ensures cause { OnErr result (RoseAt (λ _. self.old.calls.faults)
-            (λ _. self.new.calls.faults) name.now) }
+        ensures later { NoneFell (λ _ _. self.old.calls.faults) (λ _ _. self.new.calls.faults) }
+        ensures cause { OnErr result (RoseAt (λ _ _. self.old.calls.faults)
+            (λ _ _. self.new.calls.faults) Access.reading name.now) }
 
         // When it fails, and all that changes.
         ensures exact { IsErr result ↔ FailsToRead self.old name.now }
@@ -151,9 +151,9 @@ impl Shelf for MemShelf {
             (λ before after. after ≡ told_if true [])) }
         ensures failed { OnErr result (SameTold (written_bytes self.old) (written_bytes self.new)) }
         ensures held { SameTold (placed_bytes self.old) (placed_bytes self.new) }
-        ensures later { NoneFell (λ _. self.old.calls.faults) (λ _. self.new.calls.faults) }
-        ensures cause { OnErr result (RoseAt (λ _. self.old.calls.faults)
-            (λ _. self.new.calls.faults) name.now) }
+        ensures later { NoneFell (λ _ _. self.old.calls.faults) (λ _ _. self.new.calls.faults) }
+        ensures cause { OnErr result (RoseAt (λ _ _. self.old.calls.faults)
+            (λ _ _. self.new.calls.faults) Access.writing name.now) }
 
         // When it fails, and what else changes.
         ensures exact { IsErr result ↔ FailsToStart self.old name.now }
@@ -177,9 +177,9 @@ impl Shelf for MemShelf {
             (λ before after. after ≡ appended (take n piece.now) before)) }
         ensures failed { OnErr result (SameTold (written_bytes self.old) (written_bytes self.new)) }
         ensures held { SameTold (placed_bytes self.old) (placed_bytes self.new) }
-        ensures later { NoneFell (λ _. self.old.calls.faults) (λ _. self.new.calls.faults) }
-        ensures cause { OnErr result (RoseAt (λ _. self.old.calls.faults)
-            (λ _. self.new.calls.faults) name.now) }
+        ensures later { NoneFell (λ _ _. self.old.calls.faults) (λ _ _. self.new.calls.faults) }
+        ensures cause { OnErr result (StartedIfTold true (written_bytes self.old name.now)
+            → RoseAt (λ _ _. self.old.calls.faults) (λ _ _. self.new.calls.faults) Access.writing name.now) }
 
         // When it fails, how much fits, and what else changes.
         ensures exact { IsErr result ↔ FailsToAppend self.old name.now (length piece.now) }

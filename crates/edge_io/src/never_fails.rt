@@ -59,7 +59,7 @@ impl Shelf for NeverFails {
 
     ghost tells = { false };
 
-    ghost faults = { λ _ _. 0 };
+    ghost faults = { λ _ _ _. 0 };
 
     fn read_at(&mut self, name: &str, at: u64, into: &mut [u8]) -> Result<usize, Failed> {
         match value_in(&self.placed, name.as_bytes()) {

@@ -48,6 +48,13 @@ impl<T: Drop> Row<T> {
         Ok(())
     }
 
+    /// Makes room for so many items more, where memory is given. Pages of the room that are never written take none.
+    pub fn make_room(&mut self, count: usize)
+        ensures { self.new ≡ self.old }
+    {
+        let _ = self.items.reserve(count);
+    }
+
     pub fn as_slice(&self) -> &[T]
         ensures { result.now ≡ self.now }
     {

@@ -1,5 +1,5 @@
 ghost use Rattle.std.specs.Prelude.{◌≡◌, ℕ, Bool, ◌≤◌, ◌<◌, List, [], take, length, Option, IfOk, OnOk, OnErr};
-ghost use Rattle.edge_io.specs.Shelf.{NoneFell, RoseAt, SameTold, WhereTold, Reads, ChangesOne, StartedIfTold, appended, told_if};
+ghost use Rattle.edge_io.specs.Shelf.{Access, NoneFell, RoseAt, SameTold, WhereTold, Reads, ChangesOne, StartedIfTold, appended, told_if};
 
 use thiserror::Error;
 
@@ -23,9 +23,10 @@ pub trait Shelf {
     /// Whether the shelf tells what was written.
     ghost tells: { Bool };
 
-    /// How many faults of calls under a name there were: those of several names may be counted together, but none is left
-    /// out. A count stays at its last value, `u64::MAX`.
-    ghost faults: { Self → List ℕ → ℕ };
+    /// How many faults there were of reads under a name, and of writes: those of several names, and of both kinds, may be
+    /// counted together. None is left out but of appends to a name that wasn't started. A count stays at its last value,
+    /// `u64::MAX`.
+    ghost faults: { Self → Access → List ℕ → ℕ };
 
     /// Reads what lies under the name from byte `at` on. `Ok(n)` filled the first `n` bytes of `into`, and
     /// `n` is 0 only at the end of the text or where `into` is empty.
@@ -35,7 +36,7 @@ pub trait Shelf {
         ensures held { SameTold (held self.old) (held self.new) }
         ensures written { SameTold (written self.old) (written self.new) }
         ensures later { NoneFell (faults self.old) (faults self.new) }
-        ensures cause { OnErr result (RoseAt (faults self.old) (faults self.new) name.now) };
+        ensures cause { OnErr result (RoseAt (faults self.old) (faults self.new) Access.reading name.now) };
 
     /// Begins to write under the name: what was written there before is gone.
     fn start(&mut self, name: &str) -> Result<(), Failed>
@@ -44,10 +45,11 @@ pub trait Shelf {
         ensures failed { OnErr result (SameTold (written self.old) (written self.new)) }
         ensures held { SameTold (held self.old) (held self.new) }
         ensures later { NoneFell (faults self.old) (faults self.new) }
-        ensures cause { OnErr result (RoseAt (faults self.old) (faults self.new) name.now) };
+        ensures cause { OnErr result (RoseAt (faults self.old) (faults self.new) Access.writing name.now) };
 
     /// Adds to what was written under the name. `Ok(n)` took the first `n` bytes of the piece, at least
-    /// one of a piece that has any. Where the shelf tells what was written, the name was started.
+    /// one of a piece that has any. Where the shelf tells what was written, the name was started; a fault for
+    /// want of that needn't be counted.
     fn append(&mut self, name: &str, piece: &[u8]) -> Result<usize, Failed>
         ensures count { IfOk result (λ n. n ≤ length piece.now) }
         ensures some { IfOk result (λ n. 0 < length piece.now → 0 < n) }
@@ -57,5 +59,6 @@ pub trait Shelf {
         ensures failed { OnErr result (SameTold (written self.old) (written self.new)) }
         ensures held { SameTold (held self.old) (held self.new) }
         ensures later { NoneFell (faults self.old) (faults self.new) }
-        ensures cause { OnErr result (RoseAt (faults self.old) (faults self.new) name.now) };
+        ensures cause { OnErr result (StartedIfTold tells (written self.old name.now)
+            → RoseAt (faults self.old) (faults self.new) Access.writing name.now) };
 }

@@ -138,6 +138,24 @@ impl Text {
         Ok(())
     }
 
+    /// Makes room for so many bytes more, where memory is given. Pages of the room that are never written take none.
+    pub fn make_room(&mut self, bytes: usize)
+        ensures { self.new ≡ self.old }
+    {
+        match &mut self.place {
+            Place::Long(long) => {
+                let _ = long.reserve(bytes);
+            }
+            Place::Short(short) => {
+                if bytes > SHORT {
+                    if let Ok(long) = long_of(self.alloc, short.as_bytes(), &[], bytes) {
+                        self.place = Place::Long(long);
+                    }
+                }
+            }
+        }
+    }
+
     /// Empties the text and keeps its memory.
     pub fn clear(&mut self)
         ensures { self.new ≡ [] }

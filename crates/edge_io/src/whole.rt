@@ -1,5 +1,5 @@
 ghost use Rattle.std.specs.Prelude.{◌≡◌, ℕ, [], ◌≤◌, ◌<◌, ◌⊎◌, take, length, IfOk, OnOk, OnErr, IsErrOf};
-ghost use Rattle.edge_io.specs.Shelf.{NoneFell, Rose, RoseAt, SameTold, WhereTold, ChangesOne, appended, told_if};
+ghost use Rattle.edge_io.specs.Shelf.{Access, NoneFell, Rose, RoseAt, SameTold, WhereTold, ChangesOne, appended, told_if};
 
 use crate::shelf::Shelf;
 use crate::sink::Sink;
@@ -39,7 +39,7 @@ pub fn read_whole<S: Shelf>(
     ensures too_long { IsErrOf result ReadIssue.TooLong
         → WhereTold (S.held shelf.old name.now) (λ bytes. limit < length bytes) }
     ensures fault { IsErrOf result ReadIssue.ReadFault
-        → RoseAt (S.faults shelf.old) (S.faults shelf.new) name.now }
+        → RoseAt (S.faults shelf.old) (S.faults shelf.new) Access.reading name.now }
     ensures later { NoneFell (S.faults shelf.old) (S.faults shelf.new) }
     ensures held { SameTold (S.held shelf.old) (S.held shelf.new) }
     ensures written { SameTold (S.written shelf.old) (S.written shelf.new) }
@@ -47,7 +47,9 @@ pub fn read_whole<S: Shelf>(
     let Ok(mut buffer) = zeros(alloc, PIECE) else {
         return Err(ReadIssue::OutOfMemory);
     };
-    read_pieces(Text::new(alloc), shelf, name, limit, &mut buffer)
+    let mut text = Text::new(alloc);
+    text.make_room(limit as usize);
+    read_pieces(text, shelf, name, limit, &mut buffer)
 }
 
 // So many zeros.
@@ -72,7 +74,7 @@ fn read_pieces<S: Shelf>(
     ensures too_long { IsErrOf result ReadIssue.TooLong
         → WhereTold (S.held shelf.old name.now) (λ bytes. limit < length bytes) }
     ensures fault { IsErrOf result ReadIssue.ReadFault
-        → RoseAt (S.faults shelf.old) (S.faults shelf.new) name.now }
+        → RoseAt (S.faults shelf.old) (S.faults shelf.new) Access.reading name.now }
     ensures later { NoneFell (S.faults shelf.old) (S.faults shelf.new) }
     ensures held { SameTold (S.held shelf.old) (S.held shelf.new) }
     ensures written { SameTold (S.written shelf.old) (S.written shelf.new) }
@@ -95,13 +97,13 @@ fn read_pieces<S: Shelf>(
 }
 
 /// Writes a text under a name, in place of what was written there. It is `Ok` wherever the shelf's count of
-/// faults under that name neither rises nor stands at its last value.
+/// faults of writes under that name neither rises nor stands at its last value.
 pub fn write_whole<S: Shelf>(shelf: &mut S, name: &str, text: &[u8]) -> Result<(), WriteFault>
     ensures ok { OnOk result (ChangesOne (S.written shelf.old) (S.written shelf.new) name.now
         (λ before after. after ≡ told_if S.tells text.now)) }
     ensures fault { OnErr result (ChangesOne (S.written shelf.old) (S.written shelf.new) name.now
         (λ before after. (after ≡ before) ⊎ ((k : ℕ) × (after ≡ told_if S.tells (take k text.now))))) }
-    ensures cause { OnErr result (RoseAt (S.faults shelf.old) (S.faults shelf.new) name.now) }
+    ensures cause { OnErr result (RoseAt (S.faults shelf.old) (S.faults shelf.new) Access.writing name.now) }
     ensures later { NoneFell (S.faults shelf.old) (S.faults shelf.new) }
     ensures held { SameTold (S.held shelf.old) (S.held shelf.new) }
 {

@@ -25,7 +25,7 @@ use Rattle.command_faults.specs.declared.fault.Fault.{Fault}
 use Rattle.command_faults.specs.declared.fault.Fault.TheVariants as fault
 use Rattle.command_faults.specs.declared.status.Status.TheVariants as status
 use Rattle.command_faults.specs.Statuses.{status_of, text_status, link_status, plan_status, fit_status}
-use Rattle.command_edges.specs.Seen.{ShelfSeen, SinkSeen, NameRose, SinkRose}
+use Rattle.command_edges.specs.Seen.{ShelfSeen, SinkSeen, WriteRose, SinkRose}
 use Rattle.command_edges.proofs.Told.{reading_memory, write_rose}
 use Rattle.command_edges.proofs.Written.{put_rose}
 use Rattle.insert_command.specs.Faults.{fault_of, StandsInInputs}
@@ -102,7 +102,7 @@ inputs_memory laws f net text ok stands = absurd stands
 pub free_memory : Laws → FreeTextsWantMemory
 free_memory laws net text f ok stands = inputs_memory laws (fault_of f) net text ok (inputs_stand net text f stands)
 
-writings_free : (outnet outbsdl verilog bsdl report : List ℕ) (shelf : ShelfSeen) (sink : SinkSeen) (f : Fault) (after : Option (List ℕ)) → (NameRose shelf outnet → ⊥) → (NameRose shelf outbsdl → ⊥)
+writings_free : (outnet outbsdl verilog bsdl report : List ℕ) (shelf : ShelfSeen) (sink : SinkSeen) (f : Fault) (after : Option (List ℕ)) → (WriteRose shelf outnet → ⊥) → (WriteRose shelf outbsdl → ⊥)
     → (SinkRose sink → ⊥) → StandsInWritings outnet outbsdl verilog bsdl report shelf sink f after → ⊥
 writings_free outnet outbsdl verilog bsdl report shelf sink f after calm_net calm_bsdl still (inl s) = calm_net (write_rose outnet shelf f s.fault_is)
 writings_free outnet outbsdl verilog bsdl report shelf sink f after calm_net calm_bsdl still (inr (inl s)) = calm_bsdl (write_rose outbsdl shelf f s.fault_is)

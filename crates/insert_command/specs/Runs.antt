@@ -5,7 +5,7 @@ use Rattle.command_faults.specs.declared.fault.Fault.{Fault}
 use Rattle.command_faults.specs.declared.status.Status.{Status}
 use Rattle.command_faults.specs.declared.status.Status.TheVariants as status
 use Rattle.insertions.specs.Insertions.{IsInsertionText}
-use Rattle.command_edges.specs.Seen.{ShelfSeen, SinkSeen, NameRose, SinkRose, WhereBothTold, IsCutOff}
+use Rattle.command_edges.specs.Seen.{ShelfSeen, SinkSeen, ReadRose, WriteRose, SinkRose, WhereBothTold, IsCutOff}
 use Rattle.command_edges.specs.EdgeFaults.{StandsInReadingTwo, AreShort, StandsInWriting, StandsInPutting}
 use Rattle.insert_command.specs.Free.{IsInsertable}
 use Rattle.insert_command.specs.Faults.{SpellsNetlist, SpellsSomePlan, StandsInInputs}
@@ -84,5 +84,5 @@ StandsInInsert netlist plan outnet outbsdl shelf sink f after = (StandsBeforeOut
 -- A refusal with this status, where no fault stands in both texts and no count of the names or of the sink rises, is want of memory.
 abbrev pub CompletesInsert : List ℕ → List ℕ → List ℕ → List ℕ → ShelfSeen → SinkSeen → Status → Type 0
 CompletesInsert netlist plan outnet outbsdl shelf sink end = (net text : List ℕ) → shelf.held netlist ≡ Some net → shelf.held plan ≡ Some text → IsInsertable net text
-    → (NameRose shelf netlist → ⊥) → (NameRose shelf plan → ⊥) → (NameRose shelf outnet → ⊥) → (NameRose shelf outbsdl → ⊥) → (SinkRose sink → ⊥)
+    → (ReadRose shelf netlist → ⊥) → (ReadRose shelf plan → ⊥) → (WriteRose shelf outnet → ⊥) → (WriteRose shelf outbsdl → ⊥) → (SinkRose sink → ⊥)
     → end ≡ status.Memory

@@ -28,24 +28,28 @@ impl<'a> Model for NetBit<'a> {
 }
 
 impl<'a> NetBit<'a> {
+    /// A net that is named so: a scalar has no index, and a wire no direction.
     pub fn new(name: &'a [u8], index: Option<u32>, dir: Option<Dir>) -> NetBit<'a>
         ensures { result ≡ record { name = name.now; index = index; dir = dir } }
     {
         NetBit { name, index, dir }
     }
 
+    /// The name of the whole net, without the index.
     pub fn name(&self) -> &'a [u8]
         ensures { result.now ≡ self.now.name }
     {
         self.name
     }
 
+    /// The index of a vector's bit.
     pub fn index(&self) -> Option<u32>
         ensures { result ≡ self.now.index }
     {
         self.index
     }
 
+    /// The direction of the port that the net is.
     pub fn dir(&self) -> Option<Dir>
         ensures { result ≡ self.now.dir }
     {
@@ -87,6 +91,7 @@ impl<'a> Model for ItemCell<'a> {
 }
 
 impl<'a> ItemCell<'a> {
+    /// A cell of these parts.
     pub fn new(
         kind: Kind,
         name: Option<&'a [u8]>,
@@ -108,24 +113,28 @@ impl<'a> ItemCell<'a> {
         }
     }
 
+    /// What the cell is.
     pub fn kind(&self) -> Kind
         ensures { result ≡ self.now.kind }
     {
         self.kind
     }
 
+    /// The instance's name, where the text gives one.
     pub fn name(&self) -> Option<&'a [u8]>
         ensures { bytes_of result ≡ self.now.name }
     {
         self.name
     }
 
+    /// What the cell reads, in the order of its kind's inputs.
     pub fn feeds(&self) -> &[Feed]
         ensures { result.now ≡ self.now.feeds }
     {
         self.feeds.as_slice()
     }
 
+    /// The net that the cell drives.
     pub fn output(&self) -> Option<NetId>
         ensures { result ≡ self.now.output }
     {

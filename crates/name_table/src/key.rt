@@ -28,6 +28,7 @@ impl Model for Key {
 }
 
 impl Key {
+    /// A copy of the name.
     pub fn new(alloc: Global, name: &[u8]) -> Result<Key, OutOfMemory>
         ensures { IfOk result (λ key. key ≡ name.now) }
     {
@@ -36,6 +37,7 @@ impl Key {
         })
     }
 
+    /// The name.
     pub fn as_bytes(&self) -> &[u8]
         ensures { result.now ≡ self.now }
     {

@@ -24,6 +24,7 @@ pub struct TapLines {
     pub trst: TapLine,
 }
 
+/// A copy of a text.
 pub fn text_copy(alloc: Global, text: &Text) -> Result<Text, OutOfMemory>
     ensures { IfOk result (λ copy. copy ≡ text.now) }
 {
@@ -39,6 +40,7 @@ fn line_copy(alloc: Global, line: &TapLine) -> Result<TapLine, OutOfMemory>
     })
 }
 
+/// Copies of lines of the test access port, in order.
 pub fn lines_copy(alloc: Global, lines: &[TapLine]) -> Result<Row<TapLine>, OutOfMemory>
     ensures { IfOk result (λ copy. copy ≡ lines.now) }
 {
@@ -49,6 +51,7 @@ pub fn lines_copy(alloc: Global, lines: &[TapLine]) -> Result<Row<TapLine>, OutO
     Ok(copy)
 }
 
+/// Copies of opcodes, in order.
 pub fn opcodes_copy(alloc: Global, opcodes: &[Opcode]) -> Result<Row<Opcode>, OutOfMemory>
     ensures { IfOk result (λ copy. copy ≡ opcodes.now) }
 {

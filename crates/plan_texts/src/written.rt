@@ -54,6 +54,7 @@ pub struct Pins {
     pub linkage: Row<TapLine>,
 }
 
+/// The lines of a whole plan.
 #[derive(Drop)]
 pub struct Written {
     pub names: Names,

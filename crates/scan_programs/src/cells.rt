@@ -35,6 +35,7 @@ pub struct Cell {
     pub outside: PinSig,
 }
 
+/// The value of a level.
 pub fn bit(level: bool) -> Sig
     ensures { result ≡ values.bit level }
 {

@@ -131,6 +131,7 @@ fn put_expected(
     })
 }
 
+/// Adds what TDO is expected to read at this moment, if anything is.
 pub fn put_tdo(
     alloc: Global,
     list: &mut Row<Line>,

@@ -6,7 +6,7 @@ use Rattle.command_faults.specs.declared.status.Status.{Status}
 use Rattle.command_faults.specs.declared.status.Status.TheVariants as status
 use Rattle.command_faults.specs.Statuses.{status_of}
 use Rattle.command_edges.specs.Ends.{run_status}
-use Rattle.command_edges.specs.Seen.{ShelfSeen, SinkSeen, NameRose, SinkRose, WhereBothTold}
+use Rattle.command_edges.specs.Seen.{ShelfSeen, SinkSeen, ReadRose, SinkRose, WhereBothTold}
 use Rattle.command_edges.specs.EdgeFaults.{StandsInReadingTwo, AreShort}
 use Rattle.command_edges.specs.Spelled.{SpellsLinkable, SpellsEvents}
 use Rattle.sim_command.specs.Simulations.{IsSimulation, IsSimulable}
@@ -51,4 +51,4 @@ IsSimulated netlist events shelf sink end = AreShort netlist events shelf × IsP
 -- A refusal with this status, where no fault stands in both texts and no count of the names or of the sink rises, is want of memory.
 abbrev pub CompletesSim : List ℕ → List ℕ → ShelfSeen → SinkSeen → Status → Type 0
 CompletesSim netlist events shelf sink end = (net text : List ℕ) → shelf.held netlist ≡ Some net → shelf.held events ≡ Some text → IsSimulable net text
-    → (NameRose shelf netlist → ⊥) → (NameRose shelf events → ⊥) → (SinkRose sink → ⊥) → end ≡ status.Memory
+    → (ReadRose shelf netlist → ⊥) → (ReadRose shelf events → ⊥) → (SinkRose sink → ⊥) → end ≡ status.Memory

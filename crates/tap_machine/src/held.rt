@@ -16,6 +16,7 @@ use signal_values::{PinSig, Sig};
 use std::alloc::Global;
 use test_logic::TapState;
 
+/// What the test logic holds between two edges of TCK.
 #[derive(Drop)]
 pub struct Held {
     pub state: TapState,

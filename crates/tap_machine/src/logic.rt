@@ -12,6 +12,7 @@ use edge_io::OutOfMemory;
 use signal_values::Sig;
 use std::alloc::Global;
 
+/// What a device says of its test logic, which no event changes.
 #[derive(Drop)]
 pub struct Logic {
     pub opcodes: Vec<Opcode>,
@@ -40,6 +41,7 @@ fn kinds_of(alloc: Global, cells: &[CellRow]) -> Result<Vec<BoundaryKind>, OutOf
 }
 
 impl Logic {
+    /// The test logic of a device.
     pub fn new(alloc: Global, device: &Device) -> Result<Logic, OutOfMemory>
         requires { LatchesWhole device.now }
         ensures logic { IfOk result (λ l. logic_of l ≡ test_logic_of device.now) }

@@ -213,6 +213,13 @@ impl Words {
         }
     }
 
+    /// Makes room for so many words more, where memory is given. Pages of the room that are never written take none.
+    pub fn make_room(&mut self, count: usize)
+        ensures { self.new ≡ self.old }
+    {
+        let _ = self.entries.reserve(count);
+    }
+
     /// Adds what a simple name's bytes are: a reserved word, or a name.
     #[tactic(auto, unfolding(crate::specs::Keywords::name_word))]
     pub fn push_name(&mut self, name: &[u8], at: u64) -> Result<(), OutOfMemory>

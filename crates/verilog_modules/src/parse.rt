@@ -38,6 +38,9 @@ fn end(reader: &WordReader) -> Result<(), ParseFault>
     }
 }
 
+// As few words as an item takes as a rule; where items take fewer, their room grows.
+const ITEM_WORDS: usize = 10;
+
 // What the items give, where these names are to be declared.
 fn module_body<'a>(
     alloc: Global,
@@ -52,6 +55,7 @@ fn module_body<'a>(
         wires: Row::new(alloc),
         items: Row::new(alloc),
     };
+    body.items.make_room(reader.len() / ITEM_WORDS);
     items(alloc, reader, &mut body)?;
     Ok(body)
 }

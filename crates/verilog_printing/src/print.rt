@@ -11,6 +11,9 @@ use std::alloc::Global;
 use verilog_conditions::spelled_trees_keep_the_conditions;
 use verilog_tree::Module;
 
+// As many bytes as an item takes as a rule; where items take more, the text's room grows.
+const ITEM_BYTES: usize = 64;
+
 fn put_module(text: &mut Text, tree: &Module) -> Result<(), OutOfMemory>
     ensures { OnOk result (text.new ≡ text.old ++ canonical tree.now) }
 {
@@ -34,6 +37,7 @@ pub fn print_module(alloc: Global, tree: &Module) -> Result<Text, OutOfMemory>
     // A law that the proof uses.
     spelled_trees_keep_the_conditions();
     let mut text = Text::new(alloc);
+    text.make_room(tree.items.len().saturating_mul(ITEM_BYTES));
     put_module(&mut text, tree)?;
     Ok(text)
 }

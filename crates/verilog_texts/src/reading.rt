@@ -17,7 +17,7 @@ fn cut(alloc: Global, text: Text) -> Result<Words, TextFault>
     ensures words { IfOk result (HasWords text) }
     ensures fault { IfErr result (IsTextFault text) }
 {
-    let mut cutter = Cutter::new(alloc);
+    let mut cutter = Cutter::with_room(alloc, text.len());
     cutter.feed(text.as_bytes())?;
     Ok(cutter.finish()?)
 }

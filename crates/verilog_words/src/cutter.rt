@@ -20,8 +20,16 @@ impl Cutter {
     pub fn new(alloc: Global) -> Cutter
         ensures { Fed result [] }
     {
+        Cutter::with_room(alloc, 0)
+    }
+
+    /// A cutter that was fed nothing, with room for the words of a text of so many bytes, where memory is given. A word
+    /// takes two bytes of a text or more as a rule; where they take fewer the room grows.
+    pub fn with_room(alloc: Global, bytes: usize) -> Cutter
+        ensures { Fed result [] }
+    {
         Cutter {
-            cutter: word_cutter::Cutter::new(WordMachine::new(alloc)),
+            cutter: word_cutter::Cutter::new(WordMachine::new(alloc, bytes / 2)),
         }
     }
 

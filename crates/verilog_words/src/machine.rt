@@ -60,12 +60,14 @@ impl WordMachine {
     ghost use Rattle.verilog_words.specs.Machine.{State, state, start, begin, in_line, enclosed, step, end, with_name, with_escaped, with_number, with_constant, with_parenthesis};
     ghost use Rattle.verilog_words.specs.Steps.{state_of, Steps, Closes, EndsAs, Takes, IsTooLong};
 
-    /// A machine before its first byte; it takes no memory.
-    pub fn new(alloc: Global) -> WordMachine
+    /// A machine before its first byte, with room for so many words, where memory is given.
+    pub fn new(alloc: Global, room: usize) -> WordMachine
         ensures { state_of result ≡ start }
     {
+        let mut words = Words::new(alloc);
+        words.make_room(room);
         WordMachine {
-            words: Words::new(alloc),
+            words,
             mode: Mode::Between,
             from: 0,
             pending: Text::new(alloc),

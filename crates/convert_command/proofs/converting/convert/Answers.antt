@@ -1,6 +1,7 @@
 use Rattle.std.proofs.Common.{refl}
 use Rattle.command_faults.specs.Statuses.{status_of}
 use Rattle.command_faults.specs.declared.fault.Fault.{Fault}
+use Rattle.edge_io.specs.Shelf.{Access}
 use Rattle.command_edges.specs.Seen.{ShelfSeen, shelf_seen}
 use Rattle.command_edges.proofs.Told.{rose_earlier}
 use Rattle.command_edges.proofs.Written.{Longer, err_is}
@@ -46,7 +47,7 @@ returns-clause-fault g c =
       after_same = λ name. refl;
       tells_same = refl;
       before_same = c.in_ok-text.ensures.written;
-      rises = λ name rose. rose_earlier (g.S.Shelf.faults c.args.shelf.now name) (g.S.Shelf.faults c.read_text.new.shelf name) (g.S.Shelf.faults c.write_text.new.shelf name) (c.in_ok-text.ensures.later name) rose;
+      rises = λ name rose. rose_earlier (g.S.Shelf.faults c.args.shelf.now Access.writing name) (g.S.Shelf.faults c.read_text.new.shelf Access.writing name) (g.S.Shelf.faults c.write_text.new.shelf Access.writing name) (c.in_ok-text.ensures.later Access.writing name) rose;
     } in
     making_fault c.write_text.result (IsConverted c.args.conversion) (StandsInText c.args.conversion) c.args.input.now c.args.output.now early shelf c.in_ok-printed.printed longer
     (made_told (IsConverted c.args.conversion) c.args.input.now shelf c.in_ok-text.text c.in_ok-printed.printed c.in_ok-text.ensures.ok c.in_ok-text.ensures.within c.in_ok-printed.ensures.found)
@@ -60,7 +61,7 @@ returns-clause-complete g c =
       after_same = λ name. refl;
       tells_same = refl;
       before_same = c.in_ok-text.ensures.written;
-      rises = λ name rose. rose_earlier (g.S.Shelf.faults c.args.shelf.now name) (g.S.Shelf.faults c.read_text.new.shelf name) (g.S.Shelf.faults c.write_text.new.shelf name) (c.in_ok-text.ensures.later name) rose;
+      rises = λ name rose. rose_earlier (g.S.Shelf.faults c.args.shelf.now Access.writing name) (g.S.Shelf.faults c.read_text.new.shelf Access.writing name) (g.S.Shelf.faults c.write_text.new.shelf Access.writing name) (c.in_ok-text.ensures.later Access.writing name) rose;
     } in
     making_completes c.write_text.result (IsConverted c.args.conversion) (StandsInText c.args.conversion) (IsAccepted c.args.conversion) (is_short c.args.conversion) (text_memory c.args.conversion)
     c.args.input.now c.args.output.now shelf

@@ -1,5 +1,5 @@
 use Rattle.std.proofs.Common.{List, ℕ, Option, inl, inr, refl, subst, ◌∙◌}
-use Rattle.edge_io.specs.Shelf.{WhereTold, SameTold}
+use Rattle.edge_io.specs.Shelf.{Access, WhereTold, SameTold}
 use Rattle.command_edges.specs.Seen.{ShelfSeen, SinkSeen, shelf_seen, sink_seen}
 use Rattle.command_edges.proofs.Told.{IsTold, rose_earlier, AreRead, are_short}
 use Rattle.command_edges.proofs.Written.{Longer, err_is}
@@ -59,8 +59,8 @@ returns-clause-fault g c =
       after_same = λ name. refl;
       tells_same = refl;
       before_same = λ name. c.in_ok-lines.ensures.written name ∙ c.in_ok-net.ensures.written name;
-      rises = λ name rose. rose_earlier (g.S.Shelf.faults c.args.shelf.now name) (g.S.Shelf.faults c.read_text.new.shelf name) (g.S.Shelf.faults c.write_out.new.shelf name) (c.in_ok-net.ensures.later name)
-          (rose_earlier (g.S.Shelf.faults c.read_text.new.shelf name) (g.S.Shelf.faults c.read_text-2.new.shelf name) (g.S.Shelf.faults c.write_out.new.shelf name) (c.in_ok-lines.ensures.later name) rose);
+      rises = λ name rose. rose_earlier (g.S.Shelf.faults c.args.shelf.now Access.writing name) (g.S.Shelf.faults c.read_text.new.shelf Access.writing name) (g.S.Shelf.faults c.write_out.new.shelf Access.writing name) (c.in_ok-net.ensures.later Access.writing name)
+          (rose_earlier (g.S.Shelf.faults c.read_text.new.shelf Access.writing name) (g.S.Shelf.faults c.read_text-2.new.shelf Access.writing name) (g.S.Shelf.faults c.write_out.new.shelf Access.writing name) (c.in_ok-lines.ensures.later Access.writing name) rose);
     } in
     insert_fault c.write_out.result c.args.netlist.now c.args.plan.now c.args.outnet.now c.args.outbsdl.now shelf sink sink.given_after made.verilog made.bsdl made.report
     (are_inserted c.args.netlist.now c.args.plan.now shelf c.in_ok-net.net c.in_ok-lines.lines made.verilog made.bsdl made.report read c.in_ok-inserted.ensures.inserted)
