@@ -6,7 +6,7 @@ use Rattle.bsdl_lexicon.specs.Names.{is_same_name}
 use Rattle.bsdl_device.specs.declared.entries.PinEntry.{PinEntry}
 use Rattle.bsdl_device.specs.declared.entries.RowEntry.{RowEntry}
 use Rattle.bsdl_device.specs.Checks.{is_numbered}
-use Rattle.bsdl_checks.specs.declared.name_key.NameKey.{NameKey}
+use Rattle.bsdl_lexicon.specs.declared.name_key.NameKey.{NameKey}
 use Rattle.bsdl_checks.specs.NameTables.{names_in, under_name}
 use Rattle.bsdl_checks.proofs.Tables.{key_of, position-map, places_by_names, name-sym}
 use Rattle.bsdl_checks.specs.Tables.{FindsEntries, FindsRows}

@@ -13,7 +13,7 @@ use Rattle.bsdl_device.specs.declared.written.DeclaredPort.{DeclaredPort}
 use Rattle.bsdl_device.specs.declared.entries.PinEntry.{PinEntry}
 use Rattle.bsdl_device.specs.Ports.{place_named, port_names}
 use Rattle.bsdl_device.specs.Checks.{port_not_mapped_once}
-use Rattle.bsdl_checks.specs.declared.name_key.NameKey.{NameKey}
+use Rattle.bsdl_lexicon.specs.declared.name_key.NameKey.{NameKey}
 use Rattle.bsdl_checks.specs.declared.keys.Uses.{Uses}
 use Rattle.bsdl_checks.specs.Keys.{uses_for, is_once}
 use Rattle.bsdl_checks.specs.NameTables.{names_in, under_name, FindsPorts}

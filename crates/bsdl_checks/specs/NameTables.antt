@@ -4,7 +4,7 @@ use Rattle.std.specs.Map.{lookup}
 use Rattle.bsdl_lexicon.specs.Names.{is_same_name}
 use Rattle.bsdl_device.specs.declared.written.DeclaredPort.{DeclaredPort}
 use Rattle.bsdl_device.specs.Ports.{place_named}
-use Rattle.bsdl_checks.specs.declared.name_key.NameKey.{NameKey}
+use Rattle.bsdl_lexicon.specs.declared.name_key.NameKey.{NameKey}
 
 -- the names of keys
 abbrev pub names_in : List NameKey → List (List ℕ)

@@ -5,7 +5,7 @@ use Rattle.bsdl_lexicon.specs.Names.{is_same_name}
 use Rattle.bsdl_device.specs.declared.entries.PinEntry.{PinEntry}
 use Rattle.bsdl_device.specs.declared.entries.RowEntry.{RowEntry}
 use Rattle.bsdl_device.specs.Checks.{is_numbered}
-use Rattle.bsdl_checks.specs.declared.name_key.NameKey.{NameKey}
+use Rattle.bsdl_lexicon.specs.declared.name_key.NameKey.{NameKey}
 use Rattle.bsdl_checks.specs.NameTables.{under_name}
 
 -- the first entry of each port stands under it, by its place

@@ -7,11 +7,10 @@ ghost use Rattle.bsdl_device.specs.Checks as rule;
 ghost use Rattle.bsdl_checks.specs.NameTables.{names_in};
 
 use crate::instructions::instruction_named;
-use crate::name_key::NameKey;
 use crate::names::{extend_keys, is_repeated};
-use bsdl_device::{AccessEntry, Contents, OpcodeEntry, Register};
+use bsdl_device::{AccessEntry, Contents, OpcodeEntry, Register, selected_register};
+use bsdl_lexicon::NameKey;
 use bsdl_lexicon::names::same_name;
-use cell_library::Instr;
 use edge_io::OutOfMemory;
 use std::alloc::Global;
 
@@ -66,16 +65,6 @@ fn lacks_opcode(opcodes: &[OpcodeEntry], access: &[AccessEntry]) -> bool
     ensures { result ≡ list_any (rule.is_without_opcode opcodes.now) (rule.instructions_of access.now) }
 {
     some_lacks_opcode(opcodes, access)
-}
-
-fn selected_register(instruction: Instr) -> Register
-    ensures { result ≡ profile.selected_register instruction }
-{
-    match instruction {
-        Instr::Extest | Instr::Sample | Instr::Preload => Register::Boundary,
-        Instr::Bypass | Instr::Highz | Instr::Clamp => Register::Bypass,
-        Instr::Idcode => Register::DeviceId,
-    }
 }
 
 fn is_register(wanted: Register, register: Register) -> bool

@@ -6,8 +6,8 @@ ghost use Rattle.bsdl_device.specs.RowRules as row_rule;
 ghost use Rattle.bsdl_checks.specs.Bits.{bit_of_key, bits_in};
 
 use crate::keys::{Uses, comes_once, uses_of};
-use crate::name_key::NameKey;
 use bsdl_device::{PortBit, RowEntry};
+use bsdl_lexicon::NameKey;
 use edge_io::OutOfMemory;
 use indexmap::IndexMap;
 use std::alloc::Global;

@@ -5,9 +5,9 @@ ghost use Rattle.bsdl_device.specs.Instructions as profile;
 ghost use Rattle.bsdl_device.specs.Checks as rule;
 ghost use Rattle.bsdl_checks.specs.NameTables.{names_in};
 
-use crate::name_key::NameKey;
 use crate::names::is_repeated;
 use bsdl_device::{Contents, File, OpcodeEntry};
+use bsdl_lexicon::NameKey;
 use bsdl_lexicon::names::same_name;
 use bsdl_runs::numbers::is_ones;
 use cell_library::{Bits, Instr};

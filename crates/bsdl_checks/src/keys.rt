@@ -1,5 +1,5 @@
-// Lists of keys: whether one comes twice, where each first stands, and which come once.
-ghost use Rattle.std.specs.Prelude.{◌≡◌, IfOk, OnOk, position, count_by, if◌then◌else◌};
+// Lists of keys: whether one comes twice, and which come once.
+ghost use Rattle.std.specs.Prelude.{◌≡◌, IfOk, OnOk, count_by, if◌then◌else◌};
 ghost use Rattle.indexmap.specs.IndexMap.{get};
 ghost use Rattle.bsdl_device.specs.Checks.{any_pair};
 ghost use Rattle.bsdl_checks.specs.Keys.{is_once, once_more, uses_for};
@@ -30,20 +30,6 @@ pub fn comes_twice<K: Eq + Hash + Copy + Drop>(
         }
     }
     Ok(false)
-}
-
-/// The place where each key first stands.
-pub fn first_places<K: Eq + Hash + Copy + Drop>(
-    alloc: Global,
-    keys: &[K],
-) -> Result<IndexMap<K, usize>, OutOfMemory>
-    ensures { IfOk result (λ table. (k : K) → get K.eq table k ≡ position (K.eq k) keys.now) }
-{
-    let mut places = IndexMap::new(alloc);
-    for place in (0..keys.len()).rev() {
-        places.insert(keys[place], place)?;
-    }
-    Ok(places)
 }
 
 fn with_one_more(found: Option<Uses>) -> Uses

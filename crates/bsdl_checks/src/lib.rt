@@ -5,7 +5,6 @@
 
 // Names and numbers that come twice, and tables of ports.
 mod keys;
-mod name_key;
 mod names;
 mod port_table;
 

@@ -4,7 +4,7 @@ ghost use Rattle.bsdl_device.specs.Checks as rule;
 ghost use Rattle.bsdl_checks.specs.NameTables.{names_in};
 
 use crate::keys::comes_twice;
-use crate::name_key::NameKey;
+use bsdl_lexicon::NameKey;
 use edge_io::{OutOfMemory, Text};
 use std::alloc::Global;
 

@@ -7,11 +7,11 @@ ghost use Rattle.bsdl_checks.specs.Keys.{is_once};
 ghost use Rattle.bsdl_checks.specs.NameTables.{names_in, under_name};
 
 use crate::keys::{Uses, comes_once, uses_of};
-use crate::name_key::NameKey;
 use crate::names::{extend_keys, is_repeated};
 use crate::port_table::PortTable;
 use crate::ports::width;
 use bsdl_device::{Contents, DeclaredPort, File, MappedPins, PinEntry, PortRange};
+use bsdl_lexicon::NameKey;
 use edge_io::OutOfMemory;
 use indexmap::IndexMap;
 use std::alloc::Global;

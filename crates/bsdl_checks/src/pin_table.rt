@@ -3,11 +3,11 @@ ghost use Rattle.std.specs.Prelude.{◌≡◌, IfOk, find, position};
 ghost use Rattle.std.specs.Option.{option_copied};
 ghost use Rattle.bsdl_lexicon.specs.Names.{is_same_name};
 
-use crate::keys::first_places;
-use crate::name_key::NameKey;
 use crate::pin_map::mapped_ports;
 use bsdl_device::PinEntry;
+use bsdl_lexicon::NameKey;
 use edge_io::OutOfMemory;
+use first_faults::first_places;
 use indexmap::IndexMap;
 use std::alloc::Global;
 use std::marker::Model;

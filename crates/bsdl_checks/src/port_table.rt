@@ -4,10 +4,10 @@ ghost use Rattle.std.specs.Option.{option_copied};
 ghost use Rattle.bsdl_device.specs.Ports as declared;
 ghost use Rattle.bsdl_checks.specs.NameTables.{names_in};
 
-use crate::keys::first_places;
-use crate::name_key::NameKey;
 use bsdl_device::DeclaredPort;
+use bsdl_lexicon::NameKey;
 use edge_io::OutOfMemory;
+use first_faults::first_places;
 use indexmap::IndexMap;
 use std::alloc::Global;
 use std::marker::Model;

@@ -4,9 +4,9 @@ ghost use Rattle.std.specs.Option.{option_copied};
 ghost use Rattle.bsdl_device.specs.Checks as rule;
 
 use crate::boundary::row_numbers;
-use crate::keys::first_places;
 use bsdl_device::RowEntry;
 use edge_io::OutOfMemory;
+use first_faults::first_places;
 use indexmap::IndexMap;
 use std::alloc::Global;
 use std::marker::Model;

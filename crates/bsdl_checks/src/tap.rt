@@ -4,10 +4,10 @@ ghost use Rattle.bsdl_device.specs.Ports as declared;
 ghost use Rattle.bsdl_device.specs.Checks as rule;
 ghost use Rattle.bsdl_checks.specs.NameTables.{names_in};
 
-use crate::name_key::NameKey;
 use crate::names::is_repeated;
 use crate::port_table::PortTable;
 use bsdl_device::{File, PortMode, TapNames};
+use bsdl_lexicon::NameKey;
 use edge_io::OutOfMemory;
 use std::alloc::Global;
 

@@ -3,6 +3,7 @@
 // (specs/Words.antt); specs/Pieces.antt is the word grammar. IEEE Std 1149.1-2001, the annex on BSDL; VHDL-93, lexical elements.
 #![tactic(auto)]
 
+pub mod name_key;
 pub mod names;
 pub mod reader;
 pub mod reserved;
@@ -10,6 +11,7 @@ pub mod symbol;
 pub mod token;
 pub mod words;
 
+pub use name_key::NameKey;
 pub use names::same_name;
 pub use reader::BsdlReader;
 pub use reserved::is_reserved;

@@ -4,39 +4,10 @@ ghost use Rattle.bsdl_device.specs.Instructions as words;
 ghost use Rattle.bsdl_device.specs.Canonical as text_of;
 
 use crate::text::{put_all, put_attribute};
-use bsdl_device::Device;
+use bsdl_device::{Device, instruction_word, is_instruction};
 use bsdl_runs::written::{put_bits, put_number, put_pattern};
 use cell_library::{Instr, Opcode};
 use edge_io::{OutOfMemory, Text};
-
-fn instruction_word(instr: Instr) -> &'static [u8]
-    ensures { result.now ≡ words.instruction_word instr }
-{
-    match instr {
-        Instr::Bypass => b"BYPASS",
-        Instr::Extest => b"EXTEST",
-        Instr::Sample => b"SAMPLE",
-        Instr::Preload => b"PRELOAD",
-        Instr::Idcode => b"IDCODE",
-        Instr::Highz => b"HIGHZ",
-        Instr::Clamp => b"CLAMP",
-    }
-}
-
-fn is_instruction(a: Instr, b: Instr) -> bool
-    ensures { result ≡ words.is_instruction a b }
-{
-    matches!(
-        (a, b),
-        (Instr::Bypass, Instr::Bypass)
-            | (Instr::Extest, Instr::Extest)
-            | (Instr::Sample, Instr::Sample)
-            | (Instr::Preload, Instr::Preload)
-            | (Instr::Idcode, Instr::Idcode)
-            | (Instr::Highz, Instr::Highz)
-            | (Instr::Clamp, Instr::Clamp)
-    )
-}
 
 #[tactic(auto, unfolding(bsdl_device::specs::Canonical::opcode_text))]
 fn put_opcode(text: &mut Text, opcode: &Opcode) -> Result<(), OutOfMemory>

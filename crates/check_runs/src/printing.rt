@@ -1,11 +1,9 @@
 // The text of a check.
-ghost use Rattle.std.specs.Prelude.{◌≡◌, ◌++◌, ◌∷◌, [], map, IfOk, OnOk};
-ghost use Rattle.std.specs.Fmt.{decimal};
+ghost use Rattle.std.specs.Prelude.{◌≡◌, ◌++◌, IfOk, OnOk};
 ghost use Rattle.std.specs.List.{flat_map};
-ghost use Rattle.output_lines.specs.Lines.{blank_word, words_line};
 ghost use Rattle.scan_vectors.specs.Grammar.{pin_of};
 ghost use Rattle.event_scripts.specs.Scripts.{IsSpelled};
-ghost use Rattle.sim_runs.specs.Outputs.{done_line, missed_line, value_word};
+ghost use Rattle.sim_runs.specs.Outputs.{done_line, missed_line};
 ghost use Rattle.check_runs.specs.Checks.{check_text, miss_text};
 ghost use Rattle.check_runs.specs.Merges.{AreWithin, misses_behind, text_at};
 
@@ -13,37 +11,10 @@ use conformance_report::{Missed, Verdict};
 use edge_io::{OutOfMemory, Text};
 use event_scripts::parts_of;
 use itoa::Buffer;
+use output_lines::add_line;
 use scan_vectors::{Line, Lines};
-use signal_values::{PinSig, show};
+use signal_values::show;
 use std::alloc::Global;
-
-// A word behind a blank.
-fn put_word(text: &mut Text, word: &[u8]) -> Result<(), OutOfMemory>
-    ensures { OnOk result (text.new ≡ text.old ++ blank_word word.now) }
-{
-    text.append(b" ")?;
-    text.append(word)
-}
-
-// Words, each behind a blank.
-fn put_words(text: &mut Text, words: &[&[u8]]) -> Result<(), OutOfMemory>
-    ensures { OnOk result (text.new ≡ text.old ++ flat_map blank_word (map (λ w. w.now) words.now)) }
-{
-    for word in words {
-        put_word(text, word)?;
-    }
-    Ok(())
-}
-
-// A line of words.
-#[tactic(auto, unfolding(output_lines::specs::Lines::words_line))]
-fn put_line(text: &mut Text, first: &[u8], words: &[&[u8]]) -> Result<(), OutOfMemory>
-    ensures { OnOk result (text.new ≡ text.old ++ words_line first.now (map (λ w. w.now) words.now)) }
-{
-    text.append(first)?;
-    put_words(text, words)?;
-    text.append(b"\n")
-}
 
 // The line of an expectation that isn't met.
 fn put_miss(text: &mut Text, miss: &Missed, line: &Line) -> Result<(), OutOfMemory>
@@ -53,7 +24,7 @@ fn put_miss(text: &mut Text, miss: &Missed, line: &Line) -> Result<(), OutOfMemo
     let mut digits = Buffer::new();
     let number = digits.format(miss.line).as_bytes();
     let word = parts_of(line).word;
-    put_line(
+    add_line(
         text,
         b"missed",
         &[number, word, &[show(miss.want)], &[show(miss.got)]],
@@ -103,7 +74,7 @@ fn put_done(text: &mut Text, sets: u64, missed: usize) -> Result<(), OutOfMemory
     let mut missed_digits = Buffer::new();
     let sets_word = sets_digits.format(sets).as_bytes();
     let missed_word = missed_digits.format(missed).as_bytes();
-    put_line(text, b"done", &[sets_word, missed_word])
+    add_line(text, b"done", &[sets_word, missed_word])
 }
 
 /// The text of a verdict on the run of these lines.

@@ -10,11 +10,11 @@ ghost use Rattle.demo_chips.specs.Netlists.{demo_module};
 ghost use Rattle.demo_command.specs.Demonstrations.{CompletesDemo, IsDemonstrated, StandsInDemo};
 
 use crate::texts::{inserted_demo, line_text};
-use crate::writing::write_out;
 use command_faults::Fault;
 use edge_io::OutOfMemory;
 use edge_io::shelf::Shelf;
 use edge_io::sink::Sink;
+use insert_command::write_out;
 use std::alloc::Global;
 
 /// Demonstrates, where the netlist is one that some text spells and that can be linked.

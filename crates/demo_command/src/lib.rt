@@ -8,6 +8,5 @@ mod command;
 mod demonstrating;
 mod laws;
 mod texts;
-mod writing;
 
 pub use command::demo;

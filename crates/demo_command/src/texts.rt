@@ -1,5 +1,5 @@
 // From the number to the texts.
-ghost use Rattle.std.specs.Prelude.{◌≡◌, ◌<◌, ◌++◌, ◌∷◌, [], codes, IfErr, IfOk, OnOk};
+ghost use Rattle.std.specs.Prelude.{◌≡◌, ◌<◌, ◌++◌, IfErr, IfOk, OnOk};
 ghost use Rattle.std.specs.Fmt.{decimal};
 ghost use Rattle.verilog_tree.specs.Canonical.{canonical};
 ghost use Rattle.verilog_tree.specs.IsTree.{IsTree};
@@ -10,7 +10,6 @@ ghost use Rattle.insert_command.specs.InputFaults.{StandsInTexts};
 ghost use Rattle.insert_command.specs.Insertions.{IsInsertionText};
 ghost use Rattle.command_faults.specs.Statuses.{status_of};
 ghost use Rattle.command_faults.specs.declared.status.Status.{Status};
-ghost use Rattle.insert_command.specs.Faults.{fault_of};
 ghost use Rattle.demo_chips.specs.Netlists.{demo_module};
 ghost use Rattle.demo_chips.specs.Plans.{demo_plan};
 ghost use Rattle.demo_command.specs.Demonstrations.{IsDemo, demo_line};
@@ -21,25 +20,12 @@ use demo_chips::{demo_module, demo_plan};
 use demo_netlists::demo_has_its_cells;
 use demo_plans::{demo_chips_are_counted, demo_plan_is_spelled};
 use edge_io::{OutOfMemory, Text};
-use insert_command::{InsertFault, Inserted, free_texts_want_memory, insert_texts};
+use insert_command::{InsertFault, Inserted, fault_of, free_texts_want_memory, insert_texts};
 use itoa::Buffer;
+use output_lines::add_word;
 use plan_texts::print_plan;
 use std::alloc::Global;
 use verilog_printing::{canonical_texts_spell_their_trees, print_module};
-
-// The fault of a command, for one of inserting.
-fn fault_of<'a>(fault: InsertFault) -> Fault<'a>
-    ensures { result ≡ fault_of fault }
-{
-    match fault {
-        InsertFault::Netlist(fault) => Fault::Netlist(fault),
-        InsertFault::Link(fault) => Fault::Link(fault),
-        InsertFault::Plan(fault) => Fault::Plan(fault),
-        InsertFault::Fit(fault) => Fault::Fit(fault),
-        InsertFault::TooMany { what, count, limit } => Fault::TooMany { what, count, limit },
-        InsertFault::OutOfMemory => Fault::OutOfMemory,
-    }
-}
 
 // The canonical text of the netlist of a number.
 fn netlist_text(alloc: Global, number: u32) -> Result<Text, OutOfMemory>
@@ -94,20 +80,12 @@ pub fn inserted_demo<'a>(alloc: Global, number: u32) -> Result<Inserted, Fault<'
     }
 }
 
-// A word behind a blank.
-fn put_word(text: &mut Text, word: &[u8]) -> Result<(), OutOfMemory>
-    ensures { OnOk result (text.new ≡ text.old ++ blank_word word.now) }
-{
-    text.append(b" ")?;
-    text.append(word)
-}
-
 // A number's digits behind a blank.
 fn put_number(text: &mut Text, number: u32) -> Result<(), OutOfMemory>
     ensures { OnOk result (text.new ≡ text.old ++ blank_word (decimal number)) }
 {
     let mut digits = Buffer::new();
-    put_word(text, digits.format(number).as_bytes())
+    add_word(text, digits.format(number).as_bytes())
 }
 
 /// The line of a number.
@@ -118,9 +96,9 @@ pub fn line_text(alloc: Global, number: u32) -> Result<Text, OutOfMemory>
 {
     let mut text = Text::from_bytes(alloc, b"demo")?;
     put_number(&mut text, number)?;
-    put_word(&mut text, b"kept")?;
+    add_word(&mut text, b"kept")?;
     put_number(&mut text, 148 + 10 * number)?;
-    put_word(&mut text, b"boundary")?;
+    add_word(&mut text, b"boundary")?;
     put_number(&mut text, 35)?;
     text.append(b"\n")?;
     Ok(text)

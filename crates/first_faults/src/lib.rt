@@ -1,7 +1,9 @@
-// The first fault along a list, and the first name that came before.
+// The first fault along a list, the first name that came before, and the place where each key first stands.
 // Contracts cite specs/First.antt and specs/Repeated.antt.
 // Own: no chapter of a standard speaks of it.
 #![tactic(auto)]
+
+mod places;
 
 ghost use Rattle.std.specs.Prelude.{◌≡◌, ◌++◌, ◌∷◌, [], IfOk, not, if◌then◌else◌};
 ghost use Rattle.first_faults.specs.Repeated.{has_name, repeated, bytes_of, seen, texts};
@@ -9,6 +11,8 @@ ghost use Rattle.first_faults.specs.Repeated.{has_name, repeated, bytes_of, seen
 use edge_io::OutOfMemory;
 use indexmap::IndexSet;
 use std::alloc::Global;
+
+pub use places::first_places;
 
 // Notes a name, and says whether it is new.
 fn note<'a>(table: &mut IndexSet<&'a [u8]>, name: &'a [u8]) -> Result<bool, OutOfMemory>

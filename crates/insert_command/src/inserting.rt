@@ -3,50 +3,16 @@ ghost use Rattle.edge_io.specs.Shelf.{NoneFell, SameTold};
 ghost use Rattle.command_faults.specs.Statuses.{status_of};
 ghost use Rattle.command_faults.specs.declared.status.Status.{Status};
 ghost use Rattle.command_edges.specs.Seen.{shelf_seen, sink_seen};
-ghost use Rattle.insert_command.specs.Runs.{CompletesInsert, IsInserted, IsWrittenOut, StandsInInsert, StandsInWritings};
+ghost use Rattle.insert_command.specs.Runs.{CompletesInsert, IsInserted, StandsInInsert};
 
 use crate::laws::insertion_faults_stand_apart;
 use crate::texts::inserted;
-use command_edges::{put_text, read_text, write_text};
+use crate::writing::write_out;
+use command_edges::read_text;
 use command_faults::Fault;
 use edge_io::shelf::Shelf;
 use edge_io::sink::Sink;
-use insertions::Inserted;
 use std::alloc::Global;
-
-// Writes the netlist's text, then the device's, and puts the report.
-fn write_out<'a, S: Shelf, O: Sink>(
-    shelf: &mut S,
-    out: &mut O,
-    outnet: &'a str,
-    outbsdl: &'a str,
-    inserted: &Inserted,
-) -> Result<(), Fault<'a>>
-    requires apart { outbsdl.now ≢ outnet.now }
-    ensures done { OnOk result (IsWrittenOut outnet.now outbsdl.now inserted.now.verilog inserted.now.bsdl
-        inserted.now.report
-        (shelf_seen S.tells S.held S.written S.faults shelf.old shelf.new)
-        (sink_seen O.given O.faults out.old out.new)) }
-    ensures fault { IfErr result (λ fault. StandsInWritings outnet.now outbsdl.now
-        inserted.now.verilog inserted.now.bsdl inserted.now.report
-        (shelf_seen S.tells S.held S.written S.faults shelf.old shelf.new)
-        (sink_seen O.given O.faults out.old out.new) fault (O.given out.new)) }
-    ensures others { (name : List ℕ) → name ≢ outnet.now → name ≢ outbsdl.now
-        → S.written shelf.new name ≡ S.written shelf.old name }
-    ensures held { SameTold (S.held shelf.old) (S.held shelf.new) }
-    ensures later { NoneFell (S.faults shelf.old) (S.faults shelf.new) }
-    ensures puts_later { O.faults out.old ≤ O.faults out.new }
-{
-    match write_text(shelf, outnet, &inserted.verilog) {
-        Ok(()) => {}
-        Err(fault) => return Err(fault),
-    }
-    match write_text(shelf, outbsdl, &inserted.bsdl) {
-        Ok(()) => {}
-        Err(fault) => return Err(fault),
-    }
-    put_text(out, &inserted.report)
-}
 
 // Inserts, up to its fault.
 fn insert_files<'a, S: Shelf, O: Sink>(
@@ -76,7 +42,7 @@ fn insert_files<'a, S: Shelf, O: Sink>(
     let net = read_text(alloc, shelf, netlist)?;
     let lines = read_text(alloc, shelf, plan)?;
     let inserted = inserted(alloc, net, lines)?;
-    write_out(shelf, out, outnet, outbsdl, &inserted)
+    write_out(shelf, out, outnet, outbsdl, &inserted, &inserted.report)
 }
 
 /// Builds the test logic of the plan that lies under one name into the netlist that lies under another; writes the netlist's text

@@ -6,7 +6,10 @@
 mod inserting;
 mod laws;
 mod texts;
+mod writing;
 
 pub use inserting::insert;
 pub use insertions::{InsertFault, Inserted, insert_texts};
 pub use laws::free_texts_want_memory;
+pub use texts::fault_of;
+pub use writing::write_out;

@@ -8,8 +8,8 @@ use edge_io::text::Text;
 use insertions::{InsertFault, Inserted, insert_texts};
 use std::alloc::Global;
 
-// The fault of a command, for one of inserting.
-fn fault_of<'a>(fault: InsertFault) -> Fault<'a>
+/// The fault of a command, for one of inserting.
+pub fn fault_of<'a>(fault: InsertFault) -> Fault<'a>
     ensures { result ≡ fault_of fault }
 {
     match fault {

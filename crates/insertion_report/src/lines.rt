@@ -3,63 +3,21 @@ ghost use Rattle.std.specs.Prelude.{◌≡◌, ◌++◌, [], ◌∷◌, map, cod
 ghost use Rattle.std.specs.Fmt.{decimal};
 ghost use Rattle.std.specs.List.{flat_map};
 ghost use Rattle.output_lines.specs.Lines.{blank_word, words_line};
-ghost use Rattle.bsdl_device.specs.Instructions as words;
 ghost use Rattle.insertion_report.specs.Reports.{ident_words, name_of, register_words, report_of, size_words};
 
-use bsdl_device::Device;
-use cell_library::{Instr, Opcode};
+use bsdl_device::{Device, instruction_word};
+use cell_library::Opcode;
 use edge_io::{OutOfMemory, Text};
 use itoa::Buffer;
+use output_lines::{add_line, add_word};
 use std::alloc::Global;
-
-fn instruction_word(instruction: Instr) -> &'static [u8]
-    ensures { result.now ≡ words.instruction_word instruction }
-{
-    match instruction {
-        Instr::Bypass => b"BYPASS",
-        Instr::Extest => b"EXTEST",
-        Instr::Sample => b"SAMPLE",
-        Instr::Preload => b"PRELOAD",
-        Instr::Idcode => b"IDCODE",
-        Instr::Highz => b"HIGHZ",
-        Instr::Clamp => b"CLAMP",
-    }
-}
-
-// A word behind a blank.
-fn put_word(text: &mut Text, word: &[u8]) -> Result<(), OutOfMemory>
-    ensures { OnOk result (text.new ≡ text.old ++ blank_word word.now) }
-{
-    text.append(b" ")?;
-    text.append(word)
-}
-
-// Words, each behind a blank.
-fn put_words(text: &mut Text, words: &[&[u8]]) -> Result<(), OutOfMemory>
-    ensures { OnOk result (text.new ≡ text.old ++ flat_map blank_word (map (λ w. w.now) words.now)) }
-{
-    for word in words {
-        put_word(text, word)?;
-    }
-    Ok(())
-}
-
-// A line of words.
-#[tactic(auto, unfolding(output_lines::specs::Lines::words_line))]
-fn put_line(text: &mut Text, first: &[u8], words: &[&[u8]]) -> Result<(), OutOfMemory>
-    ensures { OnOk result (text.new ≡ text.old ++ words_line first.now (map (λ w. w.now) words.now)) }
-{
-    text.append(first)?;
-    put_words(text, words)?;
-    text.append(b"\n")
-}
 
 // A line of a word and a number.
 fn put_count(text: &mut Text, first: &[u8], count: u32) -> Result<(), OutOfMemory>
     ensures { OnOk result (text.new ≡ text.old ++ words_line first.now (decimal count ∷ [])) }
 {
     let mut digits = Buffer::new();
-    put_line(text, first, &[digits.format(count).as_bytes()])
+    add_line(text, first, &[digits.format(count).as_bytes()])
 }
 
 // The names of instructions, each behind a blank.
@@ -67,7 +25,7 @@ fn put_names(text: &mut Text, opcodes: &[Opcode]) -> Result<(), OutOfMemory>
     ensures { OnOk result (text.new ≡ text.old ++ flat_map blank_word (map name_of opcodes.now)) }
 {
     for opcode in opcodes {
-        put_word(text, instruction_word(opcode.instr))?;
+        add_word(text, instruction_word(opcode.instr))?;
     }
     Ok(())
 }
@@ -87,9 +45,9 @@ fn put_size(text: &mut Text, register: &[u8], bits: usize) -> Result<(), OutOfMe
     ensures { OnOk result (text.new ≡ text.old
         ++ (blank_word register.now ++ blank_word (decimal bits))) }
 {
-    put_word(text, register)?;
+    add_word(text, register)?;
     let mut digits = Buffer::new();
-    put_word(text, digits.format(bits).as_bytes())
+    add_word(text, digits.format(bits).as_bytes())
 }
 
 // The registers that each device has.
@@ -139,7 +97,7 @@ pub fn report_text(
     ensures { IfOk result (λ text. text ≡ report_of pins kept device.now) }
 {
     let mut text = Text::new(alloc);
-    put_line(&mut text, b"entity", &[device.entity.as_bytes()])?;
+    add_line(&mut text, b"entity", &[device.entity.as_bytes()])?;
     put_count(&mut text, b"pins", pins)?;
     put_count(&mut text, b"kept", kept)?;
     put_instructions(&mut text, device.opcodes.as_slice())?;

@@ -5,42 +5,15 @@ ghost use Rattle.netlist_model.specs.Lists.{cell_count};
 ghost use Rattle.netlist_model.specs.Contained.{IsDense};
 ghost use Rattle.netlist_model.specs.Below.{IsFeedBelow};
 ghost use Rattle.gate_parts.specs.Appended.{Appended};
-ghost use Rattle.bsdl_device.specs.Instructions as profile;
-ghost use Rattle.test_logic.specs.Instructions as definition;
 ghost use Rattle.instruction_register.specs.Register.{opcode_size, opcode_cells, opcode_told, opcodes_size, opcodes_cells, opcodes_told, AreToldBelow, matched_instructions};
 
-use cell_library::{Bits, Instr, Opcode};
+use cell_library::Instr;
 use gate_parts::{appended_count, appended_none};
 use instruction_gates::{Matched, add_match};
 use netlist_arena::Netlist;
 use netlist_model::{Feed, NetId};
 use register_gates::{added_in_turn, constants_are_bits, constants_of};
-use test_logic::Codes;
-
-fn is_instruction(a: Instr, b: Instr) -> bool
-    ensures { result ≡ profile.is_instruction a b }
-{
-    matches!(
-        (a, b),
-        (Instr::Bypass, Instr::Bypass)
-            | (Instr::Extest, Instr::Extest)
-            | (Instr::Sample, Instr::Sample)
-            | (Instr::Preload, Instr::Preload)
-            | (Instr::Idcode, Instr::Idcode)
-            | (Instr::Highz, Instr::Highz)
-            | (Instr::Clamp, Instr::Clamp)
-    )
-}
-
-// The opcode of an instruction, where it has one.
-fn opcode_of(opcodes: &[Opcode], instruction: Instr) -> Option<Bits>
-    ensures { result ≡ definition.opcode_of opcodes.now instruction }
-{
-    opcodes
-        .iter()
-        .find(|opcode| is_instruction(instruction, opcode.instr))
-        .map(|opcode| opcode.bits)
-}
+use test_logic::{Codes, opcode_of};
 
 // Adds what tells whether an instruction's opcode is latched, and answers it; 0 where the instruction has none.
 fn add_opcode(netlist: &mut Netlist, latches: NetId, codes: &Codes, instruction: Instr) -> Feed

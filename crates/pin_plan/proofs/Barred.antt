@@ -12,7 +12,7 @@ use Rattle.netlist_link.specs.Linked.{LinkedView}
 use Rattle.plan_fitting.specs.Names.{port_names, net_names, cell_names}
 use Rattle.plan_fitting.specs.Fits.{is_barred, barred_after, begun_fault, names_of, tap_lines, unit_names, name_fault, prefix_fault}
 use Rattle.pin_plan.specs.Names.{own_names, name_fault_among, prefix_fault_among}
-use Rattle.pin_plan.specs.declared.name_key.NameKey.{NameKey}
+use Rattle.bsdl_lexicon.specs.declared.name_key.NameKey.{NameKey}
 use Rattle.pin_plan.specs.Keys.{names_in}
 use Rattle.pin_plan.proofs.Lists.{list_any-map, first_in-append}
 

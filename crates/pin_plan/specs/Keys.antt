@@ -7,7 +7,7 @@ use Rattle.netlist_model.specs.declared.Feed.TheVariants.{Net, Const}
 use Rattle.plan_fitting.specs.declared.fitted.FitRow.{FitRow}
 use Rattle.plan_fitting.specs.Pins.{PinSeen, same_bit}
 use Rattle.plan_fitting.specs.Rows.{Driver, controls, same_bool}
-use Rattle.pin_plan.specs.declared.name_key.NameKey.{NameKey}
+use Rattle.bsdl_lexicon.specs.declared.name_key.NameKey.{NameKey}
 use Rattle.pin_plan.specs.declared.keys.BitKey.{BitKey}
 use Rattle.pin_plan.specs.declared.keys.OperandKey.{OperandKey}
 use Rattle.pin_plan.specs.declared.keys.OperandKey.TheVariants as operand

@@ -5,8 +5,8 @@ ghost use Rattle.pin_plan.specs.Keys.{key_of_bit, keys_of_pins};
 
 use crate::keys::BitKey;
 use crate::pins::PinAt;
-use crate::places::first_places;
 use edge_io::OutOfMemory;
+use first_faults::first_places;
 use indexmap::IndexMap;
 use netlist_model::PinBit;
 use std::alloc::Global;

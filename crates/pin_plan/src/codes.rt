@@ -2,40 +2,14 @@
 ghost use Rattle.std.specs.Prelude.{◌≡◌, IfOk};
 ghost use Rattle.plan_fitting.specs.Devices as devices;
 ghost use Rattle.plan_fitting.specs.Rows as boundary;
-ghost use Rattle.test_logic.specs.Instructions as definition;
-ghost use Rattle.bsdl_device.specs.Instructions as profile;
 
 use crate::copies::opcodes_copy;
+use bsdl_device::is_instruction;
 use cell_library::{Bits, Instr, Opcode};
 use edge_io::OutOfMemory;
 use plan_texts::Plan;
 use std::alloc::Global;
-use test_logic::Codes;
-
-fn is_instruction(first: Instr, second: Instr) -> bool
-    ensures { result ≡ profile.is_instruction first second }
-{
-    matches!(
-        (first, second),
-        (Instr::Bypass, Instr::Bypass)
-            | (Instr::Extest, Instr::Extest)
-            | (Instr::Sample, Instr::Sample)
-            | (Instr::Preload, Instr::Preload)
-            | (Instr::Idcode, Instr::Idcode)
-            | (Instr::Highz, Instr::Highz)
-            | (Instr::Clamp, Instr::Clamp)
-    )
-}
-
-// The opcode of an instruction, where it has one.
-fn opcode_of(opcodes: &[Opcode], instruction: Instr) -> Option<Bits>
-    ensures { result ≡ definition.opcode_of opcodes.now instruction }
-{
-    opcodes
-        .iter()
-        .find(|opcode| is_instruction(instruction, opcode.instr))
-        .map(|opcode| opcode.bits)
-}
+use test_logic::{Codes, opcode_of};
 
 /// Whether the plan has HIGHZ.
 pub fn has_highz(opcodes: &[Opcode]) -> bool

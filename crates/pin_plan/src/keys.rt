@@ -1,5 +1,5 @@
 // What tables are searched for.
-use crate::name_key::NameKey;
+use bsdl_lexicon::NameKey;
 
 /// A bit of a port.
 #[derive(Clone, Copy, PartialEq, Eq, Hash)]

@@ -7,10 +7,8 @@
 mod bits;
 mod drivers;
 mod keys;
-mod name_key;
 mod netlist_names;
 mod pins;
-mod places;
 
 // The faults by their kinds.
 mod cells;

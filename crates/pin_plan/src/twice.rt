@@ -6,8 +6,8 @@ ghost use Rattle.pin_plan.specs.Taken.{key_of_taken, taken_view};
 
 use crate::bits::bit_key;
 use crate::keys::TakenKey;
-use crate::name_key::NameKey;
 use crate::pins::PinAt;
+use bsdl_lexicon::NameKey;
 use edge_io::{OutOfMemory, Text};
 use indexmap::IndexSet;
 use netlist_model::PinBit;

@@ -2,11 +2,10 @@
 
 ghost use Rattle.std.specs.Prelude.{◌≡◌, ◌++◌, IfOk, OnOk};
 ghost use Rattle.std.specs.List.{flat_map};
-ghost use Rattle.bsdl_device.specs.Instructions as instructions;
 ghost use Rattle.scan_programs.specs.Scans as scans;
 
-use bsdl_device::{Device, Register};
-use cell_library::{Bits, Instr, Opcode};
+use bsdl_device::{Device, Register, selected_register};
+use cell_library::{Bits, Opcode};
 use edge_io::OutOfMemory;
 use std::alloc::Global;
 
@@ -81,16 +80,6 @@ fn alternating(alloc: Global, count: usize, first: bool) -> Result<Vec<bool>, Ou
         next = !next;
     }
     Ok(bits)
-}
-
-fn selected_register(instruction: Instr) -> Register
-    ensures { result ≡ instructions.selected_register instruction }
-{
-    match instruction {
-        Instr::Extest | Instr::Sample | Instr::Preload => Register::Boundary,
-        Instr::Bypass | Instr::Highz | Instr::Clamp => Register::Bypass,
-        Instr::Idcode => Register::DeviceId,
-    }
 }
 
 fn register_length(device: &Device, register: Register) -> usize

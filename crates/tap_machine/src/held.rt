@@ -8,8 +8,8 @@ ghost use Rattle.tap_machine.specs.Views.{IsLogic, IsHeld, logic_of, holds_of, l
 use crate::controller::{act, clear, first_bit, ir_action, state_after, tdo_after};
 use crate::data_registers::{DataRegisters, update};
 use crate::logic::Logic;
-use crate::opcodes::{instruction_of, selected_register};
-use bsdl_device::Register;
+use crate::opcodes::instruction_of;
+use bsdl_device::{Register, selected_register};
 use cell_library::{Instr, Opcode};
 use edge_io::OutOfMemory;
 use signal_values::{PinSig, Sig};

@@ -1,42 +1,14 @@
 // The opcodes of a device, and the instruction that each names.
 
 ghost use Rattle.std.specs.Prelude.{◌≡◌, IfOk};
-ghost use Rattle.bsdl_device.specs.Instructions as profile;
 ghost use Rattle.test_logic.specs.Instructions as definition;
 
 use crate::patterns::{are_bits, pattern};
-use bsdl_device::Register;
-use cell_library::{Bits, Instr, Opcode};
+use cell_library::{Instr, Opcode};
 use edge_io::OutOfMemory;
 use signal_values::Sig;
 use std::alloc::Global;
-use test_logic::Mode;
-
-fn is_instruction(a: Instr, b: Instr) -> bool
-    ensures { result ≡ profile.is_instruction a b }
-{
-    matches!(
-        (a, b),
-        (Instr::Bypass, Instr::Bypass)
-            | (Instr::Extest, Instr::Extest)
-            | (Instr::Sample, Instr::Sample)
-            | (Instr::Preload, Instr::Preload)
-            | (Instr::Idcode, Instr::Idcode)
-            | (Instr::Highz, Instr::Highz)
-            | (Instr::Clamp, Instr::Clamp)
-    )
-}
-
-/// The register that an instruction selects.
-pub fn selected_register(instruction: Instr) -> Register
-    ensures { result ≡ profile.selected_register instruction }
-{
-    match instruction {
-        Instr::Extest | Instr::Sample | Instr::Preload => Register::Boundary,
-        Instr::Bypass | Instr::Highz | Instr::Clamp => Register::Bypass,
-        Instr::Idcode => Register::DeviceId,
-    }
-}
+use test_logic::{Mode, opcode_of};
 
 /// What an instruction makes of the boundary cells.
 pub fn mode_of(instruction: Instr) -> Mode
@@ -52,15 +24,6 @@ pub fn mode_of(instruction: Instr) -> Mode
         m_in: takes_updates,
         hiz,
     }
-}
-
-fn opcode_of(opcodes: &[Opcode], instruction: Instr) -> Option<Bits>
-    ensures { result ≡ definition.opcode_of opcodes.now instruction }
-{
-    opcodes
-        .iter()
-        .find(|opcode| is_instruction(instruction, opcode.instr))
-        .map(|opcode| opcode.bits)
 }
 
 fn names(opcodes: &[Opcode], latched: &[Sig], instruction: Instr) -> bool

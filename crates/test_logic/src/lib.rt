@@ -3,6 +3,8 @@
 // IEEE Std 1149.1-2001: test logic architecture, TAP controller, instruction register, test data registers, boundary-scan register.
 #![tactic(auto)]
 
+mod opcodes;
+
 ghost use Rattle.test_logic.specs.Laws.{ResetIsAtOnce, TdoMovesOnTheFall, FiveOnesReset};
 ghost use Rattle.test_logic.specs.Order.{CellsKeepOrder, StepsKeepOrder};
 
@@ -10,6 +12,8 @@ use cell_library::{Bits, Opcode};
 use edge_io::Row;
 use netlist_model::NetId;
 use signal_values::operations_keep_order;
+
+pub use opcodes::opcode_of;
 
 /// A state of the TAP controller.
 #[derive(Clone, Copy)]

@@ -1,6 +1,6 @@
 use Rattle.std.proofs.Common.{List, count_by, ◌∙◌, ap}
 use Rattle.bsdl_lexicon.specs.Names.{is_same_name}
-use Rattle.bsdl_checks.specs.declared.name_key.NameKey.{NameKey}
+use Rattle.bsdl_lexicon.specs.declared.name_key.NameKey.{NameKey}
 use Rattle.bsdl_checks.specs.Keys.{uses_for}
 use Rattle.bsdl_checks.proofs.Tables.{all_mapped_once}
 use Rattle.bsdl_checks.proofs.pin_map.port_not_mapped_once.Goals as goal

@@ -1,7 +1,7 @@
 use Rattle.std.proofs.Common.{◌≡◌, ℕ, ◌∙◌, drop, ap, sym, arith}
 use Rattle.std.specs.List.{position_from}
 use Rattle.std.proofs.lemmas.Iterator.Adapters.{position_from-zero}
-use Rattle.pin_plan.proofs.places.first_places.Goals as goal
+use Rattle.first_faults.proofs.places.first_places.Goals as goal
 
 pub returns : goal.returns
 returns g c = λ k.

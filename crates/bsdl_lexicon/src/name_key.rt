@@ -7,11 +7,11 @@ ghost use Rattle.std.specs.Cmp.Rules.{comparing, hashing};
 ghost use Rattle.std.specs.Ordering.{on};
 ghost use Rattle.bsdl_lexicon.specs.Names as spelled;
 
-use bsdl_lexicon::names::{lower, same_name};
+use crate::names::{lower, same_name};
 use std::hash::{Hash, Hasher};
 
 /// A name: two that differ only in the case of letters are one key.
-#[derive(Clone, Copy)]
+#[derive(Clone, Copy, Debug)]
 pub struct NameKey<'a>(pub &'a [u8]);
 
 impl<'a> PartialEq for NameKey<'a> {

@@ -1,4 +1,4 @@
-// Writing what comes of a demonstration.
+// Writing what comes of inserting.
 ghost use Rattle.std.specs.Prelude.{◌≡◌, ◌≢◌, ◌≤◌, ℕ, List, IfErr, OnOk};
 ghost use Rattle.edge_io.specs.Shelf.{NoneFell, SameTold};
 ghost use Rattle.command_edges.specs.Seen.{shelf_seen, sink_seen};
@@ -9,7 +9,7 @@ use command_faults::Fault;
 use edge_io::Text;
 use edge_io::shelf::Shelf;
 use edge_io::sink::Sink;
-use insert_command::Inserted;
+use insertions::Inserted;
 
 /// Writes the netlist's text, then the device's, and puts the line.
 pub fn write_out<'a, S: Shelf, O: Sink>(
