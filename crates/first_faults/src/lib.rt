@@ -10,9 +10,8 @@ ghost use Rattle.first_faults.specs.Repeated.{has_name, repeated, bytes_of, seen
 
 use edge_io::OutOfMemory;
 use indexmap::IndexSet;
-use std::alloc::Global;
-
 pub use places::first_places;
+use std::alloc::Global;
 
 // Notes a name, and says whether it is new.
 fn note<'a>(table: &mut IndexSet<&'a [u8]>, name: &'a [u8]) -> Result<bool, OutOfMemory>

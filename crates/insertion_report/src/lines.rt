@@ -9,7 +9,7 @@ use bsdl_device::{Device, instruction_word};
 use cell_library::Opcode;
 use edge_io::{OutOfMemory, Text};
 use itoa::Buffer;
-use output_lines::{add_line, add_word};
+use output_lines::{add_line, add_word, add_words};
 use std::alloc::Global;
 
 // A line of a word and a number.
@@ -64,7 +64,7 @@ fn put_ident(text: &mut Text, code: Option<u32>) -> Result<(), OutOfMemory>
     ensures { OnOk result (text.new ≡ text.old ++ flat_map blank_word (ident_words code)) }
 {
     match code {
-        Some(_) => put_words(text, &[b"DEVICE_ID", b"32"]),
+        Some(_) => add_words(text, &[b"DEVICE_ID", b"32"]),
         None => Ok(()),
     }
 }

@@ -9,4 +9,4 @@ mod text;
 
 pub use field::Field;
 pub use put::{put_line, put_numbers, put_pieces};
-pub use text::{add_line, add_word};
+pub use text::{add_line, add_word, add_words};

@@ -13,8 +13,8 @@ pub fn add_word(text: &mut Text, word: &[u8]) -> Result<(), OutOfMemory>
     text.append(word)
 }
 
-// Adds words, each behind a blank.
-fn add_words(text: &mut Text, words: &[&[u8]]) -> Result<(), OutOfMemory>
+/// Adds words, each behind a blank.
+pub fn add_words(text: &mut Text, words: &[&[u8]]) -> Result<(), OutOfMemory>
     ensures { OnOk result (text.new ≡ text.old ++ flat_map blank_word (map (λ w. w.now) words.now)) }
 {
     for word in words {

@@ -7,8 +7,7 @@ ghost use Rattle.plan_fitting.specs.Fits as fits;
 ghost use Rattle.pin_plan.specs.Keys.{names_in};
 ghost use Rattle.pin_plan.specs.Names.{name_fault_among};
 
-use bsdl_lexicon::NameKey;
-use bsdl_lexicon::is_reserved;
+use bsdl_lexicon::{NameKey, is_reserved};
 use bsdl_runs::runs::is_identifier;
 use edge_io::{OutOfMemory, Text};
 use indexmap::IndexSet;
