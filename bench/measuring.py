@@ -4,6 +4,9 @@ import os, subprocess, sys, time
 TOP = os.path.dirname(os.path.dirname(os.path.abspath(__file__)))
 PROGRAM = os.path.join(TOP, "crates/lavkhind/out/lavkhind")
 RUNS = 5
+# Programs run in the C locale, and with the memory that the script `lavkhind` asks for.
+TUNABLES = "glibc.malloc.hugetlb=1:glibc.malloc.mmap_threshold=131072"
+AROUND = {**os.environ, "LC_ALL": "C", "GLIBC_TUNABLES": TUNABLES}
 # The pins of the pseudo-random netlists, with their cells.
 DEMO_PINS = [("clk", "BC_4"), ("rn", "BC_4")] + [(f"{port}[{i}]", "BC_1") for port in "dq" for i in range(16)]
 
@@ -83,7 +86,7 @@ def run(words, runs=RUNS):
     best, peak = None, 0
     for _ in range(runs):
         start = time.perf_counter()
-        process = subprocess.Popen(words, stdout=subprocess.DEVNULL, env={**os.environ, "LC_ALL": "C"})
+        process = subprocess.Popen(words, stdout=subprocess.DEVNULL, env=AROUND)
         _, status, usage = os.wait4(process.pid, 0)
         spent = time.perf_counter() - start
         if status != 0:
