@@ -1,11 +1,14 @@
 """What the benchmarks share: netlists, plans, and runs that are timed."""
-import os, subprocess, sys, time
+import os, re, subprocess, sys, time
 
 TOP = os.path.dirname(os.path.dirname(os.path.abspath(__file__)))
 PROGRAM = os.path.join(TOP, "crates/lavkhind/out/lavkhind")
 RUNS = 5
-# Programs run in the C locale, and with the memory that the script `lavkhind` asks for.
-TUNABLES = "glibc.malloc.hugetlb=1:glibc.malloc.mmap_threshold=131072"
+
+with open(os.path.join(TOP, "lavkhind")) as script:
+    # The tunables of the C library with which the script runs the program.
+    TUNABLES = re.search(r'GLIBC_TUNABLES="([^$]*)\$', script.read()).group(1)
+# Programs run in the C locale, and with the memory that the script asks for.
 AROUND = {**os.environ, "LC_ALL": "C", "GLIBC_TUNABLES": TUNABLES}
 # The pins of the pseudo-random netlists, with their cells.
 DEMO_PINS = [("clk", "BC_4"), ("rn", "BC_4")] + [(f"{port}[{i}]", "BC_1") for port in "dq" for i in range(16)]
