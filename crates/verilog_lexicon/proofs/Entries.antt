@@ -1,7 +1,6 @@
 use Rattle.std.proofs.Common.{◌≡◌, ℕ, ◌+◌, ◌≤◌, List, [], ◌∷◌, ◌++◌, length, take, drop, slice_get, Option, Some, None, suc, zero, refl, sym, ap, subst, ◌∙◌, arith, length-append, length-drop}
 use Rattle.std.proofs.lemmas.List.{take-append-le, drop-append-le}
-use Rattle.std.proofs.lemmas.Option.{same_Some, slice_get-map}
-use Rattle.std.specs.Option.{option_map}
+use Rattle.std.proofs.lemmas.Option.{same_Some}
 use Rattle.verilog_lexicon.specs.declared.word.Word.{Word}
 use Rattle.verilog_lexicon.specs.declared.word.Word.TheVariants as word
 use Rattle.verilog_lexicon.specs.declared.word.Spanned.{Spanned}
@@ -80,16 +79,3 @@ at_none of names es found end k text is same none =
 pub kept_found : (names text : List ℕ) (es found : List Entry) (k : ℕ) (e : Entry) → AreKept names es → found ≡ es → Some e ≡ slice_get found k → text ≡ names → ends_at e.mark ≤ length text
 kept_found names text es found k e are same there is =
     subst (λ (l : List ℕ). ends_at e.mark ≤ length l) (sym is) (kept_at names es k e are (there ∙ ap (λ (l : List Entry). slice_get l k) same))
-
-pub word_some : (names text : List ℕ) (es found : List Entry) (end k : ℕ) (now : WordText) (e : Entry) (s : Spanned) → record { list = list_of names es; end = end } ≡ now → found ≡ es → Some e ≡ slice_get found k → text ≡ names → s ≡ spanned_of text e → Some s ≡ slice_get now.list k
-word_some names text es found end k now e s is same there names_are gives =
-    ap Some (gives ∙ ap (λ (l : List ℕ). spanned_of l e) names_are)
-    ∙ ap (option_map (spanned_of names)) (there ∙ ap (λ (l : List Entry). slice_get l k) same)
-    ∙ sym (slice_get-map (spanned_of names) es k)
-    ∙ ap (λ (t : WordText). slice_get t.list k) is
-
-pub word_none : (names : List ℕ) (es found : List Entry) (end k : ℕ) (now : WordText) → record { list = list_of names es; end = end } ≡ now → found ≡ es → None ≡ slice_get found k → None ≡ slice_get now.list k
-word_none names es found end k now is same none =
-    ap (option_map (spanned_of names)) (none ∙ ap (λ (l : List Entry). slice_get l k) same)
-    ∙ sym (slice_get-map (spanned_of names) es k)
-    ∙ ap (λ (t : WordText). slice_get t.list k) is

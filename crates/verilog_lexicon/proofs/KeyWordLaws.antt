@@ -1,16 +1,16 @@
-use Rattle.std.proofs.Common.{◌≡◌, ◌↔◌, ◌<◌, ◌≤◌, ℕ, List, [], ◌∷◌, Option, Some, None, Bool, true, false, cond, length, get_or, refl, sym, ap, subst, ◌∙◌, arith}
-use Rattle.std.specs.Prelude.{nat_lt, nat_le}
+use Rattle.std.proofs.Common.{◌≡◌, ◌↔◌, ◌<◌, ◌≤◌, ℕ, List, [], ◌∷◌, Option, Some, None, true, length, get_or, refl, sym, ap, subst, ◌∙◌, arith}
+use Rattle.std.specs.Prelude.{nat_le}
 use Rattle.std.specs.Str.{bytes_eq}
 use Rattle.std.proofs.lemmas.Slice.Eq.{bytes_eq-Decides}
-use Rattle.std.proofs.lemmas.Option.{same_Some}
 use Rattle.std.proofs.lemmas.Bool.{leb-true}
+use Rattle.list_laws.proofs.Options.{found}
 use Rattle.verilog_lexicon.specs.declared.reserved.Reserved.{Reserved}
 use Rattle.verilog_lexicon.specs.declared.reserved.Reserved.TheVariants as key
-use Rattle.verilog_lexicon.specs.Keywords.{spelling_of, reserved_of, reserved_from, from_a_to_b, from_c_to_d, from_e, from_f_to_h, from_i_to_l, from_m_to_o, from_p, from_r, from_s, from_t, from_u_to_x}
+use Rattle.verilog_lexicon.specs.Keywords.{spelling_of, reserved_of, words_with}
 
 -- each reserved word is found by its spelling
 pub reserved_of-spelling_of : (r : Reserved) → reserved_of (spelling_of r) ≡ Some r
-unfolding reserved_of spelling_of from_a_to_b from_c_to_d from_e from_f_to_h from_i_to_l from_m_to_o from_p from_r from_s from_t from_u_to_x
+unfolding reserved_of spelling_of
 reserved_of-spelling_of key.Always = refl
 reserved_of-spelling_of key.And = refl
 reserved_of-spelling_of key.Assign = refl
@@ -135,121 +135,12 @@ reserved_of-spelling_of key.Wor = refl
 reserved_of-spelling_of key.Xnor = refl
 reserved_of-spelling_of key.Xor = refl
 
--- what is found among some reserved words is spelled by the bytes
-abbrev FindsSpelled : List ℕ → Option Reserved → Type 0
-FindsSpelled bytes found = (r : Reserved) → found ≡ Some r → bytes ≡ spelling_of r
-
-none_found : (bytes : List ℕ) → FindsSpelled bytes None
-none_found bytes r is = cc
-
-if_found : (bytes : List ℕ) (b : Bool) (k : Reserved) {others : Option Reserved} → (b ≡ true → bytes ≡ spelling_of k) → FindsSpelled bytes others → FindsSpelled bytes (cond b (Some k) others)
-if_found bytes true k here behind r is = here refl ∙ ap spelling_of (same_Some k r is)
-if_found bytes false k here behind r is = behind r is
-
-or_found : (bytes : List ℕ) (k : Reserved) {others : Option Reserved} → FindsSpelled bytes others → FindsSpelled bytes (cond (bytes_eq bytes (spelling_of k)) (Some k) others)
-or_found bytes k behind = if_found bytes (bytes_eq bytes (spelling_of k)) k (bytes_eq-Decides bytes (spelling_of k)).0 behind
-
-from_a_to_b-found : (bytes : List ℕ) → FindsSpelled bytes (from_a_to_b bytes)
-unfolding from_a_to_b spelling_of
-from_a_to_b-found bytes =
-    or_found bytes key.Always (or_found bytes key.And (or_found bytes key.Assign (or_found bytes key.Automatic
-    (or_found bytes key.Begin (or_found bytes key.Buf (or_found bytes key.Bufif0 (or_found bytes key.Bufif1 (none_found bytes))))))))
-
-from_c_to_d-found : (bytes : List ℕ) → FindsSpelled bytes (from_c_to_d bytes)
-unfolding from_c_to_d spelling_of
-from_c_to_d-found bytes =
-    or_found bytes key.Case (or_found bytes key.Casex (or_found bytes key.Casez (or_found bytes key.Cell
-    (or_found bytes key.Cmos (or_found bytes key.Config (or_found bytes key.Deassign (or_found bytes key.Default
-    (or_found bytes key.Defparam (or_found bytes key.Design (or_found bytes key.Disable (none_found bytes)))))))))))
-
-from_e-found : (bytes : List ℕ) → FindsSpelled bytes (from_e bytes)
-unfolding from_e spelling_of
-from_e-found bytes =
-    or_found bytes key.Edge (or_found bytes key.Else (or_found bytes key.End (or_found bytes key.Endcase
-    (or_found bytes key.Endconfig (or_found bytes key.Endfunction (or_found bytes key.Endgenerate (or_found bytes key.Endmodule
-    (or_found bytes key.Endprimitive (or_found bytes key.Endspecify (or_found bytes key.Endtable (or_found bytes key.Endtask
-    (or_found bytes key.Event (none_found bytes)))))))))))))
-
-from_f_to_h-found : (bytes : List ℕ) → FindsSpelled bytes (from_f_to_h bytes)
-unfolding from_f_to_h spelling_of
-from_f_to_h-found bytes =
-    or_found bytes key.For (or_found bytes key.Force (or_found bytes key.Forever (or_found bytes key.Fork
-    (or_found bytes key.Function (or_found bytes key.Generate (or_found bytes key.Genvar (or_found bytes key.Highz0
-    (or_found bytes key.Highz1 (none_found bytes)))))))))
-
-from_i_to_l-found : (bytes : List ℕ) → FindsSpelled bytes (from_i_to_l bytes)
-unfolding from_i_to_l spelling_of
-from_i_to_l-found bytes =
-    or_found bytes key.If (or_found bytes key.Ifnone (or_found bytes key.Incdir (or_found bytes key.Include
-    (or_found bytes key.Initial (or_found bytes key.Inout (or_found bytes key.Input (or_found bytes key.Instance
-    (or_found bytes key.Integer (or_found bytes key.Join (or_found bytes key.Large (or_found bytes key.Liblist
-    (or_found bytes key.Library (or_found bytes key.Localparam (none_found bytes))))))))))))))
-
-from_m_to_o-found : (bytes : List ℕ) → FindsSpelled bytes (from_m_to_o bytes)
-unfolding from_m_to_o spelling_of
-from_m_to_o-found bytes =
-    or_found bytes key.Macromodule (or_found bytes key.Medium (or_found bytes key.Module (or_found bytes key.Nand
-    (or_found bytes key.Negedge (or_found bytes key.Nmos (or_found bytes key.Nor (or_found bytes key.Noshowcancelled
-    (or_found bytes key.Not (or_found bytes key.Notif0 (or_found bytes key.Notif1 (or_found bytes key.Or
-    (or_found bytes key.Output (none_found bytes)))))))))))))
-
-from_p-found : (bytes : List ℕ) → FindsSpelled bytes (from_p bytes)
-unfolding from_p spelling_of
-from_p-found bytes =
-    or_found bytes key.Parameter (or_found bytes key.Pmos (or_found bytes key.Posedge (or_found bytes key.Primitive
-    (or_found bytes key.Pull0 (or_found bytes key.Pull1 (or_found bytes key.Pulldown (or_found bytes key.Pullup
-    (or_found bytes key.PulsestyleOndetect (or_found bytes key.PulsestyleOnevent (none_found bytes))))))))))
-
-from_r-found : (bytes : List ℕ) → FindsSpelled bytes (from_r bytes)
-unfolding from_r spelling_of
-from_r-found bytes =
-    or_found bytes key.Rcmos (or_found bytes key.Real (or_found bytes key.Realtime (or_found bytes key.Reg
-    (or_found bytes key.Release (or_found bytes key.Repeat (or_found bytes key.Rnmos (or_found bytes key.Rpmos
-    (or_found bytes key.Rtran (or_found bytes key.Rtranif0 (or_found bytes key.Rtranif1 (none_found bytes)))))))))))
-
-from_s-found : (bytes : List ℕ) → FindsSpelled bytes (from_s bytes)
-unfolding from_s spelling_of
-from_s-found bytes =
-    or_found bytes key.Scalared (or_found bytes key.Showcancelled (or_found bytes key.Signed (or_found bytes key.Small
-    (or_found bytes key.Specify (or_found bytes key.Specparam (or_found bytes key.Strong0 (or_found bytes key.Strong1
-    (or_found bytes key.Supply0 (or_found bytes key.Supply1 (none_found bytes))))))))))
-
-from_t-found : (bytes : List ℕ) → FindsSpelled bytes (from_t bytes)
-unfolding from_t spelling_of
-from_t-found bytes =
-    or_found bytes key.Table (or_found bytes key.Task (or_found bytes key.Time (or_found bytes key.Tran
-    (or_found bytes key.Tranif0 (or_found bytes key.Tranif1 (or_found bytes key.Tri (or_found bytes key.Tri0
-    (or_found bytes key.Tri1 (or_found bytes key.Triand (or_found bytes key.Trior (or_found bytes key.Trireg (none_found bytes))))))))))))
-
-from_u_to_x-found : (bytes : List ℕ) → FindsSpelled bytes (from_u_to_x bytes)
-unfolding from_u_to_x spelling_of
-from_u_to_x-found bytes =
-    or_found bytes key.Unsigned (or_found bytes key.Use (or_found bytes key.Vectored (or_found bytes key.Wait
-    (or_found bytes key.Wand (or_found bytes key.Weak0 (or_found bytes key.Weak1 (or_found bytes key.While
-    (or_found bytes key.Wire (or_found bytes key.Wor (or_found bytes key.Xnor (or_found bytes key.Xor (none_found bytes))))))))))))
-
-or_here : (b : Bool) (bytes : List ℕ) {here others : Option Reserved} → FindsSpelled bytes here → FindsSpelled bytes others → FindsSpelled bytes (cond b here others)
-or_here true bytes found behind = found
-or_here false bytes found behind = behind
-
-reserved_from-found : (first : ℕ) (bytes : List ℕ) → FindsSpelled bytes (reserved_from first bytes)
-reserved_from-found first bytes =
-    or_here (nat_lt first 97) bytes (none_found bytes) (
-    or_here (nat_lt first 99) bytes (from_a_to_b-found bytes) (
-    or_here (nat_lt first 101) bytes (from_c_to_d-found bytes) (
-    or_here (nat_lt first 102) bytes (from_e-found bytes) (
-    or_here (nat_lt first 105) bytes (from_f_to_h-found bytes) (
-    or_here (nat_lt first 109) bytes (from_i_to_l-found bytes) (
-    or_here (nat_lt first 112) bytes (from_m_to_o-found bytes) (
-    or_here (nat_lt first 113) bytes (from_p-found bytes) (
-    or_here (nat_lt first 115) bytes (from_r-found bytes) (
-    or_here (nat_lt first 116) bytes (from_s-found bytes) (
-    or_here (nat_lt first 117) bytes (from_t-found bytes) (from_u_to_x-found bytes)))))))))))
-
-reserved_of-found : (bytes : List ℕ) → FindsSpelled bytes (reserved_of bytes)
+-- what is found is spelled by the bytes
+reserved_of-found : (bytes : List ℕ) (r : Reserved) → reserved_of bytes ≡ Some r → bytes ≡ spelling_of r
 unfolding reserved_of
-reserved_of-found [] = none_found []
-reserved_of-found (first ∷ bytes) = reserved_from-found first (first ∷ bytes)
+reserved_of-found [] r is = absurd (cc)
+reserved_of-found (first ∷ bytes) r is =
+    (bytes_eq-Decides (first ∷ bytes) (spelling_of r)).0 (found (λ r. bytes_eq (first ∷ bytes) (spelling_of r)) (words_with first) r is)
 
 -- a reserved word is found for its own bytes, and for no others
 pub found_by_bytes : (bytes : List ℕ) (r : Reserved) → (reserved_of bytes ≡ Some r) ↔ (bytes ≡ spelling_of r)

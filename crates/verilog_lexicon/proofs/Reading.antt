@@ -1,5 +1,5 @@
-use Rattle.std.proofs.Common.{◌≡◌, ℕ, ◌+◌, List, [], ◌∷◌, length, drop, Option, Some, None, refl, ap, ◌∙◌, true, false, Bool, cond, ◌==◌, sym}
-use Rattle.std.specs.Option.{is_some, option_eq}
+use Rattle.std.proofs.Common.{◌≡◌, ℕ, ◌+◌, List, [], ◌∷◌, length, drop, Some, None, refl, ap, ◌∙◌, true, false, Bool, cond, ◌==◌, sym}
+use Rattle.std.specs.Option.{is_some}
 use Rattle.std.proofs.lemmas.List.{length-map, drop-drop}
 use Rattle.verilog_lexicon.specs.declared.word.Word.{Word}
 use Rattle.verilog_lexicon.specs.declared.word.Word.TheVariants as word
@@ -38,8 +38,3 @@ front-symbol_in-none (word.Reserved key ∷ words) wanted none = refl
 front-symbol_in-none (word.Number value ∷ words) wanted none = refl
 front-symbol_in-none (word.Const value ∷ words) wanted none = refl
 front-symbol_in-none (word.Symbol symbol ∷ words) wanted none = cc
-
--- what a comparison with a wanted value says
-pub option_eq_some : {X : Type 0} (eq : X → X → Bool) → ((a b : X) → eq a b ≡ true → a ≡ b) → (o : Option X) (wanted : X) → option_eq eq o (Some wanted) ≡ true → o ≡ Some wanted
-option_eq_some eq exact None wanted is = cc
-option_eq_some eq exact (Some x) wanted is = ap (λ y. Some y) (exact x wanted is)

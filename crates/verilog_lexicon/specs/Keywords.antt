@@ -1,4 +1,5 @@
-use Rattle.std.specs.Prelude.{ℕ, List, [], ◌∷◌, Option, Some, None, if◌then◌else◌, codes, nat_lt}
+use Rattle.std.specs.Prelude.{ℕ, List, [], ◌∷◌, Option, None, if◌then◌else◌, codes, ◌==◌}
+use Rattle.std.specs.List.{find}
 use Rattle.std.specs.Option.{option_map_or}
 use Rattle.std.specs.Str.{bytes_eq}
 use Rattle.verilog_lexicon.specs.declared.word.Word.{Word}
@@ -132,192 +133,118 @@ spelling_of key.Wor = codes "wor"
 spelling_of key.Xnor = codes "xnor"
 spelling_of key.Xor = codes "xor"
 
--- the reserved word that begins with a to b and has these bytes
-unfoldable pub from_a_to_b : List ℕ → Option Reserved
-from_a_to_b bytes =
-    if bytes_eq bytes (codes "always") then Some key.Always else
-    if bytes_eq bytes (codes "and") then Some key.And else
-    if bytes_eq bytes (codes "assign") then Some key.Assign else
-    if bytes_eq bytes (codes "automatic") then Some key.Automatic else
-    if bytes_eq bytes (codes "begin") then Some key.Begin else
-    if bytes_eq bytes (codes "buf") then Some key.Buf else
-    if bytes_eq bytes (codes "bufif0") then Some key.Bufif0 else
-    if bytes_eq bytes (codes "bufif1") then Some key.Bufif1 else None
+-- The reserved words, by their first letter (IEEE Std 1364-2001, the annex on key words).
 
--- the reserved word that begins with c to d and has these bytes
-unfoldable pub from_c_to_d : List ℕ → Option Reserved
-from_c_to_d bytes =
-    if bytes_eq bytes (codes "case") then Some key.Case else
-    if bytes_eq bytes (codes "casex") then Some key.Casex else
-    if bytes_eq bytes (codes "casez") then Some key.Casez else
-    if bytes_eq bytes (codes "cell") then Some key.Cell else
-    if bytes_eq bytes (codes "cmos") then Some key.Cmos else
-    if bytes_eq bytes (codes "config") then Some key.Config else
-    if bytes_eq bytes (codes "deassign") then Some key.Deassign else
-    if bytes_eq bytes (codes "default") then Some key.Default else
-    if bytes_eq bytes (codes "defparam") then Some key.Defparam else
-    if bytes_eq bytes (codes "design") then Some key.Design else
-    if bytes_eq bytes (codes "disable") then Some key.Disable else None
+abbrev pub with_a : List Reserved
+with_a = key.Always ∷ key.And ∷ key.Assign ∷ key.Automatic ∷ []
 
--- the reserved word that begins with e and has these bytes
-unfoldable pub from_e : List ℕ → Option Reserved
-from_e bytes =
-    if bytes_eq bytes (codes "edge") then Some key.Edge else
-    if bytes_eq bytes (codes "else") then Some key.Else else
-    if bytes_eq bytes (codes "end") then Some key.End else
-    if bytes_eq bytes (codes "endcase") then Some key.Endcase else
-    if bytes_eq bytes (codes "endconfig") then Some key.Endconfig else
-    if bytes_eq bytes (codes "endfunction") then Some key.Endfunction else
-    if bytes_eq bytes (codes "endgenerate") then Some key.Endgenerate else
-    if bytes_eq bytes (codes "endmodule") then Some key.Endmodule else
-    if bytes_eq bytes (codes "endprimitive") then Some key.Endprimitive else
-    if bytes_eq bytes (codes "endspecify") then Some key.Endspecify else
-    if bytes_eq bytes (codes "endtable") then Some key.Endtable else
-    if bytes_eq bytes (codes "endtask") then Some key.Endtask else
-    if bytes_eq bytes (codes "event") then Some key.Event else None
+abbrev pub with_b : List Reserved
+with_b = key.Begin ∷ key.Buf ∷ key.Bufif0 ∷ key.Bufif1 ∷ []
 
--- the reserved word that begins with f to h and has these bytes
-unfoldable pub from_f_to_h : List ℕ → Option Reserved
-from_f_to_h bytes =
-    if bytes_eq bytes (codes "for") then Some key.For else
-    if bytes_eq bytes (codes "force") then Some key.Force else
-    if bytes_eq bytes (codes "forever") then Some key.Forever else
-    if bytes_eq bytes (codes "fork") then Some key.Fork else
-    if bytes_eq bytes (codes "function") then Some key.Function else
-    if bytes_eq bytes (codes "generate") then Some key.Generate else
-    if bytes_eq bytes (codes "genvar") then Some key.Genvar else
-    if bytes_eq bytes (codes "highz0") then Some key.Highz0 else
-    if bytes_eq bytes (codes "highz1") then Some key.Highz1 else None
+abbrev pub with_c : List Reserved
+with_c = key.Case ∷ key.Casex ∷ key.Casez ∷ key.Cell ∷ key.Cmos ∷ key.Config ∷ []
 
--- the reserved word that begins with i to l and has these bytes
-unfoldable pub from_i_to_l : List ℕ → Option Reserved
-from_i_to_l bytes =
-    if bytes_eq bytes (codes "if") then Some key.If else
-    if bytes_eq bytes (codes "ifnone") then Some key.Ifnone else
-    if bytes_eq bytes (codes "incdir") then Some key.Incdir else
-    if bytes_eq bytes (codes "include") then Some key.Include else
-    if bytes_eq bytes (codes "initial") then Some key.Initial else
-    if bytes_eq bytes (codes "inout") then Some key.Inout else
-    if bytes_eq bytes (codes "input") then Some key.Input else
-    if bytes_eq bytes (codes "instance") then Some key.Instance else
-    if bytes_eq bytes (codes "integer") then Some key.Integer else
-    if bytes_eq bytes (codes "join") then Some key.Join else
-    if bytes_eq bytes (codes "large") then Some key.Large else
-    if bytes_eq bytes (codes "liblist") then Some key.Liblist else
-    if bytes_eq bytes (codes "library") then Some key.Library else
-    if bytes_eq bytes (codes "localparam") then Some key.Localparam else None
+abbrev pub with_d : List Reserved
+with_d = key.Deassign ∷ key.Default ∷ key.Defparam ∷ key.Design ∷ key.Disable ∷ []
 
--- the reserved word that begins with m to o and has these bytes
-unfoldable pub from_m_to_o : List ℕ → Option Reserved
-from_m_to_o bytes =
-    if bytes_eq bytes (codes "macromodule") then Some key.Macromodule else
-    if bytes_eq bytes (codes "medium") then Some key.Medium else
-    if bytes_eq bytes (codes "module") then Some key.Module else
-    if bytes_eq bytes (codes "nand") then Some key.Nand else
-    if bytes_eq bytes (codes "negedge") then Some key.Negedge else
-    if bytes_eq bytes (codes "nmos") then Some key.Nmos else
-    if bytes_eq bytes (codes "nor") then Some key.Nor else
-    if bytes_eq bytes (codes "noshowcancelled") then Some key.Noshowcancelled else
-    if bytes_eq bytes (codes "not") then Some key.Not else
-    if bytes_eq bytes (codes "notif0") then Some key.Notif0 else
-    if bytes_eq bytes (codes "notif1") then Some key.Notif1 else
-    if bytes_eq bytes (codes "or") then Some key.Or else
-    if bytes_eq bytes (codes "output") then Some key.Output else None
+abbrev pub with_e : List Reserved
+with_e =
+    key.Edge ∷ key.Else ∷ key.End ∷ key.Endcase ∷ key.Endconfig ∷ key.Endfunction ∷ key.Endgenerate ∷ key.Endmodule ∷
+    key.Endprimitive ∷ key.Endspecify ∷ key.Endtable ∷ key.Endtask ∷ key.Event ∷ []
 
--- the reserved word that begins with p and has these bytes
-unfoldable pub from_p : List ℕ → Option Reserved
-from_p bytes =
-    if bytes_eq bytes (codes "parameter") then Some key.Parameter else
-    if bytes_eq bytes (codes "pmos") then Some key.Pmos else
-    if bytes_eq bytes (codes "posedge") then Some key.Posedge else
-    if bytes_eq bytes (codes "primitive") then Some key.Primitive else
-    if bytes_eq bytes (codes "pull0") then Some key.Pull0 else
-    if bytes_eq bytes (codes "pull1") then Some key.Pull1 else
-    if bytes_eq bytes (codes "pulldown") then Some key.Pulldown else
-    if bytes_eq bytes (codes "pullup") then Some key.Pullup else
-    if bytes_eq bytes (codes "pulsestyle_ondetect") then Some key.PulsestyleOndetect else
-    if bytes_eq bytes (codes "pulsestyle_onevent") then Some key.PulsestyleOnevent else None
+abbrev pub with_f : List Reserved
+with_f = key.For ∷ key.Force ∷ key.Forever ∷ key.Fork ∷ key.Function ∷ []
 
--- the reserved word that begins with r and has these bytes
-unfoldable pub from_r : List ℕ → Option Reserved
-from_r bytes =
-    if bytes_eq bytes (codes "rcmos") then Some key.Rcmos else
-    if bytes_eq bytes (codes "real") then Some key.Real else
-    if bytes_eq bytes (codes "realtime") then Some key.Realtime else
-    if bytes_eq bytes (codes "reg") then Some key.Reg else
-    if bytes_eq bytes (codes "release") then Some key.Release else
-    if bytes_eq bytes (codes "repeat") then Some key.Repeat else
-    if bytes_eq bytes (codes "rnmos") then Some key.Rnmos else
-    if bytes_eq bytes (codes "rpmos") then Some key.Rpmos else
-    if bytes_eq bytes (codes "rtran") then Some key.Rtran else
-    if bytes_eq bytes (codes "rtranif0") then Some key.Rtranif0 else
-    if bytes_eq bytes (codes "rtranif1") then Some key.Rtranif1 else None
+abbrev pub with_g : List Reserved
+with_g = key.Generate ∷ key.Genvar ∷ []
 
--- the reserved word that begins with s and has these bytes
-unfoldable pub from_s : List ℕ → Option Reserved
-from_s bytes =
-    if bytes_eq bytes (codes "scalared") then Some key.Scalared else
-    if bytes_eq bytes (codes "showcancelled") then Some key.Showcancelled else
-    if bytes_eq bytes (codes "signed") then Some key.Signed else
-    if bytes_eq bytes (codes "small") then Some key.Small else
-    if bytes_eq bytes (codes "specify") then Some key.Specify else
-    if bytes_eq bytes (codes "specparam") then Some key.Specparam else
-    if bytes_eq bytes (codes "strong0") then Some key.Strong0 else
-    if bytes_eq bytes (codes "strong1") then Some key.Strong1 else
-    if bytes_eq bytes (codes "supply0") then Some key.Supply0 else
-    if bytes_eq bytes (codes "supply1") then Some key.Supply1 else None
+abbrev pub with_h : List Reserved
+with_h = key.Highz0 ∷ key.Highz1 ∷ []
 
--- the reserved word that begins with t and has these bytes
-unfoldable pub from_t : List ℕ → Option Reserved
-from_t bytes =
-    if bytes_eq bytes (codes "table") then Some key.Table else
-    if bytes_eq bytes (codes "task") then Some key.Task else
-    if bytes_eq bytes (codes "time") then Some key.Time else
-    if bytes_eq bytes (codes "tran") then Some key.Tran else
-    if bytes_eq bytes (codes "tranif0") then Some key.Tranif0 else
-    if bytes_eq bytes (codes "tranif1") then Some key.Tranif1 else
-    if bytes_eq bytes (codes "tri") then Some key.Tri else
-    if bytes_eq bytes (codes "tri0") then Some key.Tri0 else
-    if bytes_eq bytes (codes "tri1") then Some key.Tri1 else
-    if bytes_eq bytes (codes "triand") then Some key.Triand else
-    if bytes_eq bytes (codes "trior") then Some key.Trior else
-    if bytes_eq bytes (codes "trireg") then Some key.Trireg else None
+abbrev pub with_i : List Reserved
+with_i = key.If ∷ key.Ifnone ∷ key.Incdir ∷ key.Include ∷ key.Initial ∷ key.Inout ∷ key.Input ∷ key.Instance ∷ key.Integer ∷ []
 
--- the reserved word that begins with u to x and has these bytes
-unfoldable pub from_u_to_x : List ℕ → Option Reserved
-from_u_to_x bytes =
-    if bytes_eq bytes (codes "unsigned") then Some key.Unsigned else
-    if bytes_eq bytes (codes "use") then Some key.Use else
-    if bytes_eq bytes (codes "vectored") then Some key.Vectored else
-    if bytes_eq bytes (codes "wait") then Some key.Wait else
-    if bytes_eq bytes (codes "wand") then Some key.Wand else
-    if bytes_eq bytes (codes "weak0") then Some key.Weak0 else
-    if bytes_eq bytes (codes "weak1") then Some key.Weak1 else
-    if bytes_eq bytes (codes "while") then Some key.While else
-    if bytes_eq bytes (codes "wire") then Some key.Wire else
-    if bytes_eq bytes (codes "wor") then Some key.Wor else
-    if bytes_eq bytes (codes "xnor") then Some key.Xnor else
-    if bytes_eq bytes (codes "xor") then Some key.Xor else None
+abbrev pub with_j : List Reserved
+with_j = key.Join ∷ []
 
--- the reserved word with these bytes, of which this is the first
-abbrev pub reserved_from : ℕ → List ℕ → Option Reserved
-reserved_from first bytes =
-    if nat_lt first 97 then None else
-    if nat_lt first 99 then from_a_to_b bytes else
-    if nat_lt first 101 then from_c_to_d bytes else
-    if nat_lt first 102 then from_e bytes else
-    if nat_lt first 105 then from_f_to_h bytes else
-    if nat_lt first 109 then from_i_to_l bytes else
-    if nat_lt first 112 then from_m_to_o bytes else
-    if nat_lt first 113 then from_p bytes else
-    if nat_lt first 115 then from_r bytes else
-    if nat_lt first 116 then from_s bytes else
-    if nat_lt first 117 then from_t bytes else from_u_to_x bytes
+abbrev pub with_l : List Reserved
+with_l = key.Large ∷ key.Liblist ∷ key.Library ∷ key.Localparam ∷ []
+
+abbrev pub with_m : List Reserved
+with_m = key.Macromodule ∷ key.Medium ∷ key.Module ∷ []
+
+abbrev pub with_n : List Reserved
+with_n = key.Nand ∷ key.Negedge ∷ key.Nmos ∷ key.Nor ∷ key.Noshowcancelled ∷ key.Not ∷ key.Notif0 ∷ key.Notif1 ∷ []
+
+abbrev pub with_o : List Reserved
+with_o = key.Or ∷ key.Output ∷ []
+
+abbrev pub with_p : List Reserved
+with_p =
+    key.Parameter ∷ key.Pmos ∷ key.Posedge ∷ key.Primitive ∷ key.Pull0 ∷ key.Pull1 ∷ key.Pulldown ∷ key.Pullup ∷
+    key.PulsestyleOndetect ∷ key.PulsestyleOnevent ∷ []
+
+abbrev pub with_r : List Reserved
+with_r =
+    key.Rcmos ∷ key.Real ∷ key.Realtime ∷ key.Reg ∷ key.Release ∷ key.Repeat ∷ key.Rnmos ∷ key.Rpmos ∷ key.Rtran ∷
+    key.Rtranif0 ∷ key.Rtranif1 ∷ []
+
+abbrev pub with_s : List Reserved
+with_s =
+    key.Scalared ∷ key.Showcancelled ∷ key.Signed ∷ key.Small ∷ key.Specify ∷ key.Specparam ∷ key.Strong0 ∷
+    key.Strong1 ∷ key.Supply0 ∷ key.Supply1 ∷ []
+
+abbrev pub with_t : List Reserved
+with_t =
+    key.Table ∷ key.Task ∷ key.Time ∷ key.Tran ∷ key.Tranif0 ∷ key.Tranif1 ∷ key.Tri ∷ key.Tri0 ∷ key.Tri1 ∷
+    key.Triand ∷ key.Trior ∷ key.Trireg ∷ []
+
+abbrev pub with_u : List Reserved
+with_u = key.Unsigned ∷ key.Use ∷ []
+
+abbrev pub with_v : List Reserved
+with_v = key.Vectored ∷ []
+
+abbrev pub with_w : List Reserved
+with_w = key.Wait ∷ key.Wand ∷ key.Weak0 ∷ key.Weak1 ∷ key.While ∷ key.Wire ∷ key.Wor ∷ []
+
+abbrev pub with_x : List Reserved
+with_x = key.Xnor ∷ key.Xor ∷ []
+
+-- those that begin with this byte
+abbrev pub words_with : ℕ → List Reserved
+words_with first =
+    if first == 97 then with_a else
+    if first == 98 then with_b else
+    if first == 99 then with_c else
+    if first == 100 then with_d else
+    if first == 101 then with_e else
+    if first == 102 then with_f else
+    if first == 103 then with_g else
+    if first == 104 then with_h else
+    if first == 105 then with_i else
+    if first == 106 then with_j else
+    if first == 108 then with_l else
+    if first == 109 then with_m else
+    if first == 110 then with_n else
+    if first == 111 then with_o else
+    if first == 112 then with_p else
+    if first == 114 then with_r else
+    if first == 115 then with_s else
+    if first == 116 then with_t else
+    if first == 117 then with_u else
+    if first == 118 then with_v else
+    if first == 119 then with_w else
+    if first == 120 then with_x else []
+
+-- the one of these words that has these bytes
+abbrev pub spelled_by : List ℕ → List Reserved → Option Reserved
+spelled_by bytes words = find (λ r. bytes_eq bytes (spelling_of r)) words
 
 -- the reserved word with these bytes
 unfoldable pub reserved_of : List ℕ → Option Reserved
 reserved_of [] = None
-reserved_of (first ∷ bytes) = reserved_from first (first ∷ bytes)
+reserved_of (first ∷ bytes) = spelled_by (first ∷ bytes) (words_with first)
 
 -- the word that a simple name's bytes are
 unfoldable pub name_word : List ℕ → Word

@@ -1,4 +1,4 @@
-ghost use Rattle.std.specs.Prelude.{◌≡◌, ◌↔◌, ◌<◌, ◌≤◌, List, drop, length, Some, IsTrue, if◌then◌else◌};
+ghost use Rattle.std.specs.Prelude.{◌≡◌, ◌↔◌, ◌<◌, ◌≤◌, List, drop, length, IsTrue};
 ghost use Rattle.std.specs.Option.{is_some, option_copied};
 ghost use Rattle.verilog_lexicon.specs.Words.{plain, front, rest, rest_if, name_in, reserved_in, number_in, const_in, symbol_in};
 ghost use Rattle.verilog_lexicon.specs.declared.word.Word.{Word};
@@ -101,18 +101,6 @@ impl<'a> WordReader<'a> {
         ensures rest { self.new ≡ rest_if (front (symbol_in wanted) self.old) self.old }
     {
         let found = self.peek_symbol(wanted);
-        if found {
-            self.advance();
-        }
-        found
-    }
-
-    /// Takes the next word where it is this reserved word, and says whether it was.
-    pub fn take_reserved(&mut self, wanted: Reserved) -> bool
-        ensures taken { IsTrue result ↔ (front reserved_in self.old ≡ Some wanted) }
-        ensures rest { self.new ≡ (if result then rest self.old else self.old) }
-    {
-        let found = self.peek_reserved() == Some(wanted);
         if found {
             self.advance();
         }

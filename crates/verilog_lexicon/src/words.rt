@@ -2,14 +2,14 @@ ghost use Rattle.std.specs.Prelude.{◌≡◌, ℕ, ◌+◌, ◌^◌, ◌<◌, �
 ghost use Rattle.std.specs.Option.{option_copied};
 ghost use Rattle.verilog_lexicon.specs.Keywords.{name_word};
 ghost use Rattle.verilog_lexicon.specs.Words.{WordText, with_word, spanned, place_in, plain, front, name_in, reserved_in, number_in, const_in, symbol_of};
-ghost use Rattle.verilog_lexicon.specs.Entries.{word_of, len_of, spanned_of, list_of, ends_at, AreKept};
+ghost use Rattle.verilog_lexicon.specs.Entries.{word_of, len_of, list_of, ends_at, AreKept};
 ghost use Rattle.verilog_lexicon.specs.declared.words.Entry.{Entry};
+ghost use Rattle.verilog_lexicon.specs.declared.word.Word.{Word};
 
 use crate::keywords::reserved_of;
 use crate::reserved::Reserved;
 use crate::symbol::Symbol;
-use crate::word::{Spanned, Word};
-use edge_io::{OutOfMemory, Text};
+use edge_io::OutOfMemory;
 use std::alloc::Global;
 use std::marker::Model;
 use std::mem::size_of;
@@ -176,31 +176,6 @@ fn push_bytes(names: &mut Vec<u8>, name: &[u8]) -> Result<u32, OutOfMemory>
     Ok(from)
 }
 
-fn copy_of(alloc: Global, names: &[u8], entry: Entry) -> Result<Spanned, OutOfMemory>
-    requires { ends_at entry.mark ≤ length names.now }
-    ensures { IfOk result (λ w. w ≡ spanned_of names.now entry) }
-{
-    let (word, len) = match entry.mark {
-        Mark::Reserved { len, word } => (Word::Reserved(word), u32::from(len)),
-        Mark::Number { len, value } => (Word::Number(value), u32::from(len)),
-        Mark::Const(value) => (Word::Const(value), 4),
-        Mark::Symbol(symbol) => (Word::Symbol(symbol), 1),
-        Mark::Name { from, count } => {
-            let name = Text::from_bytes(alloc, part_of(names, from, count))?;
-            (Word::Name(name), u32::from(count))
-        }
-        Mark::EscapedName { from, count } => {
-            let name = Text::from_bytes(alloc, part_of(names, from, count))?;
-            (Word::Name(name), u32::from(count) + 2)
-        }
-    };
-    Ok(Spanned {
-        word,
-        at: u64::from(entry.at),
-        len,
-    })
-}
-
 impl Words {
     /// No words of an empty text; it takes no memory.
     pub fn new(alloc: Global) -> Words
@@ -353,16 +328,6 @@ impl Words {
         match entry_at(self.entries.as_slice(), number) {
             Some(entry) => name_of(self.names.as_slice(), entry.mark),
             None => None,
-        }
-    }
-
-    /// The word of this number, copied.
-    pub fn get(&self, alloc: Global, number: usize) -> Result<Option<Spanned>, OutOfMemory>
-        ensures { IfOk result (λ w. w ≡ slice_get self.now.list number) }
-    {
-        match entry_at(self.entries.as_slice(), number) {
-            Some(entry) => Ok(Some(copy_of(alloc, self.names.as_slice(), entry)?)),
-            None => Ok(None),
         }
     }
 }
