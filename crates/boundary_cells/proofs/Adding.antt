@@ -1,30 +1,20 @@
 -- A table of gates is added, and then a cell on a net that was there.
-use Rattle.std.proofs.Common.{◌≡◌, ℕ, suc, ◌+◌, ◌≤◌, ◌<◌, List, [], ◌∷◌, ◌++◌, length, refl, ap, ◌∙◌, arith}
-use Rattle.std.proofs.lemmas.List.Elements.{All-nil, All-cons, All-weaker}
+use Rattle.std.proofs.Common.{◌≡◌, ℕ, ◌+◌, ◌≤◌, ◌<◌, List, [], ◌∷◌, ◌++◌, length, ap, ◌∙◌, arith}
+use Rattle.std.proofs.lemmas.List.Elements.{All-weaker}
 use Rattle.netlist_model.specs.declared.Feed.{Feed}
 use Rattle.netlist_model.specs.declared.Feed.TheVariants.{Net, Const}
 use Rattle.netlist_model.specs.Lists.{CellView, cell_count}
 use Rattle.netlist_model.specs.Below.{IsFeedBelow, AreFeedsBelow}
 use Rattle.netlist_arena.specs.Arena.{ArenaView}
-use Rattle.gate_parts.specs.declared.Gate.{Gate}
-use Rattle.gate_parts.specs.Parts.{cells_from}
 use Rattle.gate_parts.specs.Appended.{Appended}
 use Rattle.gate_parts.specs.Laws.{AppendedMore}
 
-feed_more : (n m : ℕ) → n ≤ m → (feed : Feed) → IsFeedBelow n feed → IsFeedBelow m feed
+pub feed_more : (n m : ℕ) → n ≤ m → (feed : Feed) → IsFeedBelow n feed → IsFeedBelow m feed
 feed_more n m more (Net net) below = let b : net.0 < n = below in let r : net.0 < m = omega arith in r
 feed_more n m more (Const b) below = tt
 
 pub feeds_more : (n m : ℕ) → n ≤ m → (feeds : List Feed) → AreFeedsBelow n feeds → AreFeedsBelow m feeds
 feeds_more n m more feeds below = All-weaker (IsFeedBelow n) (IsFeedBelow m) (feed_more n m more) feeds below
-
-pub three_below : (nets : ℕ) (a b c : Feed) → IsFeedBelow nets a → IsFeedBelow nets b → IsFeedBelow nets c → AreFeedsBelow nets (a ∷ b ∷ c ∷ [])
-three_below nets a b c x y z =
-    All-cons (IsFeedBelow nets) a (b ∷ c ∷ []) x (All-cons (IsFeedBelow nets) b (c ∷ []) y (All-cons (IsFeedBelow nets) c [] z (All-nil (IsFeedBelow nets))))
-
-pub part_length : (first : ℕ) (given : List Feed) (number net : ℕ) (gates : List Gate) → length (cells_from first given number net gates) ≡ length gates
-part_length first given number net [] = refl
-part_length first given number net (g ∷ gates) = ap (λ (n : ℕ). suc n) (part_length first given (suc number) (suc net) gates)
 
 -- what is added, and then one cell, which has the next number
 pub joined : AppendedMore → (old middle new : ArenaView) (count n : ℕ) (part : List CellView) (cell : ℕ → CellView) → length part ≡ n → Appended old middle count part

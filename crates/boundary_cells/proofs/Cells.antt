@@ -2,6 +2,7 @@
 use Rattle.std.proofs.Common.{◌≡◌, ℕ, ◌+◌, false, List, [], ◌∷◌, length, refl, sym}
 use Rattle.signal_values.specs.declared.Sig.{Sig}
 use Rattle.signal_values.specs.Values.{see, sig_mux}
+use Rattle.signal_values.proofs.Laws.{mux-bit}
 use Rattle.cell_library.specs.declared.codes.Instr.{Instr}
 use Rattle.cell_library.specs.declared.codes.BoundaryKind.{BoundaryKind}
 use Rattle.cell_library.specs.declared.codes.BoundaryKind.TheVariants.{Bc1, Bc2, Bc4, Bc7}
@@ -27,7 +28,7 @@ use Rattle.boundary_cells.specs.declared.tables.Choice.{Choice}
 use Rattle.boundary_cells.specs.declared.tables.TheConstants.{BC_1, BC_2, UPDATES}
 use Rattle.boundary_cells.specs.Cells.{steering_of, holding_of, choice_cell, cells_onto, stage_table, cell_given, observe_cells, input_cells, output_cells}
 use Rattle.boundary_cells.specs.Laws.{CarriesMode, StandsAtPin, StandsAtInput, StandsAtOutput, ObserveCellsFollow, InputCellsFollow, OutputCellsFollow}
-use Rattle.boundary_cells.proofs.Stages.{chosen, held_has, choice_value, shift_laws, update_laws}
+use Rattle.boundary_cells.proofs.Stages.{held_has, choice_value, shift_laws, update_laws}
 
 -- what is contained of a table and a choice
 pub part_of : ContainedParts → (N : NetlistView) (gates : List Gate) (choice : Choice) (given : List Feed) (first number : ℕ) (into : NetId)
@@ -70,7 +71,7 @@ input_value inside parts first number scan pin into next N rule state value inst
     let given = cell_given scan next (Net pin) scan.m_in in
     let h : value into.0 ≡ sig_mux (value scan.m_in.0) (value pin.0) (value (first + 3))
     = choice_value inside N first given (number + 5) into UPDATES rule state value formed (choice_of parts N BC_1 UPDATES given first number into has) meets in
-    rw (h, mode.m_in, ← stands.seen, ← stands.upd) (chosen (mode_of instruction).m_in (see c.outside) c.upd)
+    rw (h, mode.m_in, ← stands.seen, ← stands.upd) (mux-bit (mode_of instruction).m_in (see c.outside) c.upd)
 
 pub input : ShiftBitsFollow → HeldBitsFollow → ContainedParts → DrivenIsInside → InputCellsFollow
 input shifts holds parts inside first number scan pin into next =
@@ -96,7 +97,7 @@ output_value inside parts cell first number scan core into next N rule state val
     let given = cell_given scan next core scan.m_out in
     let h : value into.0 ≡ sig_mux (value scan.m_out.0) (feed_value value core) (value (first + 3))
     = choice_value inside N first given (number + length (stage_table cell)) into UPDATES rule state value formed (choice_of parts N (stage_table cell) UPDATES given first number into has) meets in
-    rw (h, mode.m_out, ← stands.core_is, ← stands.upd) (chosen (mode_of instruction).m_out c.core c.upd)
+    rw (h, mode.m_out, ← stands.core_is, ← stands.upd) (mux-bit (mode_of instruction).m_out c.core c.upd)
 
 -- what an output cell captures
 output_captures : ContainedPartMeets → (cell : BoundaryKind) (first number : ℕ) (scan : ScanNets) (core : Feed) (next mode : NetId) (N : NetlistView) (rule : (ℕ → Sig) → ℕ → Sig)
@@ -108,7 +109,7 @@ output_captures meets Bc7 first number scan core next mode N rule state value in
 output_captures meets Bc2 first number scan core next mode N rule state value instruction c formed has settled carried stands =
     let h : value (first + 5) ≡ sig_mux (value scan.extest.0) (feed_value value core) (value (first + 3))
     = (meets N BC_2 (cell_given scan next core mode) first number formed has rule state value settled 5 _ refl refl).1 in
-    rw (h, carried.extest, ← stands.core_is, ← stands.upd) (chosen (is_extest instruction) c.core c.upd)
+    rw (h, carried.extest, ← stands.core_is, ← stands.upd) (mux-bit (is_extest instruction) c.core c.upd)
 
 pub output : ShiftBitsFollow → HeldBitsFollow → ContainedParts → ContainedPartMeets → DrivenIsInside → OutputCellsFollow
 output shifts holds parts meets inside cell first number scan core into next =

@@ -1,9 +1,8 @@
 -- A shift bit and an update bit among the cells of a netlist.
-use Rattle.std.proofs.Common.{◌≡◌, ℕ, suc, ◌+◌, Bool, true, false, List, [], ◌∷◌, refl, ap, ◌∙◌, arith, Some}
-use Rattle.std.specs.Prelude.{if◌then◌else◌}
+use Rattle.std.proofs.Common.{◌≡◌, ℕ, suc, ◌+◌, false, List, [], ◌∷◌, refl, ap, ◌∙◌, arith, Some}
 use Rattle.signal_values.specs.declared.Sig.{Sig}
 use Rattle.signal_values.specs.declared.Sig.TheVariants.{Zero}
-use Rattle.signal_values.specs.Values.{bit, sig_mux}
+use Rattle.signal_values.specs.Values.{sig_mux}
 use Rattle.cell_library.specs.declared.Kind.TheVariants.{Flop, Mux2}
 use Rattle.cell_library.specs.declared.Edge.TheVariants.{Fall}
 use Rattle.cell_library.specs.declared.ResetTo.TheVariants.{Zero as ToZero}
@@ -25,11 +24,6 @@ use Rattle.register_bits.specs.Laws.{bit_after, ShiftBitsFollow, HeldBitsFollow}
 use Rattle.boundary_cells.specs.declared.tables.Choice.{Choice}
 use Rattle.boundary_cells.specs.Cells.{steering_of, holding_of, choice_cell}
 use Rattle.boundary_cells.specs.Laws.{CarriesMode, ShiftLaws, UpdateLaws}
-
--- a multiplexer whose select is known gives that operand
-pub chosen : (b : Bool) (x y : Sig) → sig_mux (bit b) x y ≡ (if b then y else x)
-chosen true x y = grind arith
-chosen false x y = grind arith
 
 abbrev pub net_feed : ℕ → Feed
 net_feed n = Net (record { 0 = n })

@@ -3,6 +3,7 @@ use Rattle.std.proofs.Common.{◌≡◌, ℕ, ◌+◌, Bool, true, false, length
 use Rattle.std.specs.Prelude.{if◌then◌else◌, not, Option, Some}
 use Rattle.signal_values.specs.declared.Sig.{Sig}
 use Rattle.signal_values.specs.Values.{bit, see, sig_mux, sig_not}
+use Rattle.signal_values.proofs.Laws.{mux-bit}
 use Rattle.cell_library.specs.declared.codes.Instr.{Instr}
 use Rattle.cell_library.specs.declared.codes.BoundaryKind.{BoundaryKind}
 use Rattle.cell_library.specs.declared.codes.BoundaryKind.TheVariants.{Bc1, Bc2, Bc4, Bc7}
@@ -27,7 +28,7 @@ use Rattle.boundary_cells.specs.declared.tables.TheConstants.{BC_1_CONTROL, BC_2
 use Rattle.boundary_cells.specs.Cells.{steering_of, holding_of}
 use Rattle.boundary_cells.specs.Laws.{CarriesMode, StandsAtOutput}
 use Rattle.boundary_cells.specs.ThreeState.{control_table, control_choice, control_given, control_cells, bidir_table, bidir_given, bidir_cells, StandsAtControl, ControlCellsFollow, StandsAtInout, BidirCellsFollow}
-use Rattle.boundary_cells.proofs.Stages.{chosen, held_has, choice_value, shift_laws, update_laws}
+use Rattle.boundary_cells.proofs.Stages.{held_has, choice_value, shift_laws, update_laws}
 use Rattle.boundary_cells.proofs.Cells.{part_of, choice_of, captured_operand}
 
 -- the two bits of a control cell
@@ -58,7 +59,7 @@ control_captures meets Bc7 first number scan core active_high next N rule state 
 control_captures meets Bc2 first number scan core active_high next N rule state value instruction c formed has settled carried stands =
     let h : value (first + 5) ≡ sig_mux (value scan.extest.0) (feed_value value core) (value (first + 3))
     = (meets N BC_2_CONTROL (control_given scan next core active_high) first number formed has rule state value settled 5 _ refl refl).1 in
-    rw (h, carried.extest, ← stands.core_is, ← stands.upd) (chosen (is_extest instruction) c.core c.upd)
+    rw (h, carried.extest, ← stands.core_is, ← stands.upd) (mux-bit (is_extest instruction) c.core c.upd)
 
 -- its level while outputs are active
 abbrev level_operand : BoundaryKind → ℕ → ℕ
@@ -97,7 +98,7 @@ into_at inside parts cell first number scan core active_high into next N rule st
     (choice_of parts N (control_table cell) (control_choice cell) given first number into has) settled)
 
 level_law : (hiz m_out disable : Bool) (core upd : Sig) → sig_mux (bit hiz) (sig_mux (bit m_out) core upd) (bit disable) ≡ (if hiz then bit disable else (if m_out then upd else core))
-level_law hiz m_out disable core upd = rw (← chosen m_out core upd) (chosen hiz (sig_mux (bit m_out) core upd) (bit disable))
+level_law hiz m_out disable core upd = rw (← mux-bit m_out core upd) (mux-bit hiz (sig_mux (bit m_out) core upd) (bit disable))
 
 level_value : DrivenIsInside → ContainedParts → ContainedPartMeets → (cell : BoundaryKind) (first number : ℕ) (scan : ScanNets) (core : Feed) (active_high : Bool) (into next : NetId) (N : NetlistView)
     (rule : (ℕ → Sig) → ℕ → Sig) (state value : ℕ → Sig) (instruction : Instr) (j : ControlAt) → IsWellFormed N → HasCells N (control_cells cell first number scan core active_high into next)
@@ -162,7 +163,7 @@ sampled_at meets false first number scan core enable pin next N rule state value
 
 captured_law : (extest : Bool) (control : Option ControlAt) (j : ControlAt) (reading core : Sig) → control ≡ Some j
     → sig_mux (bit extest) (sig_mux (enable_of j.disable j.core) reading core) reading ≡ (if extest then reading else bidir_sampled control reading core)
-captured_law extest control j reading core is = rw is (chosen extest (sig_mux (enable_of j.disable j.core) reading core) reading)
+captured_law extest control j reading core is = rw is (mux-bit extest (sig_mux (enable_of j.disable j.core) reading core) reading)
 
 bidir_captures : ContainedPartMeets → (active_high : Bool) (first number : ℕ) (scan : ScanNets) (core enable : Feed) (pin next : NetId) (N : NetlistView) (rule : (ℕ → Sig) → ℕ → Sig)
     (state value : ℕ → Sig) (instruction : Instr) (c : CellAt) → IsWellFormed N → HasCells N (part_cells (bidir_table active_high) (bidir_given scan next core enable pin) first number)
@@ -181,7 +182,7 @@ datum_value inside parts active_high first number scan core enable pin into next
     let given = bidir_given scan next core enable pin in
     let h : value into.0 ≡ sig_mux (value scan.m_out.0) (feed_value value core) (value (first + 3))
     = choice_value inside N first given (number + length (bidir_table active_high)) into UPDATES rule state value formed (choice_of parts N (bidir_table active_high) UPDATES given first number into has) settled in
-    rw (h, mode.m_out, ← stands.core_is, ← stands.upd) (chosen (mode_of instruction).m_out c.core c.upd)
+    rw (h, mode.m_out, ← stands.core_is, ← stands.upd) (mux-bit (mode_of instruction).m_out c.core c.upd)
 
 pub bidir : ShiftBitsFollow → HeldBitsFollow → ContainedParts → ContainedPartMeets → DrivenIsInside → BidirCellsFollow
 bidir shifts holds parts meets inside first number scan core enable active_high pin into next =

@@ -19,7 +19,7 @@ kind_at [] place row at = absurd (cc)
 kind_at (r ∷ rows) zero row at = let same : r ≡ row = cc in rw same refl
 kind_at (r ∷ rows) (suc place) row at = kind_at rows place row at
 
-kinds_long : (rows : List CellRow) → length (map (λ (r : CellRow). r.cell) rows) ≡ length rows
+pub kinds_long : (rows : List CellRow) → length (map (λ (r : CellRow). r.cell) rows) ≡ length rows
 kinds_long [] = refl
 kinds_long (r ∷ rows) = ap (λ (n : ℕ). suc n) (kinds_long rows)
 

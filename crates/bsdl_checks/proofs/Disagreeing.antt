@@ -3,12 +3,12 @@ use Rattle.std.proofs.Common.{◌≡◌, ℕ, Bool, true, false, ◌||◌, ◌&&
 use Rattle.std.specs.List.{list_any, filter_map, cons_option}
 use Rattle.std.specs.Option.{option_map_or}
 use Rattle.list_laws.proofs.Numbers.{eqb-sym}
+use Rattle.list_laws.proofs.Lists.{any_same}
 use Rattle.bsdl_device.specs.declared.values.Disable.{Disable}
 use Rattle.bsdl_device.specs.declared.entries.RowEntry.{RowEntry}
 use Rattle.bsdl_device.specs.Checks.{any_pair}
 use Rattle.bsdl_device.specs.RowRules.{differ, rows_disagree, disables_disagree}
 use Rattle.bsdl_checks.specs.Controls.{control_by}
-use Rattle.bsdl_checks.proofs.Sets.{any_alike}
 
 -- the control cell of a disable value
 abbrev pub cell_by : Bool → Option Disable → Option ℕ
@@ -96,5 +96,5 @@ disagreeing (r ∷ rs) = by r.disable (disagreeing rs)
 pub disagree_by_sets : (rows : List RowEntry) (set zeros ones : List ℕ) → zeros ≡ cells_by false rows → ones ≡ cells_by true rows
     → ((n : ℕ) → list_any (nat_eq n) set ≡ list_any (nat_eq n) zeros) → list_any (λ n. list_any (nat_eq n) set) ones ≡ any_pair rows_disagree rows
 disagree_by_sets rows set zeros ones by_zero by_one same =
-    any_alike (λ n. list_any (nat_eq n) set) (λ n. list_any (nat_eq n) zeros) same ones
+    any_same (λ n. list_any (nat_eq n) set) (λ n. list_any (nat_eq n) zeros) same ones
     ∙ ap (meet ones) by_zero ∙ ap (λ ns. meet ns (cells_by false rows)) by_one ∙ sym (disagreeing rows)

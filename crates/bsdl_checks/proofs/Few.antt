@@ -1,8 +1,8 @@
 -- A file that breaks no rule has few ports.
-use Rattle.std.proofs.Common.{◌≡◌, ◌≤◌, Bool, true, false, cond, ◌||◌, List, [], ◌∷◌, length, Option, Some, None, refl, arith, ltb-false}
-use Rattle.std.specs.Option.{option_map}
+use Rattle.std.proofs.Common.{◌≡◌, ◌≤◌, false, ◌||◌, List, [], ◌∷◌, length, Option, Some, None, arith, ltb-false}
 use Rattle.std.proofs.lemmas.List.Sums.{sum_by-cons}
 use Rattle.list_laws.proofs.Tests.{or_first, or_second}
+use Rattle.list_laws.proofs.Options.{not_found}
 use Rattle.bsdl_device.specs.declared.values.PortRange.{PortRange}
 use Rattle.bsdl_device.specs.declared.written.DeclaredPort.{DeclaredPort}
 use Rattle.bsdl_device.specs.declared.written.File.{File}
@@ -18,10 +18,6 @@ wide (Some r) = omega arith
 ports-le : (ports : List DeclaredPort) → length ports ≤ port_bits ports
 ports-le [] = omega arith
 ports-le (p ∷ ps) = omega (arith, wide p.range, ports-le ps, sum_by-cons (λ (q : DeclaredPort). width q.range) p ps)
-
-not_found : {A B : Type 0} (g : A → B) (b : Bool) (x : A) (rest : Option A) → option_map g (cond b (Some x) rest) ≡ None → b ≡ false
-not_found g true x rest h = absurd (cc)
-not_found g false x rest h = refl
 
 few_bits : (f : File) → name_fails f ≡ false → has_too_many_bits f ≡ false
 few_bits f h =

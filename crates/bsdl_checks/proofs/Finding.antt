@@ -3,12 +3,14 @@ use Rattle.std.proofs.Common.{◌≡◌, ℕ, Bool, true, false, ◌==◌, nat_e
 use Rattle.std.specs.Map.{lookup}
 use Rattle.list_laws.proofs.Numbers.{eqb-sym}
 use Rattle.bsdl_lexicon.specs.Names.{is_same_name}
+use Rattle.bsdl_lexicon.specs.NameKeys.{names_in}
 use Rattle.bsdl_device.specs.declared.entries.PinEntry.{PinEntry}
 use Rattle.bsdl_device.specs.declared.entries.RowEntry.{RowEntry}
 use Rattle.bsdl_device.specs.Checks.{is_numbered}
 use Rattle.bsdl_lexicon.specs.declared.name_key.NameKey.{NameKey}
-use Rattle.bsdl_checks.specs.NameTables.{names_in, under_name}
-use Rattle.bsdl_checks.proofs.Tables.{key_of, position-map, places_by_names, name-sym}
+use Rattle.bsdl_lexicon.proofs.SameNames.{same_turned}
+use Rattle.bsdl_checks.specs.NameTables.{under_name}
+use Rattle.bsdl_checks.proofs.Tables.{key_of, position-map, places_by_names}
 use Rattle.bsdl_checks.specs.Tables.{FindsEntries, FindsRows}
 
 position_alike : {A : Type 0} (p q : A → Bool) → ((x : A) → p x ≡ q x) → (xs : List A) → position p xs ≡ position q xs
@@ -20,7 +22,7 @@ finds_entries list keys entries names finds = record {
   places = λ name.
       finds (key_of name) ∙ places_by_names keys (map (λ (e : PinEntry). e.port) list) name names
       ∙ position-map (is_same_name name) (λ (e : PinEntry). e.port) list
-      ∙ position_alike (λ (e : PinEntry). is_same_name name e.port) (λ (e : PinEntry). is_same_name e.port name) (λ e. name-sym name e.port) list;
+      ∙ position_alike (λ (e : PinEntry). is_same_name name e.port) (λ (e : PinEntry). is_same_name e.port name) (λ e. same_turned name e.port) list;
 }
 
 pub finds_rows : (rows : List RowEntry) (numbers : List ℕ) (entries : List (ℕ × ℕ)) → numbers ≡ map (λ (r : RowEntry). r.number) rows

@@ -2,9 +2,9 @@
 use Rattle.std.proofs.Common.{◌≡◌, ℕ, Bool, ◌||◌, List, [], ◌∷◌, map, refl, ap, ◌∙◌}
 use Rattle.std.specs.List.{list_any}
 use Rattle.bsdl_lexicon.specs.Names.{is_same_name}
+use Rattle.bsdl_lexicon.specs.NameKeys.{names_in}
 use Rattle.bsdl_device.specs.Checks.{any_pair, is_repeated}
 use Rattle.bsdl_lexicon.specs.declared.name_key.NameKey.{NameKey}
-use Rattle.bsdl_checks.specs.NameTables.{names_in}
 
 pub list_any-map : {A B : Type 0} (test : B → Bool) (f : A → B) → (xs : List A) → list_any test (map f xs) ≡ list_any (λ x. test (f x)) xs
 list_any-map test f [] = refl

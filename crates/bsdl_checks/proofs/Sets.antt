@@ -4,6 +4,7 @@ use Rattle.std.specs.List.{list_any}
 use Rattle.std.proofs.lemmas.List.Folds.{list_any-append}
 use Rattle.indexmap.specs.IndexSet.{insert_key}
 use Rattle.list_laws.proofs.Numbers.{eqb-sym}
+use Rattle.list_laws.proofs.Lists.{any_same}
 use Rattle.bsdl_device.specs.declared.entries.RowEntry.{RowEntry}
 use Rattle.bsdl_device.specs.Checks.{any_pair, is_numbered}
 
@@ -39,14 +40,9 @@ any_key_flipped key n (x ∷ xs) = ap (λ b. b || list_any (nat_eq n) (map key x
 pub row_number_twice : (rows : List RowEntry) → any_pair nat_eq (map (λ (r : RowEntry). r.number) rows) ≡ any_pair (λ (r : RowEntry) (s : RowEntry). r.number == s.number) rows
 row_number_twice rows = any_pair_key (λ (r : RowEntry). r.number) rows
 
--- tests that agree
-pub any_alike : {A : Type 0} (p q : A → Bool) → ((x : A) → p x ≡ q x) → (xs : List A) → list_any p xs ≡ list_any q xs
-any_alike p q same [] = refl
-any_alike p q same (x ∷ xs) = ap (λ b. b || list_any p xs) (same x) ∙ ap (λ b. q x || b) (any_alike p q same xs)
-
 pub missing_alike : (ks ns : List ℕ) → ((n : ℕ) → list_any (nat_eq n) ks ≡ list_any (nat_eq n) ns) → (xs : List ℕ) → list_any (λ n. not (list_any (nat_eq n) ks)) xs ≡ list_any (λ n. not (list_any (nat_eq n) ns)) xs
-missing_alike ks ns same xs = any_alike (λ n. not (list_any (nat_eq n) ks)) (λ n. not (list_any (nat_eq n) ns)) (λ n. ap not (same n)) xs
+missing_alike ks ns same xs = any_same (λ n. not (list_any (nat_eq n) ks)) (λ n. not (list_any (nat_eq n) ns)) (λ n. ap not (same n)) xs
 
 pub missing_by_rows : (rows : List RowEntry) (xs : List ℕ) → list_any (λ n. not (list_any (nat_eq n) (map (λ (r : RowEntry). r.number) rows))) xs ≡ list_any (λ n. not (list_any (is_numbered n) rows)) xs
 missing_by_rows rows xs =
-    any_alike (λ n. not (list_any (nat_eq n) (map (λ (r : RowEntry). r.number) rows))) (λ n. not (list_any (is_numbered n) rows)) (λ n. ap not (any_key_flipped (λ (r : RowEntry). r.number) n rows)) xs
+    any_same (λ n. not (list_any (nat_eq n) (map (λ (r : RowEntry). r.number) rows))) (λ n. not (list_any (is_numbered n) rows)) (λ n. ap not (any_key_flipped (λ (r : RowEntry). r.number) n rows)) xs

@@ -7,16 +7,17 @@ use Rattle.std.proofs.lemmas.List.Sums.{sum_by-cons}
 use Rattle.std.specs.Str.{bytes_eq}
 use Rattle.std.proofs.lemmas.Slice.Eq.{bytes_eq-Decides}
 use Rattle.std.specs.List.{list_any, position_or_len}
-use Rattle.list_laws.proofs.Bytes.{bytes_eq-sym}
-use Rattle.bsdl_lexicon.specs.Names.{lower, is_same_name}
+use Rattle.bsdl_lexicon.specs.Names.{is_same_name}
+use Rattle.bsdl_lexicon.specs.NameKeys.{names_in}
 use Rattle.bsdl_device.specs.declared.written.DeclaredPort.{DeclaredPort}
 use Rattle.bsdl_device.specs.declared.entries.PinEntry.{PinEntry}
 use Rattle.bsdl_device.specs.Ports.{place_named, port_names}
 use Rattle.bsdl_device.specs.Checks.{port_not_mapped_once}
 use Rattle.bsdl_lexicon.specs.declared.name_key.NameKey.{NameKey}
+use Rattle.bsdl_lexicon.proofs.SameNames.{same_turned}
 use Rattle.bsdl_checks.specs.declared.keys.Uses.{Uses}
 use Rattle.bsdl_checks.specs.Keys.{uses_for, is_once}
-use Rattle.bsdl_checks.specs.NameTables.{names_in, under_name, FindsPorts}
+use Rattle.bsdl_checks.specs.NameTables.{under_name, FindsPorts}
 use Rattle.bsdl_checks.proofs.KeyLists.{is_once-uses_for}
 
 -- some key of a name
@@ -51,9 +52,6 @@ places_by_names keys names name h = sym (position-map (is_same_name name) (λ (k
 pub counts_by_names : (keys : List NameKey) (names : List (List ℕ)) (name : List ℕ) → names_in keys ≡ names
     → count_by (λ (k : NameKey). is_same_name name k.0.now) keys ≡ count_by (is_same_name name) names
 counts_by_names keys names name h = sym (count_by-map (is_same_name name) (λ (k : NameKey). k.0.now) keys) ∙ ap (count_by (is_same_name name)) h
-
-pub name-sym : (a b : List ℕ) → is_same_name a b ≡ is_same_name b a
-name-sym a b = bytes_eq-sym (map lower a) (map lower b)
 
 -- the table of first places finds ports
 pub finds_ports : (ports : List DeclaredPort) (keys : List NameKey) (entries : List (NameKey × ℕ)) → names_in keys ≡ port_names ports
@@ -90,7 +88,7 @@ mapped_once p list keys entries names uses =
     ∙ ap (λ (n : ℕ). n == 1) (
     counts_by_names keys (map (λ (e : PinEntry). e.port) list) p.name names
     ∙ count_by-map (is_same_name p.name) (λ (e : PinEntry). e.port) list
-    ∙ count_alike (λ (e : PinEntry). is_same_name p.name e.port) (λ (e : PinEntry). is_same_name e.port p.name) (λ e. name-sym p.name e.port) list
+    ∙ count_alike (λ (e : PinEntry). is_same_name p.name e.port) (λ (e : PinEntry). is_same_name e.port p.name) (λ e. same_turned p.name e.port) list
     )
 
 pub all_mapped_once : (list : List PinEntry) (keys : List NameKey) (entries : List (NameKey × Uses)) → names_in keys ≡ map (λ (e : PinEntry). e.port) list

@@ -1,14 +1,10 @@
 -- own: names as keys, and what tables find under them.
-use Rattle.std.specs.Prelude.{◌≡◌, ℕ, List, map, Option}
+use Rattle.std.specs.Prelude.{◌≡◌, ℕ, List, Option}
 use Rattle.std.specs.Map.{lookup}
 use Rattle.bsdl_lexicon.specs.Names.{is_same_name}
 use Rattle.bsdl_device.specs.declared.written.DeclaredPort.{DeclaredPort}
 use Rattle.bsdl_device.specs.Ports.{place_named}
 use Rattle.bsdl_lexicon.specs.declared.name_key.NameKey.{NameKey}
-
--- the names of keys
-abbrev pub names_in : List NameKey → List (List ℕ)
-names_in keys = map (λ (k : NameKey). k.0.now) keys
 
 -- what stands under a name
 abbrev pub under_name : {X : Type 0} → List (NameKey × X) → List ℕ → Option X

@@ -4,7 +4,7 @@ ghost use Rattle.std.specs.List.{list_any};
 ghost use Rattle.bsdl_lexicon.specs.Names.{is_same_name};
 ghost use Rattle.bsdl_device.specs.Instructions as profile;
 ghost use Rattle.bsdl_device.specs.Checks as rule;
-ghost use Rattle.bsdl_checks.specs.NameTables.{names_in};
+ghost use Rattle.bsdl_lexicon.specs.NameKeys.{names_in};
 
 use crate::instructions::instruction_named;
 use crate::names::{extend_keys, is_repeated};

@@ -3,36 +3,17 @@ ghost use Rattle.std.specs.Prelude.{◌≡◌, IfOk, map};
 ghost use Rattle.std.specs.List.{list_any};
 ghost use Rattle.bsdl_device.specs.Instructions as profile;
 ghost use Rattle.bsdl_device.specs.Checks as rule;
-ghost use Rattle.bsdl_checks.specs.NameTables.{names_in};
+ghost use Rattle.bsdl_lexicon.specs.NameKeys.{names_in};
 
 use crate::names::is_repeated;
 use bsdl_device::{Contents, File, OpcodeEntry};
 use bsdl_lexicon::NameKey;
-use bsdl_lexicon::names::same_name;
-use bsdl_runs::numbers::is_ones;
-use cell_library::{Bits, Instr};
+use bsdl_runs::opcodes::{
+    bypass_is_not_ones, clash, code_is_barred, has_instruction, has_other_length, names_instruction,
+};
+use cell_library::Instr;
 use edge_io::OutOfMemory;
 use std::alloc::Global;
-
-fn word_of(instruction: Instr) -> &'static [u8]
-    ensures { result.now ≡ profile.instruction_word instruction }
-{
-    match instruction {
-        Instr::Bypass => b"BYPASS",
-        Instr::Extest => b"EXTEST",
-        Instr::Sample => b"SAMPLE",
-        Instr::Preload => b"PRELOAD",
-        Instr::Idcode => b"IDCODE",
-        Instr::Highz => b"HIGHZ",
-        Instr::Clamp => b"CLAMP",
-    }
-}
-
-fn names_instruction(instruction: Instr, name: &[u8]) -> bool
-    ensures { result ≡ profile.names_instruction instruction name.now }
-{
-    same_name(name, word_of(instruction))
-}
 
 /// The instruction of a name.
 pub fn instruction_named(name: &[u8]) -> Option<Instr>
@@ -62,13 +43,6 @@ pub fn length_fails(file: &File) -> bool
     ensures { result ≡ rule.length_fails file.now }
 {
     file.length.value < 2 || 32 < file.length.value
-}
-
-/// The instruction has an opcode.
-pub fn has_instruction(opcodes: &[OpcodeEntry], instruction: Instr) -> bool
-    ensures { result ≡ rule.has_instruction opcodes.now instruction }
-{
-    opcodes.iter().any(|opcode| names_instruction(instruction, opcode.name.as_bytes()))
 }
 
 fn has_unknown(opcodes: &[OpcodeEntry]) -> bool
@@ -106,12 +80,6 @@ fn lacks_instruction(opcodes: &[OpcodeEntry]) -> bool
         || !has_instruction(opcodes, Instr::Bypass)
 }
 
-fn has_other_length(wanted: u32, bits: Bits) -> bool
-    ensures { result ≡ rule.has_other_length wanted bits }
-{
-    bits.len != wanted
-}
-
 fn has_misfit(wanted: u32, opcodes: &[OpcodeEntry]) -> bool
     ensures { result ≡ list_any (λ o. rule.has_other_length wanted o.bits) opcodes.now }
 {
@@ -120,29 +88,10 @@ fn has_misfit(wanted: u32, opcodes: &[OpcodeEntry]) -> bool
         .any(|opcode| has_other_length(wanted, opcode.bits))
 }
 
-fn bypass_is_not_ones(opcodes: &[OpcodeEntry]) -> bool
+fn has_wrong_bypass(opcodes: &[OpcodeEntry]) -> bool
     ensures { result ≡ list_any rule.bypass_is_not_ones opcodes.now }
 {
-    opcodes.iter().any(|opcode| {
-        names_instruction(Instr::Bypass, opcode.name.as_bytes()) && !is_ones(opcode.bits)
-    })
-}
-
-fn are_sample_and_preload(first: &OpcodeEntry, second: &OpcodeEntry) -> bool
-    ensures { result ≡ rule.are_sample_and_preload first.now second.now }
-{
-    let one = first.name.as_bytes();
-    let other = second.name.as_bytes();
-    names_instruction(Instr::Sample, one) && names_instruction(Instr::Preload, other)
-        || names_instruction(Instr::Preload, one) && names_instruction(Instr::Sample, other)
-}
-
-fn clash(first: &OpcodeEntry, second: &OpcodeEntry) -> bool
-    ensures { result ≡ rule.opcodes_clash first.now second.now }
-{
-    first.bits.len == second.bits.len
-        && first.bits.value == second.bits.value
-        && !are_sample_and_preload(first, second)
+    opcodes.iter().any(|opcode| bypass_is_not_ones(opcode))
 }
 
 fn clashes_with(first: &OpcodeEntry, others: &[OpcodeEntry]) -> bool
@@ -174,7 +123,7 @@ pub fn opcode_fails(alloc: Global, file: &File, contents: &Contents) -> Result<b
             || twice
             || lacks_instruction(opcodes)
             || has_misfit(file.length.value, opcodes)
-            || bypass_is_not_ones(opcodes)
+            || has_wrong_bypass(opcodes)
             || some_clash(opcodes),
     )
 }
@@ -184,12 +133,6 @@ pub fn capture_fails(file: &File, contents: &Contents) -> bool
     ensures { result ≡ rule.capture_fails file.now contents.now }
 {
     has_other_length(file.length.value, contents.capture) || contents.capture.value % 4 != 1
-}
-
-fn code_is_barred(code: u32) -> bool
-    ensures { result ≡ rule.code_is_barred code }
-{
-    code % 2 == 0 || code / 2 % 2048 == 127
 }
 
 /// There is a code without the instruction, the instruction without a code, or a code that is barred.

@@ -1,7 +1,7 @@
 // Lists of names: whether one comes twice.
 ghost use Rattle.std.specs.Prelude.{◌≡◌, ◌++◌, IfOk, OnOk};
 ghost use Rattle.bsdl_device.specs.Checks as rule;
-ghost use Rattle.bsdl_checks.specs.NameTables.{names_in};
+ghost use Rattle.bsdl_lexicon.specs.NameKeys.{names_in};
 
 use crate::keys::comes_twice;
 use bsdl_lexicon::NameKey;

@@ -4,7 +4,8 @@ ghost use Rattle.std.specs.List.{list_any};
 ghost use Rattle.bsdl_device.specs.Ports as declared;
 ghost use Rattle.bsdl_device.specs.Checks as rule;
 ghost use Rattle.bsdl_checks.specs.Keys.{is_once};
-ghost use Rattle.bsdl_checks.specs.NameTables.{names_in, under_name};
+ghost use Rattle.bsdl_lexicon.specs.NameKeys.{names_in};
+ghost use Rattle.bsdl_checks.specs.NameTables.{under_name};
 
 use crate::keys::{Uses, comes_once, uses_of};
 use crate::names::{extend_keys, is_repeated};

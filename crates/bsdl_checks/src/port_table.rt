@@ -2,7 +2,7 @@
 ghost use Rattle.std.specs.Prelude.{◌≡◌, IfOk};
 ghost use Rattle.std.specs.Option.{option_copied};
 ghost use Rattle.bsdl_device.specs.Ports as declared;
-ghost use Rattle.bsdl_checks.specs.NameTables.{names_in};
+ghost use Rattle.bsdl_lexicon.specs.NameKeys.{names_in};
 
 use bsdl_device::DeclaredPort;
 use bsdl_lexicon::NameKey;

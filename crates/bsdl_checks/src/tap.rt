@@ -2,7 +2,7 @@
 ghost use Rattle.std.specs.Prelude.{◌≡◌, IfOk};
 ghost use Rattle.bsdl_device.specs.Ports as declared;
 ghost use Rattle.bsdl_device.specs.Checks as rule;
-ghost use Rattle.bsdl_checks.specs.NameTables.{names_in};
+ghost use Rattle.bsdl_lexicon.specs.NameKeys.{names_in};
 
 use crate::names::is_repeated;
 use crate::port_table::PortTable;

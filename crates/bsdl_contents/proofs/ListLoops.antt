@@ -1,6 +1,7 @@
 -- A loop over entries with commas between them, against the reading of such a list.
 use Rattle.std.proofs.Common.{◌≡◌, ℕ, suc, zero, true, false, ◌<◌, ◌≤◌, List, [], ◌∷◌, ◌++◌, length, Option, Some, None, is_some, refl, sym, ap, ◌∙◌, arith, append_assoc, append-nil, Result, Ok, Err, IsErrAnd}
 use Rattle.std.specs.Option.{option_map_or}
+use Rattle.list_laws.proofs.Options.{unit_there, unit_absent}
 use Rattle.bsdl_device.specs.Runs.{ContentWord, mark_in}
 use Rattle.bsdl_reading.specs.Readers.{Read, done, after, front, rest, rest_if, more_of}
 use Rattle.bsdl_contents.specs.declared.fault.PartFault.{PartFault}
@@ -10,14 +11,6 @@ use Rattle.bsdl_contents.specs.Reading.{list_at}
 
 abbrev comma_next : List ContentWord → Option (Unit {0})
 comma_next ws = front (mark_in 44) ws
-
-there_is : (o : Option (Unit {0})) → is_some o ≡ true → o ≡ Some tt
-there_is (Some x) h = refl
-there_is None h = absurd (cc)
-
-there_is_none : (o : Option (Unit {0})) → is_some o ≡ false → o ≡ None
-there_is_none (Some x) h = absurd (cc)
-there_is_none None h = refl
 
 -- The loop stands at ws, with the list now, and what more it reads completes what was to be read in all.
 pub record Continues {X : Type 0} (one : List ContentWord → Read ContentWord X) (now : List X) (ws : List ContentWord) (all : Read ContentWord (List X)) : Type 0 where
@@ -40,7 +33,7 @@ starts {X} one now ws left x first push = record {
 
 -- A comma stands there, and what follows it was read.
 more_behind : {X : Type 0} (one : List ContentWord → Read ContentWord X) (fuel : ℕ) (ws behind : List ContentWord) (read : Read ContentWord X) → is_some (comma_next ws) ≡ true → behind ≡ rest_if (comma_next ws) ws → one behind ≡ read → more_of (mark_in 44) one (suc fuel) ws ≡ after read (λ x more. after (more_of (mark_in 44) one fuel more) (λ xs end. done (x ∷ xs) end))
-more_behind {X} one fuel ws behind read there moved is = go (comma_next ws) (there_is (comma_next ws) there) moved
+more_behind {X} one fuel ws behind read there moved is = go (comma_next ws) (unit_there (comma_next ws) there) moved
   where
     rest_of : Read ContentWord X → Read ContentWord (List X)
     rest_of r = after r (λ x more. after (more_of (mark_in 44) one fuel more) (λ xs end. done (x ∷ xs) end))
@@ -78,7 +71,7 @@ stops {X} one now ws behind left all k there moved less read = by k.fuel k.enoug
 -- The list ends.
 pub ends : {X : Type 0} (one : List ContentWord → Read ContentWord X) (now : List X) (ws left : List ContentWord) (all : Read ContentWord (List X)) → Continues one now ws all → is_some (comma_next ws) ≡ false → left ≡ rest_if (comma_next ws) ws → all ≡ (Some now, left)
 ends {X} one now ws left all k absent moved =
-    let none : comma_next ws ≡ None = there_is_none (comma_next ws) absent in
+    let none : comma_next ws ≡ None = unit_absent (comma_next ws) absent in
     let here : left ≡ ws = moved ∙ ap (λ (o : Option (Unit {0})). rest_if o ws) none in
     k.complete [] ws (no_more k.fuel none)
     ∙ ap (λ (l : List X). let r : Read ContentWord (List X) = (Some l, ws) in r) (append-nil now)

@@ -17,6 +17,15 @@ is_same_name-false a b apart = other (is_same_name a b) (λ test. apart (same_na
   other true never = absurd (never refl)
   other false never = refl
 
+pub same_turned : (a b : List ℕ) → is_same_name a b ≡ is_same_name b a
+same_turned a b = by (is_same_name a b) refl (is_same_name b a) refl
+  where
+    by : (x : Bool) → is_same_name a b ≡ x → (y : Bool) → is_same_name b a ≡ y → is_same_name a b ≡ is_same_name b a
+    by true h true k = h ∙ sym k
+    by false h false k = h ∙ sym k
+    by true h false k = let back : is_same_name b a ≡ true = is_same_name-true b a (sym (same_name-true a b h)) in absurd (cc)
+    by false h true k = let back : is_same_name a b ≡ true = is_same_name-true a b (sym (same_name-true b a k)) in absurd (cc)
+
 -- two names that differ at a place are not one
 pub differs_at : (a b : List ℕ) (i : ℕ) → i < length a → i < length b → (lower (get_or a i 0) ≡ lower (get_or b i 0) → ⊥) → same_name a b → ⊥
 differs_at a b i in_a in_b apart same =

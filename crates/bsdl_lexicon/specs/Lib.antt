@@ -1,5 +1,6 @@
 pub mod Bytes
 pub mod Names
+pub mod NameKeys
 pub mod Reserved
 pub mod Words
 pub mod Pieces

@@ -21,15 +21,6 @@ place_in list end number = option_map_or (λ s. s.at) (slice_get list number) en
 abbrev pub plain : List BsdlSpanned → List BsdlToken
 plain words = map (λ s. s.word) words
 
--- an identifier, reserved or not
-abbrev pub identifier_in : BsdlToken → Option (List ℕ)
-identifier_in (word.Name name) = Some name
-identifier_in (word.Integer value) = None
-identifier_in (word.Real real) = None
-identifier_in (word.Quoted contents) = None
-identifier_in (word.Symbol symbol) = None
-identifier_in word.Becomes = None
-
 -- an identifier that isn't reserved
 abbrev pub name_in : BsdlToken → Option (List ℕ)
 name_in (word.Name name) = if is_reserved name then None else Some name

@@ -1,6 +1,6 @@
 ghost use Rattle.std.specs.Prelude.{◌≡◌, ◌↔◌, ◌<◌, List, length, IsTrue};
 ghost use Rattle.std.specs.Option.{is_some, option_copied};
-ghost use Rattle.bsdl_lexicon.specs.Words.{plain, front, rest, rest_if, identifier_in, name_in, key_in, integer_in, real_in, quoted_in, symbol_in, becomes_in};
+ghost use Rattle.bsdl_lexicon.specs.Words.{plain, front, rest, rest_if, name_in, key_in, integer_in, real_in, quoted_in, symbol_in, becomes_in};
 ghost use Rattle.bsdl_lexicon.specs.declared.token.BsdlToken.{BsdlToken};
 
 use crate::symbol::BsdlSymbol;
@@ -43,16 +43,6 @@ impl<'a> BsdlReader<'a> {
         ensures { IsTrue result ↔ (length self.now ≡ 0) }
     {
         self.len() == 0
-    }
-
-    /// The identifier that the next word is, reserved or not.
-    pub fn peek_identifier(&self) -> Option<&'a [u8]>
-        ensures { option_copied result ≡ front identifier_in self.now }
-    {
-        match self.left {
-            [first, ..] => first.word.identifier(),
-            [] => None,
-        }
     }
 
     /// The identifier that the next word is, if it isn't reserved.
@@ -129,18 +119,6 @@ impl<'a> BsdlReader<'a> {
         ensures { self.new ≡ rest self.old }
     {
         self.left = &self.left[1..];
-    }
-
-    /// Takes the next word where it is an identifier, reserved or not.
-    pub fn take_identifier(&mut self) -> Option<&'a [u8]>
-        ensures identifier { option_copied result ≡ front identifier_in self.old }
-        ensures rest { self.new ≡ rest_if (front identifier_in self.old) self.old }
-    {
-        let identifier = self.peek_identifier();
-        if identifier.is_some() {
-            self.advance();
-        }
-        identifier
     }
 
     /// Takes the next word where it is an identifier that isn't reserved.

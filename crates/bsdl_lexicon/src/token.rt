@@ -31,21 +31,7 @@ pub struct BsdlSpanned {
 }
 
 impl BsdlToken {
-    ghost use Rattle.bsdl_lexicon.specs.Words.{identifier_in, name_in, key_in, integer_in, real_in, quoted_in, symbol_in, becomes_in};
-
-    /// The identifier that the word is, reserved or not.
-    pub fn identifier(&self) -> Option<&[u8]>
-        ensures { option_copied result ≡ identifier_in self.now }
-    {
-        match self {
-            BsdlToken::Name(name) => Some(name.as_bytes()),
-            BsdlToken::Integer(_)
-            | BsdlToken::Real(_)
-            | BsdlToken::Quoted(_)
-            | BsdlToken::Symbol(_)
-            | BsdlToken::Becomes => None,
-        }
-    }
+    ghost use Rattle.bsdl_lexicon.specs.Words.{name_in, key_in, integer_in, real_in, quoted_in, symbol_in, becomes_in};
 
     /// The identifier that the word is, if it isn't reserved.
     pub fn name(&self) -> Option<&[u8]>

@@ -7,20 +7,9 @@ ghost use Rattle.bsdl_device.specs.Canonical as text_of;
 use crate::head::port_name;
 use crate::text::{put_all, put_attribute};
 use bsdl_device::{CellRow, DevBit, DevPort, Device, Disable, Safe};
-use bsdl_runs::written::put_number;
-use cell_library::{BoundaryKind, Function};
+use bsdl_runs::written::{cell_word, put_number};
+use cell_library::Function;
 use edge_io::{OutOfMemory, Text};
-
-fn cell_word(cell: BoundaryKind) -> &'static [u8]
-    ensures { result.now ≡ words.cell_word cell }
-{
-    match cell {
-        BoundaryKind::Bc1 => b"BC_1",
-        BoundaryKind::Bc2 => b"BC_2",
-        BoundaryKind::Bc4 => b"BC_4",
-        BoundaryKind::Bc7 => b"BC_7",
-    }
-}
 
 fn function_word(function: Function) -> &'static [u8]
     ensures { result.now ≡ words.function_word function }

@@ -4,10 +4,12 @@ use Rattle.std.specs.Prelude.{◌||◌, not, codes}
 use Rattle.std.specs.List.{list_any, list_all, filter}
 use Rattle.std.proofs.lemmas.List.Folds.{list_any-append}
 use Rattle.list_laws.proofs.Tests.{not_false, or_first, or_second, neither}
+use Rattle.list_laws.proofs.Lists.{any_same}
 use Rattle.cell_library.specs.declared.codes.Instr.{Instr}
 use Rattle.cell_library.specs.declared.codes.Instr.TheVariants as instr
 use Rattle.cell_library.specs.declared.codes.Opcode.{Opcode}
 use Rattle.bsdl_lexicon.specs.Names.{is_same_name}
+use Rattle.bsdl_lexicon.proofs.SameNames.{same_turned}
 use Rattle.bsdl_device.specs.declared.entries.OpcodeEntry.{OpcodeEntry}
 use Rattle.bsdl_device.specs.declared.entries.AccessEntry.{AccessEntry}
 use Rattle.bsdl_device.specs.declared.entries.Register.TheVariants as register
@@ -16,8 +18,6 @@ use Rattle.bsdl_device.specs.Grammar.{IsAccess}
 use Rattle.bsdl_device.specs.Instructions.{instruction_word, names_instruction}
 use Rattle.bsdl_device.specs.Checks.{is_repeated, has_instruction, lacks_instruction, instructions_of, is_without_opcode, selects_other}
 use Rattle.bsdl_device.specs.Canonical.{has_opcode}
-use Rattle.bsdl_round_trip.proofs.Pairs.{any_same}
-use Rattle.bsdl_round_trip.proofs.Names.{same_turned}
 use Rattle.bsdl_round_trip.proofs.Rebuilt.{opcode_entry, present, device_id_entries, access_entries}
 use Rattle.bsdl_round_trip.proofs.Instructions.{has_by_opcode}
 

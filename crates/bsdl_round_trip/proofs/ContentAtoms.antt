@@ -15,6 +15,7 @@ use Rattle.bsdl_lexicon.specs.Bytes.{is_name_byte, is_digit, is_quotable}
 use Rattle.bsdl_device.specs.Matching.{each_after, separated_by}
 use Rattle.bsdl_device.specs.Runs.{ContentWord, Run, Other, content_words, lengthened, begins_run, value_after, is_integer, is_pattern, is_pin, is_identifier, ContentPattern, KeyRun, IdentifierRun, NameRun, PinRun, IntegerRun, BitsRun, MarkByte, Fits, Matches}
 use Rattle.bsdl_device.specs.Canonical.{bits_text, pattern_text}
+use Rattle.bsdl_device.proofs.Identifiers.{digits_are_name_bytes}
 use Rattle.bsdl_round_trip.proofs.Names.{same_self}
 use Rattle.bsdl_round_trip.proofs.Good.{GoodBits, GoodPin, is_name}
 
@@ -105,13 +106,6 @@ cut_run (b ∷ run) rest is apart =
     run_words b run rest (and_left (is_name_byte b) (list_all is_name_byte run) all) (and_right (is_name_byte b) (list_all is_name_byte run) all) apart
 
 -- Numbers.
-
-digits_are_name_bytes : (ds : List ℕ) → list_all is_digit ds ≡ true → list_all is_name_byte ds ≡ true
-digits_are_name_bytes [] h = refl
-digits_are_name_bytes (d ∷ ds) h = ap (λ (x : Bool). x && list_all is_name_byte ds) (one d (and_left (is_digit d) (list_all is_digit ds) h)) ∙ digits_are_name_bytes ds (and_right (is_digit d) (list_all is_digit ds) h)
-  where
-    one : (c : ℕ) → is_digit c ≡ true → is_name_byte c ≡ true
-    one c k = grind arith
 
 decimal_is_run : (n : ℕ) → n < 10 ^ 9 → is_run (decimal n) ≡ true
 decimal_is_run n low =

@@ -4,6 +4,7 @@ use Rattle.std.specs.Prelude.{◌==◌, ◌||◌, not, nat_lt, is_some, count_by
 use Rattle.std.specs.List.{list_any}
 use Rattle.std.specs.Option.{option_map_or}
 use Rattle.list_laws.proofs.Tests.{not_false, or_first, or_second}
+use Rattle.list_laws.proofs.Lists.{any_map, each_fails}
 use Rattle.cell_library.specs.declared.codes.Instr.TheVariants as instr
 use Rattle.bsdl_lexicon.specs.Names.{is_same_name}
 use Rattle.bsdl_device.specs.declared.values.PortMode.TheVariants as mode
@@ -16,8 +17,7 @@ use Rattle.bsdl_device.specs.Checks.{any_pair, is_repeated, port_named_twice, po
 use Rattle.bsdl_device.specs.RowRules.{row_misfits, bit_not_in_one_row, system_bits, rows_disagree, highz_fails}
 use Rattle.bsdl_device.specs.Spelled.{SpellsText}
 use Rattle.bsdl_device.specs.IsDevice.{AreDevicePorts, names_of, IsDeviceTap, IsInstructionRegister, IsDeviceCode, own_bits, is_at, AreDeviceRows, IsDevice}
-use Rattle.bsdl_round_trip.proofs.Pairs.{any-map}
-use Rattle.bsdl_round_trip.proofs.Names.{all_to, none_all}
+use Rattle.bsdl_round_trip.proofs.Names.{all_to}
 use Rattle.bsdl_round_trip.proofs.Instructions.{has_by_opcode}
 use Rattle.bsdl_round_trip.proofs.Rebuilt.{as_declared, entry_of, opcode_entry, tap_of, row_entries, rebuilt_file, rebuilt_contents, rebuilt_ports}
 use Rattle.bsdl_round_trip.proofs.Good.{GoodBits}
@@ -113,7 +113,7 @@ instructions_from d s =
       least = ltb-false d.length 2 (or_first (nat_lt d.length 2) (nat_lt 32 d.length) s.keeps.length);
       most = ltb-false 32 d.length (or_second (nat_lt d.length 2) (nat_lt 32 d.length) s.keeps.length);
       values = all_to d.opcodes (λ o (k : GoodBits o.bits). bits_are o.bits k) s.good.opcodes;
-      lengths = sym (any-map (λ (o : OpcodeEntry). has_other_length d.length o.bits) opcode_entry d.opcodes) ∙ or_second ((a || b) || c) e four;
+      lengths = sym (any_map (λ (o : OpcodeEntry). has_other_length d.length o.bits) opcode_entry d.opcodes) ∙ or_second ((a || b) || c) e four;
       once = or_second a b (or_first (a || b) c three);
       all = or_second (a || b) c three;
       ones = or_second (((a || b) || c) || e) g five;
@@ -151,7 +151,7 @@ rows_are d s n =
       some = above_zero (length d.cells) filled;
       few = s.good.count;
       each = rows_from d n 0 d.cells (or_first a b two);
-      bits = all_to (own_bits d) (λ bit k. eqb-true (count_by (is_at bit) d.cells) 1 (not_false (count_by (is_at bit) d.cells == 1) k)) (none_all (not_once d) (own_bits d) (sym (bits_same d n) ∙ or_second a b two));
+      bits = all_to (own_bits d) (λ bit k. eqb-true (count_by (is_at bit) d.cells) 1 (not_false (count_by (is_at bit) d.cells == 1) k)) (each_fails (not_once d) (own_bits d) (sym (bits_same d n) ∙ or_second a b two));
       agree = sym (agree_rows d.ports 0 d.cells) ∙ or_second (a || b) c three;
       highz = sym (highz_same d) ∙ or_second ((a || b) || c) (highz_fails (rebuilt_contents d)) rules;
     }

@@ -6,6 +6,7 @@ use Rattle.std.specs.Prelude.{◌==◌, ◌||◌, ◌&&◌, not, nat_lt, nat_le,
 use Rattle.std.specs.List.{list_any, enumerate_from, AllByRecursion}
 use Rattle.std.specs.Option.{option_map, option_map_or}
 use Rattle.list_laws.proofs.Tests.{and_right, not_false, neither}
+use Rattle.list_laws.proofs.Lists.{all_at, any_map, none_passes}
 use Rattle.cell_library.specs.declared.codes.Function.TheVariants as function
 use Rattle.cell_library.specs.declared.codes.Instr.TheVariants as instr
 use Rattle.cell_library.specs.declared.codes.Opcode.{Opcode}
@@ -30,8 +31,7 @@ use Rattle.bsdl_device.specs.Denoted.{device_of, port_of, cell_of, place_of, ord
 use Rattle.bsdl_device.specs.Canonical.{port_name, has_opcode, canonical_device}
 use Rattle.bsdl_device.specs.Spelled.{SpellsText}
 use Rattle.bsdl_device.specs.IsDevice.{IsBits, IsDeviceRange, IsDevicePort, names_of, tap_places, is_scalar_at, IsDeviceTap, IsDeviceCode, is_control_at, is_disabled, IsDeviceRow, own_bits, is_at, IsDevice}
-use Rattle.bsdl_round_trip.proofs.Pairs.{any-map}
-use Rattle.bsdl_round_trip.proofs.Names.{same_self, all_to, all_none}
+use Rattle.bsdl_round_trip.proofs.Names.{same_self, all_to}
 use Rattle.bsdl_round_trip.proofs.Identifiers.{name_test}
 use Rattle.bsdl_round_trip.proofs.Instructions.{named_again, has_by_opcode, opcodes_again}
 use Rattle.bsdl_round_trip.proofs.Access.{has_all, registers_keep}
@@ -114,7 +114,7 @@ length_kept : (d : Device) → IsDevice d → length_fails (rebuilt_file d) ≡ 
 length_kept d is = neither (nat_lt d.length 2) (nat_lt 32 d.length) (le-ltb d.length 2 is.instructions.least) (le-ltb 32 d.length is.instructions.most)
 
 known : (opcodes : List Opcode) → list_any opcode_is_unknown (map opcode_entry opcodes) ≡ false
-known opcodes = any-map opcode_is_unknown opcode_entry opcodes ∙ over opcodes
+known opcodes = any_map opcode_is_unknown opcode_entry opcodes ∙ over opcodes
   where
     over : (os : List Opcode) → list_any (λ (o : Opcode). opcode_is_unknown (opcode_entry o)) os ≡ false
     over [] = refl
@@ -131,7 +131,7 @@ opcode_kept d is =
     let h = any_pair opcodes_clash os in
     neither ((((a || b) || c) || e) || g) h (neither (((a || b) || c) || e) g (neither ((a || b) || c) e (neither (a || b) c (neither a b
     (known d.opcodes) is.instructions.once) is.instructions.all)
-    (any-map (λ (o : OpcodeEntry). has_other_length d.length o.bits) opcode_entry d.opcodes ∙ is.instructions.lengths))
+    (any_map (λ (o : OpcodeEntry). has_other_length d.length o.bits) opcode_entry d.opcodes ∙ is.instructions.lengths))
     is.instructions.ones) is.instructions.apart
 
 capture_kept : (d : Device) → IsDevice d → capture_fails (rebuilt_file d) (rebuilt_contents d) ≡ false
@@ -189,7 +189,7 @@ row_kept d is =
     ap (λ (ps : List DeclaredPort). row_rules ps d) (rebuilt_ports d)
     ∙ neither ((a || b) || c) (highz_fails (rebuilt_contents d)) (neither (a || b) c (neither a b
     (rows_keep d n 0 d.cells is.rows.each)
-    (bits_same d n ∙ all_none (not_once d) (own_bits d) (all_to (own_bits d) (λ bit once. ap not (eq-eqb (count_by (is_at bit) d.cells) 1 once)) is.rows.bits)))
+    (bits_same d n ∙ none_passes (not_once d) (own_bits d) (all_to (own_bits d) (λ bit once. ap not (eq-eqb (count_by (is_at bit) d.cells) 1 once)) is.rows.bits)))
     (agree_rows d.ports 0 d.cells ∙ is.rows.agree))
     (highz_same d ∙ is.rows.highz)
 
@@ -227,14 +227,9 @@ again d is =
 
 -- What can be written.
 
-at_place : {A : Type 0} (P : A → Type 0) (xs : List A) (k : ℕ) (x : A) → AllByRecursion P xs → slice_get xs k ≡ Some x → P x
-at_place P [] k x all h = absurd (cc)
-at_place P (y ∷ ys) zero x all h = let same : y ≡ x = cc in subst P same all.0
-at_place P (y ∷ ys) (suc k) x all h = at_place P ys k x all.1 h
-
 place_named : (d : Device) → AllByRecursion IsDevicePort d.ports → (k : ℕ) (p : DevPort) → slice_get d.ports k ≡ Some p → IsFileName (port_name d.ports k)
 unfolding port_name
-place_named d all k p there = subst (λ (o : Option DevPort). IsFileName (option_map_or (λ (q : DevPort). q.name) o [])) (sym there) (name_good p.name (at_place IsDevicePort d.ports k p all there).name)
+place_named d all k p there = subst (λ (o : Option DevPort). IsFileName (option_map_or (λ (q : DevPort). q.name) o [])) (sym there) (name_good p.name (all_at IsDevicePort d.ports k p all there).name)
 
 scalar_named : (d : Device) → AllByRecursion IsDevicePort d.ports → (k : ℕ) → k < length d.ports → IsFileName (port_name d.ports k)
 scalar_named d all k within = by (slice_get d.ports k) refl
@@ -260,7 +255,7 @@ row_port : (d : Device) → AllByRecursion IsDevicePort d.ports → (pin : Optio
 row_port d all None there = tt
 row_port d all (Some b) there = (
   name_test (port_name d.ports b.port) (place_named d all b.port there.port there.there),
-  index_small there.port.range b.index (at_place IsDevicePort d.ports b.port there.port all there.there).range there.bit,
+  index_small there.port.range b.index (all_at IsDevicePort d.ports b.port there.port all there.there).range there.bit,
 )
 
 row_control : (d : Device) → length d.cells < 10 ^ 9 → (held : Bool) (o : Option Disable) → option_map_or (λ (e : Disable). held && is_control_at d.cells e.control) o (not held) ≡ true → option_map_or (λ (e : Disable). e.control) o 0 < 10 ^ 9

@@ -5,9 +5,11 @@ use Rattle.std.specs.List.{list_any, list_all, flat_map, AllByRecursion}
 use Rattle.std.specs.Option.{option_map, option_map_or}
 use Rattle.std.proofs.lemmas.List.Sums.{sum_by-cons}
 use Rattle.list_laws.proofs.Tests.{and_left, and_right, not_false, and_true, neither}
+use Rattle.list_laws.proofs.Lists.{any_map, each_fails, none_passes}
 use Rattle.cell_library.specs.declared.codes.Bits.{Bits}
 use Rattle.bsdl_lexicon.specs.Names.{is_same_name}
 use Rattle.bsdl_lexicon.specs.Pieces.{IsIdentifier}
+use Rattle.bsdl_lexicon.proofs.SameNames.{same_turned}
 use Rattle.bsdl_device.specs.declared.values.PortRange.{PortRange}
 use Rattle.bsdl_device.specs.declared.values.DevPort.{DevPort}
 use Rattle.bsdl_device.specs.declared.values.Device.{Device}
@@ -22,8 +24,7 @@ use Rattle.bsdl_device.specs.Denoted.{port_of}
 use Rattle.bsdl_device.specs.Canonical.{bits_text}
 use Rattle.bsdl_device.specs.IsDevice.{IsDeviceName, IsBits, IsDeviceRange, IsDevicePin, IsDevicePort, AreDevicePorts, names_of}
 use Rattle.bsdl_round_trip.proofs.Totals.{weigh, tally, count_by-tally}
-use Rattle.bsdl_round_trip.proofs.Pairs.{any-map}
-use Rattle.bsdl_round_trip.proofs.Names.{same_turned, at_most_one, found_each, found_some, find_same, all_to, all_none, none_all}
+use Rattle.bsdl_round_trip.proofs.Names.{at_most_one, found_each, found_some, find_same, all_to}
 use Rattle.bsdl_round_trip.proofs.Identifiers.{name_test}
 use Rattle.bsdl_round_trip.proofs.Rebuilt.{mapped, entry_of, as_declared}
 use Rattle.bsdl_round_trip.proofs.PinMaps.{find-map, pins_are_there}
@@ -157,15 +158,15 @@ entry_once ports n p found =
 
 pub mapped_once : (ports : List DevPort) → AreNamed ports → port_not_mapped_once (map as_declared ports) (map entry_of ports) ≡ false
 mapped_once ports n =
-    any-map (λ (p : DeclaredPort). not (count_by (λ (e : PinEntry). is_same_name e.port p.name) (map entry_of ports) == 1)) as_declared ports
-    ∙ all_none (λ (p : DevPort). not (count_by (λ (e : PinEntry). is_same_name e.port p.name) (map entry_of ports) == 1)) ports (all_to ports (entry_once ports n) (are_found ports n))
+    any_map (λ (p : DeclaredPort). not (count_by (λ (e : PinEntry). is_same_name e.port p.name) (map entry_of ports) == 1)) as_declared ports
+    ∙ none_passes (λ (p : DevPort). not (count_by (λ (e : PinEntry). is_same_name e.port p.name) (map entry_of ports) == 1)) ports (all_to ports (entry_once ports n) (are_found ports n))
 
 misfit_same : (ports : List DevPort) (p : DevPort) → find (λ (q : DevPort). is_same_name p.name q.name) ports ≡ Some p → entry_misfits (map as_declared ports) (entry_of p) ≡ not (has_pins_for p.range (mapped p.range p.pins))
 misfit_same ports p found = ap (λ (o : Option DeclaredPort). option_map_or (λ (q : DeclaredPort). not (has_pins_for q.range (mapped p.range p.pins))) o true)
     (find-map (λ (q : DeclaredPort). is_same_name p.name q.name) as_declared ports ∙ ap (option_map as_declared) found)
 
 pub entries_fit : (ports : List DevPort) → AreNamed ports → AreWide ports → list_any (entry_misfits (map as_declared ports)) (map entry_of ports) ≡ false
-entries_fit ports n wide = any-map (entry_misfits (map as_declared ports)) entry_of ports ∙ over ports (are_found ports n) wide
+entries_fit ports n wide = any_map (entry_misfits (map as_declared ports)) entry_of ports ∙ over ports (are_found ports n) wide
   where
     over : (ps : List DevPort) → AreFound ports ps → AreWide ps → list_any (λ (p : DevPort). entry_misfits (map as_declared ports) (entry_of p)) ps ≡ false
     over [] found w = refl
@@ -175,7 +176,7 @@ entries_fit ports n wide = any-map (entry_misfits (map as_declared ports)) entry
         (over ps found.1 w.1)
 
 pub entries_wide : (ports : List DevPort) → AreNamed ports → AllByRecursion IsPort ports → list_any (entry_misfits (map as_declared ports)) (map entry_of ports) ≡ false → AreWide ports
-entries_wide ports n is h = over ports (are_found ports n) is (none_all (λ (p : DevPort). entry_misfits (map as_declared ports) (entry_of p)) ports (sym (any-map (entry_misfits (map as_declared ports)) entry_of ports) ∙ h))
+entries_wide ports n is h = over ports (are_found ports n) is (each_fails (λ (p : DevPort). entry_misfits (map as_declared ports) (entry_of p)) ports (sym (any_map (entry_misfits (map as_declared ports)) entry_of ports) ∙ h))
   where
     over : (ps : List DevPort) → AreFound ports ps → AllByRecursion IsPort ps → AllByRecursion (λ (p : DevPort). entry_misfits (map as_declared ports) (entry_of p) ≡ false) ps → AreWide ps
     over [] found k fits = tt

@@ -1,11 +1,13 @@
 -- The rows of a device and those of its canonical text keep the same rules.
-use Rattle.std.proofs.Common.{◌≡◌, ℕ, zero, suc, ◌+◌, ◌<◌, List, [], ◌∷◌, ◌++◌, Bool, true, false, cond, Option, Some, None, map, length, refl, sym, ap, subst, ◌∙◌, arith, eq-eqb, eqb-true, add-one}
+use Rattle.std.proofs.Common.{◌≡◌, ℕ, zero, suc, ◌+◌, ◌<◌, List, [], ◌∷◌, ◌++◌, Bool, true, false, cond, Option, Some, None, map, length, refl, sym, ap, subst, ◌∙◌, arith, eq-eqb, add-one}
 use Rattle.std.specs.Prelude.{◌==◌, ◌||◌, ◌&&◌, not, is_some, is_none, slice_get, count_by, filter}
 use Rattle.std.specs.List.{list_any, flat_map, enumerate_from, AllByRecursion}
 use Rattle.std.specs.Option.{option_map, option_map_or}
 use Rattle.std.proofs.lemmas.List.Folds.{list_any-append}
 use Rattle.std.proofs.lemmas.Option.{slice_get_within}
 use Rattle.list_laws.proofs.Tests.{and_left, and_right, not_false, or_false, and_true, or_first, or_second, neither}
+use Rattle.list_laws.proofs.Lists.{any_same, any_map}
+use Rattle.list_laws.proofs.Numbers.{eqb_less, eqb_more}
 use Rattle.cell_library.specs.declared.codes.BoundaryKind.{BoundaryKind}
 use Rattle.cell_library.specs.declared.codes.BoundaryKind.TheVariants as cell
 use Rattle.cell_library.specs.declared.codes.Function.{Function}
@@ -27,8 +29,7 @@ use Rattle.bsdl_device.specs.Denoted.{bit_of, cell_of}
 use Rattle.bsdl_device.specs.Canonical.{port_name}
 use Rattle.bsdl_device.specs.IsDevice.{is_tap_place, suits, wanted_mode, is_bit_of, stands_right, is_control_at, names_control, disable_right, is_used, IsDeviceRow, own_bits_at, is_at, rows_clash}
 use Rattle.bsdl_round_trip.proofs.Totals.{weigh, tally, count_by-tally}
-use Rattle.bsdl_round_trip.proofs.Pairs.{any_same, any-map}
-use Rattle.bsdl_round_trip.proofs.Numbered.{differ_by_order, NumberedFrom}
+use Rattle.bsdl_round_trip.proofs.Numbered.{NumberedFrom}
 use Rattle.bsdl_round_trip.proofs.Rebuilt.{as_declared, tap_of, port_bit, row_entry, row_entries}
 use Rattle.bsdl_round_trip.proofs.Places.{AreNamed, same_at, named_at, place_at, tap_at}
 
@@ -60,15 +61,8 @@ no_row : (ports : List DevPort) (n first : ℕ) (cells : List CellRow) → n < f
 no_row ports n first [] low = refl
 no_row ports n first (c ∷ cs) low =
     neither ((first == n) && is_function function.Control c.function) (list_any (λ (s : RowEntry). is_numbered n s && is_control s) (row_entries ports (first + 1) cs))
-    (ap (λ (b : Bool). b && is_function function.Control c.function) (other first n low))
+    (ap (λ (b : Bool). b && is_function function.Control c.function) (eqb_more first n low))
     (no_row ports n (first + 1) cs (omega arith))
-  where
-    other : (a b : ℕ) → b < a → (a == b) ≡ false
-    other a b less = by (a == b) refl
-      where
-        by : (x : Bool) → (a == b) ≡ x → (a == b) ≡ false
-        by true is = let same : a ≡ b = eqb-true a b is in absurd (omega arith)
-        by false is = is
 
 control_rows : (ports : List DevPort) (n first k : ℕ) (cells : List CellRow) → n ≡ first + k → list_any (λ (s : RowEntry). is_numbered n s && is_control s) (row_entries ports first cells) ≡ is_control_at cells k
 control_rows ports n first k [] is = refl
@@ -77,7 +71,7 @@ control_rows ports n first zero (c ∷ cs) is =
     ∙ ap (λ (b : Bool). is_function function.Control c.function || b) (no_row ports n (first + 1) cs (omega arith))
     ∙ or_false (is_function function.Control c.function)
 control_rows ports n first (suc k) (c ∷ cs) is =
-    ap (λ (b : Bool). (b && is_function function.Control c.function) || list_any (λ (s : RowEntry). is_numbered n s && is_control s) (row_entries ports (first + 1) cs)) (differ_by_order first n (omega arith))
+    ap (λ (b : Bool). (b && is_function function.Control c.function) || list_any (λ (s : RowEntry). is_numbered n s && is_control s) (row_entries ports (first + 1) cs)) (eqb_less first n (omega arith))
     ∙ control_rows ports n (first + 1) k cs (omega arith)
 
 -- The bit of a row.
@@ -471,9 +465,9 @@ bits_at d named first (p ∷ ps) stand =
 
     here : first < length d.ports → port_name d.ports first ≡ p.name → list_any bad (map (bit_of_port p.name) (indices p.range)) ≡ list_any (not_once d) (map bit (indices p.range))
     here within name =
-        any-map bad (bit_of_port p.name) (indices p.range)
+        any_map bad (bit_of_port p.name) (indices p.range)
         ∙ any_same (λ index. bad (bit_of_port p.name index)) (λ index. not_once d (bit index)) (λ index. ap (λ (n : List ℕ). bad (bit_of_port n index)) (sym name) ∙ once_same d named first within index) (indices p.range)
-        ∙ sym (any-map (not_once d) bit (indices p.range))
+        ∙ sym (any_map (not_once d) bit (indices p.range))
 
     by : (t l : Bool) → list_any bad (map (bit_of_port p.name) (indices p.range)) ≡ list_any (not_once d) (map bit (indices p.range))
         → list_any bad (system_bits (map as_declared ps) (tap_of d)) ≡ list_any (not_once d) (flat_map (λ (port : ℕ × DevPort). own_bits_at d port.0 port.1) (enumerate_from (first + 1) ps))

@@ -3,7 +3,7 @@ use Rattle.std.proofs.Common.{◌≡◌, ℕ, ◌^◌, ◌<◌, List, [], ◌∷
 use Rattle.std.specs.Prelude.{◌&&◌}
 use Rattle.std.specs.List.{list_all, flat_map, filter_map, cons_option, AllByRecursion}
 use Rattle.std.specs.Option.{option_map, option_map_or}
-use Rattle.list_laws.proofs.Lists.{all_append, all_front}
+use Rattle.list_laws.proofs.Lists.{all_append, all_front, all_back}
 use Rattle.cell_library.specs.declared.codes.Instr.{Instr}
 use Rattle.cell_library.specs.declared.codes.Opcode.{Opcode}
 use Rattle.bsdl_lexicon.specs.declared.token.BsdlSpanned.{BsdlSpanned}
@@ -33,7 +33,7 @@ use Rattle.bsdl_device.specs.Ports.{declared_ports, port_declared, range_of}
 use Rattle.bsdl_device.specs.Checks.{entry_pins}
 use Rattle.bsdl_device.specs.Denoted.{opcode_of}
 use Rattle.bsdl_device.specs.Spelled.{HasContents, HoldIdcode}
-use Rattle.bsdl_round_trip.proofs.Good.{GoodToken, GoodPattern, GoodContent, GoodBits, GoodPin, good_tokens, good_words, all_contents, all_behind, all_separated}
+use Rattle.bsdl_round_trip.proofs.Good.{GoodToken, GoodPattern, GoodContent, GoodBits, GoodPin, good_tokens, good_words, all_contents, all_separated}
 use Rattle.bsdl_round_trip.proofs.Names.{all_to}
 use Rattle.bsdl_round_trip.proofs.Held.{IsFileName, IsSmallRange, IsCode}
 
@@ -66,14 +66,14 @@ names_good d small (name ∷ names) all = (record { name = all.0.0; range = smal
 declarations_good : (ds : List PortDeclaration) → AllByRecursion (λ d. AllByRecursion GoodPattern (declaration_words d)) ds → AllByRecursion IsGoodPort (flat_map (λ (d : PortDeclaration). map (port_declared d) d.names) ds)
 declarations_good [] all = tt
 declarations_good (d ∷ ds) all =
-    let behind = all_behind GoodPattern (names_words d.names) _ all.0 in
+    let behind = all_back GoodPattern (names_words d.names) _ all.0 in
     all_append IsGoodPort (map (port_declared d) d.names) _
     (names_good d (range_small d.range behind.1.1) d.names (all_separated GoodPattern (Mark Comma) (λ (name : List ℕ). NameOf name ∷ []) d.names (all_front GoodPattern (names_words d.names) _ all.0)))
     (declarations_good ds all.1)
 
 all_parts : {A : Type 0} (P : A → Type 0) (list : List (List A)) → AllByRecursion P (joined list) → AllByRecursion (λ (part : List A). AllByRecursion P part) list
 all_parts P [] all = tt
-all_parts P (part ∷ more) all = (all_front P part (joined more) all, all_parts P more (all_behind P part (joined more) all))
+all_parts P (part ∷ more) all = (all_front P part (joined more) all, all_parts P more (all_back P part (joined more) all))
 
 pub file_good : (f : File) → AllByRecursion GoodPattern (file_words f) → GoodFile f
 file_good f all =

@@ -4,7 +4,7 @@ use Rattle.std.specs.Prelude.{◌==◌, ◌&&◌, not, IsTrue, if◌then◌else�
 use Rattle.std.specs.List.{list_all, flat_map, AllByRecursion}
 use Rattle.std.specs.Fmt.{decimal}
 use Rattle.std.proofs.lemmas.Fmt.{length-decimal-le, decimal_nonempty}
-use Rattle.list_laws.proofs.Tests.{and_left, and_right}
+use Rattle.list_laws.proofs.Tests.{and_left, and_right, not_true}
 use Rattle.list_laws.proofs.Digits.{decimal_digits}
 use Rattle.bsdl_lexicon.specs.declared.token.BsdlToken.TheVariants as word
 use Rattle.bsdl_lexicon.specs.declared.symbol.BsdlSymbol.{BsdlSymbol}
@@ -16,8 +16,8 @@ use Rattle.bsdl_lexicon.specs.Pieces as piece
 use Rattle.bsdl_lexicon.specs.Pieces.{Piece, spelling, IsPiece, Ends, NotFirst, text_of, ArePieces, IsIdentifier, IsReal, value_from, words_from}
 use Rattle.bsdl_device.specs.Shape.{Pattern, KeyWord, NameOf, IntegerOf, RealOf, StringOf, Mark, BecomesMark, Fits, Matches}
 use Rattle.bsdl_device.specs.Runs.{is_identifier, value_after}
+use Rattle.bsdl_device.proofs.Identifiers.{identifier_from}
 use Rattle.bsdl_round_trip.proofs.Names.{same_self}
-use Rattle.bsdl_round_trip.proofs.Identifiers.{identifier_from}
 
 pub data FileAtom : Type 0 where
   Blank : ℕ → FileAtom
@@ -171,10 +171,6 @@ Follows Free rest = Unit {0}
 Follows BehindName rest = NotFirst is_name_byte rest
 Follows BehindNumber rest = NotFirst clings rest
 Follows BehindColon rest = NotFirst (λ c. c == 61) rest
-
-not_true : (x : Bool) → not x ≡ true → x ≡ false
-not_true true h = absurd (cc)
-not_true false h = refl
 
 blank_follows : (e : Ending) (b : ℕ) (rest : List ℕ) → is_space b ≡ true → Follows e (b ∷ rest)
 blank_follows Free b rest h = tt

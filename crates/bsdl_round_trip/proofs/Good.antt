@@ -1,9 +1,9 @@
 -- What is known of the words of a text, and of the runs of a section's strings.
-use Rattle.std.proofs.Common.{◌≡◌, ℕ, ◌+◌, ◌-◌, ◌*◌, ◌^◌, ◌<◌, ◌≤◌, List, [], ◌∷◌, ◌++◌, Bool, true, false, Option, Some, None, length, refl, sym, ap, subst, ◌∙◌, arith, leb-true}
+use Rattle.std.proofs.Common.{◌≡◌, ℕ, ◌+◌, ◌-◌, ◌*◌, ◌^◌, ◌<◌, ◌≤◌, List, [], ◌∷◌, Bool, true, false, Option, Some, None, length, refl, sym, ap, subst, ◌∙◌, arith, leb-true}
 use Rattle.std.specs.Prelude.{◌==◌, ◌&&◌, not, nat_le, IsTrue, if◌then◌else◌}
 use Rattle.std.specs.List.{list_all, AllByRecursion}
 use Rattle.list_laws.proofs.Tests.{and_left, and_right}
-use Rattle.list_laws.proofs.Lists.{all_front}
+use Rattle.list_laws.proofs.Lists.{all_front, all_back}
 use Rattle.cell_library.specs.declared.codes.Bits.{Bits}
 use Rattle.bsdl_lexicon.specs.declared.token.BsdlToken.{BsdlToken}
 use Rattle.bsdl_lexicon.specs.declared.token.BsdlToken.TheVariants as word
@@ -205,14 +205,10 @@ all_contents [] ws m all = tt
 all_contents (p ∷ ps) [] m all = absurd m
 all_contents (p ∷ ps) (w ∷ ws) m all = (content_good p w all.0 m.0, all_contents ps ws m.1 all.1)
 
-pub all_behind : {A : Type 0} (P : A → Type 0) (xs ys : List A) → AllByRecursion P (xs ++ ys) → AllByRecursion P ys
-all_behind P [] ys all = all
-all_behind P (x ∷ xs) ys all = all_behind P xs ys all.1
-
 all_each : {A B : Type 0} (P : B → Type 0) (mark : B) (words : A → List B) (xs : List A) → AllByRecursion P (each_after mark words xs) → AllByRecursion (λ x. AllByRecursion P (words x)) xs
 all_each P mark words [] all = tt
-all_each P mark words (x ∷ xs) all = (all_front P (words x) (each_after mark words xs) all.1, all_each P mark words xs (all_behind P (words x) (each_after mark words xs) all.1))
+all_each P mark words (x ∷ xs) all = (all_front P (words x) (each_after mark words xs) all.1, all_each P mark words xs (all_back P (words x) (each_after mark words xs) all.1))
 
 pub all_separated : {A B : Type 0} (P : B → Type 0) (mark : B) (words : A → List B) (xs : List A) → AllByRecursion P (separated_by mark words xs) → AllByRecursion (λ x. AllByRecursion P (words x)) xs
 all_separated P mark words [] all = tt
-all_separated P mark words (x ∷ xs) all = (all_front P (words x) (each_after mark words xs) all, all_each P mark words xs (all_behind P (words x) (each_after mark words xs) all))
+all_separated P mark words (x ∷ xs) all = (all_front P (words x) (each_after mark words xs) all, all_each P mark words xs (all_back P (words x) (each_after mark words xs) all))

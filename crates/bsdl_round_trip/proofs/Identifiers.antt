@@ -1,8 +1,8 @@
 -- Identifiers of the words and of the strings are one.
-use Rattle.std.proofs.Common.{◌≡◌, ℕ, ◌<◌, ◌≤◌, List, [], ◌∷◌, Bool, true, false, length, refl, ap, arith, leb-true, le-leb}
-use Rattle.std.specs.Prelude.{◌==◌, ◌||◌, ◌&&◌, not, nat_le, IsTrue}
+use Rattle.std.proofs.Common.{◌≡◌, ℕ, ◌<◌, List, [], ◌∷◌, Bool, true, false, length, refl, ap, arith, le-leb}
+use Rattle.std.specs.Prelude.{◌==◌, ◌&&◌, not, nat_le, IsTrue}
 use Rattle.std.specs.List.{list_all, AllByRecursion}
-use Rattle.list_laws.proofs.Tests.{and_left, and_right, and_true}
+use Rattle.list_laws.proofs.Tests.{and_true}
 use Rattle.bsdl_lexicon.specs.Bytes.{is_letter, is_name_byte, is_letter_or_digit}
 use Rattle.bsdl_lexicon.specs.Reserved.{is_reserved}
 use Rattle.bsdl_lexicon.specs.Pieces.{IsIdentifier, HasSingleUnderscores}
@@ -18,20 +18,9 @@ letter_is_no_underscore b h = grind arith
 other_is_no_underscore : (b : ℕ) → is_letter_or_digit b ≡ true → (b == 95) ≡ false
 other_is_no_underscore b h = grind arith
 
-name_byte_is_other : (b : ℕ) → is_name_byte b ≡ true → (b == 95) ≡ false → is_letter_or_digit b ≡ true
-name_byte_is_other b h k = by (is_letter_or_digit b) (b == 95) h k
-  where
-    by : (x y : Bool) → (x || y) ≡ true → y ≡ false → x ≡ true
-    by true y m n = refl
-    by false y m n = absurd (cc)
-
 all_bytes : (bytes : List ℕ) → AllByRecursion (λ c. IsTrue (is_name_byte c)) bytes → list_all is_name_byte bytes ≡ true
 all_bytes [] all = refl
 all_bytes (b ∷ bytes) all = and_true (is_name_byte b) (list_all is_name_byte bytes) all.0 (all_bytes bytes all.1)
-
-each_byte : (bytes : List ℕ) → list_all is_name_byte bytes ≡ true → AllByRecursion (λ c. IsTrue (is_name_byte c)) bytes
-each_byte [] h = tt
-each_byte (b ∷ bytes) h = (and_left (is_name_byte b) (list_all is_name_byte bytes) h, each_byte bytes (and_right (is_name_byte b) (list_all is_name_byte bytes) h))
 
 single_test : (b : ℕ) (bytes : List ℕ) → HasSingleUnderscores (b ∷ bytes) → has_single_underscores (b ∷ bytes) ≡ true
 single_test b [] h = by (b == 95) h.0
@@ -45,25 +34,6 @@ single_test b (c ∷ bytes) h = and_true (not (b == 95 && c == 95)) (has_single_
     by true k = ap not (other_is_no_underscore c (k refl))
     by false k = refl
 
-single_each : (b : ℕ) (bytes : List ℕ) → list_all is_name_byte bytes ≡ true → has_single_underscores (b ∷ bytes) ≡ true → HasSingleUnderscores (b ∷ bytes)
-single_each b [] all h = (by (b == 95) h, tt)
-  where
-    by : (x : Bool) → not x ≡ true → IsTrue x → ⊥
-    by true k is = absurd (cc)
-    by false k is = absurd (cc)
-single_each b (c ∷ bytes) all h = (
-  by (b == 95) (and_left (not (b == 95 && c == 95)) (has_single_underscores (c ∷ bytes)) h),
-  single_each c bytes (and_right (is_name_byte c) (list_all is_name_byte bytes) all) (and_right (not (b == 95 && c == 95)) (has_single_underscores (c ∷ bytes)) h),
-)
-  where
-    not_true : (x : Bool) → not x ≡ true → x ≡ false
-    not_true true k = absurd (cc)
-    not_true false k = refl
-
-    by : (x : Bool) → not (x && c == 95) ≡ true → IsTrue x → IsTrue (is_letter_or_digit c)
-    by true k is = name_byte_is_other c (and_left (is_name_byte c) (list_all is_name_byte bytes) all) (not_true (c == 95) k)
-    by false k is = absurd (cc)
-
 pub identifier_test : (name : List ℕ) → IsIdentifier name → is_identifier name ≡ true
 identifier_test [] is = absurd is
 identifier_test (b ∷ bytes) is =
@@ -73,15 +43,6 @@ identifier_test (b ∷ bytes) is =
     (and_true (is_letter b) (list_all is_name_byte (b ∷ bytes)) is.0 (and_true (is_name_byte b) (list_all is_name_byte bytes) (letter_is_name b is.0) (all_bytes bytes is.1)))
     (single_test b bytes (λ under. (let no_under = letter_is_no_underscore b is.0 in absurd (cc)), is.2)))
     (le-leb (length (b ∷ bytes)) 255 (omega arith))
-
-pub identifier_from : (name : List ℕ) → is_identifier name ≡ true → IsIdentifier name
-identifier_from [] h = absurd (cc)
-identifier_from (b ∷ bytes) h =
-    let three = and_left (is_letter b && list_all is_name_byte (b ∷ bytes) && has_single_underscores (b ∷ bytes)) (nat_le (length (b ∷ bytes)) 255) h in
-    let two = and_left (is_letter b && list_all is_name_byte (b ∷ bytes)) (has_single_underscores (b ∷ bytes)) three in
-    let all = and_right (is_name_byte b) (list_all is_name_byte bytes) (and_right (is_letter b) (list_all is_name_byte (b ∷ bytes)) two) in
-    let short : length (b ∷ bytes) ≤ 255 = leb-true (length (b ∷ bytes)) 255 (and_right (is_letter b && list_all is_name_byte (b ∷ bytes) && has_single_underscores (b ∷ bytes)) (nat_le (length (b ∷ bytes)) 255) h) in
-    (and_left (is_letter b) (list_all is_name_byte (b ∷ bytes)) two, each_byte bytes all, (single_each b bytes all (and_right (is_letter b && list_all is_name_byte (b ∷ bytes)) (has_single_underscores (b ∷ bytes)) three)).1, omega arith)
 
 pub name_test : (name : List ℕ) → IsIdentifier name × (is_reserved name ≡ false) → is_name name ≡ true
 name_test name h = and_true (is_identifier name) (not (is_reserved name)) (identifier_test name h.0) (ap not h.1)

@@ -4,17 +4,20 @@ use Rattle.std.specs.Prelude.{◌||◌, ◌&&◌, ◌==◌, ◌-◌, ◌^◌, no
 use Rattle.std.specs.List.{list_any, filter_map, cons_option}
 use Rattle.std.specs.Option.{option_map}
 use Rattle.list_laws.proofs.Tests.{or_first, or_second}
+use Rattle.list_laws.proofs.Options.{found}
+use Rattle.list_laws.proofs.Lists.{any_same, any_map}
 use Rattle.cell_library.specs.declared.codes.Instr.{Instr}
 use Rattle.cell_library.specs.declared.codes.Instr.TheVariants as instr
 use Rattle.cell_library.specs.declared.codes.Opcode.{Opcode}
 use Rattle.bsdl_lexicon.specs.Names.{same_name, is_same_name}
+use Rattle.bsdl_lexicon.proofs.SameNames.{same_name-true}
 use Rattle.bsdl_device.specs.declared.entries.OpcodeEntry.{OpcodeEntry}
 use Rattle.bsdl_device.specs.Instructions.{instruction_word, instruction_named, names_instruction, all_instructions, same_bits, is_instruction}
 use Rattle.bsdl_device.specs.Checks.{any_pair, has_instruction, opcode_is_unknown, opcode_named_twice, lacks_instruction, has_other_length, bypass_is_not_ones, are_sample_and_preload, opcodes_clash}
 use Rattle.bsdl_device.specs.Denoted.{opcode_of}
 use Rattle.bsdl_device.specs.Canonical.{has_opcode}
-use Rattle.bsdl_round_trip.proofs.Pairs.{any_same, any-map, pair-map, pair_same}
-use Rattle.bsdl_round_trip.proofs.Names.{same_name-true, same_left, same_right, find_same, found_passes}
+use Rattle.bsdl_round_trip.proofs.Pairs.{pair-map, pair_same}
+use Rattle.bsdl_round_trip.proofs.Names.{same_left, same_right, find_same}
 use Rattle.bsdl_round_trip.proofs.Rebuilt.{opcode_entry}
 
 -- One opcode.
@@ -41,7 +44,7 @@ own_same name = by (instruction_named name) refl
   where
     by : (o : Option Instr) → instruction_named name ≡ o → same_name (own_name o name) name
     by None is = refl
-    by (Some i) is = sym (same_name-true name (instruction_word i) (found_passes (λ j. names_instruction j name) all_instructions i is))
+    by (Some i) is = sym (same_name-true name (instruction_word i) (found (λ j. names_instruction j name) all_instructions i is))
 
 names_same : (i : Instr) (o : OpcodeEntry) → names_instruction i (respelled o).name ≡ names_instruction i o.name
 names_same i o = same_left (own_name (instruction_named o.name) o.name) o.name (instruction_word i) (own_same o.name)
@@ -56,13 +59,13 @@ pub opcodes_respelled : (opcodes : List OpcodeEntry) → list_any opcode_is_unkn
 opcodes_respelled [] h = refl
 opcodes_respelled (o ∷ os) h = by (instruction_named o.name) (or_first (opcode_is_unknown o) (list_any opcode_is_unknown os) h) (opcodes_respelled os (or_second (opcode_is_unknown o) (list_any opcode_is_unknown os) h))
   where
-    by : (found : Option Instr) → is_none found ≡ false → map opcode_entry (filter_map opcode_of os) ≡ map respelled os
-        → map opcode_entry (cons_option (option_map (λ i. let opcode : Opcode = record { instr = i; bits = o.bits } in opcode) found) (filter_map opcode_of os)) ≡ record { name = own_name found o.name; bits = o.bits } ∷ map respelled os
+    by : (seen : Option Instr) → is_none seen ≡ false → map opcode_entry (filter_map opcode_of os) ≡ map respelled os
+        → map opcode_entry (cons_option (option_map (λ i. let opcode : Opcode = record { instr = i; bits = o.bits } in opcode) seen) (filter_map opcode_of os)) ≡ record { name = own_name seen o.name; bits = o.bits } ∷ map respelled os
     by None k rest = absurd (cc)
     by (Some i) k rest = ap (λ (l : List OpcodeEntry). record { name = instruction_word i; bits = o.bits } ∷ l) rest
 
 any_respelled : (test : OpcodeEntry → Bool) → ((o : OpcodeEntry) → test (respelled o) ≡ test o) → (os : List OpcodeEntry) → list_any test (map respelled os) ≡ list_any test os
-any_respelled test same os = any-map test respelled os ∙ any_same (λ o. test (respelled o)) test same os
+any_respelled test same os = any_map test respelled os ∙ any_same (λ o. test (respelled o)) test same os
 
 pair_respelled : (test : OpcodeEntry → OpcodeEntry → Bool) → ((o p : OpcodeEntry) → test (respelled o) (respelled p) ≡ test o p) → (os : List OpcodeEntry) → any_pair test (map respelled os) ≡ any_pair test os
 pair_respelled test same os = pair-map test respelled os ∙ pair_same (λ o p. test (respelled o) (respelled p)) test same os
@@ -107,7 +110,7 @@ clash_same os = pair_respelled opcodes_clash (λ o p. ap (λ (b : Bool). same_bi
 pub opcodes_again : (opcodes : List Opcode) → filter_map opcode_of (map opcode_entry opcodes) ≡ opcodes
 opcodes_again [] = refl
 opcodes_again (o ∷ os) =
-    ap (λ (found : Option Instr). cons_option (option_map (λ i. let opcode : Opcode = record { instr = i; bits = o.bits } in opcode) found) (filter_map opcode_of (map opcode_entry os))) (named_again o.instr)
+    ap (λ (seen : Option Instr). cons_option (option_map (λ i. let opcode : Opcode = record { instr = i; bits = o.bits } in opcode) seen) (filter_map opcode_of (map opcode_entry os))) (named_again o.instr)
     ∙ ap (λ (l : List Opcode). o ∷ l) (opcodes_again os)
 
 -- Which instructions there are.
@@ -124,4 +127,4 @@ word_of_one instr.Clamp j = elim j as (λ v. names_instruction instr.Clamp (inst
 
 pub has_by_opcode : (i : Instr) (opcodes : List Opcode) → has_instruction (map opcode_entry opcodes) i ≡ has_opcode opcodes i
 unfolding has_opcode
-has_by_opcode i opcodes = any-map (λ (o : OpcodeEntry). names_instruction i o.name) opcode_entry opcodes ∙ any_same (λ (o : Opcode). names_instruction i (instruction_word o.instr)) (λ (o : Opcode). is_instruction i o.instr) (λ o. word_of_one i o.instr) opcodes
+has_by_opcode i opcodes = any_map (λ (o : OpcodeEntry). names_instruction i o.name) opcode_entry opcodes ∙ any_same (λ (o : Opcode). names_instruction i (instruction_word o.instr)) (λ (o : Opcode). is_instruction i o.instr) (λ o. word_of_one i o.instr) opcodes

@@ -6,14 +6,16 @@ use Rattle.std.specs.Option.{option_map, option_map_or}
 use Rattle.std.proofs.lemmas.List.Folds.{find_at}
 use Rattle.std.proofs.lemmas.Option.{slice_get-map, slice_get_within}
 use Rattle.std.proofs.lemmas.Bool.{lt-ltb}
+use Rattle.list_laws.proofs.Options.{found}
 use Rattle.bsdl_lexicon.specs.Names.{same_name, is_same_name}
+use Rattle.bsdl_lexicon.proofs.SameNames.{same_name-true}
 use Rattle.bsdl_device.specs.declared.values.DevPort.{DevPort}
 use Rattle.bsdl_device.specs.declared.written.DeclaredPort.{DeclaredPort}
 use Rattle.bsdl_device.specs.declared.entries.PinEntry.{PinEntry}
 use Rattle.bsdl_device.specs.Ports.{port_named}
 use Rattle.bsdl_device.specs.Denoted.{place_of, port_of}
 use Rattle.bsdl_device.specs.Canonical.{port_name}
-use Rattle.bsdl_round_trip.proofs.Names.{same_name-true, same_left, find_same, found_passes}
+use Rattle.bsdl_round_trip.proofs.Names.{same_left, find_same}
 
 -- One name for another.
 
@@ -42,12 +44,12 @@ found_place {A} test xs x h =
 -- the name at the place of a name is that of the port that is found
 pub name_at_place : (entries : List PinEntry) (ports : List DeclaredPort) (name : List ℕ) (p : DeclaredPort) → port_named ports name ≡ Some p → port_name (map (port_of entries) ports) (place_of ports name) ≡ p.name
 unfolding port_name
-name_at_place entries ports name p found =
+name_at_place entries ports name p seen =
     ap (λ (o : Option DevPort). option_map_or (λ (q : DevPort). q.name) o [])
-    (slice_get-map (port_of entries) ports (place_of ports name) ∙ ap (λ (o : Option DeclaredPort). option_map (port_of entries) o) (found_place (λ (q : DeclaredPort). is_same_name name q.name) ports p found))
+    (slice_get-map (port_of entries) ports (place_of ports name) ∙ ap (λ (o : Option DeclaredPort). option_map (port_of entries) o) (found_place (λ (q : DeclaredPort). is_same_name name q.name) ports p seen))
 
 -- and that is the name, without regard to case
 pub same_at_place : (entries : List PinEntry) (ports : List DeclaredPort) (name : List ℕ) (p : DeclaredPort) → port_named ports name ≡ Some p → same_name name (port_name (map (port_of entries) ports) (place_of ports name))
-same_at_place entries ports name p found =
-    let same : same_name name p.name = same_name-true name p.name (found_passes (λ (q : DeclaredPort). is_same_name name q.name) ports p found) in
-    subst (λ (n : List ℕ). same_name name n) (sym (name_at_place entries ports name p found)) same
+same_at_place entries ports name p seen =
+    let same : same_name name p.name = same_name-true name p.name (found (λ (q : DeclaredPort). is_same_name name q.name) ports p seen) in
+    subst (λ (n : List ℕ). same_name name n) (sym (name_at_place entries ports name p seen)) same

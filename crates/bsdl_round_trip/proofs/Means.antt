@@ -1,6 +1,7 @@
 -- The file of the canonical text breaks no rule and describes the device.
 use Rattle.std.proofs.Common.{◌≡◌, Bool, true, false, cond, Option, Some, None, refl}
 use Rattle.std.specs.Option.{option_map}
+use Rattle.list_laws.proofs.Options.{not_found}
 use Rattle.bsdl_device.specs.declared.written.File.{File}
 use Rattle.bsdl_device.specs.declared.entries.Contents.{Contents}
 use Rattle.bsdl_device.specs.Checks.{name_fails, pin_map_fails, tap_fails, length_fails, opcode_fails, capture_fails, idcode_fails, register_fails, boundary_fails}
@@ -21,10 +22,6 @@ pub record Keeps (f : File) (c : Contents) : Type 0 where
   pub register : register_fails c ≡ false
   pub boundary : boundary_fails f c ≡ false
   pub row : row_fails f c ≡ false
-
-not_found : {A B : Type 0} (g : A → B) (b : Bool) (x : A) (rest : Option A) → option_map g (cond b (Some x) rest) ≡ None → b ≡ false
-not_found g true x rest h = absurd (cc)
-not_found g false x rest h = refl
 
 not_later : {A B : Type 0} (g : A → B) (b : Bool) (x : A) (rest : Option A) → option_map g (cond b (Some x) rest) ≡ None → option_map g rest ≡ None
 not_later g true x rest h = absurd (cc)

@@ -1,20 +1,14 @@
 -- Names that are one without regard to case can stand for each other, and lists in which no name stands twice.
-use Rattle.std.proofs.Common.{◌≡◌, ℕ, ◌+◌, ◌≤◌, List, [], ◌∷◌, Bool, true, false, cond, Option, Some, map, find, refl, sym, ap, subst, ◌∙◌, arith}
+use Rattle.std.proofs.Common.{◌≡◌, ℕ, ◌+◌, ◌≤◌, List, [], ◌∷◌, Bool, true, false, cond, Option, Some, map, find, refl, ap, subst, ◌∙◌, arith}
 use Rattle.std.specs.List.{list_any, AllByRecursion}
 use Rattle.std.specs.Str.{bytes_eq}
-use Rattle.std.proofs.lemmas.Slice.Eq.{bytes_eq-Decides}
 use Rattle.list_laws.proofs.Tests.{or_first, or_second, neither}
 use Rattle.bsdl_lexicon.specs.Names.{lower, same_name, is_same_name}
+use Rattle.bsdl_lexicon.proofs.SameNames.{is_same_name-true, same_name-true, same_turned}
 use Rattle.bsdl_device.specs.Checks.{any_pair, is_repeated}
 use Rattle.bsdl_round_trip.proofs.Totals.{weigh, tally, none_any, any_none, Shuffled}
 
 -- what the test says
-
-pub is_same_name-true : (a b : List ℕ) → same_name a b → is_same_name a b ≡ true
-is_same_name-true a b same = (bytes_eq-Decides (map lower a) (map lower b)).1 same
-
-pub same_name-true : (a b : List ℕ) → is_same_name a b ≡ true → same_name a b
-same_name-true a b test = (bytes_eq-Decides (map lower a) (map lower b)).0 test
 
 -- One name for another.
 
@@ -26,15 +20,6 @@ same_right a b c same = ap (λ (l : List ℕ). bytes_eq (map lower c) l) same
 
 pub same_self : (a : List ℕ) → is_same_name a a ≡ true
 same_self a = is_same_name-true a a refl
-
-pub same_turned : (a b : List ℕ) → is_same_name a b ≡ is_same_name b a
-same_turned a b = by (is_same_name a b) refl (is_same_name b a) refl
-  where
-    by : (x : Bool) → is_same_name a b ≡ x → (y : Bool) → is_same_name b a ≡ y → is_same_name a b ≡ is_same_name b a
-    by true h true k = h ∙ sym k
-    by false h false k = h ∙ sym k
-    by true h false k = let back : is_same_name b a ≡ true = is_same_name-true b a (sym (same_name-true a b h)) in absurd (cc)
-    by false h true k = let back : is_same_name a b ≡ true = is_same_name-true a b (sym (same_name-true b a k)) in absurd (cc)
 
 -- Lists.
 
@@ -97,14 +82,6 @@ found_each {A} name (x ∷ xs) h = (
 
 -- Finding.
 
-pub found_passes : {A : Type 0} (test : A → Bool) (xs : List A) (x : A) → find test xs ≡ Some x → test x ≡ true
-found_passes test [] x h = absurd (cc)
-found_passes {A} test (y ∷ ys) x h = by (test y) refl (found_passes test ys x) h
-  where
-    by : (b : Bool) → test y ≡ b → (find test ys ≡ Some x → test x ≡ true) → cond b (Some y) (find test ys) ≡ Some x → test x ≡ true
-    by true is rest k = let same : y ≡ x = cc in subst (λ (z : A). test z ≡ true) same is
-    by false is rest k = rest k
-
 pub found_is_none_of : {A : Type 0} (test bad : A → Bool) (xs : List A) (x : A) → list_any bad xs ≡ false → find test xs ≡ Some x → bad x ≡ false
 found_is_none_of test bad [] x all h = absurd (cc)
 found_is_none_of {A} test bad (y ∷ ys) x all h = by (test y) (found_is_none_of test bad ys x (or_second (bad y) (list_any bad ys) all)) h
@@ -138,14 +115,6 @@ find_same f g same (x ∷ xs) = ap (λ (b : Bool). cond b (Some x) (find f xs)) 
 pub all_to : {A : Type 0} {P Q : A → Type 0} (xs : List A) → ((x : A) → P x → Q x) → AllByRecursion P xs → AllByRecursion Q xs
 all_to [] to all = tt
 all_to (x ∷ xs) to all = (to x all.0, all_to xs to all.1)
-
-pub all_none : {A : Type 0} (bad : A → Bool) (xs : List A) → AllByRecursion (λ x. bad x ≡ false) xs → list_any bad xs ≡ false
-all_none bad [] all = refl
-all_none bad (x ∷ xs) all = neither (bad x) (list_any bad xs) all.0 (all_none bad xs all.1)
-
-pub none_all : {A : Type 0} (bad : A → Bool) (xs : List A) → list_any bad xs ≡ false → AllByRecursion (λ x. bad x ≡ false) xs
-none_all bad [] h = tt
-none_all bad (x ∷ xs) h = (or_first (bad x) (list_any bad xs) h, none_all bad xs (or_second (bad x) (list_any bad xs) h))
 
 pub all_both : {A : Type 0} (P Q : A → Type 0) (xs : List A) → AllByRecursion P xs → AllByRecursion Q xs → AllByRecursion (λ x. P x × Q x) xs
 all_both P Q [] p q = tt

@@ -2,32 +2,19 @@
 use Rattle.std.proofs.Common.{◌≡◌, ℕ, suc, zero, ◌+◌, ◌<◌, ◌≤◌, List, [], ◌∷◌, Bool, true, false, cond, Option, Some, length, find, refl, sym, ap, subst, ◌∙◌, arith, eq-eqb, eqb-true, ltb-true, lt-ltb, add-one}
 use Rattle.std.specs.Prelude.{◌==◌, ◌||◌, not, nat_lt}
 use Rattle.std.specs.List.{list_any, filter_map, cons_option, AllByRecursion}
-use Rattle.list_laws.proofs.Tests.{not_false, or_first, or_second, neither}
+use Rattle.list_laws.proofs.Tests.{not_false, or_first, or_second, neither, or_more}
+use Rattle.list_laws.proofs.Numbers.{eqb-sym, eqb_less}
+use Rattle.list_laws.proofs.Options.{found}
+use Rattle.list_laws.proofs.Lists.{each_fails}
 use Rattle.bsdl_device.specs.declared.entries.RowEntry.{RowEntry}
 use Rattle.bsdl_device.specs.Ports.{counted_from}
 use Rattle.bsdl_device.specs.Checks.{any_pair, is_numbered}
 use Rattle.bsdl_device.specs.Denoted.{ordered_rows}
 use Rattle.bsdl_round_trip.proofs.Totals.{weigh, tally, none_any, Shuffled}
 use Rattle.bsdl_round_trip.proofs.Chosen.{chosen_shuffled}
-use Rattle.bsdl_round_trip.proofs.Names.{found_passes, some_found, all_to, none_all}
+use Rattle.bsdl_round_trip.proofs.Names.{some_found, all_to}
 
 -- Tests of numbers.
-
-pub eq_turned : (a b : ℕ) → (a == b) ≡ (b == a)
-eq_turned a b = by (a == b) refl (b == a) refl
-  where
-    by : (x : Bool) → (a == b) ≡ x → (y : Bool) → (b == a) ≡ y → (a == b) ≡ (b == a)
-    by true h true k = h ∙ sym k
-    by false h false k = h ∙ sym k
-    by true h false k = let back : (b == a) ≡ true = eq-eqb b a (sym (eqb-true a b h)) in absurd (cc)
-    by false h true k = let back : (a == b) ≡ true = eq-eqb a b (sym (eqb-true b a k)) in absurd (cc)
-
-pub differ_by_order : (a b : ℕ) → a < b → (a == b) ≡ false
-differ_by_order a b h = by (a == b) refl
-  where
-    by : (x : Bool) → (a == b) ≡ x → (a == b) ≡ false
-    by true is = let same : a ≡ b = eqb-true a b is in absurd (omega arith)
-    by false is = is
 
 -- Each number once.
 
@@ -38,7 +25,7 @@ number_at_most_once (r ∷ rs) h n = by (r.number == n) refl (number_at_most_onc
     others : (ss : List RowEntry) → r.number ≡ n → list_any (λ (s : RowEntry). r.number == s.number) ss ≡ false → list_any (is_numbered n) ss ≡ false
     others [] is apart = refl
     others (s ∷ ss) is apart = neither (s.number == n) (list_any (is_numbered n) ss)
-        (eq_turned s.number n ∙ ap (λ (k : ℕ). k == s.number) (sym is) ∙ or_first (r.number == s.number) (list_any (λ (q : RowEntry). r.number == q.number) ss) apart)
+        (eqb-sym s.number n ∙ ap (λ (k : ℕ). k == s.number) (sym is) ∙ or_first (r.number == s.number) (list_any (λ (q : RowEntry). r.number == q.number) ss) apart)
         (others ss is (or_second (r.number == s.number) (list_any (λ (q : RowEntry). r.number == q.number) ss) apart))
 
     by : (b : Bool) → (r.number == n) ≡ b → tally (is_numbered n) rs ≤ 1 → weigh (r.number == n) 1 + tally (is_numbered n) rs ≤ 1
@@ -51,7 +38,7 @@ number_at_most_once (r ∷ rs) h n = by (r.number == n) refl (number_at_most_onc
 counted_past : (k first n : ℕ) → k < first → tally (λ m. k == m) (counted_from first n) ≡ 0
 counted_past k first zero h = refl
 counted_past k first (suc n) h =
-    let here : weigh (k == first) 1 ≡ 0 = ap (λ (b : Bool). weigh b 1) (differ_by_order k first h) in
+    let here : weigh (k == first) 1 ≡ 0 = ap (λ (b : Bool). weigh b 1) (eqb_less k first h) in
     let rest : tally (λ m. k == m) (counted_from (suc first) n) ≡ 0 = counted_past k (suc first) n (omega (arith, add-one first)) in omega arith
 
 above : (a b : ℕ) → b ≤ a → (a ≡ b → ⊥) → suc b ≤ a
@@ -92,13 +79,13 @@ one_row rows apart n h =
     let least : 1 ≤ tally (is_numbered n) rows = some_any (is_numbered n) rows (not_false (list_any (is_numbered n) rows) h) in omega arith
 
 rows_each : (count : ℕ) (rows : List RowEntry) → CountedRows count rows → AllByRecursion (λ n. tally (is_numbered n) rows ≡ 1) (counted_from 0 count)
-rows_each count rows c = all_to (counted_from 0 count) (one_row rows c.apart) (none_all (λ number. not (list_any (is_numbered number) rows)) (counted_from 0 count) c.each)
+rows_each count rows c = all_to (counted_from 0 count) (one_row rows c.apart) (each_fails (λ number. not (list_any (is_numbered number) rows)) (counted_from 0 count) c.each)
 
 below_once : (count : ℕ) (r : RowEntry) → not (nat_lt r.number count) ≡ false → tally (λ n. is_numbered n r) (counted_from 0 count) ≡ 1
 below_once count r h = counted_once r.number 0 count (omega arith) (let low : r.number < count = ltb-true r.number count (not_false (nat_lt r.number count) h) in omega arith)
 
 pub ordered_shuffled : (count : ℕ) (rows : List RowEntry) → CountedRows count rows → Shuffled (ordered_rows count rows) rows
-ordered_shuffled count rows c = chosen_shuffled is_numbered (counted_from 0 count) rows (rows_each count rows c) (all_to rows (below_once count) (none_all (λ (r : RowEntry). not (nat_lt r.number count)) rows c.below))
+ordered_shuffled count rows c = chosen_shuffled is_numbered (counted_from 0 count) rows (rows_each count rows c) (all_to rows (below_once count) (each_fails (λ (r : RowEntry). not (nat_lt r.number count)) rows c.below))
 
 -- In order.
 
@@ -115,10 +102,10 @@ pub record InOrder (first count : ℕ) (rows : List RowEntry) : Type 0 where
 in_order : (rows : List RowEntry) (first n : ℕ) → AllByRecursion (λ k. tally (is_numbered k) rows ≡ 1) (counted_from first n) → InOrder first n (filter_map (λ k. find (is_numbered k) rows) (counted_from first n))
 in_order rows first zero all = record { numbered = tt; many = refl }
 in_order rows first (suc n) all =
-    let found = some_found (is_numbered first) rows (let one : tally (is_numbered first) rows ≡ 1 = all.0 in omega arith) in
-    let number : found.0.number ≡ first = eqb-true found.0.number first (found_passes (is_numbered first) rows found.0 found.1) in
+    let seen = some_found (is_numbered first) rows (let one : tally (is_numbered first) rows ≡ 1 = all.0 in omega arith) in
+    let number : seen.0.number ≡ first = eqb-true seen.0.number first (found (is_numbered first) rows seen.0 seen.1) in
     let rest = in_order rows (suc first) n all.1 in
-    subst (λ (o : Option RowEntry). InOrder first (suc n) (cons_option o (filter_map (λ k. find (is_numbered k) rows) (counted_from (suc first) n)))) (sym found.1)
+    subst (λ (o : Option RowEntry). InOrder first (suc n) (cons_option o (filter_map (λ k. find (is_numbered k) rows) (counted_from (suc first) n)))) (sym seen.1)
     (record { numbered = (number, rest.numbered); many = ap (λ (k : ℕ). suc k) rest.many })
 
 pub ordered_in_order : (count : ℕ) (rows : List RowEntry) → CountedRows count rows → InOrder 0 count (ordered_rows count rows)
@@ -129,7 +116,7 @@ ordered_in_order count rows c = in_order rows 0 count (rows_each count rows c)
 skips_first : (r : RowEntry) (rs : List RowEntry) (first k n : ℕ) → r.number ≡ first → first < k → filter_map (λ m. find (is_numbered m) (r ∷ rs)) (counted_from k n) ≡ filter_map (λ m. find (is_numbered m) rs) (counted_from k n)
 skips_first r rs first k zero is low = refl
 skips_first r rs first k (suc n) is low =
-    ap (λ (b : Bool). cons_option (cond b (Some r) (find (is_numbered k) rs)) (filter_map (λ m. find (is_numbered m) (r ∷ rs)) (counted_from (suc k) n))) (differ_by_order r.number k (omega arith))
+    ap (λ (b : Bool). cons_option (cond b (Some r) (find (is_numbered k) rs)) (filter_map (λ m. find (is_numbered m) (r ∷ rs)) (counted_from (suc k) n))) (eqb_less r.number k (omega arith))
     ∙ ap (λ (l : List RowEntry). cons_option (find (is_numbered k) rs) l) (skips_first r rs first (suc k) n is (omega (arith, add-one k)))
 
 chosen_in_order : (first : ℕ) (rows : List RowEntry) → NumberedFrom first rows → filter_map (λ m. find (is_numbered m) rows) (counted_from first (length rows)) ≡ rows
@@ -154,7 +141,7 @@ numbered_past : (n first : ℕ) (rows : List RowEntry) → NumberedFrom first ro
 numbered_past n first [] numbered low = refl
 numbered_past n first (r ∷ rs) numbered low =
     let number : r.number ≡ first = numbered.0 in
-    neither (n == r.number) (list_any (λ (s : RowEntry). n == s.number) rs) (differ_by_order n r.number (omega arith)) (numbered_past n (suc first) rs numbered.1 (omega arith))
+    neither (n == r.number) (list_any (λ (s : RowEntry). n == s.number) rs) (eqb_less n r.number (omega arith)) (numbered_past n (suc first) rs numbered.1 (omega arith))
 
 numbered_apart : (first : ℕ) (rows : List RowEntry) → NumberedFrom first rows → any_pair (λ (r : RowEntry) (s : RowEntry). r.number == s.number) rows ≡ false
 numbered_apart first [] numbered = refl
@@ -168,10 +155,6 @@ numbered_each all first (r ∷ rs) numbered part =
     neither (not (list_any (is_numbered first) all)) (list_any (λ number. not (list_any (is_numbered number) all)) (counted_from (suc first) (length rs)))
     (ap not (part first (ap (λ (b : Bool). b || list_any (is_numbered first) rs) (eq-eqb r.number first numbered.0))))
     (numbered_each all (suc first) rs numbered.1 (λ n h. part n (or_more (r.number == n) (list_any (is_numbered n) rs) h)))
-  where
-    or_more : (a b : Bool) → b ≡ true → (a || b) ≡ true
-    or_more true b h = refl
-    or_more false b h = h
 
 pub counted_again : (count : ℕ) (rows : List RowEntry) → InOrder 0 count rows → CountedRows count rows
 counted_again count rows o =

@@ -2,20 +2,13 @@
 use Rattle.std.proofs.Common.{◌≡◌, List, [], ◌∷◌, Bool, true, false, ◌||◌, map, refl, ap, ◌∙◌}
 use Rattle.std.specs.List.{list_any}
 use Rattle.list_laws.proofs.Tests.{or_first, or_second, neither}
+use Rattle.list_laws.proofs.Lists.{any_same, any_map}
 use Rattle.bsdl_device.specs.Checks.{any_pair}
 use Rattle.bsdl_round_trip.proofs.Totals.{any_shuffled, Shuffled}
 
-pub any_same : {A : Type 0} (f g : A → Bool) → ((x : A) → f x ≡ g x) → (xs : List A) → list_any f xs ≡ list_any g xs
-any_same f g same [] = refl
-any_same f g same (x ∷ xs) = ap (λ (b : Bool). b || list_any f xs) (same x) ∙ ap (λ (b : Bool). g x || b) (any_same f g same xs)
-
-pub any-map : {A B : Type 0} (f : B → Bool) (g : A → B) (xs : List A) → list_any f (map g xs) ≡ list_any (λ x. f (g x)) xs
-any-map f g [] = refl
-any-map f g (x ∷ xs) = ap (λ (b : Bool). f (g x) || b) (any-map f g xs)
-
 pub pair-map : {A B : Type 0} (f : B → B → Bool) (g : A → B) (xs : List A) → any_pair f (map g xs) ≡ any_pair (λ x y. f (g x) (g y)) xs
 pair-map f g [] = refl
-pair-map f g (x ∷ xs) = ap (λ (b : Bool). b || any_pair f (map g xs)) (any-map (f (g x)) g xs) ∙ ap (λ (b : Bool). list_any (λ y. f (g x) (g y)) xs || b) (pair-map f g xs)
+pair-map f g (x ∷ xs) = ap (λ (b : Bool). b || any_pair f (map g xs)) (any_map (f (g x)) g xs) ∙ ap (λ (b : Bool). list_any (λ y. f (g x) (g y)) xs || b) (pair-map f g xs)
 
 pub pair_same : {A : Type 0} (f g : A → A → Bool) → ((x y : A) → f x y ≡ g x y) → (xs : List A) → any_pair f xs ≡ any_pair g xs
 pair_same f g same [] = refl

@@ -4,7 +4,10 @@ use Rattle.std.specs.Prelude.{◌==◌, ◌||◌, not, count_by}
 use Rattle.std.specs.List.{list_any, list_all, filter_map, cons_option, AllByRecursion}
 use Rattle.std.specs.Option.{option_map, option_map_or}
 use Rattle.list_laws.proofs.Tests.{not_false}
+use Rattle.list_laws.proofs.Options.{found}
+use Rattle.list_laws.proofs.Lists.{each_fails, none_passes}
 use Rattle.bsdl_lexicon.specs.Names.{same_name, is_same_name}
+use Rattle.bsdl_lexicon.proofs.SameNames.{same_name-true, same_turned}
 use Rattle.bsdl_device.specs.declared.values.PortRange.{PortRange}
 use Rattle.bsdl_device.specs.declared.values.DevPort.{DevPort}
 use Rattle.bsdl_device.specs.declared.written.DeclaredPort.{DeclaredPort}
@@ -17,7 +20,7 @@ use Rattle.bsdl_device.specs.Checks.{is_repeated, entry_pins, has_pins_for, port
 use Rattle.bsdl_device.specs.Denoted.{pins_of, port_of}
 use Rattle.bsdl_round_trip.proofs.Totals.{total, weigh, tally, total-flat_map, count_by-tally, Shuffled}
 use Rattle.bsdl_round_trip.proofs.Chosen.{chosen_shuffled}
-use Rattle.bsdl_round_trip.proofs.Names.{same_name-true, same_left, same_turned, find_same, at_most_one, repeats_shuffled, found_each, found_passes, found_is_none_of, some_found, found_some, all_to, all_none, none_all, all_both}
+use Rattle.bsdl_round_trip.proofs.Names.{same_left, find_same, at_most_one, repeats_shuffled, found_each, found_is_none_of, some_found, found_some, all_to, all_both}
 use Rattle.bsdl_round_trip.proofs.Rebuilt.{mapped}
 
 -- Pins of one port.
@@ -50,16 +53,16 @@ port_mapped : (ports : List DeclaredPort) (entries : List PinEntry) → list_any
     → (port_named ports p.name ≡ Some p) × (not (count_by (λ (e : PinEntry). is_same_name e.port p.name) entries == 1) ≡ false) → PortMapped ports entries p
 port_mapped ports entries fit p h =
     let one : tally (λ (e : PinEntry). is_same_name e.port p.name) entries ≡ 1 = sym (count_by-tally (λ (e : PinEntry). is_same_name e.port p.name) entries) ∙ eqb-true (count_by (λ (e : PinEntry). is_same_name e.port p.name) entries) 1 (not_false (count_by (λ (e : PinEntry). is_same_name e.port p.name) entries == 1) h.1) in
-    let found = some_found (λ (e : PinEntry). is_same_name e.port p.name) entries (omega arith) in
-    let named : same_name found.0.port p.name = same_name-true found.0.port p.name (found_passes (λ (e : PinEntry). is_same_name e.port p.name) entries found.0 found.1) in
-    let here : port_named ports found.0.port ≡ Some p = find_same (λ (q : DeclaredPort). is_same_name found.0.port q.name) (λ (q : DeclaredPort). is_same_name p.name q.name) (λ q. same_left found.0.port p.name q.name named) ports ∙ h.0 in
-    let right : entry_misfits ports found.0 ≡ false = found_is_none_of (λ (e : PinEntry). is_same_name e.port p.name) (entry_misfits ports) entries found.0 fit found.1 in
+    let seen = some_found (λ (e : PinEntry). is_same_name e.port p.name) entries (omega arith) in
+    let named : same_name seen.0.port p.name = same_name-true seen.0.port p.name (found (λ (e : PinEntry). is_same_name e.port p.name) entries seen.0 seen.1) in
+    let here : port_named ports seen.0.port ≡ Some p = find_same (λ (q : DeclaredPort). is_same_name seen.0.port q.name) (λ (q : DeclaredPort). is_same_name p.name q.name) (λ q. same_left seen.0.port p.name q.name named) ports ∙ h.0 in
+    let right : entry_misfits ports seen.0 ≡ false = found_is_none_of (λ (e : PinEntry). is_same_name e.port p.name) (entry_misfits ports) entries seen.0 fit seen.1 in
     record {
       self = h.0;
       one = one;
-      entry = found.0;
-      found = found.1;
-      fits = not_false (has_pins_for p.range found.0.pins) (sym (ap (λ (o : Option DeclaredPort). option_map_or (λ (q : DeclaredPort). not (has_pins_for q.range found.0.pins)) o true) here) ∙ right);
+      entry = seen.0;
+      found = seen.1;
+      fits = not_false (has_pins_for p.range seen.0.pins) (sym (ap (λ (o : Option DeclaredPort). option_map_or (λ (q : DeclaredPort). not (has_pins_for q.range seen.0.pins)) o true) here) ∙ right);
     }
 
 -- what a file's pin map keeps
@@ -73,7 +76,7 @@ pub ports_mapped : (ports : List DeclaredPort) (entries : List PinEntry) → Map
 ports_mapped ports entries m = all_to ports (port_mapped ports entries m.fit)
     (all_both (λ (p : DeclaredPort). port_named ports p.name ≡ Some p) (λ (p : DeclaredPort). not (count_by (λ (e : PinEntry). is_same_name e.port p.name) entries == 1) ≡ false) ports
     (found_each (λ (p : DeclaredPort). p.name) ports m.distinct)
-    (none_all (λ (p : DeclaredPort). not (count_by (λ (e : PinEntry). is_same_name e.port p.name) entries == 1)) ports m.once))
+    (each_fails (λ (p : DeclaredPort). not (count_by (λ (e : PinEntry). is_same_name e.port p.name) entries == 1)) ports m.once))
 
 -- The entries of the canonical text.
 
@@ -132,7 +135,7 @@ pins_shuffled : (ports : List DeclaredPort) (entries : List PinEntry) → MapsPo
 pins_shuffled ports entries m =
     let s = chosen_shuffled (λ (p : DeclaredPort) (e : PinEntry). is_same_name e.port p.name) ports entries
     (all_to ports (λ p (k : PortMapped ports entries p). k.one) (ports_mapped ports entries m))
-    (all_to entries (one_port ports m.distinct) (none_all (entry_misfits ports) entries m.fit)) in
+    (all_to entries (one_port ports m.distinct) (each_fails (entry_misfits ports) entries m.fit)) in
     record {
       same = λ weight.
           total-flat_map weight (λ (e : PinEntry). entry_pins e.pins) (filter_map (λ (p : DeclaredPort). find (λ (e : PinEntry). is_same_name e.port p.name) entries) ports)
@@ -145,7 +148,7 @@ pub maps_again : (ports : List DeclaredPort) (entries : List PinEntry) → MapsP
 maps_again ports entries m =
     let all : AllByRecursion (PortMapped ports entries) ports = ports_mapped ports entries m in record {
       distinct = m.distinct;
-      once = all_none (λ (p : DeclaredPort). not (count_by (λ (e : PinEntry). is_same_name e.port p.name) (map (entry_again entries) ports) == 1)) ports (all_to ports (counts_again ports entries m.distinct) all);
+      once = none_passes (λ (p : DeclaredPort). not (count_by (λ (e : PinEntry). is_same_name e.port p.name) (map (entry_again entries) ports) == 1)) ports (all_to ports (counts_again ports entries m.distinct) all);
       fit = all_map (entry_misfits ports) (entry_again entries) ports (all_to ports (fits_again ports entries) all);
       apart = ap is_repeated (pins_again ports entries ports all) ∙ repeats_shuffled _ (all_pins entries) (pins_shuffled ports entries m) m.apart;
     }

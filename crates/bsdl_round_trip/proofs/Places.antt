@@ -7,7 +7,9 @@ use Rattle.std.specs.Prelude.{◌==◌, ◌||◌, ◌&&◌, not, is_none, slice_
 use Rattle.std.specs.List.{list_any, prefix_len, AllByRecursion}
 use Rattle.std.specs.Option.{option_map, option_map_or}
 use Rattle.list_laws.proofs.Tests.{or_first, or_second}
+use Rattle.list_laws.proofs.Numbers.{eqb-sym, eqb_less}
 use Rattle.bsdl_lexicon.specs.Names.{same_name, is_same_name}
+use Rattle.bsdl_lexicon.proofs.SameNames.{same_name-true, same_turned}
 use Rattle.bsdl_device.specs.declared.values.PortMode.{PortMode}
 use Rattle.bsdl_device.specs.declared.values.DevPort.{DevPort}
 use Rattle.bsdl_device.specs.declared.values.Device.{Device}
@@ -19,8 +21,7 @@ use Rattle.bsdl_device.specs.RowRules.{is_tap_port}
 use Rattle.bsdl_device.specs.Denoted.{place_of}
 use Rattle.bsdl_device.specs.Canonical.{port_name}
 use Rattle.bsdl_device.specs.IsDevice.{names_of, tap_places, is_tap_place, is_scalar_at}
-use Rattle.bsdl_round_trip.proofs.Names.{same_name-true, same_self, same_turned}
-use Rattle.bsdl_round_trip.proofs.Numbered.{eq_turned, differ_by_order}
+use Rattle.bsdl_round_trip.proofs.Names.{same_self}
 use Rattle.bsdl_round_trip.proofs.Rebuilt.{as_declared, tap_of}
 
 -- each port has a name, and each name stands once
@@ -65,8 +66,8 @@ pub same_at : (ports : List DevPort) → AreNamed ports → (j k : ℕ) → j < 
 unfolding port_name
 same_at [] n j k within = absurd (omega arith)
 same_at (p ∷ ps) n zero zero within = same_self p.name
-same_at (p ∷ ps) n zero (suc k) within = first_not_at p ps k n ∙ sym (differ_by_order 0 (suc k) (omega arith))
-same_at (p ∷ ps) n (suc j) zero within = same_turned (port_name ps j) p.name ∙ first_not_at p ps j n ∙ sym (eq_turned (suc j) 0 ∙ differ_by_order 0 (suc j) (omega arith))
+same_at (p ∷ ps) n zero (suc k) within = first_not_at p ps k n ∙ sym (eqb_less 0 (suc k) (omega arith))
+same_at (p ∷ ps) n (suc j) zero within = same_turned (port_name ps j) p.name ∙ first_not_at p ps j n ∙ sym (eqb-sym (suc j) 0 ∙ eqb_less 0 (suc j) (omega arith))
 same_at (p ∷ ps) n (suc j) (suc k) within = same_at ps (behind p ps n) j k (omega arith) ∙ sym (eq_suc j k)
 
 -- the port of the name at a place is that at the place

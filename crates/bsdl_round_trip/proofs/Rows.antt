@@ -5,9 +5,13 @@ use Rattle.std.specs.List.{list_any}
 use Rattle.std.specs.Option.{option_map, option_map_or}
 use Rattle.std.proofs.Math.Bool.{and-false}
 use Rattle.list_laws.proofs.Tests.{or_first, or_second, neither}
+use Rattle.list_laws.proofs.Numbers.{eqb-sym}
+use Rattle.list_laws.proofs.Options.{found}
+use Rattle.list_laws.proofs.Lists.{any_same, any_map}
 use Rattle.cell_library.specs.declared.codes.Function.TheVariants as function
 use Rattle.cell_library.specs.declared.codes.BoundaryKind.TheVariants as cell
 use Rattle.bsdl_lexicon.specs.Names.{same_name, is_same_name}
+use Rattle.bsdl_lexicon.proofs.SameNames.{same_name-true}
 use Rattle.bsdl_device.specs.declared.values.PortMode.{PortMode}
 use Rattle.bsdl_device.specs.declared.values.PortMode.TheVariants as mode
 use Rattle.bsdl_device.specs.declared.values.DevBit.{DevBit}
@@ -23,11 +27,11 @@ use Rattle.bsdl_device.specs.Checks.{any_pair, is_numbered}
 use Rattle.bsdl_device.specs.RowRules.{is_control, is_cell, is_function, is_disabled_by, control_fails, lacks_port, is_system_port, is_system_bit, port_misfits, is_row_of, bit_not_in_one_row, stands_at, input_fails, clock_fails, output_fails, bidir_fails, disable_misfits, control_is_unknown, differ, disables_disagree, rows_disagree, row_misfits}
 use Rattle.bsdl_device.specs.Denoted.{port_of, bit_of, cell_of}
 use Rattle.bsdl_round_trip.proofs.Totals.{weigh, total_same, total-map, count_by-tally, any_shuffled, count_shuffled, Shuffled}
-use Rattle.bsdl_round_trip.proofs.Pairs.{any_same, any-map, pair-map, pairs_shuffled}
-use Rattle.bsdl_round_trip.proofs.Names.{same_name-true, same_right, found_passes}
+use Rattle.bsdl_round_trip.proofs.Pairs.{pair-map, pairs_shuffled}
+use Rattle.bsdl_round_trip.proofs.Names.{same_right}
 use Rattle.bsdl_round_trip.proofs.Lookups.{port_named_same, place_of_same, name_at_place}
 use Rattle.bsdl_round_trip.proofs.Taps.{SameTap, system_port_same}
-use Rattle.bsdl_round_trip.proofs.Numbered.{eq_turned, NumberedFrom}
+use Rattle.bsdl_round_trip.proofs.Numbered.{NumberedFrom}
 use Rattle.bsdl_round_trip.proofs.Rebuilt.{port_bit, row_entry, row_entries}
 
 -- Rows whose ports are spelled as they are declared.
@@ -47,7 +51,7 @@ bit_same ports b = by (port_named ports b.port) refl
   where
     by : (o : Option DeclaredPort) → port_named ports b.port ≡ o → same_name (own_spelling o b.port) b.port
     by None is = refl
-    by (Some p) is = sym (same_name-true b.port p.name (found_passes (λ (q : DeclaredPort). is_same_name b.port q.name) ports p is))
+    by (Some p) is = sym (same_name-true b.port p.name (found (λ (q : DeclaredPort). is_same_name b.port q.name) ports p is))
 
 -- the row's port, where it has one, is declared
 abbrev pub is_known : List DeclaredPort → RowEntry → Bool
@@ -142,7 +146,7 @@ misfits_same ports a b s r = by r.port
     by (Some c) = ap not (system_same ports a b s c)
 
 any_respelled : (ports : List DeclaredPort) (test : RowEntry → Bool) → ((r : RowEntry) → test (respelled_row ports r) ≡ test r) → (xs ys : List RowEntry) → Shuffled xs ys → list_any test (map (respelled_row ports) xs) ≡ list_any test ys
-any_respelled ports test same xs ys s = any-map test (respelled_row ports) xs ∙ any_same (λ r. test (respelled_row ports r)) test same xs ∙ any_equal test xs ys s
+any_respelled ports test same xs ys s = any_map test (respelled_row ports) xs ∙ any_same (λ r. test (respelled_row ports r)) test same xs ∙ any_equal test xs ys s
 
 nine : (a b c d e f g h i a2 b2 c2 d2 e2 f2 g2 h2 i2 : Bool) → a ≡ a2 → b ≡ b2 → c ≡ c2 → d ≡ d2 → e ≡ e2 → f ≡ f2 → g ≡ g2 → h ≡ h2 → i ≡ i2
     → (a || b || c || d || e || f || g || h || i) ≡ (a2 || b2 || c2 || d2 || e2 || f2 || g2 || h2 || i2)
@@ -172,7 +176,7 @@ row_same ports a b t xs ys s r =
 pub rows_same : (ports : List DeclaredPort) (a b : TapNames) → SameTap a b → (xs ys : List RowEntry) → Shuffled xs ys
     → list_any (row_misfits ports a (map (respelled_row ports) xs)) (map (respelled_row ports) xs) ≡ list_any (row_misfits ports b ys) ys
 rows_same ports a b t xs ys s =
-    any-map (row_misfits ports a (map (respelled_row ports) xs)) (respelled_row ports) xs
+    any_map (row_misfits ports a (map (respelled_row ports) xs)) (respelled_row ports) xs
     ∙ any_same (λ r. row_misfits ports a (map (respelled_row ports) xs) (respelled_row ports r)) (row_misfits ports b ys) (row_same ports a b t xs ys s) xs
     ∙ any_equal (row_misfits ports b ys) xs ys s
 
@@ -213,7 +217,7 @@ disagree_turned r s = by r.disable s.disable
     by None None = refl
     by None (Some e) = refl
     by (Some d) None = refl
-    by (Some d) (Some e) = ap (λ (x : Bool). x && differ d.value e.value) (eq_turned d.control e.control) ∙ ap (λ (x : Bool). (e.control == d.control) && x) (differ_turned d.value e.value)
+    by (Some d) (Some e) = ap (λ (x : Bool). x && differ d.value e.value) (eqb-sym d.control e.control) ∙ ap (λ (x : Bool). (e.control == d.control) && x) (differ_turned d.value e.value)
 
 agrees_with_itself : (r : RowEntry) → rows_disagree r r ≡ false
 agrees_with_itself r = by r.disable

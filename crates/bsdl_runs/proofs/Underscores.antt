@@ -1,8 +1,9 @@
 -- Single underscores, from a place of a run on.
-use Rattle.std.proofs.Common.{◌≡◌, ℕ, ◌+◌, ◌==◌, ◌<◌, ◌≤◌, Bool, true, false, List, ◌∷◌, length, drop, get_or, refl, sym, ap, ◌∙◌, arith}
+use Rattle.std.proofs.Common.{◌≡◌, ℕ, ◌+◌, ◌==◌, ◌<◌, ◌≤◌, Bool, false, List, ◌∷◌, length, drop, get_or, sym, ap, ◌∙◌, arith}
 use Rattle.std.specs.Prelude.{◌&&◌, not}
 use Rattle.std.proofs.lemmas.List.{drop_more, drop_all}
-use borrow.Author.Tests.{eqb-true}
+use Rattle.std.proofs.lemmas.Bool.{ne_eqb}
+use Rattle.std.proofs.Math.Bool.{and-false}
 use Rattle.bsdl_device.specs.Runs.{has_single_underscores}
 
 last_is : (run : List ℕ) (i : ℕ) → i < length run → length run ≤ i + 1 → has_single_underscores (drop i run) ≡ not (get_or run i 0 == 95)
@@ -29,30 +30,19 @@ double_here run i within first second =
 
 -- No `_` is there, or it is a single one.
 
-other : (b : ℕ) → (b ≡ 95 → ⊥) → (b == 95) ≡ false
-other b apart = go (b == 95) refl
-  where
-    go : (t : Bool) → (b == 95) ≡ t → t ≡ false
-    go true e = absurd (apart (eqb-true b 95 e))
-    go false e = refl
-
 pub single_last : (run : List ℕ) (i : ℕ) → i < length run → length run ≤ i + 1 → (get_or run i 0 ≡ 95 → ⊥) → has_single_underscores (drop i run) ≡ has_single_underscores (drop (i + 1) run)
 single_last run i within last apart =
     last_is run i within last
-    ∙ ap (λ (t : Bool). not t) (other (get_or run i 0) apart)
+    ∙ ap (λ (t : Bool). not t) (ne_eqb (get_or run i 0) 95 apart)
     ∙ sym (ap has_single_underscores (drop_all (i + 1) run last))
 
 pub single_here : (run : List ℕ) (i : ℕ) → i + 1 < length run → (get_or run i 0 ≡ 95 → ⊥) → has_single_underscores (drop i run) ≡ has_single_underscores (drop (i + 1) run)
 single_here run i within apart =
     more_is run i within
-    ∙ ap (λ (t : Bool). not (t && get_or run (i + 1) 0 == 95) && has_single_underscores (drop (i + 1) run)) (other (get_or run i 0) apart)
-
-both_off : (t : Bool) → (t && false) ≡ false
-both_off true = refl
-both_off false = refl
+    ∙ ap (λ (t : Bool). not (t && get_or run (i + 1) 0 == 95) && has_single_underscores (drop (i + 1) run)) (ne_eqb (get_or run i 0) 95 apart)
 
 pub single_next : (run : List ℕ) (i : ℕ) → i + 1 < length run → (get_or run (i + 1) 0 ≡ 95 → ⊥) → has_single_underscores (drop i run) ≡ has_single_underscores (drop (i + 1) run)
 single_next run i within apart =
     more_is run i within
-    ∙ ap (λ (t : Bool). not (get_or run i 0 == 95 && t) && has_single_underscores (drop (i + 1) run)) (other (get_or run (i + 1) 0) apart)
-    ∙ ap (λ (t : Bool). not t && has_single_underscores (drop (i + 1) run)) (both_off (get_or run i 0 == 95))
+    ∙ ap (λ (t : Bool). not (get_or run i 0 == 95 && t) && has_single_underscores (drop (i + 1) run)) (ne_eqb (get_or run (i + 1) 0) 95 apart)
+    ∙ ap (λ (t : Bool). not t && has_single_underscores (drop (i + 1) run)) (and-false (get_or run i 0 == 95))

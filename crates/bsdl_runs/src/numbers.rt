@@ -6,20 +6,9 @@ ghost use Rattle.std.specs.List.{list_all};
 ghost use Rattle.bsdl_runs.specs.Digits.{is_bit};
 
 use cell_library::Bits;
-
-// The value with one decimal digit more.
-fn with_digit(value: u32, count: usize, digit: u8) -> u32
-    requires small { value < 10 ^ count }
-    requires few { count < 9 }
-    requires digit { IsTrue (is_digit digit) }
-    ensures value { result ≡ 10 * value + (digit - 48) }
-    ensures fits { result < 10 ^ (count + 1) }
-{
-    10 * value + (digit - b'0') as u32
-}
+use word_cutter::with_digit;
 
 /// The value of decimal digits.
-#[tactic(auto, using(crate::proofs::DigitValues::value_more))]
 pub fn decimal(digits: &[u8]) -> u32
     requires few { length digits.now ≤ 9 }
     requires digits { IsTrue (list_all is_digit digits.now) }

@@ -1,9 +1,10 @@
-// Numbers as they are written.
+// Numbers and kinds of boundary cells as they are written.
 ghost use Rattle.std.specs.Prelude.{◌≡◌, ◌++◌, OnOk};
 ghost use Rattle.std.specs.Fmt.{decimal};
+ghost use Rattle.bsdl_device.specs.Grammar as words;
 ghost use Rattle.bsdl_device.specs.Canonical as text_of;
 
-use cell_library::Bits;
+use cell_library::{Bits, BoundaryKind};
 use edge_io::{OutOfMemory, Text};
 
 /// Adds a number in decimal, without leading zeros.
@@ -34,4 +35,16 @@ pub fn put_pattern(text: &mut Text, bits: Bits) -> Result<(), OutOfMemory>
     ensures { OnOk result (text.new ≡ text.old ++ text_of.pattern_text bits) }
 {
     put_bits(text, bits.len, bits.value)
+}
+
+/// The word of a kind of boundary cell.
+pub fn cell_word(kind: BoundaryKind) -> &'static [u8]
+    ensures { result.now ≡ words.cell_word kind }
+{
+    match kind {
+        BoundaryKind::Bc1 => b"BC_1",
+        BoundaryKind::Bc2 => b"BC_2",
+        BoundaryKind::Bc4 => b"BC_4",
+        BoundaryKind::Bc7 => b"BC_7",
+    }
 }

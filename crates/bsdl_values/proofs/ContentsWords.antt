@@ -1,10 +1,9 @@
 -- The words at which wrong contents are told, by the first words of their sections.
-use Rattle.std.proofs.Common.{◌≡◌, ℕ, ◌+◌, length, refl}
+use Rattle.std.proofs.Common.{◌≡◌, ℕ, ◌+◌, refl}
 use Rattle.bsdl_device.specs.declared.written.File.{File}
 use Rattle.bsdl_contents.specs.declared.fault.HeldSection.{HeldSection}
 use Rattle.bsdl_contents.specs.declared.fault.HeldSection.TheVariants as section
-use Rattle.bsdl_device.specs.Shape.{file_words}
-use Rattle.bsdl_checks.specs.Counts.{first_word, all_words}
+use Rattle.bsdl_checks.specs.Counts.{first_word}
 use Rattle.bsdl_values.specs.Places.{contents_word}
 
 pub contents_word-pin_map : (f : File) → contents_word f section.PinMap ≡ first_word f 7 + 5
@@ -32,7 +31,3 @@ unfolding contents_word first_word
 contents_word-rows f = refl
 
 pub ruleset contents_words = (contents_word-pin_map, contents_word-opcodes, contents_word-capture, contents_word-idcode, contents_word-access, contents_word-rows)
-
-pub all_words_are : (f : File) → all_words f ≡ length (file_words f)
-unfolding all_words
-all_words_are f = refl

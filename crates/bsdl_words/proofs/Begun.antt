@@ -1,23 +1,16 @@
-use Rattle.std.proofs.Common.{◌≡◌, ℕ, ◌<◌, ◌≤◌, List, [], ◌∷◌, ◌++◌, length, Bool, true, refl, sym, ap, ◌∙◌, arith, append_assoc, length-append, ◌==◌, inl, inr}
-use Rattle.std.specs.List.{AllByRecursion}
-use Rattle.std.proofs.lemmas.Bool.Decides.{nat_tests}
-use Rattle.bsdl_lexicon.specs.Bytes.{is_digit, is_letter_or_digit, is_name_byte, is_exponent_mark, is_sign}
+use Rattle.std.proofs.Common.{◌≡◌, ℕ, ◌<◌, ◌≤◌, List, [], ◌∷◌, ◌++◌, length, Bool, true, false, refl, sym, ap, ◌∙◌, arith, append_assoc, length-append, ◌==◌, inl, inr}
+use Rattle.std.proofs.lemmas.List.{append-nil}
+use Rattle.list_laws.proofs.Lists.{all_append}
+use Rattle.bsdl_lexicon.specs.Bytes.{is_digit, is_letter_or_digit, is_exponent_mark, is_sign}
 use Rattle.bsdl_lexicon.specs.Pieces.{IsFirst, HasSingleUnderscores, IsIdentifier, AreDigits, IsPower, IsReal}
-use Rattle.bsdl_words.proofs.Outcome.{bytes_nil}
+use Rattle.bsdl_words.proofs.Bytes.{letter_in_name, letter_no_underscore}
 
 -- What was begun of a word, and one byte more.
 
-pub all_push : (P : ℕ → Type 0) (xs : List ℕ) (y : ℕ) → AllByRecursion P xs → P y → AllByRecursion P (xs ++ y ∷ [])
-all_push P [] y h k = (k, tt)
-all_push P (x ∷ xs) y h k = (h.0, all_push P xs y h.1 k)
-
 -- an identifier
 
-name_byte : (b : ℕ) → is_letter_or_digit b ≡ true → is_name_byte b ≡ true
-name_byte b h = grind (arith, nat_tests)
-
 no_underscore : (b : ℕ) → is_letter_or_digit b ≡ true → (b == 95) ≡ true → ⊥
-no_underscore b h under = grind (arith, nat_tests)
+no_underscore b h under = let no : true ≡ false = sym under ∙ letter_no_underscore b h in cc
 
 first_push : (test : ℕ → Bool) (xs ys : List ℕ) → IsFirst test xs → IsFirst test (xs ++ ys)
 first_push test [] ys first = absurd first
@@ -35,17 +28,17 @@ single_push_after (x ∷ xs) b single is =
 
 pub name_push : (p : List ℕ) (b : ℕ) → IsIdentifier p → is_letter_or_digit b ≡ true → length p < 255 → IsIdentifier (p ++ b ∷ [])
 name_push [] b is more short = absurd is
-name_push (x ∷ p) b is more short = (is.0, all_push _ p b is.1 (name_byte b more), single_push p b is.2 more, omega (arith, length-append p (b ∷ [])))
+name_push (x ∷ p) b is more short = (is.0, all_append _ p (b ∷ []) is.1 (letter_in_name b more, tt), single_push p b is.2 more, omega (arith, length-append p (b ∷ [])))
 
 pub underscore_push : (p : List ℕ) (b : ℕ) → IsIdentifier p → is_letter_or_digit b ≡ true → length p < 254 → IsIdentifier ((p ++ 95 ∷ []) ++ b ∷ [])
 underscore_push [] b is more short = absurd is
 underscore_push (x ∷ p) b is more short =
-    (is.0, all_push _ (p ++ 95 ∷ []) b (all_push _ p 95 is.1 refl) (name_byte b more), single_push_after p b is.2 more, omega (arith, length-append (p ++ 95 ∷ []) (b ∷ []), length-append p (95 ∷ [])))
+    (is.0, all_append _ (p ++ 95 ∷ []) (b ∷ []) (all_append _ p (95 ∷ []) is.1 (refl, tt)) (letter_in_name b more, tt), single_push_after p b is.2 more, omega (arith, length-append (p ++ 95 ∷ []) (b ∷ []), length-append p (95 ∷ [])))
 
 -- digits
 
 pub digits_push : (ds : List ℕ) (d : ℕ) → AreDigits ds → is_digit d ≡ true → AreDigits (ds ++ d ∷ [])
-digits_push ds d are is = (omega (arith, length-append ds (d ∷ [])), all_push _ ds d are.1 is)
+digits_push ds d are is = (omega (arith, length-append ds (d ∷ [])), all_append _ ds (d ∷ []) are.1 (is, tt))
 
 one_digit : (d : ℕ) → is_digit d ≡ true → AreDigits (d ∷ [])
 one_digit d is = (omega arith, (is, tt))
@@ -217,7 +210,7 @@ real_of_fraction p is = record {
   whole = is.whole;
   fraction = is.fraction;
   exponent = [];
-  text = is.text ∙ ap (λ (l : List ℕ). is.whole ++ 46 ∷ l) (sym (bytes_nil is.fraction));
+  text = is.text ∙ ap (λ (l : List ℕ). is.whole ++ 46 ∷ l) (sym (append-nil is.fraction));
   whole_digits = is.whole_digits;
   fraction_digits = is.fraction_digits;
   exponent_is = tt;

@@ -1,4 +1,7 @@
-use Rattle.std.proofs.Common.{◌≡◌, ℕ, List, [], ◌∷◌, length, Some, refl, sym, ap, subst, ◌∙◌, arith}
+use Rattle.std.proofs.Common.{◌≡◌, ℕ, List, [], ◌∷◌, length, Option, Some, None, refl, sym, ap, subst, ◌∙◌, arith}
+use Rattle.std.proofs.lemmas.List.{append-nil}
+use Rattle.std.specs.Option.{option_map}
+use Rattle.std.proofs.lemmas.Option.{none-some, same_Some}
 use Rattle.bsdl_lexicon.specs.declared.token.BsdlSpanned.{BsdlSpanned}
 use Rattle.bsdl_lexicon.specs.Pieces.{words_of, Begins, IsPlace}
 use Rattle.bsdl_lexicon.specs.declared.words.BsdlWords.{BsdlWords}
@@ -10,12 +13,12 @@ use Rattle.word_cutter.specs.declared.fault.CutFault.{CutFault}
 use Rattle.word_cutter.specs.declared.fault.CutFault.TheVariants as cut
 use Rattle.word_cutter.specs.Run.{run, IsRefusal, IsStepFault}
 use Rattle.word_cutter.specs.Language.{Place, Cuts}
+use Rattle.word_cutter.proofs.Cases.{map_none}
 use Rattle.word_cutter.proofs.Language.{runs_begins, ends_words, words_unique, stops_place, ends_place}
 use Rattle.bsdl_words.specs.Machine.{State, state, start, step, end, text_at}
 use Rattle.bsdl_words.specs.Kinds.{word_fault}
 use Rattle.bsdl_words.specs.Fed.{IsFault, IsEndFault}
-use Rattle.bsdl_words.proofs.Text.{text_parts, text_none}
-use Rattle.bsdl_words.proofs.Outcome.{outcome, bytes_nil}
+use Rattle.bsdl_words.proofs.Outcome.{outcome}
 use Rattle.bsdl_words.proofs.Complete.{complete}
 use Rattle.bsdl_words.proofs.Sound.{sound}
 
@@ -95,9 +98,18 @@ end_fault bytes s (cut.BadByte place) ran is =
 pub fault_whole : (e : BsdlWordFault) (bytes : List ℕ) → IsFault e bytes → IsEndFault e bytes
 fault_whole OutOfMemory bytes is = tt
 fault_whole (BsdlWord place) bytes is =
-    (is.0, λ words cut. is.1 ([], words, subst (λ (l : List ℕ). words_of l words) (sym (bytes_nil bytes)) cut))
+    (is.0, λ words cut. is.1 ([], words, subst (λ (l : List ℕ). words_of l words) (sym (append-nil bytes)) cut))
 
 -- the words of a text and its length
+
+abbrev with_end : ℕ → List BsdlSpanned → BsdlWords
+with_end at words = record { list = words; end = at }
+
+text_parts : (at : ℕ) (o : Option (List BsdlSpanned)) (w : BsdlWords) → option_map (with_end at) o ≡ Some w → (o ≡ Some w.list) × (w.end ≡ at)
+text_parts at None w h = absurd (none-some w h)
+text_parts at (Some words) w h =
+    let same : with_end at words ≡ w = same_Some (with_end at words) w h in
+    (ap (λ (t : BsdlWords). Some t.list) same, ap (λ (t : BsdlWords). t.end) (sym same))
 
 pub text_ends : (bytes : List ℕ) (at : ℕ) (s : State) (w : BsdlWords) → run step 0 start bytes ≡ Some s → text_at at s ≡ Some w → words_of bytes w.list
 text_ends bytes at s w ran is = ends bytes s w.list ran (text_parts at (end s) w is).0
@@ -107,4 +119,4 @@ text_end at s w is = (text_parts at (end s) w is).1
 
 pub text_fault : (bytes : List ℕ) (at : ℕ) (s : State) (e : CutFault) → run step 0 start bytes ≡ Some s → at ≡ length bytes → IsStepFault e at (text_at at s) → IsEndFault (word_fault e) bytes
 text_fault bytes at s cut.OutOfMemory ran there is = tt
-text_fault bytes at s (cut.BadByte place) ran there is = end_fault bytes s (cut.BadByte place) ran (is.0 ∙ there, text_none at (end s) is.1)
+text_fault bytes at s (cut.BadByte place) ran there is = end_fault bytes s (cut.BadByte place) ran (is.0 ∙ there, map_none _ (end s) is.1)

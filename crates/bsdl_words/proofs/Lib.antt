@@ -1,9 +1,8 @@
-pub mod Values
 pub mod Outcome
 pub mod Complete
 pub mod Once
 pub mod Begun
 pub mod Sound
-pub mod Text
+pub mod Bytes
 pub mod Feeding
 pub mod Runs

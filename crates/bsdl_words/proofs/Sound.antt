@@ -1,22 +1,27 @@
-use Rattle.std.proofs.Common.{◌≡◌, ℕ, ◌+◌, ◌<◌, ◌≤◌, List, [], ◌∷◌, ◌++◌, length, Option, Some, None, Bool, true, false, cond, refl, sym, ap, subst, ◌∙◌, arith, append_assoc, length-append, IsTrue, not, ◌==◌, inl, inr}
+use Rattle.std.proofs.Common.{◌≡◌, ℕ, ◌+◌, ◌<◌, ◌≤◌, List, [], ◌∷◌, ◌++◌, length, Option, Some, true, refl, sym, ap, subst, ◌∙◌, arith, append_assoc, length-append, IsTrue, not, ◌==◌, inl, inr}
 use Rattle.std.specs.Prelude.{nat_lt, nat_le, option_and_then}
 use Rattle.std.specs.List.{AllByRecursion}
 use Rattle.std.proofs.lemmas.Bool.{ltb-true, leb-true}
 use Rattle.std.proofs.lemmas.Bool.Decides.{nat_tests}
 use borrow.Author.Tests.{eqb-true}
-use Rattle.std.proofs.lemmas.Option.{same_Some, none-some}
+use Rattle.std.proofs.lemmas.Option.{same_Some, none-some, cond_some}
+use Rattle.std.proofs.lemmas.List.{append-nil}
+use Rattle.list_laws.proofs.Lists.{all_append}
 use Rattle.bsdl_lexicon.specs.declared.token.BsdlSpanned.{BsdlSpanned}
 use Rattle.bsdl_lexicon.specs.declared.token.BsdlToken.TheVariants as word
 use Rattle.bsdl_lexicon.specs.declared.symbol.BsdlSymbol.{BsdlSymbol}
 use Rattle.bsdl_lexicon.specs.declared.symbol.BsdlSymbol.TheVariants.{LeftParenthesis, RightParenthesis, Colon, Semicolon, Comma, Ampersand, Dot}
-use Rattle.bsdl_lexicon.specs.Bytes.{is_blank, is_letter, is_digit, is_letter_or_digit, is_name_byte, clings, is_exponent_mark, is_sign, is_quotable}
+use Rattle.bsdl_lexicon.specs.Bytes.{is_blank, is_letter, is_digit, is_letter_or_digit, is_name_byte, is_exponent_mark, is_sign, is_quotable}
 use Rattle.bsdl_lexicon.specs.Words.{spanned, symbol_byte}
 use Rattle.bsdl_lexicon.specs.Pieces.{Piece, blank, comment, identifier, integer, real, quoted, symbol, becomes, spelling, IsPiece, Ends, EndsSymbol, IsOneLine, IsIdentifier, IsReal, word_at, CutFrom}
 use Rattle.bsdl_words.specs.declared.mode.Mode.{Mode}
 use Rattle.bsdl_words.specs.declared.mode.Mode.TheVariants as in_
 use Rattle.bsdl_words.specs.Machine.{State, state, between, symbol_with, real_ends, with_name, with_integer, with_real, with_quoted, with_colon, with_becomes}
-use Rattle.bsdl_words.proofs.Outcome.{outcome, and_then_cond, and_then_map, words_nil}
-use Rattle.bsdl_words.proofs.Begun.{all_push, name_push, underscore_push, Pointed, Fractioned, Marked, Signed, Powered, pointed, fraction_first, fraction_push, marked, signed, power_first, power_signed, power_push, real_of_fraction, real_of_power}
+use Rattle.word_cutter.proofs.Cases.{and_then_cond, and_then_map}
+use Rattle.word_cutter.proofs.Keeping.{byte_more}
+use Rattle.bsdl_words.proofs.Outcome.{outcome}
+use Rattle.bsdl_words.proofs.Bytes.{letter_or_digit, no_clings}
+use Rattle.bsdl_words.proofs.Begun.{name_push, underscore_push, Pointed, Fractioned, Marked, Signed, Powered, pointed, fraction_first, fraction_push, marked, signed, power_first, power_signed, power_push, real_of_fraction, real_of_power}
 
 -- What the bytes of the piece that was begun are.
 
@@ -71,11 +76,11 @@ done q at now begun rest words all spelled here is ends goes =
 done_silent : (q : Piece) (at now : ℕ) (begun rest : List ℕ) (words all : List BsdlSpanned) → word_at at q ≡ [] → begun ≡ spelling q → now ≡ at + length begun → IsPiece q → Ends q rest → Goes now rest words all → Goes at (begun ++ rest) words all
 done_silent q at now begun rest words all silent spelled here is ends goes =
     done q at now begun rest words all spelled here is ends
-    (subst (λ (l : List BsdlSpanned). Goes now rest l all) (sym (ap (λ (l : List BsdlSpanned). words ++ l) silent ∙ words_nil words)) goes)
+    (subst (λ (l : List BsdlSpanned). Goes now rest l all) (sym (ap (λ (l : List BsdlSpanned). words ++ l) silent ∙ append-nil words)) goes)
 
 -- nothing follows
 goes_end : (now : ℕ) (words all : List BsdlSpanned) → Some words ≡ Some all → Goes now [] words all
-goes_end now words all h = record { more = []; all_are = sym (same_Some words all h) ∙ sym (words_nil words); cut = no_pieces now }
+goes_end now words all h = record { more = []; all_are = sym (same_Some words all h) ∙ sym (append-nil words); cut = no_pieces now }
 
 -- between two pieces
 goes_between : (bytes : List ℕ) → Later bytes → (now : ℕ) (words all : List BsdlSpanned) → outcome now (between words) bytes ≡ Some all → Goes now bytes words all
@@ -149,10 +154,6 @@ begin_goes b bytes at words all later h =
       put_symbol (s, is, goes) =
           done (symbol s) at (at + 1) (b ∷ []) bytes words all (ap (λ (x : ℕ). x ∷ []) (symbol_with_is s b is)) refl tt (symbol_ends s b bytes is) (goes_between bytes later (at + 1) (words ++ spanned (word.Symbol s) at 1 ∷ []) all goes)
 
-cond_some : {A : Type 0} (c : Bool) (x z : A) → cond c (Some x) None ≡ Some z → (c ≡ true) × (Some x ≡ Some z)
-cond_some true x z h = (refl, h)
-cond_some false x z h = cc
-
 -- The text ends here.
 
 later_end : Later []
@@ -170,7 +171,7 @@ later_end in_.Name at now from words p begun all here is h =
 later_end in_.Underscore at now from words p begun all here is h = absurd (none-some all h)
 later_end in_.Digits at now from words p begun all here is h =
     let few = cond_some (nat_le (length p) 9) (with_integer words from p) all h in
-    done (integer p) at now begun [] words all is.0 here ((is.1, is.3), leb-true (length p) 9 few.0) tt (goes_end now (with_integer words at p) all (ap (λ (x : ℕ). Some (with_integer words x p)) (sym is.4) ∙ few.1))
+    done (integer p) at now begun [] words all is.0 here ((is.1, is.3), leb-true (length p) 9 few.0) tt (goes_end now (with_integer words at p) all (ap (λ (x : ℕ). Some (with_integer words x p)) (sym is.4) ∙ ap Some few.1))
 later_end in_.Point at now from words p begun all here is h = absurd (none-some all h)
 later_end in_.Fraction at now from words p begun all here is h =
     done (real p) at now begun [] words all is.0 here (real_of_fraction p is.1) tt (goes_end now (with_real words at p) all (ap (λ (x : ℕ). Some (with_real words x p)) (sym is.2) ∙ h))
@@ -185,10 +186,6 @@ later_end in_.Quoted at now from words p begun all here is h = absurd (none-some
 -- what is to be shown of a byte and these bytes, from a state of this mode
 abbrev Further : ℕ → List ℕ → Mode → Type 0
 Further b bytes m = (at now from : ℕ) (words : List BsdlSpanned) (p begun : List ℕ) (all : List BsdlSpanned) → now ≡ at + length begun → IsOpen m at from p begun → outcome now (state words m from p) (b ∷ bytes) ≡ Some all → Goes at (begun ++ b ∷ bytes) words all
-
--- the equation of what was begun with the byte
-byte_more : (begun front : List ℕ) (b c : ℕ) → begun ≡ front → b ≡ c → begun ++ b ∷ [] ≡ front ++ c ∷ []
-byte_more begun front b c is same = ap (λ (l : List ℕ). l ++ b ∷ []) is ∙ ap (λ (x : ℕ). front ++ x ∷ []) same
 
 between_further : (b : ℕ) (bytes : List ℕ) → Later bytes → Further b bytes in_.Between
 between_further b bytes later at now from words p begun all here is h =
@@ -208,7 +205,7 @@ comment_further b bytes later at now from words p begun all here is h =
     let f : State → Option (List BsdlSpanned) = λ t. outcome (now + 1) t bytes in
     elim (and_then_cond f (b == 10) _ _ _ h) [
       | inl w ↦ done_silent (comment is.0) at now begun (b ∷ bytes) words all refl is.1 here is.2 (ap not w.0) (line_end b bytes later now words all w.0 w.1)
-      | inr w ↦ on b bytes later in_.Comment at now 0 words [] begun all here (is.0 ++ b ∷ [], byte_more begun (45 ∷ 45 ∷ is.0) b b is.1 refl, all_push _ is.0 b is.2 w.0) w.1
+      | inr w ↦ on b bytes later in_.Comment at now 0 words [] begun all here (is.0 ++ b ∷ [], byte_more begun (45 ∷ 45 ∷ is.0) b b is.1 refl, all_append _ is.0 (b ∷ []) is.2 (w.0, tt)) w.1
     ]
 
 colon_further : (b : ℕ) (bytes : List ℕ) → Later bytes → Further b bytes in_.Colon
@@ -220,9 +217,6 @@ colon_further b bytes later at now from words p begun all here is h =
           (ap (λ (x : ℕ). outcome (now + 1) (between (with_becomes words x)) bytes) (sym is.1) ∙ w.1)
       | inr w ↦ done (symbol Colon) at now begun (b ∷ bytes) words all is.0 here tt w.0 (begin_goes b bytes now (with_colon words at) all later (ap (λ (x : ℕ). outcome now (between (with_colon words x)) (b ∷ bytes)) (sym is.1) ∙ w.1))
     ]
-
-letter_or_digit : (b : ℕ) → is_name_byte b ≡ true → (b == 95) ≡ false → is_letter_or_digit b ≡ true
-letter_or_digit b h other = grind (arith, nat_tests)
 
 name_further : (b : ℕ) (bytes : List ℕ) → Later bytes → Further b bytes in_.Name
 name_further b bytes later at now from words p begun all here is h =
@@ -249,15 +243,12 @@ underscore_further b bytes later at now from words p begun all here is h =
       | inr w ↦ absurd (none-some all w.1)
     ]
 
-no_clings : (b : ℕ) → is_name_byte b ≡ false → (b == 46) ≡ false → clings b ≡ false
-no_clings b h other = grind (arith, nat_tests)
-
 digits_further : (b : ℕ) (bytes : List ℕ) → Later bytes → Further b bytes in_.Digits
 digits_further b bytes later at now from words p begun all here is h =
     let f : State → Option (List BsdlSpanned) = λ t. outcome (now + 1) t bytes in
     elim (and_then_cond f (is_digit b) _ _ _ h) [
       | inl w ↦ elim (and_then_cond f (nat_lt (length p) 30) _ _ _ w.1) [
-        | inl v ↦ on b bytes later in_.Digits at now from words (p ++ b ∷ []) begun all here (byte_more begun p b b is.0 refl, omega (arith, length-append p (b ∷ [])), omega (arith, length-append p (b ∷ []), ltb-true (length p) 30 v.0), all_push _ p b is.3 w.0, is.4) v.1
+        | inl v ↦ on b bytes later in_.Digits at now from words (p ++ b ∷ []) begun all here (byte_more begun p b b is.0 refl, omega (arith, length-append p (b ∷ [])), omega (arith, length-append p (b ∷ []), ltb-true (length p) 30 v.0), all_append _ p (b ∷ []) is.3 (w.0, tt), is.4) v.1
         | inr v ↦ absurd (none-some all v.1)
       ]
       | inr w ↦ elim (and_then_cond f (b == 46) _ _ _ w.1) [
@@ -347,7 +338,7 @@ quoted_further b bytes later at now from words p begun all here is h =
           shut b bytes later (quoted p) at now begun words all (byte_more begun (34 ∷ p) b 34 is.0 (eqb-true b 34 w.0)) here is.1 tt
           (ap (λ (x : ℕ). outcome (now + 1) (between (with_quoted words x p)) bytes) (sym is.2) ∙ w.1)
       | inr w ↦ elim (and_then_cond f (is_quotable b) _ _ _ w.1) [
-        | inl v ↦ on b bytes later in_.Quoted at now from words (p ++ b ∷ []) begun all here (byte_more begun (34 ∷ p) b b is.0 refl, all_push _ p b is.1 v.0, is.2) v.1
+        | inl v ↦ on b bytes later in_.Quoted at now from words (p ++ b ∷ []) begun all here (byte_more begun (34 ∷ p) b b is.0 refl, all_append _ p (b ∷ []) is.1 (v.0, tt), is.2) v.1
         | inr v ↦ absurd (none-some all v.1)
       ]
     ]

@@ -1,8 +1,9 @@
-use Rattle.std.specs.Prelude.{◌≡◌, ℕ, ◌<◌, ◌≤◌, List, [], length, take, Option, Some, Result, Ok, Err}
+use Rattle.std.specs.Prelude.{◌≡◌, ℕ, List, [], Option, Some, Result, Ok, Err}
 use Rattle.bsdl_lexicon.specs.declared.token.BsdlSpanned.{BsdlSpanned}
 use Rattle.word_cutter.specs.declared.fault.CutFault.{CutFault}
 use Rattle.word_cutter.specs.declared.fault.CutFault.TheVariants.{OutOfMemory}
-use Rattle.word_cutter.specs.Run.{run, IsRefusal, IsStepFault}
+use Rattle.word_cutter.specs.Run.{IsStepFault}
+use Rattle.word_cutter.specs.Run as taken
 use Rattle.bsdl_words.specs.declared.machine.BsdlMachine.{BsdlMachine}
 use Rattle.bsdl_words.specs.declared.mode.Mode.{Mode}
 use Rattle.bsdl_words.specs.declared.mode.Mode.TheVariants as in_
@@ -62,5 +63,4 @@ EndsAs new at words (Err e) = IsStepFault e at words
 
 -- some bytes at the front of a piece
 abbrev pub Takes : BsdlMachine → State → ℕ → List ℕ → Result ℕ CutFault → Type 0
-Takes new s at piece (Ok count) = (0 < count) × (count ≤ length piece) × (run step at s (take count piece) ≡ Some (state_of new))
-Takes new s at piece (Err e) = IsRefusal step at s piece e
+Takes new s at piece r = taken.Takes step at s piece (state_of new) r

@@ -1,4 +1,4 @@
-ghost use Rattle.std.specs.Prelude.{◌≡◌, ◌==◌, not};
+ghost use Rattle.std.specs.Prelude.{◌≡◌};
 ghost use Rattle.bsdl_lexicon.specs.Bytes as bytes;
 ghost use Rattle.bsdl_words.specs.Machine as machine;
 
@@ -78,17 +78,6 @@ impl ByteClass for BlankBytes {
 
     fn holds(byte: u8) -> bool {
         is_blank(byte)
-    }
-}
-
-/// Bytes that don't end a line.
-pub struct LineBytes;
-
-impl ByteClass for LineBytes {
-    ghost holds = { λ b. not (b == 10) };
-
-    fn holds(byte: u8) -> bool {
-        byte != b'\n'
     }
 }
 

@@ -1,20 +1,10 @@
-ghost use Rattle.std.specs.Prelude.{◌≡◌, ◌+◌, ◌*◌, ◌-◌, ◌^◌, ◌<◌, ◌≤◌, length, IfOk, IsTrue};
+ghost use Rattle.std.specs.Prelude.{◌≡◌, ◌+◌, ◌≤◌, length, IfOk, IsTrue};
 ghost use Rattle.std.specs.List.{list_all};
 ghost use Rattle.bsdl_lexicon.specs.Bytes.{is_digit};
 ghost use Rattle.bsdl_lexicon.specs.Pieces.{value_from};
 
 use edge_io::OutOfMemory;
-
-// The value with one digit more.
-fn with_digit(value: u32, count: usize, digit: u8) -> u32
-    requires small { value < 10 ^ count }
-    requires few { count < 9 }
-    requires digit { IsTrue (is_digit digit) }
-    ensures value { result ≡ 10 * value + (digit - 48) }
-    ensures fits { result < 10 ^ (count + 1) }
-{
-    10 * value + (digit - b'0') as u32
-}
+use word_cutter::with_digit;
 
 /// The value of decimal digits.
 pub fn value_of(digits: &[u8]) -> u32

@@ -1,18 +1,18 @@
-ghost use Rattle.std.specs.Prelude.{◌≡◌, ℕ, ◌+◌, ◌^◌, ◌<◌, ◌≤◌, [], ◌∷◌, ◌++◌, length, Ok, Some, OnOk, IfErr, IsTrue};
+ghost use Rattle.std.specs.Prelude.{◌≡◌, ◌+◌, ◌^◌, ◌<◌, ◌≤◌, [], ◌∷◌, ◌++◌, length, Ok, Some, OnOk, IfErr, IsTrue};
 ghost use Rattle.std.specs.List.{list_all, prefix_len};
 ghost use Rattle.bsdl_lexicon.specs.Bytes.{is_digit, is_letter_or_digit};
 ghost use Rattle.bsdl_words.specs.declared.mode.Mode.{Mode};
 
 use crate::classes::{
-    BlankBytes, LetterBytes, LineBytes, QuotableBytes, is_blank, is_digit, is_exponent_mark,
-    is_letter, is_letter_or_digit, is_name_byte, is_quotable, is_sign, symbol_with,
+    BlankBytes, LetterBytes, QuotableBytes, is_blank, is_digit, is_exponent_mark, is_letter,
+    is_letter_or_digit, is_name_byte, is_quotable, is_sign, symbol_with,
 };
 use crate::integers::{value_of, word_len};
 use crate::mode::Mode;
 use bsdl_lexicon::{BsdlSpanned, BsdlSymbol, BsdlToken, BsdlWords};
 use edge_io::{Row, Text};
 use std::alloc::Global;
-use word_cutter::{CutFault, Machine, run_len};
+use word_cutter::{CutFault, LineBytes, Machine, run_len};
 
 /// Takes a BSDL text byte by byte, and keeps its words.
 #[derive(Drop)]
@@ -278,7 +278,7 @@ impl BsdlMachine {
     }
 
     // A digit more of those that an integer or a real number begins with: 30 of them leave room for a point and a digit.
-    #[tactic(auto, using(crate::proofs::Values::digits_push))]
+    #[tactic(auto, using(list_laws::proofs::Lists::push_all))]
     fn digits_go(&mut self, at: u64, byte: u8) -> Result<(), CutFault>
         requires digits { self.old.mode ≡ Mode.Digits }
         requires goes { IsTrue (is_digit byte) }

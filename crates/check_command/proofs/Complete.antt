@@ -1,15 +1,9 @@
 -- A fault that stands where the texts are free of faults and no count rises is want of memory.
 use Rattle.std.proofs.Common.{◌≡◌, ℕ, List, Option, Some, None, Result, Ok, Err, IfErr, inl, inr, refl, sym, subst, ◌∙◌}
+use Rattle.command_edges.proofs.Memory.{text_memory, has_link_memory}
 use Rattle.verilog_tree.specs.declared.tree.Module.{Module}
-use Rattle.verilog_tree.specs.Texts.{SpellsModule}
-use Rattle.verilog_lexicon.specs.declared.word.Spanned.{Spanned}
-use Rattle.verilog_texts.specs.declared.fault.TextFault.{TextFault}
-use Rattle.verilog_texts.specs.declared.fault.TextFault.TheVariants as verilog
-use Rattle.verilog_texts.specs.TextFaults.{IsTextFault}
-use Rattle.link_model.specs.declared.fault.LinkFault.{LinkFault}
-use Rattle.link_model.specs.Late.{IsLinkable}
 use Rattle.netlist_link.specs.Linked.{LinkedView}
-use Rattle.netlist_link.specs.Links.{IsLinkOf, IsLinkFault}
+use Rattle.netlist_link.specs.Links.{IsLinkOf}
 use Rattle.netlist_link.specs.Laws.{FaultsForbidLinks}
 use Rattle.bsdl_lexicon.specs.declared.token.BsdlSpanned.{BsdlSpanned}
 use Rattle.bsdl_device.specs.declared.meaning.MeaningKind.{MeaningKind}
@@ -33,10 +27,9 @@ use Rattle.check_runs.specs.Rules.IsIllegalAt.{wrong, unstarted}
 use Rattle.command_faults.specs.declared.fault.Fault.{Fault}
 use Rattle.command_faults.specs.declared.fault.Fault.TheVariants as fault
 use Rattle.command_faults.specs.declared.status.Status.TheVariants as status
-use Rattle.command_faults.specs.Statuses.{status_of, text_status, link_status, device_status, event_status, script_status}
+use Rattle.command_faults.specs.Statuses.{status_of, device_status, event_status, script_status}
 use Rattle.command_edges.specs.Seen.{ShelfSeen, SinkSeen, SinkRose}
 use Rattle.command_edges.proofs.Told.{reading_memory}
-use Rattle.command_edges.specs.Spelled.{HasLinkFault}
 use Rattle.check_command.specs.Checks.{HasLinesFault, HaveOtherPorts, IsCheckable, AreCheckable}
 use Rattle.check_command.specs.CheckFaults.{StandsInDevice, StandsInTexts, StandsInCheck, CompletesCheck}
 
@@ -47,19 +40,6 @@ pub record Laws : Type 0 where
   pub faultless : SpelledIsFaultless
 
 -- The netlist.
-
-module_memory : (net text events : List ℕ) (f : TextFault) → IsCheckable net text events → IsTextFault net f → text_status f ≡ status.Memory
-module_memory net text events (verilog.BadWord place) ok bad = absurd (bad.none ok.spells.words ok.spells.cut)
-module_memory net text events (verilog.BadSyntax place word) ok bad =
-    absurd (bad.syntax.unspelled ok.tree (subst (λ (ws : List Spanned). SpellsModule ws ok.tree) (bad.has.only ok.spells.words ok.spells.cut) ok.spells.spells))
-module_memory net text events verilog.OutOfMemory ok bad = refl
-
-link_memory : FaultsForbidLinks → (m : Module) (f : LinkFault) → IsLinkable m → IsLinkFault m f → link_status f ≡ status.Memory
-link_memory law m f ok (IsLinkFault.stands s) = absurd (law m f s ok)
-link_memory law m f ok IsLinkFault.memory = refl
-
-has_link_memory : FaultsForbidLinks → (net text events : List ℕ) (f : LinkFault) → IsCheckable net text events → HasLinkFault f net → link_status f ≡ status.Memory
-has_link_memory law net text events f ok bad = link_memory law bad.tree f (subst IsLinkable (bad.only ok.tree ok.spells) ok.linkable) bad.fault
 
 -- The device.
 
@@ -118,8 +98,8 @@ script_memory laws net text events script.OutOfMemory ok bad = refl
 
 texts_memory : Laws → (net text events : List ℕ) (sink : SinkSeen) (f : Fault) → IsCheckable net text events → (SinkRose sink → ⊥) → StandsInTexts (Some net) (Some text) (Some events) sink f
     → status_of f ≡ status.Memory
-texts_memory laws net text events sink (fault.Netlist f) ok still bad = module_memory net text events f ok bad
-texts_memory laws net text events sink (fault.Link f) ok still bad = has_link_memory laws.links net text events f ok bad
+texts_memory laws net text events sink (fault.Netlist f) ok still bad = text_memory net ok.tree f ok.spells bad
+texts_memory laws net text events sink (fault.Link f) ok still bad = has_link_memory laws.links net ok.tree f ok.spells ok.linkable bad
 texts_memory laws net text events sink (fault.Device f) ok still bad = device_memory net text events f ok bad.1
 texts_memory laws net text events sink (fault.Events f) ok still bad = event_memory laws net text events f ok bad.1
 texts_memory laws net text events sink (fault.Script f) ok still bad = script_memory laws net text events f ok bad.2

@@ -1,12 +1,11 @@
 -- What is known of `check` from its parts.
-use Rattle.std.proofs.Common.{◌≡◌, ℕ, Result, Ok, Err, IfOk, IfErr, List, take, Option, Some, None, inl, inr, refl, sym, subst}
-use Rattle.std.specs.Result.{IsErrAnd}
+use Rattle.std.proofs.Common.{◌≡◌, ℕ, Result, Ok, Err, IfOk, IfErr, List, take, Option, Some, None, inl, inr, refl, subst}
 use Rattle.edge_io.specs.Shelf.{WhereTold, appended}
 use Rattle.verilog_texts.specs.Reading.{IsReadAs}
 use Rattle.verilog_texts.specs.TextFaults.{IsTextFault}
 use Rattle.verilog_tree.specs.declared.tree.Module.{Module}
 use Rattle.netlist_link.specs.Linked.{LinkedView}
-use Rattle.netlist_link.specs.Links.{IsLinkOf}
+use Rattle.netlist_link.specs.Links.{IsLinkOf, HasLinkFault}
 use Rattle.bsdl_device.specs.declared.meaning.MeaningKind.{MeaningKind}
 use Rattle.bsdl_device.specs.declared.meaning.MeaningKind.TheVariants.{Ports}
 use Rattle.bsdl_device.specs.declared.values.Device.{Device}
@@ -26,16 +25,11 @@ use Rattle.command_edges.specs.Seen.{ShelfSeen, SinkSeen}
 use Rattle.command_edges.specs.EdgeFaults.{StandsInPutting}
 use Rattle.command_edges.proofs.Told.{IsTold, told_as, both_told}
 use Rattle.command_edges.specs.Ends.{run_status}
-use Rattle.command_edges.specs.Spelled.{HasLinkFault, SpellsLinkable, SpellsSomeDevice, SpellsEvents}
+use Rattle.command_edges.specs.Spelled.{SpellsLinkable, SpellsSomeDevice, SpellsEvents, StandsInNetlist}
 use Rattle.check_command.specs.Checks.{SpellsLinked, SpellsOneDevice, IsCheck, HaveSamePorts, HaveOtherPorts, HasLinesFault}
 use Rattle.check_command.specs.CheckFaults.{WhereAllTold, AreAllShort, StandsInDevice, AreMatched, HasCheck, StandsInTexts, StandsInCheck, IsReported, FinishesCheck, IsFrontOfCheck, GaveInCheck}
-use Rattle.check_command.specs.Parts.{AreRead, StandsInDeviceFor, IsCheckOf, HasFaultAt, StandsInOthers, StandsInNetlist, StandsInAll}
+use Rattle.check_command.specs.Parts.{AreRead, StandsInDeviceFor, IsCheckOf, HasFaultAt, StandsInOthers, StandsInAll}
 use Rattle.check_command.proofs.DeviceKinds.{no_ports_fault}
-
--- what a call answers of the fault that it hands on
-pub err_is : {A : Type 0} (r : Result A Fault) (f : Fault) (P : Fault → Type 0) → IsErrAnd r (λ made. made ≡ f) → P f → IfErr r P
-err_is (Ok x) f P is holds = tt
-err_is (Err made) f P is holds = subst P (sym is) holds
 
 -- The netlist and the device.
 

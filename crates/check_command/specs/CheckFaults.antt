@@ -16,7 +16,8 @@ use Rattle.command_edges.specs.Seen.{ShelfSeen, SinkSeen, ReadRose, SinkRose, Wh
 use Rattle.command_edges.specs.Lengths.{IsShort}
 use Rattle.command_edges.specs.EdgeFaults.{StandsInReading, StandsInReadingTwo, AreShort, StandsInPutting}
 use Rattle.command_edges.specs.Ends.{run_status}
-use Rattle.command_edges.specs.Spelled.{HasLinkFault, SpellsLinkable, SpellsSomeDevice, SpellsEvents}
+use Rattle.netlist_link.specs.Links.{HasLinkFault}
+use Rattle.command_edges.specs.Spelled.{SpellsLinkable, SpellsSomeDevice, SpellsEvents}
 use Rattle.check_command.specs.Checks.{IsCheck, HaveSamePorts, HaveOtherPorts, HasLinesFault, IsCheckable}
 
 -- a fact of three texts, where all are told
@@ -106,7 +107,8 @@ abbrev pub GaveInCheck : Option (List ℕ) → Option (List ℕ) → Option (Lis
 GaveInCheck net text events f before after =
     (after ≡ before) ⊎ ((status_of f ≡ status.WriteFault) × GaveFront net text events before after)
 
--- A refusal with this status, where no fault stands in the texts and no count of their names or of the sink rises, is want of memory.
+-- A refusal with this status, where no fault stands in the texts and neither a count of reads of their names nor the sink's rises, is want
+-- of memory.
 abbrev pub CompletesCheck : List ℕ → List ℕ → List ℕ → ShelfSeen → SinkSeen → Status → Type 0
 CompletesCheck netlist bsdl events shelf sink end = (net text lines : List ℕ)
     → shelf.held netlist ≡ Some net → shelf.held bsdl ≡ Some text → shelf.held events ≡ Some lines → IsCheckable net text lines

@@ -18,7 +18,8 @@ use Rattle.check_runs.specs.Checks.{IsChecked}
 use Rattle.command_faults.specs.declared.fault.Fault.{Fault}
 use Rattle.command_faults.specs.declared.fault.Fault.TheVariants as fault
 use Rattle.command_edges.specs.Lengths.{IsShort}
-use Rattle.command_edges.specs.Spelled.{HasLinkFault}
+use Rattle.netlist_link.specs.Links.{HasLinkFault}
+pub use Rattle.command_edges.specs.Spelled.{StandsInNetlist}
 use Rattle.check_command.specs.Checks.{SpellsLinked, SpellsOneDevice}
 
 -- these are the texts under the three names, wherever they are told, and none is too long
@@ -29,12 +30,6 @@ pub record AreRead (held : List ℕ → Option (List ℕ)) (netlist bsdl events 
   pub short : IsShort net
   pub short_text : IsShort text
   pub short_lines : IsShort lines
-
--- the fault stands in the bytes of a netlist
-abbrev pub StandsInNetlist : List ℕ → Fault → Type 0
-StandsInNetlist net (fault.Netlist f) = IsTextFault net f
-StandsInNetlist net (fault.Link f) = HasLinkFault f net
-StandsInNetlist net f = ⊥
 
 -- the bytes spell one device, whose ports are the netlist's
 pub record IsDeviceFor (linked : LinkedView) (text : List ℕ) (device : Device) : Type 0 where

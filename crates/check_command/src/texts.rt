@@ -1,8 +1,9 @@
 // From texts that were read to the text of their check.
 ghost use Rattle.std.specs.Prelude.{IfErr, IfOk};
 ghost use Rattle.netlist_link.specs.Linked.{LinkedView};
+ghost use Rattle.command_edges.specs.Spelled.{StandsInNetlist};
 ghost use Rattle.check_command.specs.Checks.{IsCheck, SpellsLinked};
-ghost use Rattle.check_command.specs.Parts.{IsCheckOf, IsDeviceFor, StandsInAll, StandsInDeviceFor, StandsInNetlist, StandsInOthers};
+ghost use Rattle.check_command.specs.Parts.{IsCheckOf, IsDeviceFor, StandsInAll, StandsInDeviceFor, StandsInOthers};
 
 use bsdl_device::{Device, DeviceTextFault, MeaningKind};
 use bsdl_values::read_device;

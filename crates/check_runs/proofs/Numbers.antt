@@ -1,10 +1,11 @@
 -- The numbers of event lines ascend.
-use Rattle.std.proofs.Common.{◌≡◌, ℕ, zero, suc, ◌+◌, ◌<◌, ◌≤◌, Bool, true, false, cond, List, [], ◌∷◌, length, map, Some, refl, sym, subst, ap, ◌∙◌, arith}
+use Rattle.std.proofs.Common.{◌≡◌, ℕ, zero, suc, ◌+◌, ◌<◌, ◌≤◌, Bool, true, false, List, [], ◌∷◌, length, map, Some, refl, sym, subst, ap, ◌∙◌, arith}
 use Rattle.std.specs.Prelude.{slice_get}
 use Rattle.std.proofs.lemmas.List.{length-map}
 use Rattle.std.proofs.lemmas.Option.{same_Some}
 use Rattle.line_texts.specs.Words.{lines_of, words_of, is_kept, kept_from, kept_lines}
 use Rattle.line_texts.proofs.Written.{kept_from-kept}
+use Rattle.line_texts.proofs.Ahead.{kept_from-skipped}
 use Rattle.scan_vectors.specs.declared.lines.Lines.{Lines}
 use Rattle.scan_vectors.specs.Grammar.{Written, written_words, SpellsLines}
 use Rattle.event_scripts.specs.Scripts.{IsSpelled}
@@ -55,9 +56,6 @@ ascend_apart start end (first ∷ numbers) (suc one) (suc other) number later as
 
 abbrev numbers_of : List (ℕ × List (List ℕ)) → List ℕ
 numbers_of rows = map (λ (row : ℕ × List (List ℕ)). row.0) rows
-
-kept_from-skipped : (n : ℕ) (line : List ℕ) (rest : List (List ℕ)) → is_kept (words_of line) ≡ false → kept_from n (line ∷ rest) ≡ kept_from (n + 1) rest
-kept_from-skipped n line rest e = ap (λ (t : Bool). cond t ((n, words_of line) ∷ kept_from (n + 1) rest) (kept_from (n + 1) rest)) e
 
 kept_ascend : (n : ℕ) (lines : List (List ℕ)) → Ascend n (n + length lines) (numbers_of (kept_from n lines))
 kept_ascend n [] = omega arith

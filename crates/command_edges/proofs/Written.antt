@@ -1,6 +1,5 @@
 -- What is known of faults in writing and in putting, and of what is seen over a longer time.
-use Rattle.std.proofs.Common.{◌≡◌, ℕ, Bool, List, take, Result, Ok, Err, IfErr, inl, inr, refl, sym, subst, ap, ◌∙◌}
-use Rattle.std.specs.Result.{IsErrAnd}
+use Rattle.std.proofs.Common.{◌≡◌, ℕ, Bool, List, take, inl, inr, refl, sym, ap, ◌∙◌}
 use Rattle.edge_io.specs.Shelf.{told_if}
 use Rattle.command_faults.specs.declared.fault.Fault.{Fault}
 use Rattle.command_faults.specs.declared.fault.Fault.TheVariants as fault
@@ -8,11 +7,6 @@ use Rattle.command_faults.specs.declared.status.Status.TheVariants as status
 use Rattle.command_faults.specs.Statuses.{status_of}
 use Rattle.command_edges.specs.Seen.{ShelfSeen, SinkSeen, WriteRose, SinkRose, IsCutOff}
 use Rattle.command_edges.specs.EdgeFaults.{StandsInWriting, StandsInPutting}
-
--- what a call answers of the fault that it hands on
-pub err_is : {A : Type 0} (r : Result A Fault) (f : Fault) (P : Fault → Type 0) → IsErrAnd r (λ made. made ≡ f) → P f → IfErr r P
-err_is (Ok x) f P is holds = tt
-err_is (Err made) f P is holds = subst P (sym is) holds
 
 -- a put fails only where the sink's count rises
 pub put_rose : (sink : SinkSeen) (f : Fault) → StandsInPutting sink f → SinkRose sink

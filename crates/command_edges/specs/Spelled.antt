@@ -1,22 +1,23 @@
 -- What the bytes of a text spell, for every command that reads it.
 -- IEEE Std 1364-2001 for netlists, IEEE Std 1149.1-2001 (the annex on BSDL) for devices; the texts of events are own.
-use Rattle.std.specs.Prelude.{◌≡◌, ℕ, List}
+use Rattle.std.specs.Prelude.{ℕ, List}
 use Rattle.verilog_tree.specs.declared.tree.Module.{Module}
 use Rattle.verilog_tree.specs.Texts as verilog
+use Rattle.verilog_texts.specs.TextFaults.{IsTextFault}
 use Rattle.link_model.specs.Late.{IsLinkable}
-use Rattle.link_model.specs.declared.fault.LinkFault.{LinkFault}
-use Rattle.netlist_link.specs.Links.{IsLinkFault}
+use Rattle.netlist_link.specs.Links.{HasLinkFault}
 use Rattle.bsdl_device.specs.declared.values.Device.{Device}
 use Rattle.bsdl_device.specs.Spelled as bsdl
 use Rattle.scan_vectors.specs.declared.lines.Lines.{Lines}
 use Rattle.scan_vectors.specs.Grammar.{SpellsLines}
+use Rattle.command_faults.specs.declared.fault.Fault.{Fault}
+use Rattle.command_faults.specs.declared.fault.Fault.TheVariants as fault
 
--- own: the netlist's bytes spell a tree in which this fault of linking stands
-pub record HasLinkFault (f : LinkFault) (net : List ℕ) : Type 0 where
-  pub tree : Module
-  pub spells : verilog.SpellsText net tree
-  pub only : (other : Module) → verilog.SpellsText net other → other ≡ tree
-  pub fault : IsLinkFault tree f
+-- own: the fault stands in the bytes of a netlist
+abbrev pub StandsInNetlist : List ℕ → Fault → Type 0
+StandsInNetlist net (fault.Netlist f) = IsTextFault net f
+StandsInNetlist net (fault.Link f) = HasLinkFault f net
+StandsInNetlist net f = ⊥
 
 -- own: the netlist's bytes spell a tree that can be linked
 pub record SpellsLinkable (net : List ℕ) : Type 0 where

@@ -1,5 +1,5 @@
 -- How far a script was judged: the moments so far are those of its run.
-use Rattle.std.proofs.Common.{◌≡◌, ◌≢◌, ℕ, zero, suc, ◌+◌, ◌<◌, ◌≤◌, nat_le, true, false, Bool, List, [], ◌∷◌, ◌++◌, length, take, filter, refl, sym, ◌∙◌, ap, arith, append_assoc, append-nil, add-one, Option, Some, None, inl, inr}
+use Rattle.std.proofs.Common.{◌≡◌, ◌≢◌, ℕ, zero, suc, ◌+◌, ◌<◌, ◌≤◌, nat_le, true, false, Bool, List, [], ◌∷◌, ◌++◌, length, take, filter, refl, sym, ◌∙◌, ap, arith, append_assoc, append-nil, add-one, Some, None, inl, inr}
 use Rattle.std.specs.Prelude.{if◌then◌else◌}
 use Rattle.std.specs.List.{slice_get}
 use Rattle.std.proofs.lemmas.Bool.{cases_lt}
@@ -8,19 +8,17 @@ use Rattle.std.proofs.lemmas.List.Elements.{filter-append}
 use Rattle.std.proofs.lemmas.Option.{same_Some, slice_get_within}
 use Rattle.list_laws.proofs.Lists.{slice_get-append_left, slice_get-append_right, taken_more, front_all}
 use Rattle.netlist_model.specs.declared.NetId.{NetId}
-use Rattle.netlist_model.specs.Lists.{NetlistView, bit_net}
+use Rattle.netlist_model.specs.Lists.{NetlistView}
 use Rattle.netlist_model.specs.Runs.{Moment, PinEvent, IsStart, IsStep, reading_at}
 use Rattle.signal_values.specs.declared.Sig.TheVariants.{Unknown}
 use Rattle.scan_vectors.specs.declared.lines.Act.{Act}
 use Rattle.scan_vectors.specs.declared.lines.Act.TheVariants.{Start, Set, Expect}
 use Rattle.event_scripts.specs.declared.script.ScriptLine.{ScriptLine}
-use Rattle.std.specs.Option.{IsSome}
-use Rattle.event_scripts.specs.Scripts.{IsPlayable}
 use Rattle.netlist_meaning.specs.Pins.{net_of}
 use Rattle.netlist_meaning.specs.Events.{IsEventStep}
 use Rattle.sim_runs.specs.Runs.{net_number, event_of, events_at, events_of, HasStarts, IsRunOf}
 use Rattle.sim_runs.specs.Outputs.{sets_with}
-use Rattle.sim_runs.specs.Playing.{CanPlay, IsFirst, Moves, line_event}
+use Rattle.sim_runs.specs.Playing.{IsFirst, Moves, line_event}
 use Rattle.conformance_report.specs.declared.verdict.Missed.{Missed}
 use Rattle.conformance_report.specs.declared.verdict.Verdict.{Verdict}
 use Rattle.conformance_report.specs.Verdicts.{Judges, IsVerdict, expected_by, expected, expectation, is_met, is_missed}
@@ -169,11 +167,6 @@ all_judged N script count m verdict long judged =
 
 -- Bounds, and that each line can be played.
 
-pub sets_most : (act : Act) (sets : ℕ) → sets_with act sets ≤ sets + 1
-sets_most Start sets = omega arith
-sets_most Set sets = omega arith
-sets_most Expect sets = omega arith
-
 count_one : (e : Missed) → length (filter is_met (e ∷ [])) ≤ 1
 count_one e = go (is_met e) refl
   where
@@ -185,17 +178,3 @@ pub met_most : (N : NetlistView) (line : ScriptLine) (m : Moment) (act : Act) �
 met_most N line m Start = omega arith
 met_most N line m Set = omega arith
 met_most N line m Expect = count_one (expectation line (reading_at N m (net_number N line.pin)))
-
-live_some : {X : Type 0} (o : Option X) → IsSome o → (x : X) × (o ≡ Some x)
-live_some None live = absurd (let no : false ≡ true = live in cc)
-live_some (Some x) live = (x, refl)
-
-pub can_play : (N : NetlistView) (script : List ScriptLine) (place : ℕ) (line : ScriptLine) → IsPlayable N script → slice_get script place ≡ Some line → CanPlay line.act N line
-can_play N script place line playable at = go line.act refl
-  where
-    go : (act : Act) → line.act ≡ act → CanPlay act N line
-    go Start is = tt
-    go Set is =
-        let net = live_some (bit_net N line.pin.port.0 line.pin.bit) (playable.there place line at) in
-        record { net = net.0; named = net.1; legal = playable.legal place line net.0 at (λ e. let no : Set ≡ Expect = sym is ∙ e in cc) net.1 }
-    go Expect is = playable.there place line at

@@ -16,6 +16,7 @@ IsConvertedTo c input output shelf = IsWritten (IsConverted c) input output shel
 abbrev pub StandsInConvert : Conversion → List ℕ → List ℕ → ShelfSeen → Fault → Type 0
 StandsInConvert c input output shelf f = StandsInMaking (IsConverted c) (StandsInText c) input output shelf f
 
--- A refusal with this status, where the text is accepted and no count of both names rises, is want of memory.
+-- A refusal with this status, where the text is accepted and neither the count of reads of the input nor that of writes of the output
+-- rises, is want of memory.
 abbrev pub CompletesConvert : Conversion → List ℕ → List ℕ → ShelfSeen → Status → Type 0
 CompletesConvert c input output shelf end = CompletesMaking (IsAccepted c) input output shelf end

@@ -1,6 +1,7 @@
 -- The core behind the first of the rows, and behind one row more.
 use Rattle.std.proofs.Common.{◌≡◌, ◌≢◌, ℕ, suc, zero, ◌+◌, ◌<◌, ◌≤◌, inl, inr, ◌&&◌, Bool, true, false, List, [], ◌∷◌, ◌++◌, length, map, refl, sym, ◌∙◌, ap, Option, Some, None, option_map, slice_get, if◌then◌else◌, ◌==◌, eqb-true, arith}
 use Rattle.std.specs.Option.{option_or}
+use Rattle.list_laws.proofs.Tests.{never_true}
 use Rattle.netlist_model.specs.declared.NetId.{NetId}
 use Rattle.netlist_model.specs.declared.Feed.{Feed}
 use Rattle.netlist_model.specs.declared.Feed.TheVariants.{Net}
@@ -13,10 +14,11 @@ use Rattle.stitch_model.specs.declared.Site.{Site}
 use Rattle.stitch_model.specs.declared.Site.TheVariants as site
 use Rattle.stitch_model.specs.Sites.{Boundary, row_net, site_of, sides_of}
 use Rattle.stitch_model.specs.Sides.{is_moved, moves, side_from, is_driven, drives, level_net, feeds_from}
+use Rattle.stitch_model.proofs.Moves.{side_range}
 use Rattle.core_moves.specs.Ready.{HasDriver, IsDrivenAt}
 use Rattle.core_moves.specs.Steps.{with_driver_feeds, fed_driver, stood_at, stood_by}
 use Rattle.core_moves.proofs.Cells.{cell_with, net_is, cell_same, moved_cell, moved_reader, fed_cell, or_none, mapped_same, mapped_twice}
-use Rattle.core_moves.proofs.Sides.{side_range, side_more, feeds_more, feeds_keep}
+use Rattle.core_moves.proofs.Sides.{side_more, feeds_more, feeds_keep}
 
 -- own: a cell of the core behind the first rows
 abbrev pub cell_behind : Boundary → List FitRow → CellView → CellView
@@ -33,10 +35,6 @@ pub record IsNext (B : Boundary) (done : List FitRow) (net : ℕ) : Type 0 where
 
 -- Tests of a row.
 
-pub not_false : (b : Bool) → (b ≡ true → ⊥) → b ≡ false
-not_false true never = absurd (never refl)
-not_false false never = refl
-
 moves_is : (B : Boundary) (row : FitRow) (net : NetId) → is_moved (site_of B.ports row) ≡ true → row_net B.ports row ≡ Some net → (other : ℕ) → moves B.ports other row ≡ (net.0 == other)
 moves_is B row net moved at other = rw (moved, at) refl
 
@@ -50,7 +48,7 @@ drives_none : (B : Boundary) (row : FitRow) → is_driven (site_of B.ports row) 
 drives_none B row still other = rw still refl
 
 low_misses : (net other first : ℕ) → net < first → first ≤ other → (net == other) ≡ false
-low_misses net other first low high = not_false (net == other) (λ e. let same = eqb-true net other e in absurd (omega arith))
+low_misses net other first low high = never_true (net == other) (λ e. let same = eqb-true net other e in absurd (omega arith))
 
 -- Nets and operands with one row more.
 
@@ -92,7 +90,7 @@ operands_keep B done net side low other feeds e = feeds_keep B (moved_feed net s
   where
     past : (far : NetId) → B.first ≤ far.0 → moved_feed net side (Net far) ≡ Net far
     past far h =
-        let misses : (far.0 == net.0) ≡ false = not_false (far.0 == net.0) (λ e. let same = eqb-true far.0 net.0 e in absurd (omega arith)) in
+        let misses : (far.0 == net.0) ≡ false = never_true (far.0 == net.0) (λ e. let same = eqb-true far.0 net.0 e in absurd (omega arith)) in
         rw misses refl
 
 -- The cells with one row more.
@@ -141,7 +139,7 @@ driver_fed B done row net next still driven at cell =
 with_cells : (N : NetlistView) (one other : List (Option CellView)) → one ≡ other → record N { cells = one } ≡ record N { cells = other }
 with_cells N one other e = ap (λ (cs : List (Option CellView)). record N { cells = cs }) e
 
-mapped_at : (f : CellView → CellView) (cells : List (Option CellView)) (i : ℕ) → live_cell (slice_get (map (option_map f) cells) i) ≡ option_map f (live_cell (slice_get cells i))
+pub mapped_at : (f : CellView → CellView) (cells : List (Option CellView)) (i : ℕ) → live_cell (slice_get (map (option_map f) cells) i) ≡ option_map f (live_cell (slice_get cells i))
 mapped_at f [] i = refl
 mapped_at f (p ∷ ps) zero = refl
 mapped_at f (p ∷ ps) (suc i) = mapped_at f ps i

@@ -1,6 +1,7 @@
 -- A cell whose nets are renamed and whose operands may be a driver's, and what one step more makes of it.
 use Rattle.std.proofs.Common.{◌≡◌, ◌≢◌, ℕ, suc, Bool, true, false, List, [], ◌∷◌, map, refl, sym, ◌∙◌, ap, Option, Some, None, option_map, option_and_then, slice_get, if◌then◌else◌, ◌==◌, eqb-true, eq-eqb}
 use Rattle.std.specs.Option.{unwrap_or, option_or}
+use Rattle.list_laws.proofs.Numbers.{eqb-sym}
 use Rattle.netlist_model.specs.declared.NetId.{NetId}
 use Rattle.netlist_model.specs.declared.Feed.{Feed}
 use Rattle.netlist_model.specs.declared.Feed.TheVariants.{Net, Const}
@@ -75,21 +76,12 @@ cell_alone cell = rw (feeds cell.output, output cell.output) refl
 abbrev Moves : (ℕ → ℕ) → (ℕ → ℕ) → NetId → NetId → Type 0
 Moves to to' from side = (net : ℕ) → to' net ≡ (if from.0 == to net then side.0 else to net)
 
-same_test : (a b : ℕ) → (a == b) ≡ (b == a)
-same_test a b = by (a == b) (b == a) refl refl
-  where
-    by : (x y : Bool) → a == b ≡ x → b == a ≡ y → a == b ≡ (b == a)
-    by true true e f = e ∙ sym f
-    by false false e f = e ∙ sym f
-    by true false e f = let g = eq-eqb b a (sym (eqb-true a b e)) in absurd (cc)
-    by false true e f = let g = eq-eqb a b (sym (eqb-true b a f)) in absurd (cc)
-
 moved_net : (to to' : ℕ → ℕ) (from side : NetId) → Moves to to' from side → (net : NetId) → renamed_net to' net ≡ (if (renamed_net to net).0 == from.0 then side else renamed_net to net)
 moved_net to to' from side moves net = by (from.0 == to net.0) refl
   where
     by : (b : Bool) → from.0 == to net.0 ≡ b → renamed_net to' net ≡ (if to net.0 == from.0 then side else renamed_net to net)
-    by true e = let f = moves net.0 in rw (← same_test from.0 (to net.0), e) (net_is (renamed_net to' net) side (rw e at f))
-    by false e = let f = moves net.0 in rw (← same_test from.0 (to net.0), e) (net_is (renamed_net to' net) (renamed_net to net) (rw e at f))
+    by true e = let f = moves net.0 in rw (← eqb-sym from.0 (to net.0), e) (net_is (renamed_net to' net) side (rw e at f))
+    by false e = let f = moves net.0 in rw (← eqb-sym from.0 (to net.0), e) (net_is (renamed_net to' net) (renamed_net to net) (rw e at f))
 
 choice : (b : Bool) (one other : NetId) → Net (if b then one else other) ≡ (if b then Net one else Net other)
 choice true one other = refl

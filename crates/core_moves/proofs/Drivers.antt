@@ -1,5 +1,5 @@
 -- The driver of a net, whose operands are connected one after the other.
-use Rattle.std.proofs.Common.{◌≡◌, ◌≢◌, ℕ, suc, zero, ◌<◌, Bool, true, false, List, [], ◌∷◌, length, map, set, refl, sym, ◌∙◌, ap, Option, Some, None, IsSome, option_map, slice_get, eqb-true, eq-eqb, arith}
+use Rattle.std.proofs.Common.{◌≡◌, ◌≢◌, ℕ, suc, zero, ◌<◌, Bool, true, false, List, [], ◌∷◌, length, map, set, refl, sym, ◌∙◌, ap, Option, Some, None, IsSome, option_map, slice_get, eq-eqb, arith}
 use Rattle.netlist_model.specs.declared.NetId.{NetId}
 use Rattle.netlist_model.specs.declared.Feed.{Feed}
 use Rattle.netlist_model.specs.declared.Feed.TheVariants.{Net}
@@ -7,14 +7,9 @@ use Rattle.netlist_model.specs.Lists.{CellView, NetlistView, live_cell, cell_at,
 use Rattle.netlist_model.specs.Settled.{is_output}
 use Rattle.netlist_arena.specs.Looks.{IsDrivenOnce, feed_at}
 use Rattle.netlist_arena.specs.Moves.{with_feed, connected}
+use Rattle.stitch_model.proofs.Moves.{output_is}
 use Rattle.core_moves.specs.Ready.{HasDriver}
 use Rattle.core_moves.specs.Steps.{with_driver_feeds, fed_driver}
-
--- the output is connected to the net
-pub output_is : (output : Option NetId) (net : ℕ) → is_output output net ≡ true → output ≡ Some (record { 0 = net })
-output_is None net e = absurd (cc)
-output_is (Some output) net e =
-    let wrap : ℕ → Option NetId = λ n. Some (record { 0 = n }) in ap wrap (eqb-true output.0 net e)
 
 -- the cell that drives the net has two operands
 pub driver_operands : (N : NetlistView) (net number : ℕ) (cell : CellView) → IsDrivenOnce N → HasDriver N net → Drives N number cell net → length cell.feeds ≡ 2

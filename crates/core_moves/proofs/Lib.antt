@@ -1,6 +1,6 @@
 mod Drivers
 mod Cells
 mod Sides
-mod Behind
+pub mod Behind
 mod Next
 mod Turns

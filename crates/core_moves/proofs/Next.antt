@@ -3,6 +3,7 @@ use Rattle.std.proofs.Common.{◌≡◌, ◌≢◌, ℕ, suc, zero, ◌+◌, ◌
 use Rattle.std.specs.Option.{MatchOption}
 use Rattle.std.specs.Prelude.{option_and_then}
 use Rattle.std.proofs.lemmas.Option.{slice_get_within}
+use Rattle.list_laws.proofs.Tests.{never_true}
 use Rattle.netlist_model.specs.declared.NetId.{NetId}
 use Rattle.netlist_model.specs.declared.PinBit.{PinBit}
 use Rattle.netlist_model.specs.declared.Dir.TheVariants.{Input}
@@ -16,12 +17,12 @@ use Rattle.stitch_model.specs.declared.Site.{Site}
 use Rattle.stitch_model.specs.declared.Site.TheVariants as site
 use Rattle.stitch_model.specs.Sites.{pin_net, row_net, site_of, row_sides, sides_of}
 use Rattle.stitch_model.specs.Sides.{moves, side_from, drives, level_net}
+use Rattle.stitch_model.proofs.Moves.{sides_within, moves_some, side_range, side_stays, feeds_none, output_is}
 use Rattle.scan_sides.specs.Pins.{between}
 use Rattle.core_moves.specs.Ready.{IsDrivenAt, IsControlAt, HasControl, CanStandBehind}
 use Rattle.core_moves.specs.Steps.{CanStandAt, CanStandBy}
-use Rattle.core_moves.proofs.Drivers.{output_is}
-use Rattle.core_moves.proofs.Sides.{sides_within, moves_some, drives_some, side_range, side_stays, feeds_none}
-use Rattle.core_moves.proofs.Behind.{behind_rows, next_side, IsNext, was_driver, still_driven, not_false}
+use Rattle.core_moves.proofs.Sides.{drives_some}
+use Rattle.core_moves.proofs.Behind.{behind_rows, next_side, IsNext, was_driver, still_driven}
 
 -- Rows before.
 
@@ -56,9 +57,9 @@ next N rows first ready k row net at has =
     record {
       low = ready.ports_before bit.0.port.0 bit.0.bit net bit.1;
       stays = side_stays N.ports net.0 first.0 (take k rows)
-          (λ j other there. not_false (moves N.ports net.0 other) (λ e. others_apart N rows first.0 ready k row net at has j other there (moves_some N.ports net.0 other e).1));
+          (λ j other there. never_true (moves N.ports net.0 other) (λ e. others_apart N rows first.0 ready k row net at has j other there (moves_some N.ports net.0 other e).1));
       unfed = feeds_none (between N.ports rows first) net.0 first.0 (take k rows)
-          (λ j other there. not_false (drives N.ports net.0 other) (λ e. others_apart N rows first.0 ready k row net at has j other there (drives_some N.ports net.0 other e)));
+          (λ j other there. never_true (drives N.ports net.0 other) (λ e. others_apart N rows first.0 ready k row net at has j other there (drives_some N.ports net.0 other e)));
     }
 
 -- Nets between.

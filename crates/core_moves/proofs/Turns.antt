@@ -8,13 +8,14 @@ use Rattle.netlist_model.specs.Lists.{CellView, NetlistView}
 use Rattle.plan_fitting.specs.declared.fitted.FitRow.{FitRow}
 use Rattle.stitch_model.specs.Sites.{row_net, site_of, row_sides, sides_of}
 use Rattle.stitch_model.specs.Sides.{level_net}
+use Rattle.stitch_model.proofs.Moves.{sides_few}
 use Rattle.scan_sides.specs.Pins.{between}
 use Rattle.core_moves.specs.Ready.{CanStandBehind, with_core_behind}
 use Rattle.core_moves.specs.Steps.{stood_by, CanStandBy}
 use Rattle.core_moves.proofs.Cells.{cell_alone, mapped_alone}
 use Rattle.core_moves.proofs.Behind.{cell_behind, behind_rows, next_side, row_more}
 use Rattle.core_moves.proofs.Next.{next, driven_next, row_ready}
-use Rattle.core_moves.proofs.Sides.{sides_few, sides_more}
+use Rattle.core_moves.proofs.Sides.{sides_more}
 
 pub begins : (N : NetlistView) (rows : List FitRow) (first : NetId) → N ≡ behind_rows (between N.ports rows first) [] N
 begins N rows first =

@@ -52,6 +52,6 @@ abbrev pub StandsInDemo : ℕ → List ℕ → List ℕ → ShelfSeen → SinkSe
 StandsInDemo number outnet outbsdl shelf sink f after = ((status_of f ≡ status.Memory) × (after ≡ sink.given))
     ⊎ StandsInDemoWriting number outnet outbsdl shelf sink f after
 
--- A refusal with this status, where no count of both names and of the sink rises, is want of memory.
+-- A refusal with this status, where neither a count of writes of both names nor the sink's rises, is want of memory.
 abbrev pub CompletesDemo : List ℕ → List ℕ → ShelfSeen → SinkSeen → Status → Type 0
 CompletesDemo outnet outbsdl shelf sink end = (WriteRose shelf outnet → ⊥) → (WriteRose shelf outbsdl → ⊥) → (SinkRose sink → ⊥) → end ≡ status.Memory

@@ -5,6 +5,7 @@ use Rattle.std.specs.List.{AllByRecursion, filter_map, flat_map, range_with_len}
 use Rattle.std.proofs.lemmas.Option.{same_Some}
 use Rattle.list_laws.specs.Options.{first_in}
 use Rattle.list_laws.proofs.Lists.{all_append}
+use Rattle.list_laws.proofs.Options.{none_along}
 
 -- it holds at each place
 abbrev pub EachAt : {X : Type 0} → (ℕ → X → Type 0) → List X → Type 0
@@ -57,11 +58,6 @@ all_there P (y ∷ xs) all (suc place) x at = all_there P xs all.1 place x at
 pub flat_all : {X Y : Type 0} (P : Y → Type 0) (f : X → List Y) (xs : List X) → EachAt (λ place x. AllByRecursion P (f x)) xs → AllByRecursion P (flat_map f xs)
 flat_all P f [] each = tt
 flat_all P f (x ∷ xs) each = all_append P (f x) (flat_map f xs) (each 0 x refl) (flat_all P f xs (λ k y at. each (suc k) y at))
-
--- no test finds anything along it
-pub none_along : {X Y : Type 0} (test : X → Option Y) (xs : List X) → AllByRecursion (λ x. test x ≡ None) xs → first_in test xs ≡ None
-none_along test [] all = refl
-none_along test (x ∷ xs) all = rw all.0 (none_along test xs all.1)
 
 pub none_found : {X Y : Type 0} (test : X → Option Y) (xs : List X) → EachAt (λ place x. test x ≡ None) xs → first_in test xs ≡ None
 none_found test xs each = none_along test xs (all_at (λ x. test x ≡ None) xs each)

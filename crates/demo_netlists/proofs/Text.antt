@@ -4,6 +4,7 @@ use Rattle.std.specs.Prelude.{codes}
 use Rattle.std.specs.Fmt.{decimal}
 use Rattle.std.proofs.lemmas.Bool.{le-ltb}
 use Rattle.std.proofs.lemmas.List.FromFn.{length-map-range_with_len}
+use Rattle.list_laws.proofs.Options.{none_along}
 use Rattle.verilog_tree.specs.declared.tree.Bit.{Bit}
 use Rattle.verilog_tree.specs.declared.tree.GateKind.{GateKind}
 use Rattle.verilog_tree.specs.declared.tree.Item.{Item}
@@ -18,7 +19,7 @@ use Rattle.link_model.specs.Lists.{first_in, or_else}
 use Rattle.link_model.specs.Nets.{Declared, bits_in, declared_names, declared_nets}
 use Rattle.link_model.specs.Faults.{at_bit, at_instance, bit_faults, bit_outside, cell_unknown, gate_operands, instance_faults, item_bits, item_width, link_width, name_twice, name_unknown, port_missing, port_twice, port_unknown, text_fault, too_many, too_many_in, wrong_width}
 use Rattle.demo_chips.specs.Netlists.{bit_of, demo_items, demo_module, flop_item, from_zero, gate_count, gate_item, link_to, output_item, pool_bit, scalar}
-use Rattle.demo_netlists.proofs.Places.{EachAt, none_along, none_found}
+use Rattle.demo_netlists.proofs.Places.{EachAt, none_found}
 use Rattle.demo_netlists.proofs.Items.{flop_with, gate_with, items_at, output_with}
 use Rattle.demo_netlists.proofs.Bits.{IsBit, Knows, clear_bit, clock_bit, flop_bit, gate_bit, knows, output_bit, pool_bits}
 use Rattle.demo_netlists.proofs.Names.{names_once}

@@ -2,7 +2,7 @@
 use Rattle.std.proofs.Common.{◌≡◌, ℕ, ◌+◌, ◌*◌, ◌%◌, ◌≤◌, Bool, true, false, List, [], ◌∷◌, ◌++◌, map, codes, slice_get, Option, Some, None, refl, arith}
 use Rattle.std.specs.Prelude.{nat_eq, not, ◌&&◌, ◌==◌, if◌then◌else◌}
 use Rattle.std.specs.List.{AllByRecursion}
-use Rattle.list_laws.proofs.Lists.{all_append}
+use Rattle.list_laws.proofs.Lists.{all_append, all_mapped}
 use Rattle.verilog_tree.specs.declared.tree.Item.{Item}
 use Rattle.verilog_tree.specs.declared.tree.GateKind.{GateKind}
 use Rattle.cell_library.specs.Gates.{is_flop, is_three_state}
@@ -13,7 +13,7 @@ use Rattle.link_model.specs.Cells.{NamedCell, kind_of_gate, cell_of}
 use Rattle.link_model.specs.Denoted.{net_id, denoted}
 use Rattle.demo_chips.specs.Draws.{draw}
 use Rattle.demo_chips.specs.Netlists.{bit_of, gate_count, gate_kind, gate_item, flop_item, output_item, from_zero, demo_items, demo_module}
-use Rattle.demo_plans.proofs.Lists.{all_range, all_mapped}
+use Rattle.demo_plans.proofs.Lists.{all_range}
 
 -- a name that begins as none of the test access port, and not with the prefix
 abbrev pub is_apart : List ℕ → Bool

@@ -1,5 +1,5 @@
 -- Lists that agree place by place, and what holds of all numbers up to one.
-use Rattle.std.proofs.Common.{◌≡◌, ℕ, zero, suc, ◌+◌, ◌<◌, Bool, true, ◌&&◌, List, [], ◌∷◌, ◌++◌, map, slice_get, Option, Some, None, filter_map, flat_map, refl, ap, ◌∙◌, subst, arith}
+use Rattle.std.proofs.Common.{◌≡◌, ℕ, zero, suc, ◌+◌, ◌<◌, Bool, true, ◌&&◌, List, [], ◌∷◌, ◌++◌, map, slice_get, Option, Some, None, filter_map, flat_map, refl, ap, ◌∙◌, arith}
 use Rattle.std.specs.List.{list_all, cons_option, AllByRecursion, range_with_len}
 use Rattle.std.proofs.lemmas.List.Folds.{list_all-append}
 use Rattle.list_laws.specs.Lists.{AreAll}
@@ -9,15 +9,6 @@ use Rattle.list_laws.specs.Lists.{AreAll}
 pub all_range : (P : ℕ → Type 0) (from n : ℕ) → ((k : ℕ) → P k) → AllByRecursion P (range_with_len from n)
 all_range P from zero each = tt
 all_range P from (suc n) each = (each from, all_range P (from + 1) n each)
-
-pub all_mapped : {X Y : Type 0} (P : Y → Type 0) (f : X → Y) (xs : List X) → AllByRecursion (λ x. P (f x)) xs → AllByRecursion P (map f xs)
-all_mapped P f [] all = tt
-all_mapped P f (x ∷ xs) all = (all.0, all_mapped P f xs all.1)
-
-pub all_at : {X : Type 0} (P : X → Type 0) (xs : List X) (k : ℕ) (x : X) → AllByRecursion P xs → slice_get xs k ≡ Some x → P x
-all_at P [] k x all at = absurd (cc)
-all_at P (y ∷ xs) zero x all at = let same : y ≡ x = cc in subst P same all.0
-all_at P (y ∷ xs) (suc k) x all at = all_at P xs k x all.1 at
 
 -- Lists that agree.
 

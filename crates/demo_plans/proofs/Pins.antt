@@ -9,7 +9,6 @@ use Rattle.list_laws.proofs.Lists.{AreAll-left, AreAll-right, slice_get-counted_
 use Rattle.verilog_lexicon.specs.Bytes.{is_digit}
 use Rattle.verilog_lexicon.specs.Pieces.{value_from}
 use Rattle.cell_library.specs.Gates.{is_flop, is_three_state}
-use Rattle.cell_library.specs.declared.Kind.{Kind}
 use Rattle.cell_library.specs.declared.Kind.TheVariants as kind
 use Rattle.netlist_model.specs.declared.Dir.{Dir}
 use Rattle.netlist_model.specs.declared.Dir.TheVariants as dir
@@ -32,7 +31,8 @@ use Rattle.netlist_link.specs.WellNamed.{IsWellNamed}
 use Rattle.netlist_link.proofs.PinLaws.{one_port, indexed_once}
 use Rattle.plan_texts.specs.declared.plan.PinLine.{PinLine}
 use Rattle.plan_fitting.specs.Pins.{PinSeen, NamesBit, IsSeen, AreSeen}
-use Rattle.plan_fitting.specs.Rows.{gate_driver, three_state}
+use Rattle.plan_fitting.specs.Rows.{three_state}
+use Rattle.plan_fitting.proofs.Drivers.{plain_driver}
 use Rattle.demo_chips.specs.Netlists.{from_zero, demo_module}
 use Rattle.demo_chips.specs.Plans.{bit_word, vector_line, pin_lines}
 use Rattle.demo_plans.proofs.Lists.{are_more, are_mapped}
@@ -254,21 +254,6 @@ no_control : (number : ℕ) (L : LinkedView) → IsLinkOf (demo_module number) L
 no_control number L links net high is =
     let low = cone_low number L links is.1.root net (reads_low number L links is.1.root is.1.operand) is.1.cone in
     omega arith
-
-plain_driver : (k : Kind) (feeds : List Feed) → is_three_state k ≡ false → gate_driver k feeds ≡ None
-plain_driver kind.Bufif0 feeds h = absurd (cc)
-plain_driver kind.Bufif1 feeds h = absurd (cc)
-plain_driver kind.And feeds h = refl
-plain_driver kind.Or feeds h = refl
-plain_driver kind.Nand feeds h = refl
-plain_driver kind.Nor feeds h = refl
-plain_driver kind.Xor feeds h = refl
-plain_driver kind.Xnor feeds h = refl
-plain_driver kind.Buf feeds h = refl
-plain_driver kind.Not feeds h = refl
-plain_driver kind.Assign feeds h = refl
-plain_driver kind.Mux2 feeds h = refl
-plain_driver (kind.Flop f) feeds h = refl
 
 no_driver : (number : ℕ) (L : LinkedView) → IsLinkOf (demo_module number) L → (net : ℕ) (found : Option CellView) → IsDriverOf L.arena.lists net found → three_state found ≡ None
 no_driver number L links net None is = refl

@@ -4,7 +4,7 @@ use Rattle.std.specs.Prelude.{All, ◌&&◌, not}
 use Rattle.std.specs.Fmt.{digits}
 use Rattle.std.specs.List.{list_all}
 use Rattle.std.proofs.lemmas.List.Elements.{All-nil, All-cons}
-use Rattle.list_laws.proofs.Tests.{and_left, and_right}
+use Rattle.list_laws.proofs.Tests.{and_left, and_right, not_true}
 use Rattle.cell_library.specs.declared.codes.BoundaryKind.TheVariants.{Bc1}
 use Rattle.line_texts.specs.Words.{is_line_end, is_blank_byte, is_kept}
 use Rattle.line_texts.specs.Rows.{IsWordByte, IsWord, IsRow}
@@ -29,10 +29,6 @@ word_right (b ∷ bytes) = list_all byte_right (b ∷ bytes)
 
 abbrev row_right : List (List ℕ) → Bool
 row_right words = is_kept words && list_all word_right words
-
-not_true : (b : Bool) → not b ≡ true → b ≡ false
-not_true true h = absurd (cc)
-not_true false h = refl
 
 byte_is : (b : ℕ) → byte_right b ≡ true → IsWordByte b
 byte_is b h = record {

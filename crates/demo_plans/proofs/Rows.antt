@@ -7,7 +7,7 @@ use Rattle.std.proofs.lemmas.List.Quantifiers.{position-Some}
 use Rattle.list_laws.specs.Lists.{AreAll}
 use Rattle.list_laws.specs.Options.{or_else}
 use Rattle.list_laws.proofs.Lists.{position_none}
-use Rattle.list_laws.proofs.Tests.{and_left, and_right}
+use Rattle.list_laws.proofs.Tests.{and_left, and_right, or_true}
 use Rattle.cell_library.specs.declared.codes.BoundaryKind.TheVariants.{Bc1}
 use Rattle.cell_library.specs.declared.codes.Function.TheVariants as function
 use Rattle.netlist_model.specs.declared.Dir.{Dir}
@@ -49,10 +49,6 @@ some_position rows k row at = let there = position-Some is_control rows k row at
 record Adds (before new : List FitRow) (count : ℕ) (controlled : Bool) : Type 0 where
   pub many : length new ≡ count
   pub controls : list_any is_control (before ++ new) ≡ controlled
-
-or_true : (b : Bool) → (b || true) ≡ true
-or_true true = refl
-or_true false = refl
 
 or_none : (b : Bool) → (b || (false || false)) ≡ b
 or_none true = refl

@@ -5,13 +5,13 @@ use Rattle.std.specs.Fmt.{digits}
 use Rattle.std.specs.List.{AllByRecursion}
 use Rattle.std.proofs.lemmas.Fmt.{length-decimal-le}
 use Rattle.std.proofs.lemmas.List.FromFn.{length-map-range_with_len}
-use Rattle.list_laws.proofs.Lists.{all_append}
+use Rattle.list_laws.proofs.Lists.{all_append, all_mapped}
 use Rattle.verilog_tree.specs.declared.tree.Bit.{Bit}
 use Rattle.verilog_tree.specs.declared.tree.GateKind.{GateKind}
 use Rattle.verilog_tree.specs.declared.tree.GateKind.TheVariants as gate
 use Rattle.verilog_tree.specs.declared.tree.Item.{Item}
 use Rattle.verilog_tree.specs.Spelling.{key_of_gate}
-use Rattle.verilog_lexicon.specs.Keywords.{reserved_of, spelling_of, from_a_to_b, from_c_to_d, from_e, from_f_to_h, from_i_to_l, from_m_to_o, from_p, from_r, from_s, from_t, from_u_to_x}
+use Rattle.verilog_lexicon.specs.Keywords.{reserved_of, spelling_of}
 use Rattle.verilog_tree.specs.Canonical.{is_plain, name_text, index_text, bit_text, item_text, wire_text, ports_text, link_text}
 use Rattle.bsdl_device.specs.Canonical.{bits_text}
 use Rattle.plan_texts.specs.Canonical.{canonical_plan}
@@ -19,7 +19,7 @@ use Rattle.demo_chips.specs.Draws.{draw}
 use Rattle.demo_chips.specs.Netlists.{bit_of, pool_bit, drawn_bit, gate_count, gate_kind, gate_item, scalar, link_to, flop_item, output_item, from_zero, wires_of, demo_ports, demo_items}
 use Rattle.demo_chips.specs.Plans.{demo_plan}
 use Rattle.demo_plans.specs.Laws.{ChipsAreShort, PlanIsShort}
-use Rattle.demo_plans.proofs.Lists.{all_mapped, all_below}
+use Rattle.demo_plans.proofs.Lists.{all_below}
 
 joined_short : (xs ys : List ℕ) (m n : ℕ) → length xs ≤ m → length ys ≤ n → length (xs ++ ys) ≤ m + n
 joined_short xs ys m n one two = omega (arith, length-append xs ys)
@@ -189,7 +189,7 @@ abbrev front : List ℕ
 front = codes "module " ++ name_text (codes "demo") ++ codes " " ++ ports_text demo_ports
 
 front_short : length front ≤ 1000
-unfolding reserved_of spelling_of from_a_to_b from_c_to_d from_e from_f_to_h from_i_to_l from_m_to_o from_p from_r from_s from_t from_u_to_x digits
+unfolding reserved_of spelling_of digits
 front_short = leb-true (length front) 1000 refl
 
 whole_short : (first wires items : List ℕ) → length first ≤ 1000 → length wires ≤ 80 → length items ≤ 16022080 → length (first ++ wires ++ items ++ codes "endmodule\n") ≤ 2 ^ 24

@@ -4,7 +4,7 @@ use Rattle.std.specs.Prelude.{option_and_then}
 use Rattle.std.specs.List.{list_all, AllByRecursion, enumerate_from}
 use Rattle.std.proofs.lemmas.List.{length-map, length-append}
 use Rattle.list_laws.specs.Lists.{AreAll, counted_from}
-use Rattle.list_laws.proofs.Lists.{AreAll-length, length-counted_from, slice_get_there}
+use Rattle.list_laws.proofs.Lists.{AreAll-length, length-counted_from, slice_get_there, all_at}
 use Rattle.netlist_model.specs.declared.Name.{Name}
 use Rattle.netlist_model.specs.declared.NetId.{NetId}
 use Rattle.netlist_model.specs.declared.PinBit.{PinBit}
@@ -20,7 +20,7 @@ use Rattle.netlist_link.specs.PinWords.{pin_at}
 use Rattle.plan_fitting.specs.Names.{port_names, net_names, name_of_cell, cell_names, NamedBit, bits_of_port, named_bit, port_bits}
 use Rattle.demo_chips.specs.Netlists.{demo_ports, demo_module}
 use Rattle.demo_plans.specs.Laws.{net_count}
-use Rattle.demo_plans.proofs.Lists.{all_at, same_listed, tests_flat, tests_mapped, tests_listed}
+use Rattle.demo_plans.proofs.Lists.{same_listed, tests_flat, tests_mapped, tests_listed}
 use Rattle.demo_plans.proofs.Cells.{is_apart, named_apart, IsDemoCell, cells_are}
 
 abbrev pub chip_ports : List NamedPort

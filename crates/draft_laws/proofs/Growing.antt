@@ -2,11 +2,12 @@
 use Rattle.std.proofs.Common.{◌≡◌, ◌≢◌, ℕ, ◌⊎◌, true, false, List, refl, ap, sym, ◌∙◌, inl, inr}
 use Rattle.std.specs.Prelude.{Some, None, slice_get}
 use Rattle.std.specs.Option.{option_and_then}
+use Rattle.netlist_laws.proofs.Search.{cell_at_once}
 use Rattle.cell_library.specs.Gates.{is_three_state}
 use Rattle.netlist_model.specs.declared.Dir.{Dir}
 use Rattle.netlist_model.specs.declared.Dir.TheVariants.{Input, Output, Inout}
 use Rattle.netlist_model.specs.declared.NetId.{NetId}
-use Rattle.netlist_model.specs.Lists.{PortView, CellView, NetlistView, cell_at, bit_net, direction, Drives, Reads}
+use Rattle.netlist_model.specs.Lists.{PortView, CellView, NetlistView, bit_net, direction, Drives, Reads}
 use Rattle.netlist_model.specs.Cones.{InCone, itself, behind, GateReads, FlopReads, IsControlNet}
 use Rattle.netlist_model.specs.Formed.{IsDriven, IsCombinational, IsWellFormed}
 use Rattle.netlist_laws.specs.Settle.{IsDrivenOnce}
@@ -26,10 +27,6 @@ driven_over old new part adds net d = record { number = d.number; cell = d.cell;
 combinational_over : (old new : NetlistView) (part : List CellView) → AddsCells old new part → (net : ℕ) → IsCombinational old net → IsCombinational new net
 combinational_over old new part adds net (inl e) = inl (dir_over old new part adds net ∙ e)
 combinational_over old new part adds net (inr d) = inr (driven_over old new part adds net d.0, d.1, λ e. d.2 (sym (dir_over old new part adds net) ∙ e))
-
--- two live cells with one number are one
-one_cell : (N : NetlistView) (i j : ℕ) (cell other : CellView) → i ≡ j → cell_at N i ≡ Some cell → cell_at N j ≡ Some other → cell ≡ other
-one_cell N i j cell other e at at' = let same : Some cell ≡ Some other = sym at ∙ ap (λ k. cell_at N k) e ∙ at' in cc
 
 -- the outputs of added cells are nets of no port
 abbrev DriveWires : NetlistView → List CellView → Type 0
@@ -52,7 +49,7 @@ gate_before old new part formed adds once wires net other (inl e) g =
 gate_before old new part formed adds once wires net other (inr d) g =
     let there : Drives new d.0.number d.0.cell net = record { live = adds.kept d.0.number d.0.cell d.0.drives.live; output = d.0.drives.output } in
     let number : g.number ≡ d.0.number = once g.number d.0.number g.cell d.0.cell net g.drives there in
-    let same : g.cell ≡ d.0.cell = one_cell new g.number d.0.number g.cell d.0.cell number g.drives.live there.live in
+    let same : g.cell ≡ d.0.cell = cell_at_once new g.number d.0.number g.cell d.0.cell number g.drives.live there.live in
     record {
       number = d.0.number;
       cell = d.0.cell;

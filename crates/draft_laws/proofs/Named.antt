@@ -5,6 +5,7 @@ use Rattle.std.specs.List.{list_any}
 use Rattle.std.specs.Str.{bytes_eq}
 use Rattle.std.proofs.lemmas.Bool.{cases_Bool}
 use Rattle.std.proofs.lemmas.Option.{slice_get_within}
+use Rattle.list_laws.proofs.Lists.{at_push, last_push, before_push}
 use Rattle.cell_library.specs.declared.Kind.TheVariants.{Assign, Mux2}
 use Rattle.cell_library.specs.Gates.{is_flop}
 use Rattle.cell_library.specs.Library.{cell_name}
@@ -21,16 +22,16 @@ use Rattle.name_table.specs.Names.{with_name}
 use Rattle.gate_parts.specs.Parts.{added_nets}
 use Rattle.gate_parts.specs.Laws.{AppendedGrows}
 use Rattle.gate_parts.specs.Appended.{Appended}
+use Rattle.gate_parts.proofs.Ports.{no_port_past}
 use Rattle.netlist_link.specs.WellNamed.{IsKnown, IsShortRange, index_from, IsWireNet, IsWire, IsWireName, IsWellNamed}
 use Rattle.draft_laws.specs.Grown.{IsOneOf, AddsCells}
 use Rattle.draft_laws.specs.Pins.{scalar}
 use Rattle.draft_laws.specs.Names.{IsUnused, EnteredIsUnused, named_net, IsLoneWire, WireIsFormed, WireIsNamed, PortIsNamed, IsNamedCell, AppendedIsNamed, LoneWireStays}
-use Rattle.draft_laws.proofs.Lists.{at_push, last_push, before_push}
 use Rattle.draft_laws.proofs.Growing.{grown_formed}
-use Rattle.draft_laws.proofs.Parts.{no_port_past, adds_appended}
+use Rattle.draft_laws.proofs.Parts.{adds_appended}
 use Rattle.draft_laws.proofs.Ports.{dir_cases}
 
-original_same : (a b : ℕ) → Original a ≡ Original b → a ≡ b
+pub original_same : (a b : ℕ) → Original a ≡ Original b → a ≡ b
 original_same a b e = ap (λ (n : Name). elim n [ Original k ↦ k | Added k ↦ k ]) e
 
 some_original_same : (a b : ℕ) → ◌≡◌ {A = Option Name} (Some (Original a)) (Some (Original b)) → a ≡ b
@@ -76,7 +77,7 @@ port_before old new adds p port at = ap (λ (ps : List PortView). slice_get ps p
 known_added : (table : List (List ℕ)) (k : ℕ) (name : Name) → Some (Added k) ≡ Some name → IsKnown table name
 known_added table k name e = let same : Added k ≡ name = cc in subst (IsKnown table) same tt
 
-is_some_of : (cell : CellView) (name : Name) → cell.name ≡ Some name → IsSome cell.name
+pub is_some_of : (cell : CellView) (name : Name) → cell.name ≡ Some name → IsSome cell.name
 is_some_of cell name e = rw e refl
 
 -- the wires of the old netlist are those of the new

@@ -1,20 +1,21 @@
 -- Where parts and drivers are appended, a well-formed netlist stays so.
-use Rattle.std.proofs.Common.{◌≡◌, ◌≢◌, ℕ, zero, suc, ◌+◌, ◌-◌, ◌<◌, ◌≤◌, ◌⊎◌, ◌&&◌, ◌||◌, ◌==◌, not, true, false, Bool, IsTrue, List, [], ◌∷◌, map, length, refl, ap, sym, subst, ◌∙◌, inl, inr, arith, Option, nat_lt, nat_le, unwrap_or}
-use Rattle.std.specs.Prelude.{Some, None, slice_get, MatchOption}
+use Rattle.std.proofs.Common.{◌≡◌, ◌≢◌, ℕ, zero, suc, ◌+◌, ◌-◌, ◌<◌, ◌≤◌, ◌⊎◌, ◌&&◌, ◌==◌, not, true, false, Bool, IsTrue, List, [], ◌∷◌, map, length, refl, ap, sym, subst, ◌∙◌, inl, inr, arith, Option, nat_lt, nat_le, unwrap_or}
+use Rattle.std.specs.Prelude.{Some, None, slice_get}
 use Rattle.std.specs.List.{list_all, slice_index, All}
 use Rattle.std.proofs.lemmas.Bool.{cases_lt}
 use Rattle.std.proofs.lemmas.List.{length-map}
 use Rattle.std.proofs.lemmas.Option.{slice_get_within}
+use Rattle.list_laws.proofs.Tests.{both_hold, then_holds}
+use Rattle.list_laws.proofs.Lists.{slice_get_there}
 use Rattle.cell_library.specs.declared.Kind.{Kind}
 use Rattle.cell_library.specs.declared.Kind.TheVariants.{Flop}
 use Rattle.cell_library.specs.declared.FlopKind.{FlopKind}
 use Rattle.cell_library.specs.Gates.{is_three_state, is_flop, operand_count_of, Takes}
 use Rattle.netlist_model.specs.declared.Feed.{Feed}
 use Rattle.netlist_model.specs.declared.Feed.TheVariants.{Net, Const}
-use Rattle.netlist_model.specs.declared.Dir.{Dir}
 use Rattle.netlist_model.specs.Below.{IsFeedBelow}
 use Rattle.netlist_model.specs.declared.NetId.{NetId}
-use Rattle.netlist_model.specs.Lists.{CellView, NetlistView, cell_at, cell_count, bit_net, direction, Drives, Reads}
+use Rattle.netlist_model.specs.Lists.{CellView, NetlistView, cell_at, cell_count, direction, Drives, Reads}
 use Rattle.netlist_model.specs.Formed.{FeedsBelow, IsDriven, IsLaidOut, IsNumbered, IsWellFormed}
 use Rattle.netlist_laws.specs.Settle.{IsDrivenOnce}
 use Rattle.netlist_laws.specs.Ports.{IsBitOf, DirectionHasBit}
@@ -22,13 +23,13 @@ use Rattle.netlist_arena.specs.Arena.{ArenaView}
 use Rattle.netlist_arena.proofs.Laid.{All-slice_get}
 use Rattle.gate_parts.specs.declared.Pin.{Pin}
 use Rattle.gate_parts.specs.declared.Pin.TheVariants.{Own, Given}
-use Rattle.gate_parts.specs.declared.Pins.{Pins}
-use Rattle.gate_parts.specs.declared.Pins.TheVariants.{One, Two, Three, Four}
 use Rattle.gate_parts.specs.declared.Gate.{Gate}
 use Rattle.gate_parts.specs.Parts.{feed_of, pins_of, gate_cell, cells_from, part_cells, takes_few, is_sound_pin, is_sound_gate, is_sound}
 use Rattle.gate_parts.specs.Levels.{is_leveled_from, AreNumbered, IsNumberedCell, LevelsNumber}
 use Rattle.gate_parts.specs.Appended.{Appended}
 use Rattle.gate_parts.specs.Laws.{AppendedGrows}
+use Rattle.gate_parts.proofs.PinCounts.{takes_by, pins_few}
+use Rattle.gate_parts.proofs.Ports.{no_port_past}
 use Rattle.draft_laws.specs.Readable.{CanBeRead, IsPure}
 use Rattle.draft_laws.specs.Grown.{IsOneOf, AddsCells, IsSoundCell, AreSoundCells}
 use Rattle.draft_laws.specs.Tables.{is_assign, is_plain, is_given, rest_is_given, has_given_controls, IsPartTable, IsControl, CanBeGiven, PartIsFormed, PartIsReadable, IsDriverOn, DriverIsFormed}
@@ -80,21 +81,11 @@ cell_of_gate first given number net (g ∷ gates) (suc k) gate at =
     let b : net + suc k ≡ suc net + k = omega arith in
     rw (a, b) (cell_of_gate first given (suc number) (suc net) gates k gate at)
 
-both_true : (a b : Bool) → IsTrue (a && b) → IsTrue a × IsTrue b
-both_true true true h = (h, h)
-both_true true false h = absurd (grind arith)
-both_true false b h = absurd (grind arith)
-
 -- an element of a list all of which pass
 pub all_at : {X : Type 0} (test : X → Bool) (xs : List X) (k : ℕ) (x : X) → IsTrue (list_all test xs) → slice_get xs k ≡ Some x → IsTrue (test x)
 all_at test [] k x all at = absurd (cc)
-all_at test (y ∷ ys) zero x all at = let same : y ≡ x = cc in rw same at (both_true (test y) (list_all test ys) all).0
-all_at test (y ∷ ys) (suc k) x all at = all_at test ys k x (both_true (test y) (list_all test ys) all).1 at
-
-is_there : {X : Type 0} (xs : List X) (k : ℕ) → k < length xs → (x : X) × (slice_get xs k ≡ Some x)
-is_there [] k low = absurd (omega arith)
-is_there (x ∷ xs) zero low = (x, refl)
-is_there (x ∷ xs) (suc k) low = is_there xs k (omega arith)
+all_at test (y ∷ ys) zero x all at = let same : y ≡ x = cc in rw same at (both_hold (test y) (list_all test ys) all).0
+all_at test (y ∷ ys) (suc k) x all at = all_at test ys k x (both_hold (test y) (list_all test ys) all).1 at
 
 -- the pin of an operand
 record IsPinAt (first : ℕ) (given : List Feed) (pins : List Pin) (place : ℕ) (feed : Feed) : Type 0 where
@@ -117,24 +108,6 @@ own_net first j net e = ap (λ (f : Feed). elim f [ Net n ↦ n.0 | Const b ↦ 
 
 output_net : (a b : ℕ) → ◌≡◌ {A = Option NetId} (Some (record { 0 = a })) (Some (record { 0 = b })) → a ≡ b
 output_net a b e = ap (λ (o : Option NetId). elim o [ None ↦ 0 | Some n ↦ n.0 ]) e
-
-takes_by : (wanted : Option ℕ) (count : ℕ) → IsTrue (takes_few wanted count) → count ≤ 4 → MatchOption wanted ((1 ≤ count) × (count ≤ 256)) (λ wanted. count ≡ wanted)
-takes_by None count few small = (grind (arith, few), omega (arith, small))
-takes_by (Some wanted) count few small = grind (arith, few)
-
-pins_few : (pins : Pins) → length (pins_of pins) ≤ 4
-pins_few (One a) = omega arith
-pins_few (Two a b) = omega arith
-pins_few (Three a b c) = omega arith
-pins_few (Four a b c d) = omega arith
-
--- no port bit has a net past those that are there
-pub no_port_past : DirectionHasBit → (N : NetlistView) → IsLaidOut N → (net : ℕ) → length N.nets ≤ net → (found : Option Dir) → direction N.ports net ≡ found → direction N.ports net ≡ None
-no_port_past law N laid net past None e = e
-no_port_past law N laid net past (Some dir) e =
-    let b = law N dir (record { 0 = net }) e in
-    let at : bit_net N b.number b.bit ≡ Some (record { 0 = net }) = rw b.stands b.has in
-    let low = laid.port_nets b.number b.bit (record { 0 = net }) at in absurd (omega (arith, low, past))
 
 -- a part that is appended
 record IsAppendedPart (old new : ArenaView) (gates : List Gate) (levels : List ℕ) (given : List Feed) : Type 0 where
@@ -183,7 +156,7 @@ two_state_of old new gates levels given c cell of =
 own_readable : (old new : ArenaView) (gates : List Gate) (levels : List ℕ) (given : List Feed) → IsAppendedPart old new gates levels given → (j : ℕ) → j < length gates
     → CanBeRead new.lists (length old.lists.nets + j)
 own_readable old new gates levels given c j low =
-    let gate = is_there gates j low in
+    let gate = slice_get_there gates j low in
     let cell : CellView = gate_cell (length old.lists.nets) given (cell_count old.lists + j) (length old.lists.nets + j) gate.0 in
     let at = cell_of_gate (length old.lists.nets) given (cell_count old.lists) (length old.lists.nets) gates j gate.0 gate.1 in
     let out : direction new.lists.ports (length old.lists.nets + j) ≡ None = c.past (length old.lists.nets + j) (omega arith) in
@@ -205,10 +178,6 @@ rest_given_at : (pins : List Pin) (p : ℕ) (pin : Pin) → IsTrue (rest_is_give
 rest_given_at [] p pin given at = absurd (cc)
 rest_given_at (first ∷ pins) p pin given at = all_at is_given pins p pin given at
 
-controls_given : (a b : Bool) → IsTrue (not a || b) → a ≡ true → IsTrue b
-controls_given true b h e = h
-controls_given false b h e = absurd (cc)
-
 control_pin : (old new : ArenaView) (gates : List Gate) (levels : List ℕ) (given : List Feed) → IsAppendedPart old new gates levels given → (k p net : ℕ) (gate : Gate) (pin : Pin)
     → slice_get gates k ≡ Some gate → is_flop gate.kind ≡ true → slice_get (pins_of gate.pins) (suc p) ≡ Some pin → IsTrue (is_given pin)
     → feed_of (length old.lists.nets) given pin ≡ Net (record { 0 = net }) → IsPure new.lists net
@@ -224,14 +193,14 @@ control_of old new gates levels given c cell of kind p net is at =
     let feeds = ap (λ (x : CellView). slice_get x.feeds (suc p)) g.same ∙ at in
     let pin = pin_at (length old.lists.nets) given (pins_of g.gate.pins) (suc p) (Net (record { 0 = net })) feeds in
     let flop : is_flop g.gate.kind ≡ true = ap (λ (x : CellView). is_flop x.kind) g.same ∙ ap is_flop is in
-    let controls = controls_given (is_flop g.gate.kind) (rest_is_given (pins_of g.gate.pins)) (all_at has_given_controls gates of.place g.gate c.table.controls g.at) flop in
+    let controls = then_holds (is_flop g.gate.kind) (rest_is_given (pins_of g.gate.pins)) (all_at has_given_controls gates of.place g.gate c.table.controls g.at) flop in
     control_pin old new gates levels given c of.place p net g.gate pin.pin g.at flop pin.at (rest_given_at (pins_of g.gate.pins) p pin.pin controls pin.at) pin.same
 
 sound_part : (old new : ArenaView) (gates : List Gate) (levels : List ℕ) (given : List Feed) → IsAppendedPart old new gates levels given → AreSoundCells new.lists (part_of old gates given)
 sound_part old new gates levels given c cell of =
     let g = gate_of old gates given cell of in
     let pins : List Pin = pins_of g.gate.pins in
-    let sound = both_true (takes_few (operand_count_of g.gate.kind) (length pins)) (list_all (is_sound_pin (length gates) (length given)) pins)
+    let sound = both_hold (takes_few (operand_count_of g.gate.kind) (length pins)) (list_all (is_sound_pin (length gates) (length given)) pins)
     (all_at (is_sound_gate (length gates) (length given)) gates of.place g.gate c.table.sound g.at) in
     let takes : Takes g.gate.kind (length pins) = takes_by (operand_count_of g.gate.kind) (length pins) sound.0 (pins_few g.gate.pins) in
     record {

@@ -8,13 +8,10 @@ use Rattle.std.proofs.lemmas.Option.{cond_some, slice_get-get_or, slice_get_past
 use Rattle.std.proofs.lemmas.Bool.{ltb-true, ltb-false}
 use Rattle.std.proofs.lemmas.List.Sums.{passes_at_first}
 use Rattle.std.proofs.lemmas.List.Folds.{find-set, find_at, find_past, find-append}
+use Rattle.list_laws.proofs.Tests.{never_true}
 use Rattle.edge_io.specs.declared.entries.Entry.{Entry}
 use Rattle.edge_io.specs.Entries.{value_of}
 use Rattle.edge_io.specs.Shelf.{ChangesOne}
-
-not_true : (b : Bool) → (b ≡ true → ⊥) → b ≡ false
-not_true true h = absurd (h refl)
-not_true false h = refl
 
 cond_none : {A : Type 0} (b : Bool) (x : A) → cond b (Some x) None ≡ None → b ≡ false
 cond_none true x h = cc
@@ -66,7 +63,7 @@ value_of-set {T} es i e name called v at is same =
       there = (found.3, ap (option_map (λ (x : Entry T). x.value)) (find-set p es i y found.1 found.0 here));
       others = λ other ne.
           let q : Entry T → Bool = λ x. bytes_eq x.name other in
-          let no : bytes_eq e.name other ≡ false = not_true _ (λ h. ne (sym ((bytes_decides e.name other).0 h) ∙ found.2)) in
+          let no : bytes_eq e.name other ≡ false = never_true _ (λ h. ne (sym ((bytes_decides e.name other).0 h) ∙ found.2)) in
           ap (option_map (λ (x : Entry T). x.value)) (find_past q es i y e (sym (ap (λ (x : Entry T). bytes_eq x.name other) is) ∙ no) (ap (λ n. bytes_eq n other) same ∙ no));
     }
 
@@ -87,6 +84,6 @@ value_of-push {T} es e name at named =
       );
       others = λ other ne.
           let q : Entry T → Bool = λ x. bytes_eq x.name other in
-          let no : q e ≡ false = not_true _ (λ h. ne (sym ((bytes_decides e.name other).0 h) ∙ named)) in
+          let no : q e ≡ false = never_true _ (λ h. ne (sym ((bytes_decides e.name other).0 h) ∙ named)) in
           ap value (find-append q es (e ∷ []) ∙ ap (λ (b : Bool). option_or (find q es) (cond b (Some e) None)) no ∙ option_or_none (find q es));
     }

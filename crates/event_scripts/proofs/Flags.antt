@@ -1,21 +1,9 @@
 -- Lists by look-ups, and flags that are counted.
-use Rattle.std.proofs.Common.{◌≡◌, ◌≢◌, ℕ, zero, suc, ◌+◌, ◌<◌, Bool, true, false, cond, List, [], ◌∷◌, ◌++◌, ◌⊎◌, inl, inr, length, take, replicate, get_or, refl, ap, ◌∙◌, Some, arith}
+use Rattle.std.proofs.Common.{◌≡◌, ℕ, zero, suc, ◌+◌, ◌<◌, Bool, true, false, cond, List, [], ◌∷◌, ◌++◌, ◌⊎◌, inl, inr, length, take, replicate, get_or, refl, ap, ◌∙◌, Some, arith}
 use Rattle.std.specs.Prelude.{slice_get, slice_set, count_by}
 use Rattle.std.proofs.lemmas.Option.{same_Some, slice_get_within, get_or_from_slice_get}
 use Rattle.std.proofs.lemmas.List.Recursion.{is_count_by}
 use Rattle.std.proofs.lemmas.List.Sums.{sum_by-set}
-
-pub get_set_same : {X : Type 0} (xs : List X) (i : ℕ) (y : X) → i < length xs → slice_get (slice_set xs i y) i ≡ Some y
-get_set_same [] i y h = absurd (omega arith)
-get_set_same (x ∷ xs) zero y h = refl
-get_set_same (x ∷ xs) (suc i) y h = get_set_same xs i y (omega arith)
-
-pub get_set_other : {X : Type 0} (xs : List X) (i k : ℕ) (y : X) → k ≢ i → slice_get (slice_set xs i y) k ≡ slice_get xs k
-get_set_other [] i k y h = refl
-get_set_other (x ∷ xs) zero zero y h = absurd (h refl)
-get_set_other (x ∷ xs) zero (suc k) y h = refl
-get_set_other (x ∷ xs) (suc i) zero y h = refl
-get_set_other (x ∷ xs) (suc i) (suc k) y h = get_set_other xs i k y (λ e. h (ap suc e))
 
 -- an element behind the others
 
@@ -23,10 +11,6 @@ pub get_push_left : {X : Type 0} (xs : List X) (y : X) (k : ℕ) (x : X) → sli
 get_push_left [] y k x at = absurd (cc)
 get_push_left (z ∷ xs) y zero x at = at
 get_push_left (z ∷ xs) y (suc k) x at = get_push_left xs y k x at
-
-pub get_push_last : {X : Type 0} (xs : List X) (y : X) → slice_get (xs ++ y ∷ []) (length xs) ≡ Some y
-get_push_last [] y = refl
-get_push_last (x ∷ xs) y = get_push_last xs y
 
 -- it is one of the others, or the last
 pub get_push : {X : Type 0} (xs : List X) (y : X) (k : ℕ) (x : X) → slice_get (xs ++ y ∷ []) k ≡ Some x → (slice_get xs k ≡ Some x) ⊎ ((k ≡ length xs) × (Some y ≡ Some x))
@@ -39,12 +23,6 @@ pub take_push : {X : Type 0} (xs : List X) (k : ℕ) (x : X) → slice_get xs k 
 take_push [] k x at = absurd (cc)
 take_push {X = X} (y ∷ xs) zero x at = ap (λ (z : X). z ∷ []) (same_Some y x at)
 take_push (y ∷ xs) (suc k) x at = let e : suc k + 1 ≡ suc (k + 1) = omega arith in rw e (ap (λ zs. y ∷ zs) (take_push xs k x at))
-
-pub get_take : {X : Type 0} (xs : List X) (n k : ℕ) (x : X) → k < n → slice_get xs k ≡ Some x → slice_get (take n xs) k ≡ Some x
-get_take [] n k x less at = absurd (cc)
-get_take (y ∷ xs) zero k x less at = absurd (omega arith)
-get_take (y ∷ xs) (suc n) zero x less at = at
-get_take (y ∷ xs) (suc n) (suc k) x less at = get_take xs n k x (omega arith) at
 
 pub get_replicate : (n k : ℕ) → slice_get (replicate n false) k ≡ Some true → ⊥
 get_replicate zero k at = cc

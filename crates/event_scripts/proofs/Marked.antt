@@ -5,7 +5,7 @@ use Rattle.std.specs.Option.{option_map}
 use Rattle.std.proofs.lemmas.List.{length-replicate}
 use Rattle.std.proofs.lemmas.Bool.{cases_eq, cases_lt}
 use Rattle.std.proofs.lemmas.Option.{same_Some, slice_get_within, option_and_then_some}
-use Rattle.list_laws.proofs.Lists.{slice_get_there}
+use Rattle.list_laws.proofs.Lists.{slice_get_there, slice_get-set_same, slice_get-set_other}
 use Rattle.netlist_model.specs.declared.Dir.TheVariants.{Output}
 use Rattle.netlist_model.specs.declared.NetId.{NetId}
 use Rattle.netlist_model.specs.declared.PinBit.{PinBit}
@@ -17,7 +17,7 @@ use Rattle.netlist_link.specs.Linked.{LinkedView}
 use Rattle.scan_vectors.specs.declared.lines.Line.{Line}
 use Rattle.event_scripts.specs.Pins.{side_at, net_of, TakesValue}
 use Rattle.event_scripts.specs.Starts.{IsPortBefore, IsBitBefore, AreMarked, IsAfter}
-use Rattle.event_scripts.proofs.Flags.{get_set_same, get_set_other, get_replicate}
+use Rattle.event_scripts.proofs.Flags.{get_replicate}
 
 nothing : (k : ℕ) (line : Line) → slice_get [] k ≡ Some line → ⊥
 nothing k line at = cc
@@ -39,15 +39,15 @@ marked_next N IsDone IsNext flags pin net split takes there below marked = recor
   each = λ other n next other_takes other_there.
       let count = marked.count in
       elim (cases_eq n.0 net.0) [
-        | inl same ↦ ap (slice_get (slice_set flags net.0 true)) same ∙ get_set_same flags net.0 true (omega arith)
-        | inr apart ↦ get_set_other flags net.0 n.0 true apart ∙ elim (split other next) [
+        | inl same ↦ ap (slice_get (slice_set flags net.0 true)) same ∙ slice_get-set_same flags net.0 true (omega arith)
+        | inr apart ↦ slice_get-set_other flags net.0 n.0 true apart ∙ elim (split other next) [
           | inl done ↦ marked.each other n done other_takes other_there
           | inr is ↦ absurd (apart (ap (λ (m : NetId). m.0) (same_Some n net (sym other_there ∙ ap (net_of N) is ∙ there))))
         ]
       ];
   only = λ k at. elim (cases_eq k net.0) [
     | inl same ↦ record { pin = pin; takes = takes; net_is = there ∙ ap (λ (n : ℕ). Some (record { 0 = n })) (sym same) }
-    | inr apart ↦ marked.only k (sym (get_set_other flags net.0 k true apart) ∙ at)
+    | inr apart ↦ marked.only k (sym (slice_get-set_other flags net.0 k true apart) ∙ at)
   ];
 }
 

@@ -3,6 +3,7 @@ use Rattle.std.proofs.Common.{◌≡◌, ◌≢◌, subst, ℕ, ◌⊎◌, inl, 
 use Rattle.std.specs.Prelude.{slice_get, slice_set}
 use Rattle.std.proofs.lemmas.Bool.{cases_eq}
 use Rattle.std.proofs.lemmas.Option.{same_Some}
+use Rattle.list_laws.proofs.Lists.{last_push, slice_get-set_same, slice_get-set_other}
 use Rattle.signal_values.specs.declared.PinSig.{PinSig}
 use Rattle.netlist_model.specs.declared.Dir.{Dir}
 use Rattle.netlist_model.specs.declared.Dir.TheVariants.{Input, Output}
@@ -21,7 +22,7 @@ use Rattle.event_scripts.specs.Pins.{Names, side_of, net_of, TakesValue, IsContr
 use Rattle.event_scripts.specs.Rules.{NamesNothing, HasEvent, LacksStart, BreaksRule}
 use Rattle.event_scripts.specs.Rules.BreaksRule.{unknown, output, control, input, again, late, early}
 use Rattle.event_scripts.specs.Starts.{IsWordBit, takes, gives, shows, suits, AreWanted, IsAfter, IsWaiting, HasStarted, HasRun, HasDone, TakesLine}
-use Rattle.event_scripts.proofs.Flags.{get_set_same, get_set_other, get_push, get_push_left, get_push_last}
+use Rattle.event_scripts.proofs.Flags.{get_push, get_push_left}
 use Rattle.event_scripts.proofs.Sides as sides
 
 -- starts and events among the lines with one more
@@ -36,7 +37,7 @@ start_before L before line pin has = record {
 }
 
 start_here : (L : LinkedView) (before : List Line) (line : Line) (pin : PinBit) → act_of line ≡ Start → Names L (pin_of line) pin → HasStart L (before ++ line ∷ []) pin
-start_here L before line pin start named = record { place = length before; line = line; there = get_push_last before line; start = start; named = named }
+start_here L before line pin start named = record { place = length before; line = line; there = last_push before line; start = start; named = named }
 
 start_split : (L : LinkedView) (before : List Line) (line : Line) (pin : PinBit) → HasStart L (before ++ line ∷ []) pin
     → HasStart L before pin ⊎ ((act_of line ≡ Start) × Names L (pin_of line) pin)
@@ -144,27 +145,27 @@ wanted_started L before line bit flags is start wants wanted = record {
         let count = wanted.count in
         let below = is.below in
         inr (
-          ap (slice_get (slice_set flags bit.net.0 false)) same ∙ get_set_same flags bit.net.0 false (omega arith),
+          ap (slice_get (slice_set flags bit.net.0 false)) same ∙ slice_get-set_same flags bit.net.0 false (omega arith),
           start_here L before line pin start (subst P (sym at) is.named),
         )
     | inr apart ↦ elim (wanted.each pin net value there) [
       | inl old ↦ inl (
-        get_set_other flags bit.net.0 net.0 false apart ∙ old.0,
+        slice_get-set_other flags bit.net.0 net.0 false apart ∙ old.0,
         λ has. elim (start_split L before line pin has) [
           | inl earlier ↦ old.1 earlier
           | inr here ↦
               apart (ap (λ (n : NetId). n.0) (same_Some net bit.net (sym there ∙ ap (net_of L.arena.lists) (is.only pin here.1) ∙ is.net_is)))
         ],
       )
-      | inr old ↦ inr (get_set_other flags bit.net.0 net.0 false apart ∙ old.0, start_before L before line pin old.1)
+      | inr old ↦ inr (slice_get-set_other flags bit.net.0 net.0 false apart ∙ old.0, start_before L before line pin old.1)
     ]
   ];
   only = λ net at. elim (cases_eq net bit.net.0) [
     | inl same ↦
         let count = wanted.count in
         let below = is.below in
-        absurd (let no : Some true ≡ Some false = sym at ∙ ap (slice_get (slice_set flags bit.net.0 false)) same ∙ get_set_same flags bit.net.0 false (omega arith) in cc)
-    | inr apart ↦ wanted.only net (sym (get_set_other flags bit.net.0 net false apart) ∙ at)
+        absurd (let no : Some true ≡ Some false = sym at ∙ ap (slice_get (slice_set flags bit.net.0 false)) same ∙ slice_get-set_same flags bit.net.0 false (omega arith) in cc)
+    | inr apart ↦ wanted.only net (sym (slice_get-set_other flags bit.net.0 net false apart) ∙ at)
   ];
 }
 

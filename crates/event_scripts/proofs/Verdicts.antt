@@ -4,7 +4,7 @@ use Rattle.std.specs.Prelude.{slice_get}
 use Rattle.std.proofs.lemmas.List.{length_push, length-map, take_all}
 use Rattle.std.proofs.lemmas.Bool.{cases_eq, cases_lt}
 use Rattle.std.proofs.lemmas.Option.{same_Some, slice_get_within, slice_get_read, slice_get-get_or}
-use Rattle.list_laws.proofs.Lists.{slice_get_there}
+use Rattle.list_laws.proofs.Lists.{slice_get_there, in_front}
 use Rattle.netlist_model.specs.declared.PinBit.{PinBit}
 use Rattle.netlist_link.specs.Linked.{LinkedView}
 use Rattle.scan_vectors.specs.declared.lines.Act.TheVariants.{Start}
@@ -18,11 +18,11 @@ use Rattle.event_scripts.specs.Rules.BreaksRule.{output, input, again, late}
 use Rattle.event_scripts.specs.Rules.AreIllegalAt.{broken, unstarted}
 use Rattle.event_scripts.specs.Scripts.{IsFound, IsScriptOf, IsStartAt, IsPlayable, IsResolved, IsSpelled}
 use Rattle.event_scripts.specs.Starts.{IsAfter, IsWaiting, IsComplete, IsTaken, TakesLine}
-use Rattle.event_scripts.proofs.Flags.{get_push, get_take, take_push}
+use Rattle.event_scripts.proofs.Flags.{get_push, take_push}
 use Rattle.event_scripts.proofs.Steps.{all_started, start_lacks}
 
 -- there are as many numbers as lines
-spelled_lengths : (lines : Lines) → IsSpelled lines → length lines.numbers ≡ length lines.list
+pub spelled_lengths : (lines : Lines) → IsSpelled lines → length lines.numbers ≡ length lines.list
 spelled_lengths lines is =
     let spells = is.spells in
     ap length spells.numbers_are ∙ length-map spells.written (λ w. w.number) ∙ sym (length-map spells.written (λ w. w.line)) ∙ sym (ap length spells.list_is)
@@ -156,7 +156,7 @@ gone_once L lines place script starts gone one other pin less first second =
       had = record {
         place = one;
         line = early.line;
-        there = get_take lines.list other one early.line less early.there;
+        there = in_front lines.list other one early.line less early.there;
         start = sym early.taken.found_is.act ∙ first.start;
         named = subst P first.pin_is early.taken.found_is.pin;
       };
@@ -172,7 +172,7 @@ gone_first L lines place script starts gone start event pin line is at act less 
       late = record {
         place = event;
         line = before.line;
-        there = get_take lines.list start event before.line less before.there;
+        there = in_front lines.list start event before.line less before.there;
         event = λ e. act (before.taken.found_is.act ∙ e);
       };
     }))

@@ -1,9 +1,9 @@
 -- What a set of borrowed names answers, by the bytes of the names.
-use Rattle.std.proofs.Common.{◌≡◌, ℕ, Bool, true, false, List, [], ◌∷◌, ◌++◌, ◌||◌, if◌then◌else◌, refl, ap, Bor}
+use Rattle.std.proofs.Common.{◌≡◌, ℕ, Bool, true, false, List, [], ◌∷◌, ◌++◌, ◌||◌, if◌then◌else◌, refl, sym, ap, ◌∙◌, Bor, Some, None}
 use Rattle.std.specs.List.{list_any}
 use Rattle.std.specs.Str.{bytes_eq}
 use Rattle.indexmap.specs.IndexSet.{insert_key}
-use Rattle.first_faults.specs.Repeated.{has_name, texts}
+use Rattle.first_faults.specs.Repeated.{has_name, repeated_after, texts}
 
 pub list_any-texts : (name : List ℕ) (ks : List (Bor (List ℕ))) → list_any (λ (k : Bor (List ℕ)). bytes_eq name k.now) ks ≡ has_name (texts ks) name
 list_any-texts name [] = refl
@@ -21,3 +21,11 @@ texts-insert_key ks k = by (list_any (λ (b : Bor (List ℕ)). bytes_eq k.now b.
     by true false e f = absurd (cc)
     by false true e f = absurd (cc)
     by false false e f = texts-append ks (k ∷ [])
+
+-- a list of names without repetition goes on with a new one
+pub not_before : (before names : List (List ℕ)) (name : List ℕ) → repeated_after before (name ∷ names) ≡ None → (has_name before name ≡ false) × (repeated_after (before ++ name ∷ []) names ≡ None)
+not_before before names name h = by (has_name before name) refl
+  where
+    by : (b : Bool) → has_name before name ≡ b → (has_name before name ≡ false) × (repeated_after (before ++ name ∷ []) names ≡ None)
+    by true e = let no : Some name ≡ None = sym (ap (λ b. if b then Some name else repeated_after (before ++ name ∷ []) names) e) ∙ h in absurd (cc)
+    by false e = (e, sym (ap (λ b. if b then Some name else repeated_after (before ++ name ∷ []) names) e) ∙ h)

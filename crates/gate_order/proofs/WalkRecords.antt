@@ -1,8 +1,8 @@
 -- The steps, on what the code holds.
-use Rattle.std.proofs.Common.{◌≡◌, ◌≢◌, ℕ, ◌+◌, ◌-◌, ◌<◌, ◌≤◌, ◌⊎◌, List, [], ◌∷◌, ◌++◌, length, slice_index, set, take, drop, reverse, replicate, Contains, inl, inr, arith, refl, sym, ap, ◌∙◌}
+use Rattle.std.proofs.Common.{◌≡◌, ◌≢◌, ℕ, ◌+◌, ◌-◌, ◌<◌, List, [], ◌∷◌, ◌++◌, length, slice_index, set, take, drop, reverse, replicate, Contains, inl, inr, arith, refl, sym, ap, ◌∙◌}
 use Rattle.std.proofs.lemmas.List.{get_or_default, get_or-take, get_or-replicate, get_or-reverse, get_or-drop, length-take, length-reverse, length-drop, get_or_past, length-replicate}
-use Rattle.std.proofs.lemmas.Bool.Decides.{leb_tells}
 use Rattle.list_laws.proofs.Lists.{at_set}
+use Rattle.list_laws.proofs.Numbers.{below_or_not}
 use Rattle.gate_order.specs.declared.walk.State.{State}
 use Rattle.gate_order.specs.declared.walk.State.TheVariants.{Unseen, OnPath, Placed}
 use Rattle.gate_order.specs.declared.walk.Walk.{Walk}
@@ -85,9 +85,6 @@ cycle_back graph states left path order place w within closing =
           omega (arith, same, len, hi, hj, within);
     }
 
-lt_or_ge : (a b : ℕ) → (a < b) ⊎ (b ≤ a)
-lt_or_ge a b = elim (leb_tells b a) [ inl e ↦ inr e.1 | inr e ↦ inl e.1 ]
-
 -- nothing is looked at yet
 pub new_walk_walks : (graph : List (List ℕ)) (left : List ℕ) → length left ≡ length graph → ((v : ℕ) → v < length graph → slice_index left v ≡ length (reads_of graph v)) → IsWalk graph (replicate (length graph) Unseen) left [] []
 new_walk_walks graph left len counts = record {
@@ -99,8 +96,8 @@ new_walk_walks graph left len counts = record {
   order_in = λ i h. absurd (omega arith);
   order_at = λ i h. absurd (omega arith);
   placed = λ v i h. let e = unseen v in absurd (cc);
-  left_fits = λ v. elim (lt_or_ge v (length graph)) [ inl h ↦ let e = counts v h in omega (arith, e) | inr h ↦ let past = get_or_past left v 0 (omega (arith, len)) in rw past (omega arith) ];
-  looked = λ v k low high. elim (lt_or_ge v (length graph)) [
+  left_fits = λ v. elim (below_or_not v (length graph)) [ inl h ↦ let e = counts v h in omega (arith, e) | inr h ↦ let past = get_or_past left v 0 (omega (arith, len)) in rw past (omega arith) ];
+  looked = λ v k low high. elim (below_or_not v (length graph)) [
     | inl h ↦ let e = counts v h in absurd (omega (arith, e, low, high))
     | inr h ↦ let none : reads_of graph v ≡ [] = get_or_past graph v [] h in absurd (let high' = rw none at high in omega (arith, high'))
   ];
@@ -109,7 +106,7 @@ new_walk_walks graph left len counts = record {
 }
   where
     unseen : (v : ℕ) → state (replicate (length graph) Unseen) v ≡ Unseen
-    unseen v = elim (lt_or_ge v (length graph)) [
+    unseen v = elim (below_or_not v (length graph)) [
       | inl h ↦ get_or-replicate (length graph) v Unseen Unseen h
       | inr h ↦ get_or_past (replicate (length graph) Unseen) v Unseen (simp length-replicate h)
     ]

@@ -21,7 +21,7 @@ use Rattle.gate_parts.specs.Parts.{gate_cell, cells_from, part_cells}
 use Rattle.gate_parts.specs.Laws.{AppendedIsThere, AppendedMore, FreeStays, PartLeavesFree, AppendedGrows, GrowthJoins, GrowthKeeps, FlopOn, FlopStarts, FlopSteps}
 use Rattle.gate_parts.proofs.Steps.{appended_count, appended_more}
 
-has_from : (N : NetlistView) (first : ℕ) (part : List CellView) → ((k : ℕ) → cell_at N (first + k) ≡ slice_get part k) → HasCells N part
+pub has_from : (N : NetlistView) (first : ℕ) (part : List CellView) → ((k : ℕ) → cell_at N (first + k) ≡ slice_get part k) → HasCells N part
 has_from N first [] at = tt
 has_from N first (cell ∷ cells) at = (
   record { number = first; name = cell.name; live = let e : first + 0 ≡ first = omega arith in rw e at (at 0) },

@@ -1,10 +1,12 @@
 -- How a netlist grows, one net or one cell after another.
-use Rattle.std.proofs.Common.{◌≡◌, ◌≢◌, ℕ, suc, zero, ◌+◌, ◌-◌, ◌<◌, ◌≤◌, ◌&&◌, List, [], ◌∷◌, ◌++◌, length, take, get_or, refl, sym, ◌∙◌, arith, ap, Option, Some, None, Bool, true, false, IsTrue, append_assoc, length-append, length-take, inl, inr}
+use Rattle.std.proofs.Common.{◌≡◌, ◌≢◌, ℕ, suc, zero, ◌+◌, ◌-◌, ◌<◌, ◌≤◌, List, [], ◌∷◌, ◌++◌, length, take, get_or, refl, sym, ◌∙◌, arith, ap, Option, Some, None, IsTrue, append_assoc, length-append, length-take, inl, inr}
 use Rattle.std.specs.Option.{IsSome}
 use Rattle.std.specs.List.{list_all, slice_get}
 use Rattle.std.proofs.lemmas.List.{append-nil, take_more}
 use Rattle.std.proofs.lemmas.List.Elements.{All-nil, All-cons}
 use Rattle.std.proofs.lemmas.Bool.{cases_lt, cases_eq}
+use Rattle.list_laws.proofs.Tests.{both_hold}
+use Rattle.list_laws.proofs.Lists.{slice_get-append_left}
 use Rattle.cell_library.specs.declared.Kind.{Kind}
 use Rattle.netlist_model.specs.declared.NetId.{NetId}
 use Rattle.netlist_model.specs.declared.Name.{Name}
@@ -15,7 +17,7 @@ use Rattle.netlist_model.specs.Contained.{IsDense}
 use Rattle.netlist_model.specs.Below.{IsFeedBelow, AreFeedsBelow}
 use Rattle.netlist_arena.specs.Arena.{ArenaView, SpareView}
 use Rattle.netlist_arena.specs.Adds.{with_net, IsFree, AddsCell}
-use Rattle.netlist_arena.proofs.Walking.{slice_get-append_left, slice_get-append_right}
+use Rattle.netlist_arena.proofs.Walking.{slice_get-append_right}
 use Rattle.netlist_arena.proofs.Puts.{dense_past}
 use Rattle.gate_parts.specs.declared.Gate.{Gate}
 use Rattle.gate_parts.specs.declared.Pin.{Pin}
@@ -192,25 +194,20 @@ pub length-cells_from : (first : ℕ) (given : List Feed) (number net : ℕ) (ga
 length-cells_from first given number net [] = refl
 length-cells_from first given number net (g ∷ gates) = ap (λ (n : ℕ). suc n) (length-cells_from first given (suc number) (suc net) gates)
 
-pub both_true : (a b : Bool) → IsTrue (a && b) → IsTrue a × IsTrue b
-both_true true true h = (h, h)
-both_true true false h = absurd (grind arith)
-both_true false b h = absurd (grind arith)
-
 -- each gate of a sound table is sound
 pub sound_at : (count given : ℕ) (gates : List Gate) (k : ℕ) (d : Gate) → IsTrue (list_all (is_sound_gate count given) gates) → k < length gates → IsTrue (is_sound_gate count given (get_or gates k d))
 sound_at count given [] k d sound below = absurd (omega arith)
-sound_at count given (g ∷ gates) zero d sound below = (both_true _ _ sound).0
-sound_at count given (g ∷ gates) (suc k) d sound below = sound_at count given gates k d (both_true _ _ sound).1 (omega arith)
+sound_at count given (g ∷ gates) zero d sound below = (both_hold _ _ sound).0
+sound_at count given (g ∷ gates) (suc k) d sound below = sound_at count given gates k d (both_hold _ _ sound).1 (omega arith)
 
 -- the last two of four pins of a sound gate are sound
 pub last_pins_sound : (count given : ℕ) (gate : Gate) (a b c d : Pin) → gate.pins ≡ Four a b c d → IsTrue (is_sound_gate count given gate)
     → IsTrue (is_sound_pin count given c) × IsTrue (is_sound_pin count given d)
 last_pins_sound count given gate a b c d is sound =
-    let split = both_true (takes_few (operand_count_of gate.kind) (length (pins_of gate.pins))) (list_all (is_sound_pin count given) (pins_of gate.pins)) sound in
+    let split = both_hold (takes_few (operand_count_of gate.kind) (length (pins_of gate.pins))) (list_all (is_sound_pin count given) (pins_of gate.pins)) sound in
     let all = rw is at split.1 in
-    let later = (both_true _ _ (both_true _ _ all).1).1 in
-    ((both_true _ _ later).0, (both_true _ _ (both_true _ _ later).1).0)
+    let later = (both_hold _ _ (both_hold _ _ all).1).1 in
+    ((both_hold _ _ later).0, (both_hold _ _ (both_hold _ _ later).1).0)
 
 pub three_below : (nets : ℕ) (a b c : Feed) → IsFeedBelow nets a → IsFeedBelow nets b → IsFeedBelow nets c → AreFeedsBelow nets (a ∷ b ∷ c ∷ [])
 three_below nets a b c x y z =

@@ -37,8 +37,8 @@ StandsIn (Form.Checks netlist bsdl events) shelf sink f before =
     StandsInCheck netlist bsdl events shelf sink f × GaveInCheck (shelf.held netlist) (shelf.held bsdl) (shelf.held events) f sink.given before
 StandsIn (Form.Demonstrates number outnet outbsdl) shelf sink f before = StandsInDemo number outnet outbsdl shelf sink f before
 
--- A refusal with this status, where no fault stands in what the command reads, and no count of its names or of the sink rises, is want
--- of memory.
+-- A refusal with this status, where no fault stands in what the command reads, and no count of reads of its inputs, of writes of its
+-- outputs or of the sink rises, is want of memory.
 abbrev pub CompletesIn : Form → ShelfSeen → SinkSeen → Status → Type 0
 CompletesIn (Form.Converts c input output) shelf sink end = CompletesConvert c input output shelf end
 CompletesIn (Form.Simulates netlist events) shelf sink end = CompletesSim netlist events shelf sink end

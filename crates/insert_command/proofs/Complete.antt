@@ -1,16 +1,10 @@
 -- A fault that stands where both texts are free of faults and no count rises is want of memory.
 use Rattle.std.proofs.Common.{◌≡◌, ℕ, List, Option, Some, None, Result, Ok, Err, IfErr, inl, inr, sym, subst, ◌∙◌, refl}
-use Rattle.verilog_lexicon.specs.declared.word.Spanned.{Spanned}
+use Rattle.list_laws.proofs.Options.{none_some}
+use Rattle.command_edges.proofs.Memory.{text_memory, has_link_memory}
 use Rattle.verilog_tree.specs.declared.tree.Module.{Module}
-use Rattle.verilog_tree.specs.Texts.{SpellsModule, SpellsText}
-use Rattle.verilog_texts.specs.declared.fault.TextFault.{TextFault}
-use Rattle.verilog_texts.specs.declared.fault.TextFault.TheVariants as text
-use Rattle.verilog_texts.specs.TextFaults.{IsTextFault}
-use Rattle.link_model.specs.declared.fault.LinkFault.{LinkFault}
-use Rattle.link_model.specs.Late.{IsLinkable}
-use Rattle.netlist_arena.specs.declared.room.ReserveFault.TheVariants as reserve
 use Rattle.netlist_link.specs.Linked.{LinkedView}
-use Rattle.netlist_link.specs.Links.{IsLinkOf, IsLinkFault}
+use Rattle.netlist_link.specs.Links.{IsLinkOf}
 use Rattle.netlist_link.specs.Laws.{FaultsForbidLinks}
 use Rattle.plan_texts.specs.declared.plan.Plan.{Plan}
 use Rattle.plan_texts.specs.declared.fault.PlanFault.{PlanFault}
@@ -24,7 +18,7 @@ use Rattle.plan_fitting.specs.Fits as fits
 use Rattle.command_faults.specs.declared.fault.Fault.{Fault}
 use Rattle.command_faults.specs.declared.fault.Fault.TheVariants as fault
 use Rattle.command_faults.specs.declared.status.Status.TheVariants as status
-use Rattle.command_faults.specs.Statuses.{status_of, text_status, link_status, plan_status, fit_status}
+use Rattle.command_faults.specs.Statuses.{status_of, plan_status, fit_status}
 use Rattle.command_edges.specs.Seen.{ShelfSeen, SinkSeen, WriteRose, SinkRose}
 use Rattle.command_edges.proofs.Told.{reading_memory, write_rose}
 use Rattle.command_edges.proofs.Written.{put_rose}
@@ -39,33 +33,20 @@ pub record Laws : Type 0 where
   pub once : SpelledOnce
   pub faultless : SpelledIsFaultless
 
-some_none : {X : Type 0} (x : X) → None ≡ Some x → ⊥
-some_none x e = cc
-
 -- The netlist.
-
-text_memory : (bytes : List ℕ) (tree : Module) (f : TextFault) → SpellsText bytes tree → IsTextFault bytes f → text_status f ≡ status.Memory
-text_memory bytes tree (text.BadWord place) spells bad = absurd (bad.none spells.words spells.cut)
-text_memory bytes tree (text.BadSyntax place word) spells bad =
-    absurd (bad.syntax.unspelled tree (subst (λ (ws : List Spanned). SpellsModule ws tree) (bad.has.only spells.words spells.cut) spells.spells))
-text_memory bytes tree text.OutOfMemory spells bad = refl
-
-link_memory : FaultsForbidLinks → (m : Module) (f : LinkFault) → IsLinkable m → IsLinkFault m f → link_status f ≡ status.Memory
-link_memory law m f ok (IsLinkFault.stands s) = absurd (law m f s ok)
-link_memory law m f ok IsLinkFault.memory = refl
 
 -- The plan.
 
 plan_memory : SpelledIsFaultless → (bytes : List ℕ) (p : Plan) (f : PlanFault) → plans.first_fault bytes ≡ None → plans.IsFault bytes f → plan_status f ≡ status.Memory
-plan_memory law bytes p (plan.PlanLine line) none bad = absurd (some_none (plan.PlanLine line) (sym none ∙ bad))
-plan_memory law bytes p (plan.PlanTwice word) none bad = absurd (some_none (plan.PlanTwice word) (sym none ∙ bad))
-plan_memory law bytes p (plan.PlanOpcode word) none bad = absurd (some_none (plan.PlanOpcode word) (sym none ∙ bad))
-plan_memory law bytes p plan.PlanIdcode none bad = absurd (some_none plan.PlanIdcode (sym none ∙ bad))
-plan_memory law bytes p (plan.PlanInstruction word) none bad = absurd (some_none (plan.PlanInstruction word) (sym none ∙ bad))
+plan_memory law bytes p (plan.PlanLine line) none bad = none_some (sym none ∙ bad)
+plan_memory law bytes p (plan.PlanTwice word) none bad = none_some (sym none ∙ bad)
+plan_memory law bytes p (plan.PlanOpcode word) none bad = none_some (sym none ∙ bad)
+plan_memory law bytes p plan.PlanIdcode none bad = none_some (sym none ∙ bad)
+plan_memory law bytes p (plan.PlanInstruction word) none bad = none_some (sym none ∙ bad)
 plan_memory law bytes p plan.OutOfMemory none bad = refl
 
 has_fault : (linked : LinkedView) (p : Plan) (f : FitFault) → HasNoFault linked p → fits.HasFault linked p f → ⊥
-has_fault linked p f free bad = some_none f (sym (free.faultless bad.seen bad.are_seen) ∙ bad.first)
+has_fault linked p f free bad = none_some (sym (free.faultless bad.seen bad.are_seen) ∙ bad.first)
 
 fit_memory : (linked : LinkedView) (p : Plan) (f : FitFault) → HasNoFault linked p → fits.IsFault linked p f → fit_status f ≡ status.Memory
 fit_memory linked p (fit.PlanPort word) free bad = let n = free.named bad.place bad.line bad.there in absurd (bad.unnamed n.0 n.1)
@@ -85,7 +66,7 @@ same_free once net text linked m p ok same links spells =
 
 inputs_memory : Laws → (f : Fault) (net text : List ℕ) → IsInsertable net text → StandsInInputs (Some net) (Some text) f → status_of f ≡ status.Memory
 inputs_memory laws (fault.Netlist f) net text ok stands = text_memory net ok.tree f ok.spells stands
-inputs_memory laws (fault.Link f) net text ok stands = link_memory laws.links stands.tree f (subst IsLinkable (stands.only ok.tree ok.spells) ok.linkable) stands.fault
+inputs_memory laws (fault.Link f) net text ok stands = has_link_memory laws.links net ok.tree f ok.spells ok.linkable stands
 inputs_memory laws (fault.Plan f) net text ok stands = plan_memory laws.faultless text ok.plan f (laws.faultless text ok.plan ok.spells_plan) stands.1
 inputs_memory laws (fault.Fit f) net text ok stands =
     let h = stands.2 in
@@ -95,7 +76,7 @@ inputs_memory laws (fault.TooMany what count limit) net text ok stands =
     let h = stands.2 in
     let free = same_free laws.once net text h.linked h.netlist.tree h.stands.plan ok (h.netlist.only ok.tree ok.spells) h.netlist.links h.stands.spells in
     let bad = h.stands.stands in
-    absurd (some_none (reserve.TooMany what count limit) (sym (free.room bad.fitted bad.is) ∙ bad.passes))
+    none_some (sym (free.room bad.fitted bad.is) ∙ bad.passes)
 inputs_memory laws fault.OutOfMemory net text ok stands = refl
 inputs_memory laws f net text ok stands = absurd stands
 

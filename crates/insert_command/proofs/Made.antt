@@ -9,7 +9,8 @@ use Rattle.verilog_texts.specs.TextFaults.{IsTextFault}
 use Rattle.plan_texts.specs.Faults as plans
 use Rattle.insertions.specs.InsertFault.{InsertFault}
 use Rattle.insertions.specs.InsertFault.TheVariants as insert
-use Rattle.insertions.specs.Faults.{HasLinkFault, HasPlanFault, StandsInTexts}
+use Rattle.netlist_link.specs.Links.{HasLinkFault}
+use Rattle.insertions.specs.Faults.{HasPlanFault, StandsInTexts}
 use Rattle.insertions.specs.Insertions.{IsInsertionText}
 use Rattle.command_edges.specs.Seen.{ShelfSeen, SinkSeen}
 use Rattle.command_edges.proofs.Told.{IsTold, told_as, both_told, AreRead, are_short}

@@ -11,7 +11,8 @@ use Rattle.plan_texts.specs.Faults as plans
 use Rattle.insertions.specs.InsertFault.{InsertFault}
 use Rattle.insertions.specs.InsertFault.TheVariants as insert
 use Rattle.insertions.specs.Inputs.{IsNetlistOf}
-use Rattle.insertions.specs.Faults.{HasLinkFault, HasPlanFault}
+use Rattle.netlist_link.specs.Links.{HasLinkFault}
+use Rattle.insertions.specs.Faults.{HasPlanFault}
 use Rattle.command_edges.specs.Seen.{WhereBothTold}
 
 -- the fault of a command, for one of inserting

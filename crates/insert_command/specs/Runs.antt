@@ -81,7 +81,8 @@ abbrev pub StandsInInsert : List ℕ → List ℕ → List ℕ → List ℕ → 
 StandsInInsert netlist plan outnet outbsdl shelf sink f after = (StandsBeforeOutput netlist plan shelf f × (after ≡ sink.given))
     ⊎ StandsInOutput netlist plan outnet outbsdl shelf sink f after
 
--- A refusal with this status, where no fault stands in both texts and no count of the names or of the sink rises, is want of memory.
+-- A refusal with this status, where no fault stands in both texts and no count of reads of these, of writes of both outputs or of the
+-- sink rises, is want of memory.
 abbrev pub CompletesInsert : List ℕ → List ℕ → List ℕ → List ℕ → ShelfSeen → SinkSeen → Status → Type 0
 CompletesInsert netlist plan outnet outbsdl shelf sink end = (net text : List ℕ) → shelf.held netlist ≡ Some net → shelf.held plan ≡ Some text → IsInsertable net text
     → (ReadRose shelf netlist → ⊥) → (ReadRose shelf plan → ⊥) → (WriteRose shelf outnet → ⊥) → (WriteRose shelf outbsdl → ⊥) → (SinkRose sink → ⊥)

@@ -1,21 +1,17 @@
 -- What fits a netlist is small enough to be counted, its test access port's names can be written, and where there is room some text
 -- spells its device.
-use Rattle.std.proofs.Common.{◌≡◌, ℕ, suc, ◌+◌, ◌*◌, ◌^◌, ◌<◌, ◌≤◌, Bool, true, false, List, [], ◌∷◌, cond, map, length, slice_get, Option, Some, None, Result, Ok, Err, IfErr, refl, ap, sym, subst, ◌∙◌, arith, ltb-false}
-use Rattle.std.specs.Prelude.{nat_lt, MatchOption, IsOkUnless}
-use Rattle.std.specs.Result.{IsErrAnd}
-use Rattle.std.specs.Option.{option_or}
+use Rattle.std.proofs.Common.{◌≡◌, ℕ, suc, ◌+◌, ◌*◌, ◌^◌, ◌<◌, ◌≤◌, List, [], ◌∷◌, map, length, slice_get, Option, Some, None, Result, Ok, Err, refl, ap, sym, subst, ◌∙◌, arith}
+use Rattle.std.specs.Prelude.{MatchOption, IsOkUnless}
 use Rattle.std.specs.List.{enumerate_from}
 use Rattle.std.proofs.lemmas.List.{length-map}
 use Rattle.std.proofs.lemmas.List.Sums.{sum_by-cons}
-use Rattle.netlist_model.specs.declared.What.{What}
-use Rattle.netlist_model.specs.declared.What.TheVariants.{Cells, Nets, Ports}
+use Rattle.netlist_link.proofs.Rewriting.{within}
 use Rattle.netlist_model.specs.declared.Range.{Range}
-use Rattle.netlist_model.specs.Lists.{PortView, NetlistView, cell_count}
+use Rattle.netlist_model.specs.Lists.{PortView}
 use Rattle.netlist_model.specs.Formed.{IsLaidOut, width_of}
 use Rattle.netlist_arena.specs.Arena.{bit_count}
-use Rattle.netlist_arena.specs.Room.{too_many, excess_of}
+use Rattle.netlist_arena.specs.Room.{too_many}
 use Rattle.netlist_arena.specs.declared.room.ReserveFault.{ReserveFault}
-use Rattle.netlist_arena.specs.declared.room.ReserveFault.TheVariants as reserve
 use Rattle.netlist_laws.specs.Ports.{BitHasDirection}
 use Rattle.netlist_laws.specs.Drivers.{DriverIsFound}
 use Rattle.netlist_link.specs.Linked.{LinkedView}
@@ -32,12 +28,14 @@ use Rattle.scan_stitch.specs.Ready.{IsSmall, HasTapNames}
 use Rattle.scan_stitch.specs.Laws.{FittedBitsAreThere}
 use Rattle.stitch_names.specs.Prepared.{room_of, ports_of, prepared}
 use Rattle.bsdl_device.specs.IsDevice.{IsDevice}
+use Rattle.plan_devices.proofs.Facts.{facts_of}
+use Rattle.plan_devices.proofs.DeviceIs.{rows_within}
+use Rattle.stitch_names.proofs.Limits.{few_bits}
 use Rattle.insertion_inputs.specs.Inputs.{IsLinkedTree, IsReadyAs, IsPreparedAs, HasRoomFor}
-use Rattle.insertion_inputs.specs.declared.fault.InsertFault.{InsertFault}
 use Rattle.insertion_inputs.specs.Reserves.{reserve_fault}
 use Rattle.insertion_inputs.specs.Faults.{StandsInFit}
 use Rattle.insertion_inputs.proofs.Bits.{bits_few}
-use Rattle.insertion_inputs.proofs.Rows.{rows_within}
+use Rattle.netlist_arena.specs.declared.room.ReserveFault.TheVariants as reserve
 
 -- the laws of plans that fit
 pub record Laws : Type 0 where
@@ -54,7 +52,8 @@ fitting_of law L p f linked plan is = law linked.tree L p f linked.is linked.lin
 
 small : Laws → (L : LinkedView) (p : Plan) (f : Fitted) → IsLinkedTree L → IsPlan p → IsFitted L p f → length f.linkage + 5 < 2 ^ 32 → IsSmall f
 small laws L p f linked plan is lines =
-    let few : length (rows p is.seen) ≤ 2 * bit_count L.arena.lists.ports = rows_within laws.has laws.found L p is.seen (fitting_of laws.fitting L p f linked plan is) in
+    let fits = fitting_of laws.fitting L p f linked plan is in
+    let few : length (rows p is.seen) ≤ 2 * bit_count L.arena.lists.ports = rows_within L p is.seen fits (facts_of laws.has laws.found L p is.seen fits) in
     let bits : bit_count L.arena.lists.ports ≤ 4096 = bits_few linked.tree L linked.links in
     let rows_are : length f.rows ≡ length (rows p is.seen) = ap (λ (g : Fitted). length g.rows) is.is in
     let bits_are : f.codes.length ≡ p.length = ap (λ (g : Fitted). g.codes.length) is.is in
@@ -111,22 +110,6 @@ ready laws L p f linked plan laid is lines = record {
 
 -- Room.
 
-within : (what : What) (count limit : ℕ) → excess_of what count limit ≡ None → count ≤ limit
-within what count limit none = by (nat_lt limit count) refl none
-  where
-    by : (b : Bool) → nat_lt limit count ≡ b → cond b (Some (reserve.TooMany what count limit)) None ≡ None → count ≤ limit
-    by true e told = absurd (cc)
-    by false e told = ltb-false limit count e
-
-second_none : (a b : Option ReserveFault) → option_or a b ≡ None → b ≡ None
-second_none None b e = e
-second_none (Some f) b e = absurd (cc)
-
-few_bits : (N : NetlistView) (cells nets bits : ℕ) → too_many N cells nets bits ≡ None → bit_count N.ports + bits ≤ 4096
-few_bits N cells nets bits none =
-    within Ports (bit_count N.ports + bits) 4096
-    (second_none (option_or (excess_of Cells (cell_count N + cells) 262144) (excess_of Nets (length N.nets + nets) 524288)) (excess_of Ports (bit_count N.ports + bits) 4096) none)
-
 device_there : FittedIsFitting → PlansMakeDevices → (L : LinkedView) (p : Plan) (f : Fitted) → IsLinkedTree L → IsPlan p → (is : IsFitted L p f) → HasRoomFor L f → IsDevice (device_of L p is.seen)
 device_there fitting make L p f linked plan is room =
     let bits : bit_count L.arena.lists.ports + ports_of f ≤ 4096 = few_bits L.arena.lists (room_of f) (room_of f) (ports_of f) room in
@@ -160,8 +143,3 @@ room_fault T L p f e None is told answer = subst (λ (g : ReserveFault). StandsI
 room_fault T L p f e (Some (reserve.TooMany what count limit)) is told answer =
     subst (λ (g : ReserveFault). StandsInFit L p (reserve_fault g)) (err_same e (reserve.TooMany what count limit) answer) (record { fitted = f; is = is; passes = told })
 room_fault T L p f e (Some reserve.OutOfMemory) is told answer = subst (λ (g : ReserveFault). StandsInFit L p (reserve_fault g)) (err_same e reserve.OutOfMemory answer) tt
-
--- what a call answers of the fault that it hands on
-pub err_is : {A : Type 0} (r : Result A InsertFault) (f : InsertFault) (P : InsertFault → Type 0) → IsErrAnd r (λ made. made ≡ f) → P f → IfErr r P
-err_is (Ok x) f P is holds = tt
-err_is (Err made) f P is holds = subst P (sym is) holds

@@ -1,14 +1,11 @@
 -- When each fault of an insertion stands: in the netlist's text, the module, the plan's text, how it fits, and the room. Own.
 use Rattle.std.specs.Prelude.{◌≡◌, ℕ, List, Some}
-use Rattle.verilog_tree.specs.declared.tree.Module.{Module}
-use Rattle.verilog_tree.specs.Texts.{SpellsText}
 use Rattle.verilog_texts.specs.TextFaults.{IsTextFault}
-use Rattle.link_model.specs.declared.fault.LinkFault.{LinkFault}
 use Rattle.netlist_model.specs.declared.What.{What}
 use Rattle.netlist_arena.specs.declared.room.ReserveFault.TheVariants as reserve
 use Rattle.netlist_arena.specs.Room.{too_many}
 use Rattle.netlist_link.specs.Linked.{LinkedView}
-use Rattle.netlist_link.specs.Links.{IsLinkFault}
+use Rattle.netlist_link.specs.Links.{HasLinkFault}
 use Rattle.plan_texts.specs.declared.plan.Plan.{Plan}
 use Rattle.plan_texts.specs.Grammar.{SpellsPlan}
 use Rattle.plan_texts.specs.Faults as texts
@@ -23,13 +20,7 @@ use Rattle.insertion_inputs.specs.Inputs.{IsNetlistOf}
 
 -- The netlist.
 
--- the netlist's bytes spell a tree in which this fault of linking stands
-pub record HasLinkFault (f : LinkFault) (net : List ℕ) : Type 0 where
-  pub tree : Module
-  pub spells : SpellsText net tree
-  pub only : (other : Module) → SpellsText net other → other ≡ tree
-  pub fault : IsLinkFault tree f
-
+-- the fault stands in the bytes of a netlist
 abbrev pub StandsInNetlist : List ℕ → InsertFault → Type 0
 StandsInNetlist net (fault.Netlist f) = IsTextFault net f
 StandsInNetlist net (fault.Link f) = HasLinkFault f net

@@ -33,7 +33,8 @@ fn put_names(text: &mut Text, opcodes: &[Opcode]) -> Result<(), OutOfMemory>
 // The line of the instructions.
 #[tactic(auto, unfolding(output_lines::specs::Lines::words_line))]
 fn put_instructions(text: &mut Text, opcodes: &[Opcode]) -> Result<(), OutOfMemory>
-    ensures { OnOk result (text.new ≡ text.old ++ words_line (codes "instructions") (map name_of opcodes.now)) }
+    ensures { OnOk result (text.new ≡ text.old
+        ++ words_line (codes "instructions") (map name_of opcodes.now)) }
 {
     text.append(b"instructions")?;
     put_names(text, opcodes)?;
@@ -80,7 +81,8 @@ fn put_sizes_of(text: &mut Text, device: &Device) -> Result<(), OutOfMemory>
 // The line of the registers.
 #[tactic(auto, unfolding(output_lines::specs::Lines::words_line))]
 fn put_registers(text: &mut Text, device: &Device) -> Result<(), OutOfMemory>
-    ensures { OnOk result (text.new ≡ text.old ++ words_line (codes "registers") (register_words device.now)) }
+    ensures { OnOk result (text.new ≡ text.old
+        ++ words_line (codes "registers") (register_words device.now)) }
 {
     text.append(b"registers")?;
     put_sizes_of(text, device)?;

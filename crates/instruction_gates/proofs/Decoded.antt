@@ -2,6 +2,7 @@
 use Rattle.std.proofs.Common.{◌≡◌, Bool, true, false, not, List, [], ◌∷◌, refl, sym, ap, ◌∙◌, Some, None}
 use Rattle.std.specs.Prelude.{◌&&◌, ◌||◌, find, Option, unwrap_or, IsTrue}
 use Rattle.std.proofs.lemmas.Bool.{false≢true}
+use Rattle.list_laws.proofs.Tests.{both_true, and_true}
 use Rattle.signal_values.specs.declared.Sig.{Sig}
 use Rattle.signal_values.specs.declared.Sig.TheVariants.{Zero, One, Unknown}
 use Rattle.cell_library.specs.declared.codes.Bits.{Bits}
@@ -56,10 +57,6 @@ nand false y apart = refl
 nand true false apart = refl
 nand true true apart = absurd (apart refl refl)
 
-conj : (x y : Bool) → x ≡ true → y ≡ true → (x && y) ≡ true
-conj true y e f = f
-conj false y e f = absurd (false≢true e)
-
 -- a pattern that is latched is that pattern
 same_bit : (x y : Sig) → is_same_bit x y ≡ true → x ≡ y
 same_bit Zero Zero e = refl
@@ -69,10 +66,6 @@ same_bit Zero Unknown e = absurd (false≢true e)
 same_bit One Zero e = absurd (false≢true e)
 same_bit One Unknown e = absurd (false≢true e)
 same_bit Unknown y e = absurd (false≢true e)
-
-both_true : (x y : Bool) → (x && y) ≡ true → (x ≡ true) × (y ≡ true)
-both_true true y e = (refl, e)
-both_true false y e = absurd (false≢true e)
 
 same_pattern : (xs ys : List Sig) → is_pattern xs ys ≡ true → xs ≡ ys
 same_pattern [] [] e = refl
@@ -102,4 +95,4 @@ instruction_is opcodes latched apart = decoded (named Bypass) (named Extest) (na
     differ i j e x y = false≢true (sym e ∙ shared opcodes latched i j (opcode_of opcodes i) (opcode_of opcodes j) apart refl refl x y)
 
     all_apart : apart7 (named Bypass) (named Extest) (named Sample) (named Preload) (named Idcode) (named Highz) (named Clamp) ≡ true
-    all_apart = conj _ _ (nand (named Bypass) (named Extest) (differ Bypass Extest refl)) (conj _ _ (nand (named Bypass) (named Sample) (differ Bypass Sample refl)) (conj _ _ (nand (named Bypass) (named Preload) (differ Bypass Preload refl)) (conj _ _ (nand (named Bypass) (named Idcode) (differ Bypass Idcode refl)) (conj _ _ (nand (named Bypass) (named Highz) (differ Bypass Highz refl)) (conj _ _ (nand (named Bypass) (named Clamp) (differ Bypass Clamp refl)) (conj _ _ (nand (named Extest) (named Sample) (differ Extest Sample refl)) (conj _ _ (nand (named Extest) (named Preload) (differ Extest Preload refl)) (conj _ _ (nand (named Extest) (named Idcode) (differ Extest Idcode refl)) (conj _ _ (nand (named Extest) (named Highz) (differ Extest Highz refl)) (conj _ _ (nand (named Extest) (named Clamp) (differ Extest Clamp refl)) (conj _ _ (nand (named Sample) (named Idcode) (differ Sample Idcode refl)) (conj _ _ (nand (named Sample) (named Highz) (differ Sample Highz refl)) (conj _ _ (nand (named Sample) (named Clamp) (differ Sample Clamp refl)) (conj _ _ (nand (named Preload) (named Idcode) (differ Preload Idcode refl)) (conj _ _ (nand (named Preload) (named Highz) (differ Preload Highz refl)) (conj _ _ (nand (named Preload) (named Clamp) (differ Preload Clamp refl)) (conj _ _ (nand (named Idcode) (named Highz) (differ Idcode Highz refl)) (conj _ _ (nand (named Idcode) (named Clamp) (differ Idcode Clamp refl)) (nand (named Highz) (named Clamp) (differ Highz Clamp refl))))))))))))))))))))
+    all_apart = and_true _ _ (nand (named Bypass) (named Extest) (differ Bypass Extest refl)) (and_true _ _ (nand (named Bypass) (named Sample) (differ Bypass Sample refl)) (and_true _ _ (nand (named Bypass) (named Preload) (differ Bypass Preload refl)) (and_true _ _ (nand (named Bypass) (named Idcode) (differ Bypass Idcode refl)) (and_true _ _ (nand (named Bypass) (named Highz) (differ Bypass Highz refl)) (and_true _ _ (nand (named Bypass) (named Clamp) (differ Bypass Clamp refl)) (and_true _ _ (nand (named Extest) (named Sample) (differ Extest Sample refl)) (and_true _ _ (nand (named Extest) (named Preload) (differ Extest Preload refl)) (and_true _ _ (nand (named Extest) (named Idcode) (differ Extest Idcode refl)) (and_true _ _ (nand (named Extest) (named Highz) (differ Extest Highz refl)) (and_true _ _ (nand (named Extest) (named Clamp) (differ Extest Clamp refl)) (and_true _ _ (nand (named Sample) (named Idcode) (differ Sample Idcode refl)) (and_true _ _ (nand (named Sample) (named Highz) (differ Sample Highz refl)) (and_true _ _ (nand (named Sample) (named Clamp) (differ Sample Clamp refl)) (and_true _ _ (nand (named Preload) (named Idcode) (differ Preload Idcode refl)) (and_true _ _ (nand (named Preload) (named Highz) (differ Preload Highz refl)) (and_true _ _ (nand (named Preload) (named Clamp) (differ Preload Clamp refl)) (and_true _ _ (nand (named Idcode) (named Highz) (differ Idcode Highz refl)) (and_true _ _ (nand (named Idcode) (named Clamp) (differ Idcode Clamp refl)) (nand (named Highz) (named Clamp) (differ Highz Clamp refl))))))))))))))))))))

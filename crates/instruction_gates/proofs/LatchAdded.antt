@@ -1,5 +1,5 @@
 -- A latched bit is added in two parts, and is one of a row.
-use Rattle.std.proofs.Common.{◌≡◌, ℕ, suc, ◌+◌, ◌*◌, ◌≤◌, Bool, true, false, List, [], ◌∷◌, length, refl, sym, ◌∙◌, ap, subst, arith}
+use Rattle.std.proofs.Common.{◌≡◌, ℕ, suc, ◌+◌, ◌*◌, ◌≤◌, Bool, List, [], ◌∷◌, length, refl, sym, ◌∙◌, ap, subst, arith}
 use Rattle.netlist_model.specs.declared.NetId.{NetId}
 use Rattle.netlist_model.specs.declared.Feed.{Feed}
 use Rattle.netlist_model.specs.declared.Feed.TheVariants.{Net, Const}
@@ -7,8 +7,8 @@ use Rattle.netlist_model.specs.Lists.{CellView, cell_count}
 use Rattle.netlist_arena.specs.Arena.{ArenaView}
 use Rattle.gate_parts.specs.Appended.{Appended}
 use Rattle.gate_parts.specs.Parts.{part_cells}
-use Rattle.register_bits.specs.declared.Holding.{Holding}
 use Rattle.register_bits.specs.Bits.{held_bit_cells}
+use Rattle.register_bits.proofs.Lengths.{held_length}
 use Rattle.register_gates.specs.Steps.{AddedInTurn}
 use Rattle.instruction_gates.specs.declared.latches.Latching.{Latching}
 use Rattle.instruction_gates.specs.declared.latches.TheConstants.{LOADED}
@@ -16,10 +16,6 @@ use Rattle.instruction_gates.specs.Rows.{is_one}
 use Rattle.instruction_gates.specs.Latches.{holding_of, loaded_given, latch_cells}
 use Rattle.instruction_gates.specs.Matches.{match_before, match_cells}
 use Rattle.instruction_gates.proofs.RowSteps.{Sized}
-
-held_length : (first number : ℕ) (by : Holding) (preset : Bool) (loaded : Feed) → length (held_bit_cells first number by preset loaded) ≡ 2
-held_length first number by true loaded = refl
-held_length first number by false loaded = refl
 
 -- a latched bit of a row
 abbrev pub latch_part : Latching → ℕ → ℕ → ℕ → ℕ → Feed → List CellView

@@ -2,8 +2,8 @@
 use Rattle.std.proofs.Common.{◌≡◌, ℕ, ◌+◌, ◌*◌, Bool, true, false, List, [], ◌∷◌, length, refl, sym, ap, ◌∙◌, arith}
 use Rattle.std.specs.Prelude.{Option, Some, None, ◌||◌, if◌then◌else◌}
 use Rattle.signal_values.specs.declared.Sig.{Sig}
-use Rattle.signal_values.specs.declared.Sig.TheVariants.{Zero, One}
 use Rattle.signal_values.specs.Values.{bit, sig_mux}
+use Rattle.signal_values.proofs.Laws.{mux-one, mux-zero}
 use Rattle.cell_library.specs.declared.Edge.{Edge}
 use Rattle.cell_library.specs.declared.Edge.TheVariants.{Rise, Fall}
 use Rattle.netlist_model.specs.declared.Feed.{Feed}
@@ -35,12 +35,6 @@ pub record PartLaws : Type 0 where
   pub meets : ContainedPartMeets
   pub held : HeldBitsFollow
 
-mux_zero : (a b : Sig) → sig_mux Zero a b ≡ a
-mux_zero a b = grind arith
-
-mux_one : (a b : Sig) → sig_mux One a b ≡ b
-mux_one a b = grind arith
-
 -- one bit of what a falling edge latches
 abbrev latched_bit : Sig → TapState → Sig → Sig → Sig
 latched_bit reset UpdateIr shift kept = shift
@@ -48,7 +42,7 @@ latched_bit reset TestLogicReset shift kept = reset
 latched_bit reset _ shift kept = kept
 
 loaded_is : (w : TapState) (reset shift kept : Sig) → (if (is_update w || is_reset w) then sig_mux (bit (is_reset w)) shift reset else kept) ≡ latched_bit reset w shift kept
-loaded_is TestLogicReset reset shift kept = mux_one shift reset
+loaded_is TestLogicReset reset shift kept = mux-one shift reset
 loaded_is RunTestIdle reset shift kept = refl
 loaded_is SelectDrScan reset shift kept = refl
 loaded_is CaptureDr reset shift kept = refl
@@ -63,7 +57,7 @@ loaded_is ShiftIr reset shift kept = refl
 loaded_is Exit1Ir reset shift kept = refl
 loaded_is PauseIr reset shift kept = refl
 loaded_is Exit2Ir reset shift kept = refl
-loaded_is UpdateIr reset shift kept = mux_zero shift reset
+loaded_is UpdateIr reset shift kept = mux-zero shift reset
 
 latched_cons : (w : TapState) (r s k : Sig) (rs ss ks : List Sig) → latched_bit r w s k ∷ latched_after rs w ss ks ≡ latched_after (r ∷ rs) w (s ∷ ss) (k ∷ ks)
 latched_cons TestLogicReset r s k rs ss ks = refl

@@ -1,9 +1,9 @@
 -- What tells whether an opcode is latched.
 use Rattle.std.proofs.Common.{◌≡◌, ℕ, ◌+◌, ◌*◌, Bool, true, false, List, [], ◌∷◌, length, refl, sym, ap, ◌∙◌, arith}
-use Rattle.std.specs.Prelude.{◌&&◌}
 use Rattle.signal_values.specs.declared.Sig.{Sig}
 use Rattle.signal_values.specs.declared.Sig.TheVariants.{Zero, One, Unknown}
 use Rattle.signal_values.specs.Values.{bit, sig_and, sig_not, sig_xor}
+use Rattle.signal_values.proofs.Laws.{and-bit}
 use Rattle.netlist_model.specs.declared.Feed.{Feed}
 use Rattle.netlist_model.specs.Lists.{NetlistView}
 use Rattle.netlist_model.specs.Settled.{feed_value, IsSettled}
@@ -25,10 +25,6 @@ equal One true known = refl
 equal One false known = refl
 equal Unknown b known = absurd known
 
-both : (a b : Bool) → sig_and (bit a) (bit b) ≡ bit (a && b)
-both true b = refl
-both false b = refl
-
 pub told : ContainedParts → ContainedPartMeets → (first number latches : ℕ) (wanted : List Feed) (N : NetlistView) (m : Moment) → IsWellFormed N
     → HasCells N (matches_cells first number latches wanted) → IsSettled N m.pins m.state m.value → AreKnown (latch_values m.value latches wanted)
     → feed_value m.value (match_before first (length wanted)) ≡ bit (is_pattern (latch_values m.value latches wanted) (bits_in wanted))
@@ -47,4 +43,4 @@ told parts meets first number latches (w ∷ rest) N m formed has settled known 
     = told parts meets first number latches rest N m formed apart.0 settled known.1 in
     ap m.value (sym z) ∙ e0 ∙ ap (λ (x : Sig). sig_and x (feed_value m.value before)) (e1 ∙ equal (m.value l) (is_one w) known.0)
     ∙ ap (λ (x : Sig). sig_and (bit (is_same_bit (m.value l) (bit (is_one w)))) x) there
-    ∙ both (is_same_bit (m.value l) (bit (is_one w))) (is_pattern (latch_values m.value latches rest) (bits_in rest))
+    ∙ and-bit (is_same_bit (m.value l) (bit (is_one w))) (is_pattern (latch_values m.value latches rest) (bits_in rest))

@@ -22,7 +22,7 @@ pub record Rowed (old new : ArenaView) (width : ℕ) (part : ℕ → ℕ → ℕ
   pub added : Appended old new (width * length items) (row_cells (placed part width (length old.lists.nets) (cell_count old.lists)) items)
   pub dense : IsDense new.lists
 
-row_length : (width : ℕ) (part : ℕ → ℕ → ℕ → Feed → List CellView) → Sized width part → (first number : ℕ) (items : List Feed)
+pub row_length : (width : ℕ) (part : ℕ → ℕ → ℕ → Feed → List CellView) → Sized width part → (first number : ℕ) (items : List Feed)
     → length (row_cells (placed part width first number) items) ≡ width * length items
 row_length width part sized first number [] = omega arith
 row_length width part sized first number (item ∷ rest) =

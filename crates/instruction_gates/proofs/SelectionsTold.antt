@@ -1,8 +1,9 @@
 -- What the instruction in effect selects, by the gates.
-use Rattle.std.proofs.Common.{◌≡◌, ℕ, ◌+◌, Bool, true, false, not, refl, sym, ap, ◌∙◌, arith}
+use Rattle.std.proofs.Common.{◌≡◌, ℕ, ◌+◌, Bool, refl, sym, ap, ◌∙◌, arith}
 use Rattle.std.specs.Prelude.{◌&&◌, ◌||◌}
 use Rattle.signal_values.specs.declared.Sig.{Sig}
 use Rattle.signal_values.specs.Values.{bit, sig_and, sig_or, sig_not}
+use Rattle.signal_values.proofs.Laws.{or-bit, and-bit, not-bit}
 use Rattle.cell_library.specs.declared.codes.Instr.{Instr}
 use Rattle.cell_library.specs.declared.codes.Instr.TheVariants.{Extest, Sample, Preload, Idcode, Highz, Clamp}
 use Rattle.netlist_model.specs.Settled.{feed_value}
@@ -16,23 +17,11 @@ use Rattle.instruction_gates.specs.declared.selections.TheConstants.{SELECTIONS}
 use Rattle.instruction_gates.specs.Selections.{selections_given, SelectionsTell}
 use Rattle.instruction_gates.proofs.Decoded.{instruction_is}
 
-or_bits : (a b : Bool) → sig_or (bit a) (bit b) ≡ bit (a || b)
-or_bits true b = refl
-or_bits false b = refl
-
-and_bits : (a b : Bool) → sig_and (bit a) (bit b) ≡ bit (a && b)
-and_bits true b = refl
-and_bits false b = refl
-
-not_bit : (a : Bool) → sig_not (bit a) ≡ bit (not a)
-not_bit true = refl
-not_bit false = refl
-
 or_of : (x y : Sig) (a b : Bool) → x ≡ bit a → y ≡ bit b → sig_or x y ≡ bit (a || b)
-or_of x y a b e f = ap (λ (z : Sig). sig_or z y) e ∙ ap (λ (z : Sig). sig_or (bit a) z) f ∙ or_bits a b
+or_of x y a b e f = ap (λ (z : Sig). sig_or z y) e ∙ ap (λ (z : Sig). sig_or (bit a) z) f ∙ or-bit a b
 
 and_of : (x y : Sig) (a b : Bool) → x ≡ bit a → y ≡ bit b → sig_and x y ≡ bit (a && b)
-and_of x y a b e f = ap (λ (z : Sig). sig_and z y) e ∙ ap (λ (z : Sig). sig_and (bit a) z) f ∙ and_bits a b
+and_of x y a b e f = ap (λ (z : Sig). sig_and z y) e ∙ ap (λ (z : Sig). sig_and (bit a) z) f ∙ and-bit a b
 
 three_of : (x y z : Sig) (a b c : Bool) → x ≡ bit a → y ≡ bit b → z ≡ bit c → sig_or (sig_or x y) z ≡ bit ((a || b) || c)
 three_of x y z a b c e f g = or_of (sig_or x y) z (a || b) c (or_of x y a b e f) g
@@ -68,7 +57,7 @@ told meets = λ first number tap matched last N m w opcodes latched formed has s
     let on : Bool = is_register register.Boundary (selected_register i) in
     record {
       bypass_on = e1 ∙ ap sig_not (or_of (v (first + 0)) fi ((named Extest || named Sample) || named Preload) (named Idcode) boundary0 tells.idcode)
-          ∙ not_bit (((named Extest || named Sample) || named Preload) || named Idcode) ∙ ap bit d.bypass;
+          ∙ not-bit (((named Extest || named Sample) || named Preload) || named Idcode) ∙ ap bit d.bypass;
       ident_on = e2 ∙ tells.idcode ∙ ap bit d.ident;
       boundary_on = ap v (sym z) ∙ boundary;
       capture = e6 ∙ and_of (v (first + 0)) (v tap.capture_dr.0) on (same_state CaptureDr w) boundary shows.capture_dr;

@@ -1,5 +1,5 @@
 -- The instruction register is added in three parts.
-use Rattle.std.proofs.Common.{◌≡◌, ℕ, suc, ◌+◌, ◌*◌, ◌≤◌, List, [], ◌∷◌, length, length-append, refl, ◌∙◌, ap, subst, arith}
+use Rattle.std.proofs.Common.{◌≡◌, ℕ, suc, ◌+◌, ◌*◌, ◌≤◌, List, [], length, refl, ◌∙◌, ap, subst, arith}
 use Rattle.netlist_model.specs.declared.NetId.{NetId}
 use Rattle.netlist_model.specs.declared.Feed.{Feed}
 use Rattle.netlist_model.specs.Lists.{cell_count}
@@ -8,22 +8,12 @@ use Rattle.gate_parts.specs.Appended.{Appended}
 use Rattle.gate_parts.specs.Parts.{part_cells}
 use Rattle.test_logic.specs.declared.TapNets.{TapNets}
 use Rattle.register_bits.specs.declared.Steering.{Steering}
-use Rattle.register_bits.specs.Bits.{shift_bit_cells}
-use Rattle.register_bits.specs.Chains.{chain_last, chain_cells}
+use Rattle.register_bits.specs.Chains.{chain_cells}
+use Rattle.register_bits.proofs.Lengths.{chain_length}
 use Rattle.register_gates.specs.Steps.{AddedInTurn}
 use Rattle.instruction_gates.specs.declared.stages.TheConstants.{LOADS}
 use Rattle.instruction_gates.specs.Latches.{latches_cells}
 use Rattle.instruction_gates.specs.Stages.{loads_given, ir_steering, ir_latching, shift_stage_cells, stages_cells}
-
-chain_length : (first number : ℕ) (by : Steering) (tdi : NetId) (captured : List Feed) → length (chain_cells first number by tdi captured) ≡ 3 * length captured
-chain_length first number by tdi [] = refl
-chain_length first number by tdi (c ∷ rest) =
-    let xs = chain_cells first number by tdi rest in
-    let ys = shift_bit_cells (first + 3 * length rest) (number + 3 * length rest) by c (chain_last first tdi rest) in
-    let three : length ys ≡ 3 = refl in
-    let both = length-append xs ys in
-    let before = chain_length first number by tdi rest in
-    omega arith
 
 pub one_left : (old a : ArenaView) (tap : TapNets) (n : ℕ) → Appended old a 1 (part_cells LOADS (loads_given tap) (length old.lists.nets) (cell_count old.lists))
     → 1 + 6 * n ≤ old.spare.cells → 6 * n ≤ a.spare.cells

@@ -1,9 +1,8 @@
 -- The instruction register is that of the test logic.
-use Rattle.std.proofs.Common.{◌≡◌, ℕ, zero, suc, ◌+◌, ◌*◌, ◌≤◌, Bool, true, false, List, [], ◌∷◌, length, refl, sym, ap, ◌∙◌, arith}
-use Rattle.std.specs.Prelude.{◌||◌}
+use Rattle.std.proofs.Common.{◌≡◌, ℕ, zero, suc, ◌+◌, ◌*◌, ◌≤◌, List, [], ◌∷◌, length, refl, sym, ap, ◌∙◌, arith}
 use Rattle.signal_values.specs.declared.Sig.{Sig}
-use Rattle.signal_values.specs.declared.Sig.TheVariants.{Zero}
 use Rattle.signal_values.specs.Values.{bit, sig_or}
+use Rattle.signal_values.proofs.Laws.{or-bit}
 use Rattle.netlist_model.specs.declared.NetId.{NetId}
 use Rattle.netlist_model.specs.declared.Feed.{Feed}
 use Rattle.netlist_model.specs.Lists.{NetlistView}
@@ -27,6 +26,7 @@ use Rattle.tap_gates.specs.Controller.{same_state}
 use Rattle.register_bits.specs.Chains.{chain_cells, chain_values, cleared, ChainsFollow}
 use Rattle.register_bits.specs.Laws.{Steers, is_capture, is_shift, bit_after}
 use Rattle.register_gates.specs.Steps.{StepsByRegister}
+use Rattle.register_gates.proofs.Ident.{cleared_is}
 use Rattle.instruction_gates.specs.declared.stages.TheConstants.{LOADS}
 use Rattle.instruction_gates.specs.Rows.{bits_in}
 use Rattle.instruction_gates.specs.Latches.{latches_cells, is_reset, is_update, Latches, LatchesFollow}
@@ -52,14 +52,6 @@ updates w = grind arith
 
 resets : (w : TapState) → same_state TestLogicReset w ≡ is_reset w
 resets w = grind arith
-
-or_bits : (a b : Bool) → sig_or (bit a) (bit b) ≡ bit (a || b)
-or_bits true b = refl
-or_bits false b = refl
-
-cleared_is : (value : ℕ → Sig) (captured : List Feed) → cleared captured ≡ zeros (feed_values value captured)
-cleared_is value [] = refl
-cleared_is value (c ∷ cs) = ap (λ (xs : List Sig). Zero ∷ xs) (cleared_is value cs)
 
 -- a chain's values by its length
 same_values : (value : ℕ → Sig) (first : ℕ) (xs ys : List Feed) → length xs ≡ length ys → chain_values value first xs ≡ chain_values value first ys
@@ -121,7 +113,7 @@ follow laws = λ first number tap tdi captured presets N given events moment as_
         = (laws.meets N LOADS (loads_given tap) first number formed cells.loads _ m.state m.value now.settled 0 _ refl refl).1 in
         let latches : Latches (ir_latching first tap) w m = record {
           loads = ap m.value (sym z) ∙ e0 ∙ ap (λ (x : Sig). sig_or x (m.value tap.in_reset.0)) (f.shows.update_ir ∙ ap bit (updates w))
-              ∙ ap (λ (x : Sig). sig_or (bit (is_update w)) x) (f.shows.in_reset ∙ ap bit (resets w)) ∙ or_bits (is_update w) (is_reset w);
+              ∙ ap (λ (x : Sig). sig_or (bit (is_update w)) x) (f.shows.in_reset ∙ ap bit (resets w)) ∙ or-bit (is_update w) (is_reset w);
           resets = f.shows.in_reset ∙ ap bit (resets w);
         } in
         let a : shift_list (moment (suc t)).value first captured

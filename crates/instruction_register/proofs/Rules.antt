@@ -1,9 +1,10 @@
 -- The codes of an instruction register that some BSDL text describes fit the gates.
-use Rattle.std.proofs.Common.{◌≡◌, ℕ, zero, suc, ◌/◌, ◌%◌, ◌^◌, ◌<◌, ◌==◌, Bool, true, false, cond, not, List, [], ◌∷◌, length, find, refl, sym, ◌∙◌, ap, subst, Option, Some, None, option_map, eqb-true, arith}
+use Rattle.std.proofs.Common.{◌≡◌, ℕ, zero, suc, ◌/◌, ◌%◌, ◌^◌, ◌<◌, ◌==◌, Bool, true, false, cond, not, List, [], ◌∷◌, length, find, refl, sym, ◌∙◌, ap, subst, Option, Some, None, option_map, arith}
 use Rattle.std.specs.Prelude.{◌&&◌, ◌||◌}
 use Rattle.std.specs.List.{list_any, AllByRecursion}
 use Rattle.std.specs.Option.{option_map_or}
-use Rattle.std.proofs.lemmas.Bool.{false≢true, eq-eqb, not-false}
+use Rattle.std.proofs.lemmas.Bool.{false≢true, eq-eqb}
+use Rattle.list_laws.proofs.Tests.{or_first, or_second, or_more}
 use Rattle.signal_values.specs.declared.Sig.{Sig}
 use Rattle.signal_values.specs.declared.Sig.TheVariants.{Zero, One, Unknown}
 use Rattle.signal_values.specs.Values.{bit}
@@ -17,20 +18,9 @@ use Rattle.bsdl_device.specs.Checks.{any_pair, has_instruction, has_other_length
 use Rattle.bsdl_device.specs.IsDevice.{IsBits, opcode_entry, opcode_entries}
 use Rattle.test_logic.specs.Instructions.{bits_of, pattern, opcode_of}
 use Rattle.test_logic.specs.Registers.{first_bit}
+use Rattle.test_logic.proofs.Lengths.{length_bits_of, right_length}
 use Rattle.instruction_gates.specs.Selections.{is_sampling, may_share}
 use Rattle.instruction_register.specs.Laws.{RegistersFit}
-
-or_first : (a b : Bool) → (a || b) ≡ false → a ≡ false
-or_first true b h = h
-or_first false b h = refl
-
-or_second : (a b : Bool) → (a || b) ≡ false → b ≡ false
-or_second true b h = absurd (false≢true (sym h))
-or_second false b h = h
-
-or_from_second : (a b : Bool) → b ≡ true → (a || b) ≡ true
-or_from_second true b h = refl
-or_from_second false b h = h
 
 -- Patterns of one length are of one number.
 
@@ -46,11 +36,6 @@ high_bit false = refl
 abbrev others : List Sig → List Sig
 others [] = []
 others (x ∷ xs) = xs
-
-bits_length : (count value : ℕ) → length (bits_of count value) ≡ count
-unfolding bits_of
-bits_length zero value = refl
-bits_length (suc count) value = ap suc (bits_length count (value / 2))
 
 same_parity : (x y : ℕ) → x < 2 → y < 2 → (x == 1) ≡ (y == 1) → x ≡ y
 same_parity zero zero h k e = refl
@@ -92,9 +77,6 @@ found test [] i opcode none is = absurd (cc)
 found test (o ∷ os) i opcode none is =
     found_step test o (find (λ (p : Opcode). is_instruction i p.instr) os) i opcode (is_instruction i o.instr) refl (or_first (test o) (list_any test os) none)
     (λ e. found test os i opcode (or_second (test o) (list_any test os) none) e) is
-
-long_enough : (n : ℕ) (bits : Bits) → has_other_length n bits ≡ false → bits.len ≡ n
-long_enough n bits h = eqb-true bits.len n (not-false (bits.len == n) h)
 
 -- each value has no more bits than the pattern
 small_step : (o : Opcode) (rest : Option Opcode) (i : Instr) (opcode : Bits) (here : Bool) → IsBits o.bits
@@ -202,12 +184,12 @@ pair_step o os i j opcode true true e f none more x y =
 pair_step o os i j opcode true false e f none more x y =
     let p = found (λ (q : Opcode). opcodes_clash (opcode_entry o) (opcode_entry q)) os j opcode none y in
     let both = sample_both o p.entry p.fails (some_same o.bits opcode x ∙ sym p.has) in
-    or_from_second (is_instruction i j) (is_sampling i && is_sampling j)
+    or_more (is_instruction i j) (is_sampling i && is_sampling j)
     (ap (λ (k : Instr). is_sampling k && is_sampling j) (same_instruction i o.instr e) ∙ ap (λ (k : Instr). is_sampling o.instr && is_sampling k) (same_instruction j p.entry.instr p.named) ∙ both)
 pair_step o os i j opcode false true e f none more x y =
     let p = found (λ (q : Opcode). opcodes_clash (opcode_entry o) (opcode_entry q)) os i opcode none x in
     let both = sample_both o p.entry p.fails (some_same o.bits opcode y ∙ sym p.has) in
-    or_from_second (is_instruction i j) (is_sampling i && is_sampling j)
+    or_more (is_instruction i j) (is_sampling i && is_sampling j)
     (turned j i (ap (λ (k : Instr). is_sampling k && is_sampling i) (same_instruction j o.instr f) ∙ ap (λ (k : Instr). is_sampling o.instr && is_sampling k) (same_instruction i p.entry.instr p.named) ∙ both))
 pair_step o os i j opcode false false e f none more x y = more x y
 
@@ -232,7 +214,7 @@ lengths_of : (n : ℕ) (opcodes : List Opcode) → list_any (λ (o : Opcode). ha
     → opcode.len ≡ n
 lengths_of n opcodes all i opcode is =
     let f = found (λ (o : Opcode). has_other_length n o.bits) opcodes i opcode all is in
-    ap (λ (b : Bits). b.len) (sym f.has) ∙ long_enough n f.entry.bits f.fails
+    ap (λ (b : Bits). b.len) (sym f.has) ∙ right_length n f.entry.bits f.fails
 
 named_bypass : (x : Instr) → names_instruction Bypass (instruction_word x) ≡ is_instruction Bypass x
 named_bypass Bypass = refl
@@ -256,12 +238,12 @@ there (o ∷ os) h e =
 
 reset_long : (n : ℕ) (ident bypass : Option Bits) → ((opcode : Bits) → ident ≡ Some opcode → opcode.len ≡ n) → ((opcode : Bits) → bypass ≡ Some opcode → opcode.len ≡ n) → (bypass ≡ None → ⊥)
     → length (option_map_or pattern ident (option_map_or pattern bypass [])) ≡ n
-reset_long n (Some opcode) bypass long_ident long_bypass some = bits_length opcode.len opcode.value ∙ long_ident opcode refl
-reset_long n None (Some opcode) long_ident long_bypass some = bits_length opcode.len opcode.value ∙ long_bypass opcode refl
+reset_long n (Some opcode) bypass long_ident long_bypass some = length_bits_of opcode.len opcode.value ∙ long_ident opcode refl
+reset_long n None (Some opcode) long_ident long_bypass some = length_bits_of opcode.len opcode.value ∙ long_bypass opcode refl
 reset_long n None None long_ident long_bypass some = absurd (some refl)
 
 -- the last of those that aren't lacking
-last_there : (e s p b : Bool) → (not e || (not s || (not p || (not b || false)))) ≡ false → b ≡ true
+pub last_there : (e s p b : Bool) → (not e || (not s || (not p || (not b || false)))) ≡ false → b ≡ true
 last_there e s p true h = refl
 last_there true true true false h = absurd (false≢true (sym h))
 last_there false s p false h = absurd (false≢true (sym h))
@@ -288,8 +270,8 @@ fits codes rules reset =
     let least = rules.least in
     record {
       some = omega arith;
-      capture = long_enough n codes.capture rules.capture_length;
-      reset = sym (bits_length codes.reset.len codes.reset.value) ∙ ap (λ (xs : List Sig). length xs) (sym reset)
+      capture = right_length n codes.capture rules.capture_length;
+      reset = sym (length_bits_of codes.reset.len codes.reset.value) ∙ ap (λ (xs : List Sig). length xs) (sym reset)
           ∙ reset_long n (opcode_of codes.opcodes Idcode) (opcode_of codes.opcodes Bypass) (λ opcode is. each Idcode opcode is) (λ opcode is. each Bypass opcode is) (there codes.opcodes bypass);
       each = each;
       apart = record { each = shared };

@@ -4,7 +4,7 @@ use Rattle.line_texts.specs.Words.{lines_of, words_of, is_kept, kept_from}
 use Rattle.line_texts.specs.Ahead.{Ahead, BeginsKept, ahead_of, first_number, rest_of}
 use Rattle.line_texts.proofs.Written.{kept_from-kept}
 
-kept_from-skipped : (n : ℕ) (line : List ℕ) (rest : List (List ℕ)) → is_kept (words_of line) ≡ false → kept_from n (line ∷ rest) ≡ kept_from (n + 1) rest
+pub kept_from-skipped : (n : ℕ) (line : List ℕ) (rest : List (List ℕ)) → is_kept (words_of line) ≡ false → kept_from n (line ∷ rest) ≡ kept_from (n + 1) rest
 kept_from-skipped n line rest e = ap (λ (t : Bool). cond t ((n, words_of line) ∷ kept_from (n + 1) rest) (kept_from (n + 1) rest)) e
 
 same_ahead : (rows other : List (ℕ × List (List ℕ))) (m n : ℕ) → rows ≡ other → m ≡ n

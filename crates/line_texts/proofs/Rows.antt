@@ -69,7 +69,7 @@ words_of_parts ((b ∷ bytes) ∷ parts) blanks ends =
 words_are_words : (line : List ℕ) → All (λ b. is_line_end b ≡ false) line → All IsWord (words_of line)
 words_are_words line ends = words_of_parts (slice_split is_blank_byte line) (parts_without is_blank_byte line) (bytes_of_parts (λ b. is_line_end b ≡ false) is_blank_byte line ends)
 
-abbrev IsNumberedRow : ℕ × List (List ℕ) → Type 0
+abbrev pub IsNumberedRow : ℕ × List (List ℕ) → Type 0
 IsNumberedRow row = IsRow row.1
 
 kept_are_rows-step : (n : ℕ) (words : List (List ℕ)) (rows : List (ℕ × List (List ℕ))) (t : Bool) → is_kept words ≡ t → All IsWord words → All IsNumberedRow rows

@@ -1,6 +1,6 @@
 -- Names that are entered one after another, none of which came before.
 use Rattle.std.proofs.Common.{◌≡◌, ℕ, zero, suc, ◌+◌, ◌<◌, ◌||◌, List, [], ◌∷◌, ◌++◌, length, map, take, drop, get_or, refl, ap, sym, subst, ◌∙◌, Option, Some, None, Bool, true, false, arith, append_assoc}
-use Rattle.std.specs.Prelude.{if◌then◌else◌, IfSome}
+use Rattle.std.specs.Prelude.{IfSome}
 use Rattle.std.specs.Option.{option_to_list}
 use Rattle.std.specs.List.{filter_map, All}
 use Rattle.std.specs.Str.{bytes_eq}
@@ -10,6 +10,7 @@ use Rattle.std.proofs.lemmas.List.{take_more, length-map, append-nil}
 use Rattle.std.proofs.lemmas.List.Elements.{filter_map-append, All-append, All-map}
 use Rattle.std.proofs.lemmas.List.Folds.{list_any_at, list_any-append}
 use Rattle.list_laws.proofs.Bytes.{bytes_eq-same}
+use Rattle.first_faults.proofs.Tables.{not_before}
 use Rattle.verilog_tree.specs.declared.tree.Item.{Item}
 use Rattle.verilog_tree.specs.declared.tree.Item.TheVariants.{Gate, Instance, Assign}
 use Rattle.verilog_tree.specs.declared.tree.Module.{Module}
@@ -20,14 +21,6 @@ use Rattle.link_model.specs.Faults.{item_name, names_of, cells_in}
 use Rattle.link_model.specs.Nets.{Declared, NetDeclaration, NamedNet, port_nets, wire_nets, declared_nets, declared_names, nets_in, net_at, counted_from, width}
 use Rattle.link_model.specs.Cells.{NamedCell, cell_of}
 use Rattle.link_arena.specs.Named.{port_name, wire_name, IsEntered, AreNetsEntered, ArePortsEntered, AreCellsEntered}
-
--- a list of names without repetition goes on with a new one
-not_before : (before names : List (List ℕ)) (name : List ℕ) → repeated_after before (name ∷ names) ≡ None → (has_name before name ≡ false) × (repeated_after (before ++ name ∷ []) names ≡ None)
-not_before before names name h = by (has_name before name) refl
-  where
-    by : (b : Bool) → has_name before name ≡ b → (has_name before name ≡ false) × (repeated_after (before ++ name ∷ []) names ≡ None)
-    by true e = let no : Some name ≡ None = sym (ap (λ b. if b then Some name else repeated_after (before ++ name ∷ []) names) e) ∙ h in absurd (cc)
-    by false e = (e, sym (ap (λ b. if b then Some name else repeated_after (before ++ name ∷ []) names) e) ∙ h)
 
 pub repeated_after-append : (before xs ys : List (List ℕ)) → repeated_after before (xs ++ ys) ≡ None → (repeated_after before xs ≡ None) × (repeated_after (before ++ xs) ys ≡ None)
 repeated_after-append before [] ys h = (refl, rw (append-nil before) h)

@@ -7,8 +7,8 @@ use Rattle.std.proofs.lemmas.List.Elements.{All-head, All-tail}
 use Rattle.std.proofs.lemmas.List.Sums.{sum_by-cons}
 use Rattle.std.proofs.lemmas.Bool.Decides.{nat_tests, eqb_tells}
 use Rattle.std.proofs.lemmas.Bool.{not-false}
-use Rattle.list_laws.proofs.Options.{or_else-parts, first_in-at}
-use Rattle.list_laws.proofs.Lists.{slice_get_there}
+use Rattle.list_laws.proofs.Options.{or_else-parts, first_in-at, not_told}
+use Rattle.list_laws.proofs.Lists.{slice_get_there, any_at}
 use Rattle.list_laws.proofs.Numbers.{eqb_same}
 use Rattle.cell_library.specs.Gates.{is_three_state}
 use Rattle.netlist_model.specs.declared.NetId.{NetId}
@@ -32,11 +32,6 @@ enumerate_from-at first [] k x here = absurd (cc)
 enumerate_from-at first (y ∷ ys) zero x here = let same : y ≡ x = cc in let at : first ≡ first + 0 = omega arith in rw (sym same, sym at) refl
 enumerate_from-at first (y ∷ ys) (suc k) x here = let at : (first + 1) + k ≡ first + suc k = omega arith in enumerate_from-at (first + 1) ys k x here ∙ ap (λ (n : ℕ). Some (n, x)) at
 
-pub any-here : {X : Type 0} (p : X → Bool) (xs : List X) (i : ℕ) (x : X) → slice_get xs i ≡ Some x → p x ≡ true → list_any p xs ≡ true
-any-here p [] i x here passes = absurd (cc)
-any-here p (y ∷ ys) zero x here passes = let same : y ≡ x = cc in let now : p y ≡ true = ap p same ∙ passes in rw now refl
-any-here p (y ∷ ys) (suc i) x here passes = let rest = any-here p ys i x here passes in grind (arith, rest)
-
 pub any-there : {X : Type 0} (p : X → Bool) (xs : List X) → list_any p xs ≡ true → (i : ℕ) × (x : X) × (slice_get xs i ≡ Some x) × (p x ≡ true)
 any-there p [] some = absurd (cc)
 any-there {X} p (y ∷ ys) some = by (p y) refl (any-there p ys)
@@ -54,11 +49,11 @@ counted-two p [] i j x y here there passes also = absurd (cc)
 counted-two p (z ∷ zs) zero zero x y here there passes also = inl refl
 counted-two p (z ∷ zs) zero (suc j) x y here there passes also =
     let now : p z ≡ true = let same : z ≡ x = cc in ap p same ∙ passes in
-    let some = counted_any p zs ∙ any-here p zs j y there also in
+    let some = counted_any p zs ∙ any_at p zs j y there also in
     let count = sum_by-cons (λ w. cond (p w) 1 0) z zs in inr (grind (arith, nat_tests, now, some, count))
 counted-two p (z ∷ zs) (suc i) zero x y here there passes also =
     let now : p z ≡ true = let same : z ≡ y = cc in ap p same ∙ also in
-    let some = counted_any p zs ∙ any-here p zs i x here passes in
+    let some = counted_any p zs ∙ any_at p zs i x here passes in
     let count = sum_by-cons (λ w. cond (p w) 1 0) z zs in inr (grind (arith, nat_tests, now, some, count))
 counted-two p (z ∷ zs) (suc i) (suc j) x y here there passes also =
     let count = sum_by-cons (λ w. cond (p w) 1 0) z zs in
@@ -102,16 +97,16 @@ drives-output cell net h = by cell.output refl
     by (Some n) e = let same : n.0 ≡ net = eqb_is n.0 net (rw e at h) in e ∙ ap (λ (k : ℕ). Some (record { 0 = k })) same
 
 reads-yes : (cells : List NamedCell) (j : ℕ) (cell : NamedCell) (place net : ℕ) → ReadsNet cells j cell place net → reads net cell ≡ true
-reads-yes cells j cell place net r = any-here (feeds_from net) cell.feeds place (Net (record { 0 = net })) r.operand (eqb_same net)
+reads-yes cells j cell place net r = any_at (feeds_from net) cell.feeds place (Net (record { 0 = net })) r.operand (eqb_same net)
 
 driven-yes : (cells : List NamedCell) (i : ℕ) (cell : NamedCell) (net : ℕ) → DrivesNet cells i cell net → is_driven cells net ≡ true
-driven-yes cells i cell net d = any-here (drives net) cells i cell d.there (drives-yes cells i cell net d)
+driven-yes cells i cell net d = any_at (drives net) cells i cell d.there (drives-yes cells i cell net d)
 
 by_bufif-yes : (cells : List NamedCell) (i : ℕ) (cell : NamedCell) (net : ℕ) → DrivesNet cells i cell net → is_three_state cell.kind ≡ true → is_driven_by_bufif cells net ≡ true
-by_bufif-yes cells i cell net d three = any-here (λ (c : NamedCell). drives net c && is_three_state c.kind) cells i cell d.there (rw (drives-yes cells i cell net d, three) refl)
+by_bufif-yes cells i cell net d three = any_at (λ (c : NamedCell). drives net c && is_three_state c.kind) cells i cell d.there (rw (drives-yes cells i cell net d, three) refl)
 
 read-yes : (cells : List NamedCell) (j : ℕ) (cell : NamedCell) (place net : ℕ) → ReadsNet cells j cell place net → is_read cells net ≡ true
-read-yes cells j cell place net r = any-here (reads net) cells j cell r.there (reads-yes cells j cell place net r)
+read-yes cells j cell place net r = any_at (reads net) cells j cell r.there (reads-yes cells j cell place net r)
 
 driven-has : (cells : List NamedCell) (net : ℕ) → is_driven cells net ≡ true → HasDriver cells net
 driven-has cells net h =
@@ -138,10 +133,6 @@ pub record IsClear (cells : List NamedCell) (net : ℕ) (n : NamedNet) : Type 0 
   read : is_output n.dir && (is_driven_by_bufif cells net && is_read cells net) ≡ false
   inout : is_inout n.dir && not (is_driven_by_bufif cells net) ≡ false
 
-untold : {X : Type 0} (b : Bool) (x : X) → (if b then Some x else None) ≡ None → b ≡ false
-untold false x h = refl
-untold true x h = absurd (cc)
-
 first_net-at : (test : List NamedCell → ℕ × NamedNet → Option LinkFault) (nets : List NamedNet) (cells : List NamedCell) (net : ℕ) (n : NamedNet) → first_net test nets cells ≡ None → slice_get nets net ≡ Some n → test cells (net, n) ≡ None
 first_net-at test nets cells net n clear here =
     let placed : slice_get (enumerate_from 0 nets) net ≡ Some (net, n) = enumerate_from-at 0 nets net n here ∙ ap (λ (k : ℕ). Some (k, n)) (omega arith) in
@@ -155,12 +146,12 @@ is-clear nets cells net n clear here =
     let d = or_else-parts _ _ c.1 in
     let e = or_else-parts _ _ d.1 in
     record {
-      two = untold _ _ (first_net-at two_drivers nets cells net n a.0 here);
-      input = untold _ _ (first_net-at input_driven nets cells net n b.0 here);
-      driven = untold _ _ (first_net-at not_driven nets cells net n c.0 here);
-      inside = untold _ _ (first_net-at tristate_inside nets cells net n d.0 here);
-      read = untold _ _ (first_net-at tristate_read nets cells net n e.0 here);
-      inout = untold _ _ (first_net-at inout_not_tristate nets cells net n e.1 here);
+      two = not_told _ _ (first_net-at two_drivers nets cells net n a.0 here);
+      input = not_told _ _ (first_net-at input_driven nets cells net n b.0 here);
+      driven = not_told _ _ (first_net-at not_driven nets cells net n c.0 here);
+      inside = not_told _ _ (first_net-at tristate_inside nets cells net n d.0 here);
+      read = not_told _ _ (first_net-at tristate_read nets cells net n e.0 here);
+      inout = not_told _ _ (first_net-at inout_not_tristate nets cells net n e.1 here);
     }
 
 -- Each part.

@@ -3,7 +3,6 @@
 use Rattle.std.specs.Prelude.{ℕ, List, [], ◌∷◌, map, find, Option, Some, None, option_and_then, unwrap_or, false}
 use Rattle.std.specs.Option.{option_map}
 use Rattle.std.specs.Str.{bytes_eq}
-use Rattle.std.specs.Borrow.{Bor}
 use Rattle.verilog_tree.specs.declared.tree.Operand.{Operand}
 use Rattle.verilog_tree.specs.declared.tree.Operand.TheVariants as operand
 use Rattle.verilog_tree.specs.declared.tree.GateKind.{GateKind}
@@ -19,6 +18,7 @@ use Rattle.netlist_model.specs.declared.NetId.{NetId}
 use Rattle.netlist_model.specs.declared.Feed.{Feed}
 use Rattle.netlist_model.specs.declared.Feed.TheVariants.{Net, Const}
 use Rattle.link_model.specs.Nets.{Declared, net_of}
+pub use Rattle.first_faults.specs.Repeated.{bytes_of}
 
 abbrev pub kind_of_gate : GateKind → Kind
 kind_of_gate gate.And = kind.And
@@ -38,11 +38,6 @@ pub record NamedCell : Type 0 where
   pub name : Option (List ℕ)
   pub feeds : List Feed
   pub output : Option NetId
-
--- the bytes of a borrowed name
-abbrev pub bytes_of : Option (Bor (List ℕ)) → Option (List ℕ)
-bytes_of None = None
-bytes_of (Some name) = Some name.now
 
 abbrev pub feed_of : List (List ℕ × Declared) → Operand → Feed
 feed_of names (operand.Bit bit) = Net (net_of names bit)

@@ -7,7 +7,7 @@ use Rattle.std.specs.Str.{bytes_eq}
 use Rattle.std.proofs.lemmas.Bool.Decides.{nat_tests}
 use Rattle.std.proofs.lemmas.List.{length-map}
 use Rattle.std.proofs.lemmas.List.Elements.{All-nil, All-cons, All-head, All-tail}
-use Rattle.list_laws.proofs.Options.{or_else-parts}
+use Rattle.list_laws.proofs.Options.{or_else-parts, first_in-append}
 use Rattle.verilog_tree.specs.declared.tree.Bit.{Bit}
 use Rattle.verilog_tree.specs.declared.tree.Operand.{Operand}
 use Rattle.verilog_tree.specs.declared.tree.Operand.TheVariants as operand
@@ -36,7 +36,6 @@ use Rattle.link_model.specs.Cells.{kind_of_gate, feed_of, linked_operand, port_f
 use Rattle.link_model.specs.Faults.{too_many, gate_operands, operand_bits, link_bits, item_bits, name_unknown, bit_outside, wrong_width, at_bit, cell_unknown, link_width, item_width}
 use Rattle.link_model.specs.Fits.{FitsCell}
 use Rattle.link_names.specs.FitItems.{FitsBit, FitsOperand, FitsConnected, FitsLink, FitsItem}
-use Rattle.link_names.proofs.Firsts.{first_in-append}
 use Rattle.link_names.proofs.NetCounts.{net_fits}
 
 -- no fault stands at these bits

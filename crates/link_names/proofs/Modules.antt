@@ -5,6 +5,7 @@ use Rattle.std.specs.List.{filter_map, AllByRecursion}
 use Rattle.std.proofs.lemmas.List.{map-append}
 use Rattle.std.proofs.lemmas.List.Elements.{All-nil, All-cons, All-head, All-tail}
 use Rattle.list_laws.proofs.Options.{or_else-parts}
+use Rattle.first_faults.proofs.Tables.{not_before}
 use Rattle.verilog_tree.specs.declared.tree.Port.{Port}
 use Rattle.verilog_tree.specs.declared.tree.Wire.{Wire}
 use Rattle.verilog_tree.specs.declared.tree.Item.{Item}
@@ -22,7 +23,6 @@ use Rattle.link_names.specs.Views.{net_names}
 use Rattle.link_names.specs.Tests.{instance_faults_in}
 use Rattle.link_names.specs.FitItems.{FitsItem}
 use Rattle.link_names.specs.Resolving.{head_fault, bit_fault, item_fault}
-use Rattle.link_names.proofs.Tables.{not_before}
 use Rattle.link_names.proofs.Firsts.{first_none}
 use Rattle.link_names.proofs.NetCounts.{length-nets_in}
 use Rattle.link_names.proofs.Fitting.{IsSound, item_fits, cell_fits, within_limit}

@@ -4,7 +4,8 @@ ghost use Rattle.cell_library.specs.Library as library;
 ghost use Rattle.std.specs.Option.{option_copied};
 ghost use Rattle.link_model.specs.Nets.{net_of};
 ghost use Rattle.link_model.specs.Cells as model;
-ghost use Rattle.link_names.specs.Views.{texts, entries_of};
+ghost use Rattle.first_faults.specs.Repeated.{texts};
+ghost use Rattle.link_names.specs.Views.{entries_of};
 ghost use Rattle.link_names.specs.FitItems.{FitsBit, FitsOperand, FitsLink, FitsGate, FitsItem};
 
 use crate::declarations::{Declaration, find};

@@ -2,7 +2,7 @@
 ghost use Rattle.std.specs.Prelude.{◌≡◌, ◌&&◌, map, is_none, IfOk};
 ghost use Rattle.std.specs.List.{list_any};
 ghost use Rattle.std.specs.Str.{bytes_eq};
-ghost use Rattle.link_names.specs.Views.{texts};
+ghost use Rattle.first_faults.specs.Repeated.{texts};
 ghost use Rattle.verilog_tree.specs.declared.tree.Link.{Link};
 ghost use Rattle.link_model.specs.Lists.{first_in, repeated};
 ghost use Rattle.link_model.specs.Cells.{bytes_of};

@@ -2,7 +2,7 @@
 ghost use Rattle.std.specs.Prelude.{◌≡◌};
 ghost use Rattle.cell_library.specs.Library as library;
 ghost use Rattle.link_model.specs.Cells.{bytes_of};
-ghost use Rattle.link_names.specs.Views.{texts};
+ghost use Rattle.first_faults.specs.Repeated.{texts};
 
 use cell_library::{Kind, ResetTo};
 

@@ -8,7 +8,8 @@ use Rattle.std.specs.Cmp.Lexicographic.{bytes_decides}
 use Rattle.std.proofs.lemmas.List.Folds.{list_any-append}
 use Rattle.std.proofs.lemmas.List.Quantifiers.{position-Some}
 use Rattle.std.proofs.lemmas.Option.{slice_get-map, slice_get-get_or, none-some, same_Some}
-use Rattle.list_laws.proofs.Options.{or_else-parts, first_in-at}
+use Rattle.list_laws.proofs.Options.{or_else-parts, first_in-at, not_there}
+use Rattle.list_laws.proofs.Bytes.{bytes_eq-same}
 use Rattle.cell_library.specs.declared.Kind.{Kind}
 use Rattle.cell_library.specs.declared.Kind.TheVariants as kind
 use Rattle.cell_library.specs.declared.PortPlace.{PortPlace}
@@ -92,9 +93,6 @@ find-none {X} test (z ∷ zs) e k y here = by (test z) refl (λ rest. find-none 
 
 -- Each port of an instance is linked once.
 
-bytes_same : (a : List ℕ) → bytes_eq a a ≡ true
-bytes_same a = (bytes_decides a a).1 refl
-
 bytes_turned : (a b : List ℕ) → bytes_eq a b ≡ false → bytes_eq b a ≡ false
 bytes_turned a b e = by (bytes_eq b a) refl
   where
@@ -106,22 +104,18 @@ neither : (a b : Bool) → a || b ≡ false → (a ≡ false) × (b ≡ false)
 neither true b e = absurd (cc)
 neither false b e = (refl, e)
 
-not-told : {X : Type 0} (b : Bool) (x : X) (o : Option X) → (if b then Some x else o) ≡ None → (b ≡ false) × (o ≡ None)
-not-told true x o e = absurd (none-some x (sym e))
-not-told false x o e = (refl, e)
-
 -- the first link of a port's name is the one that stands here
 first_link : (before : List (List ℕ)) (links : List Link) (k : ℕ) (l : Link) → repeated_after before (map (λ (l : Link). l.port) links) ≡ None → slice_get links k ≡ Some l
     → (has_name before l.port ≡ false) × (find (λ (m : Link). bytes_eq m.port l.port) links ≡ Some l)
 first_link before [] k l once here = absurd (none-some l here)
 first_link before (x ∷ xs) zero l once here =
     let same : x ≡ l = same_Some x l here in
-    let new = not-told (has_name before x.port) x.port (repeated_after (before ++ x.port ∷ []) (map (λ (l : Link). l.port) xs)) once in (
+    let new = not_there (has_name before x.port) x.port (repeated_after (before ++ x.port ∷ []) (map (λ (l : Link). l.port) xs)) once in (
       ap (λ (m : Link). has_name before m.port) (sym same) ∙ new.0,
-      ap (λ (b : Bool). cond b (Some x) (find (λ (m : Link). bytes_eq m.port l.port) xs)) (ap (λ (m : Link). bytes_eq m.port l.port) same ∙ bytes_same l.port) ∙ ap (λ (m : Link). Some m) same,
+      ap (λ (b : Bool). cond b (Some x) (find (λ (m : Link). bytes_eq m.port l.port) xs)) (ap (λ (m : Link). bytes_eq m.port l.port) same ∙ bytes_eq-same l.port) ∙ ap (λ (m : Link). Some m) same,
     )
 first_link before (x ∷ xs) (suc k) l once here =
-    let new = not-told (has_name before x.port) x.port (repeated_after (before ++ x.port ∷ []) (map (λ (l : Link). l.port) xs)) once in
+    let new = not_there (has_name before x.port) x.port (repeated_after (before ++ x.port ∷ []) (map (λ (l : Link). l.port) xs)) once in
     let rest = first_link (before ++ x.port ∷ []) xs k l new.1 here in
     let parts = neither (list_any (bytes_eq l.port) before) (list_any (bytes_eq l.port) (x.port ∷ [])) (sym (list_any-append (bytes_eq l.port) before (x.port ∷ [])) ∙ rest.0) in
     let other = neither (bytes_eq l.port x.port) false parts.1 in (

@@ -1,5 +1,5 @@
 -- Elements of lists that are joined, cut or compared by their places.
-use Rattle.std.proofs.Common.{◌≡◌, ◌≢◌, ◌⊎◌, inl, inr, ℕ, zero, suc, ◌+◌, ◌<◌, ◌≤◌, Bool, true, false, not, cond, ◌&&◌, List, [], ◌∷◌, ◌++◌, length, take, drop, map, set, get_or, get_or-set_other, refl, sym, subst, ap, ◌∙◌, arith, Some, None}
+use Rattle.std.proofs.Common.{◌≡◌, ◌≢◌, ◌⊎◌, inl, inr, ℕ, zero, suc, ◌+◌, ◌<◌, ◌≤◌, Bool, true, false, not, cond, ◌&&◌, ◌||◌, List, [], ◌∷◌, ◌++◌, length, take, drop, map, set, get_or, get_or-set_other, refl, sym, subst, ap, ◌∙◌, arith, Some, None}
 use Rattle.std.specs.Prelude.{slice_get, slice_set, nat_eq}
 use Rattle.std.specs.List.{AllByRecursion, list_all, list_any, position, position_or_len, starts_with}
 use Rattle.std.proofs.lemmas.Bool.{lt-ltb}
@@ -8,7 +8,7 @@ use Rattle.std.proofs.lemmas.Grind.{get_or-set_at}
 use Rattle.std.proofs.lemmas.List.{take_more}
 use Rattle.std.proofs.lemmas.Option.{slice_get_within, get_or_from_slice_get}
 use Rattle.list_laws.specs.Lists.{counted_from, AreAll}
-use Rattle.list_laws.proofs.Tests.{and_left, and_right, and_true}
+use Rattle.list_laws.proofs.Tests.{and_left, and_right, and_true, or_first, or_second, neither, or_more}
 use Rattle.list_laws.proofs.Numbers.{eqb_same}
 
 -- What holds of each element.
@@ -196,3 +196,51 @@ front_of {X = X} (x ∷ xs) ys (suc n) is = ap (λ (zs : List X). x ∷ zs) (fro
 pub begins_joined : (prefix rest : List ℕ) → starts_with nat_eq (prefix ++ rest) prefix ≡ true
 begins_joined [] rest = refl
 begins_joined (x ∷ prefix) rest = and_true (nat_eq x x) (starts_with nat_eq (prefix ++ rest) prefix) (eqb_same x) (begins_joined prefix rest)
+
+-- Tests along a list, and finds.
+
+pub any_at : {X : Type 0} (p : X → Bool) (xs : List X) (k : ℕ) (x : X) → slice_get xs k ≡ Some x → p x ≡ true → list_any p xs ≡ true
+any_at p [] k x at passes = absurd (cc)
+any_at p (y ∷ ys) zero x at passes = let same : y ≡ x = cc in let now : p y ≡ true = ap p same ∙ passes in rw now refl
+any_at p (y ∷ ys) (suc k) x at passes = or_more (p y) (list_any p ys) (any_at p ys k x at passes)
+
+pub test_at : {X : Type 0} (p : X → Bool) (xs : List X) (k : ℕ) (x : X) → list_all p xs ≡ true → slice_get xs k ≡ Some x → p x ≡ true
+test_at p [] k x all at = absurd (cc)
+test_at {X = X} p (y ∷ ys) zero x all at = let same : y ≡ x = cc in subst (λ (z : X). p z ≡ true) same (and_left (p y) (list_all p ys) all)
+test_at p (y ∷ ys) (suc k) x all at = test_at p ys k x (and_right (p y) (list_all p ys) all) at
+
+-- tests that agree
+pub any_same : {X : Type 0} (p q : X → Bool) → ((x : X) → p x ≡ q x) → (xs : List X) → list_any p xs ≡ list_any q xs
+any_same p q same [] = refl
+any_same p q same (x ∷ xs) = rw (same x, any_same p q same xs) refl
+
+pub any_map : {X Y : Type 0} (p : Y → Bool) (f : X → Y) (xs : List X) → list_any p (map f xs) ≡ list_any (λ x. p (f x)) xs
+any_map p f [] = refl
+any_map p f (x ∷ xs) = ap (λ (b : Bool). p (f x) || b) (any_map p f xs)
+
+-- a test that each element fails
+pub each_fails : {X : Type 0} (p : X → Bool) (xs : List X) → list_any p xs ≡ false → AllByRecursion (λ x. p x ≡ false) xs
+each_fails p [] none = tt
+each_fails p (x ∷ xs) none = (or_first (p x) (list_any p xs) none, each_fails p xs (or_second (p x) (list_any p xs) none))
+
+pub none_passes : {X : Type 0} (p : X → Bool) (xs : List X) → AllByRecursion (λ x. p x ≡ false) xs → list_any p xs ≡ false
+none_passes p [] all = refl
+none_passes p (x ∷ xs) all = neither (p x) (list_any p xs) all.0 (none_passes p xs all.1)
+
+-- More of the front of a list, and of what is left.
+
+pub in_front : {X : Type 0} (xs : List X) (n k : ℕ) (x : X) → k < n → slice_get xs k ≡ Some x → slice_get (take n xs) k ≡ Some x
+in_front [] n k x low at = absurd (cc)
+in_front (y ∷ ys) zero k x low at = absurd (omega arith)
+in_front (y ∷ ys) (suc n) zero x low at = at
+in_front (y ∷ ys) (suc n) (suc k) x low at = in_front ys n k x (omega arith) at
+
+pub none_left : {X : Type 0} (xs : List X) (n : ℕ) → length xs ≤ n → drop n xs ≡ []
+none_left [] zero long = refl
+none_left [] (suc n) long = refl
+none_left (x ∷ xs) zero long = absurd (omega arith)
+none_left (x ∷ xs) (suc n) long = none_left xs n (omega arith)
+
+pub map_push : {X Y : Type 0} (f : X → Y) (xs : List X) (x : X) → map f (xs ++ x ∷ []) ≡ map f xs ++ f x ∷ []
+map_push f [] x = refl
+map_push {Y = Y} f (y ∷ ys) x = ap (λ (l : List Y). f y ∷ l) (map_push f ys x)

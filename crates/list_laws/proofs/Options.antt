@@ -1,6 +1,8 @@
 -- Options that are told, and the first of several.
-use Rattle.std.proofs.Common.{◌≡◌, ℕ, zero, suc, Bool, true, false, cond, if◌then◌else◌, List, [], ◌∷◌, ◌++◌, find, Option, Some, None, is_some, refl, sym, ap, subst, ◌∙◌}
-use Rattle.std.specs.Prelude.{slice_get}
+use Rattle.std.proofs.Common.{◌≡◌, ℕ, zero, suc, Bool, true, false, cond, if◌then◌else◌, List, [], ◌∷◌, ◌++◌, find, Option, Some, None, is_some, option_map, refl, sym, ap, subst, ◌∙◌}
+use Rattle.std.specs.Prelude.{slice_get, Result, Ok, Err, IfErr}
+use Rattle.std.specs.Option.{IsSome}
+use Rattle.std.specs.Result.{IsErrAnd}
 use Rattle.std.specs.List.{AllByRecursion}
 use Rattle.list_laws.specs.Options.{or_else, first_in}
 
@@ -56,3 +58,26 @@ found {X = X} p (y ∷ ys) x h = step (find p ys) (p y) refl (λ k. found p ys x
     step : (rest : Option X) (t : Bool) → p y ≡ t → (rest ≡ Some x → p x ≡ true) → cond t (Some y) rest ≡ Some x → p x ≡ true
     step rest true e more k = let same : y ≡ x = cc in subst (λ (z : X). p z ≡ true) same e
     step rest false e more k = more k
+
+-- a find that gives nothing
+pub not_found : {A B : Type 0} (g : A → B) (b : Bool) (x : A) (rest : Option A) → option_map g (cond b (Some x) rest) ≡ None → b ≡ false
+not_found g true x rest h = absurd (cc)
+not_found g false x rest h = refl
+
+-- a test that is not told
+pub not_told : {X : Type 0} (b : Bool) (x : X) → (if b then Some x else None) ≡ None → b ≡ false
+not_told true x h = absurd (cc)
+not_told false x h = refl
+
+-- what is there, by its test and by its value
+pub some_there : {X : Type 0} (o : Option X) → IsSome o → (x : X) × (o ≡ Some x)
+some_there None there = absurd (let no : false ≡ true = there in cc)
+some_there (Some x) there = (x, refl)
+
+pub is_there : {X : Type 0} (o : Option X) (x : X) → o ≡ Some x → IsSome o
+is_there o x e = rw e refl
+
+-- an error of which something holds
+pub err_is : {A E : Type 0} (r : Result A E) (f : E) (P : E → Type 0) → IsErrAnd r (λ made. made ≡ f) → P f → IfErr r P
+err_is (Ok x) f P is holds = tt
+err_is (Err made) f P is holds = subst P (sym is) holds

@@ -1,5 +1,5 @@
 -- Tests that are joined.
-use Rattle.std.proofs.Common.{◌≡◌, ◌⊎◌, inl, inr, Bool, true, false, not, ◌&&◌, ◌||◌, refl}
+use Rattle.std.proofs.Common.{◌≡◌, ◌⊎◌, inl, inr, Bool, true, false, not, ◌&&◌, ◌||◌, IsTrue, refl}
 
 pub and_left : (a b : Bool) → (a && b) ≡ true → a ≡ true
 and_left true b h = refl
@@ -58,3 +58,26 @@ not_true false h = refl
 pub never_true : (b : Bool) → (b ≡ true → ⊥) → b ≡ false
 never_true true h = absurd (h refl)
 never_true false h = refl
+
+pub or_more : (a b : Bool) → b ≡ true → (a || b) ≡ true
+or_more true b h = refl
+or_more false b h = h
+
+pub both_false : (a b : Bool) → (a || b) ≡ false → (a ≡ false) × (b ≡ false)
+both_false a b h = (or_first a b h, or_second a b h)
+
+-- Tests that hold.
+
+pub both_hold : (a b : Bool) → IsTrue (a && b) → IsTrue a × IsTrue b
+both_hold true b is = (refl, is)
+both_hold false b is = absurd (cc)
+
+-- the second holds where the first doesn't
+pub other_holds : (a b : Bool) → IsTrue (a || b) → a ≡ false → IsTrue b
+other_holds true b either is = absurd (cc)
+other_holds false b either is = either
+
+-- the second holds where the first does
+pub then_holds : (a b : Bool) → IsTrue (not a || b) → a ≡ true → IsTrue b
+then_holds true b either is = either
+then_holds false b either is = absurd (cc)

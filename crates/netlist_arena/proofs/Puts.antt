@@ -6,12 +6,13 @@ use Rattle.std.proofs.lemmas.Bool.{cases_eq}
 use Rattle.std.proofs.lemmas.List.Elements.{All-set, All-push}
 use Rattle.std.proofs.lemmas.List.Sums.{sum_by-cons}
 use Rattle.std.proofs.lemmas.Option.{slice_get_within, slice_get_past}
+use Rattle.list_laws.proofs.Lists.{last_push}
 use Rattle.netlist_model.specs.Lists.{CellView, NetlistView, live_cell, cell_at, cell_count}
 use Rattle.netlist_model.specs.Contained.{IsDense}
 use Rattle.netlist_arena.specs.Arena.{IsPlaceBelow, live_count}
 use Rattle.netlist_arena.specs.Adds.{AddsCell, PutsCell}
 use Rattle.netlist_arena.specs.Moves.{RemovesCell}
-use Rattle.netlist_arena.proofs.Places.{slice_get-push_last, slice_get-push_other, slice_get-set_same, slice_get-set_other}
+use Rattle.netlist_arena.proofs.Places.{slice_get-push_other, slice_get-set_same, slice_get-set_other}
 use Rattle.netlist_arena.proofs.Changes.{one_if_live, live_count_push, live_count_removed}
 
 -- the live cells have the numbers below their count
@@ -94,7 +95,7 @@ puts_adds N cells free number cell counted (inr follows) =
       ports = refl;
       nets = refl;
       fresh = let past : slice_get N.cells number ≡ None = slice_get_past N.cells number (omega arith) in ap live_cell past;
-      added = rw (places, is) (ap live_cell (slice_get-push_last N.cells (Some cell)));
+      added = rw (places, is) (ap live_cell (last_push N.cells (Some cell)));
       others = λ other differ. rw places (ap live_cell (slice_get-push_other N.cells (Some cell) other (λ e. differ (e ∙ sym is))));
       count = rw places (live_count_push N.cells cell);
       last = λ dense. is ∙ dense_ends N.cells dense (rw counted at follows.taken);

@@ -10,14 +10,11 @@ use Rattle.netlist_model.specs.Lists.{PortView, CellView, NetlistView, cell_at, 
 use Rattle.netlist_model.specs.Formed.{IsDriven, IsCombinational, FeedsBelow}
 use Rattle.std.specs.Option.{option_map}
 use Rattle.std.specs.Prelude.{Option}
+use Rattle.netlist_laws.proofs.Search.{cell_at_once}
 use Rattle.netlist_images.specs.Nested.{renamed_net, renamed_feed, renamed_cell, Nested}
 use Rattle.netlist_images.specs.Renumbering.{ArePortImages}
 use Rattle.netlist_images.specs.RenumberedLaws.{CopyIsRenumbering, RenumberedBits, RenumberedNests, RenumberingTurns, RenumberedIsFormed}
 use Rattle.netlist_images.proofs.Numbers.{length-mapped, copied_direction, copied_bit, copied_nested, drives_over, reads_over, driven_over, control_over}
-
--- two live cells with one number are one
-one_cell : (N : NetlistView) (i j : ℕ) (cell other : CellView) → i ≡ j → cell_at N i ≡ Some cell → cell_at N j ≡ Some other → cell ≡ other
-one_cell N i j cell other e at at' = let same : Some cell ≡ Some other = sym at ∙ ap (λ k. cell_at N k) e ∙ at' in cc
 
 pub renumbering_turns : RenumberingTurns
 renumbering_turns N M to at r = record { back = to; from = at; there = r.here; here = r.there }
@@ -127,7 +124,7 @@ copy_is_renumbering N M to at back from c undo covers = record {
     cells = λ j cell live.
         let image = covers j cell live in
         let there = c.cells image.old image.cell image.live in
-        let same : cell ≡ renamed_cell to there.name image.cell = one_cell M j (at image.old) cell (renamed_cell to there.name image.cell) (sym image.same) live there.live in
+        let same : cell ≡ renamed_cell to there.name image.cell = cell_at_once M j (at image.old) cell (renamed_cell to there.name image.cell) (sym image.same) live there.live in
         let number : from j ≡ image.old = ap from (sym image.same) ∙ c.numbers image.old image.cell image.live in
         let undone : renamed_cell back image.cell.name cell ≡ image.cell = ap (renamed_cell back image.cell.name) same ∙ cell_undone to back c.nets there.name image.cell in
         record { name = image.cell.name; live = ap (cell_at N) number ∙ image.live ∙ ap (λ (x : CellView). Some x) (sym undone) };

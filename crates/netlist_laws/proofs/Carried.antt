@@ -1,5 +1,6 @@
 -- What holds between the values of two valuations, net by net, along the numbers of the gates.
 use Rattle.std.proofs.Common.{◌≡◌, ℕ, zero, suc, ◌<◌, true, false, List, arith, inl, inr}
+use Rattle.list_laws.proofs.Tests.{true_or_false}
 use Rattle.signal_values.specs.declared.Sig.{Sig}
 use Rattle.signal_values.specs.declared.Sig.TheVariants.{Unknown}
 use Rattle.cell_library.specs.declared.Kind.{Kind}
@@ -8,7 +9,7 @@ use Rattle.cell_library.specs.declared.FlopKind.{FlopKind}
 use Rattle.netlist_model.specs.Lists.{CellView, NetlistView, direction, Drives, IsUndriven}
 use Rattle.netlist_model.specs.Settled.{feed_values, cell_value, follows_pin, Meets}
 use Rattle.cell_library.specs.Gates.{is_flop}
-use Rattle.netlist_laws.proofs.Search.{true_or_false, flop_or_gate, search_driver}
+use Rattle.netlist_laws.proofs.Search.{flop_or_gate, search_driver}
 
 -- on the nets of C with smaller numbers the relation holds
 abbrev pub HoldsBelow : (ℕ → Type 0) → (Sig → Sig → Type 0) → (ℕ → ℕ) → (ℕ → Sig) → (ℕ → Sig) → ℕ → Type 0

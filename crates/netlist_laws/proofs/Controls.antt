@@ -2,6 +2,7 @@
 use Rattle.std.proofs.Common.{◌≡◌, ℕ, suc, ◌⊎◌, true, false, List, [], ◌∷◌, length, refl, ap, sym, ◌∙◌, inl, inr, arith, All, IsTrue}
 use Rattle.std.specs.Prelude.{Some, slice_get}
 use Rattle.std.proofs.lemmas.List.Elements.{All-cons}
+use Rattle.list_laws.proofs.Tests.{true_or_false}
 use Rattle.signal_values.specs.declared.Sig.{Sig}
 use Rattle.signal_values.specs.Values.{bit}
 use Rattle.cell_library.specs.declared.Kind.{Kind}
@@ -17,7 +18,7 @@ use Rattle.netlist_model.specs.Settled.{feed_values, cell_value, follows_pin}
 use Rattle.netlist_model.specs.Cones.{GateReads, InCone, itself, behind, FlopReads, IsControlNet, IsControlPort}
 use Rattle.netlist_model.specs.Formed.{IsDriven, IsWellFormed}
 use Rattle.netlist_laws.specs.Controls.{ControlsKnownUnder, ControlsOnce}
-use Rattle.netlist_laws.proofs.Search.{true_or_false, cell_at_once}
+use Rattle.netlist_laws.proofs.Search.{cell_at_once}
 use Rattle.netlist_laws.proofs.Carried.{HoldsBelow, carried}
 use Rattle.netlist_laws.proofs.Once.{feeds_below_at, agree_inside}
 use Rattle.netlist_laws.proofs.Pins.{pin_kinds}

@@ -43,7 +43,7 @@ data DrivesAt : ℕ → CellView → ℕ → Type 0 where
   bufif_drives : DrivesAt 1 bufif_cell 3
   xor_drives : DrivesAt 2 xor_cell 2
 
-output_net : (a b : ℕ) → (let wrap : ℕ → Option NetId = λ n. Some (record { 0 = n }) in wrap a ≡ wrap b) → a ≡ b
+pub output_net : (a b : ℕ) → (let wrap : ℕ → Option NetId = λ n. Some (record { 0 = n }) in wrap a ≡ wrap b) → a ≡ b
 output_net a b e =
     let x : NetId = record { 0 = a } in
     let y : NetId = record { 0 = b } in

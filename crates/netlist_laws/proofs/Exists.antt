@@ -1,6 +1,7 @@
 -- Some valuation meets the equations: each net's value after as many rounds as its number says.
 use Rattle.std.proofs.Common.{◌≡◌, ℕ, zero, suc, ◌<◌, ◌⊎◌, true, false, List, if◌then◌else◌, refl, ap, sym, ◌∙◌, inl, inr, arith}
 use Rattle.std.proofs.lemmas.Bool.Decides.{eqb_tells}
+use Rattle.list_laws.proofs.Tests.{true_or_false}
 use Rattle.signal_values.specs.declared.Sig.{Sig}
 use Rattle.signal_values.specs.declared.Sig.TheVariants.{Unknown}
 use Rattle.cell_library.specs.declared.Kind.{Kind}
@@ -11,7 +12,7 @@ use Rattle.netlist_model.specs.Settled.{feed_values, cell_value, follows_pin}
 use Rattle.cell_library.specs.Gates.{is_flop}
 use Rattle.netlist_model.specs.Formed.{FeedsBelow, IsNumbered}
 use Rattle.netlist_laws.specs.Settle.{IsCausal, IsDrivenOnce, MeetsExists}
-use Rattle.netlist_laws.proofs.Search.{Found, NoneDrives, search_driver, true_or_false, flop_or_gate, cell_at_once}
+use Rattle.netlist_laws.proofs.Search.{Found, NoneDrives, search_driver, flop_or_gate, cell_at_once}
 use Rattle.netlist_laws.proofs.Once.{feeds_below_at, feed_values_same}
 
 -- what the driver of a net gives it

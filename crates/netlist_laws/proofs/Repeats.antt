@@ -22,7 +22,7 @@ abbrev pub FlopsRest : NetlistView → Moment → Type 0
 FlopsRest N m = (i : ℕ) (cell : CellView) (kind : FlopKind) → cell_at N i ≡ Some cell → cell.kind ≡ Flop kind
     → m.state i ≡ flop_start kind (feed_values m.value cell.feeds) (m.state i)
 
-rest_of : (reset : ResetTo) (control other now : Sig) → now ≡ reset_or reset control other → now ≡ reset_or reset control now
+pub rest_of : (reset : ResetTo) (control other now : Sig) → now ≡ reset_or reset control other → now ≡ reset_or reset control now
 rest_of reset control other now e = e ∙ sym (ap (reset_or reset control) e ∙ reset_or-twice reset control other)
 
 -- the flip-flops are at rest at each moment

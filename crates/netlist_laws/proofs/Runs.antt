@@ -5,7 +5,6 @@ use Rattle.std.proofs.lemmas.List.Elements.{All-head, All-tail}
 use Rattle.std.proofs.lemmas.Bool.Decides.{eqb_tells}
 use Rattle.signal_values.specs.declared.Sig.{Sig}
 use Rattle.signal_values.specs.declared.PinSig.{PinSig}
-use Rattle.cell_library.specs.declared.Kind.{Kind}
 use Rattle.cell_library.specs.declared.Kind.TheVariants.{Flop}
 use Rattle.cell_library.specs.declared.FlopKind.{FlopKind}
 use Rattle.cell_library.specs.Flops.{flop_next, flop_start}
@@ -15,7 +14,7 @@ use Rattle.netlist_model.specs.Cones.{IsControlPort}
 use Rattle.netlist_model.specs.Formed.{IsWellFormed}
 use Rattle.netlist_model.specs.Runs.{Moment, PinEvent, IsKnownPin, IsLegal, IsStart, IsStep, pins_after}
 use Rattle.netlist_laws.specs.Settle.{SamePins, SameFlops}
-use Rattle.netlist_laws.specs.Runs.{SameControlNets, SameMoment, RunExists, RunOnce}
+use Rattle.netlist_laws.specs.Runs.{SameControlNets, SameMoment, RunExists, RunOnce, cell_start, cell_next}
 use Rattle.netlist_laws.proofs.Pins.{settled_exists, settled_once}
 use Rattle.netlist_laws.proofs.Flops.{clock_same, reset_same, flop_start-same, flop_next-after, flops_start_once, flops_step_once}
 use Rattle.netlist_laws.proofs.Moments.{event_at, controls_same}
@@ -27,26 +26,8 @@ settled_value N formed pins state = (settled_exists N formed pins state).0
 settled_value-settled : (N : NetlistView) (formed : IsWellFormed N) (pins : ℕ → PinSig) (state : ℕ → Sig) → IsSettled N pins state (settled_value N formed pins state)
 settled_value-settled N formed pins state = (settled_exists N formed pins state).1
 
--- what a cell holds at a start, where the nets have these values
-abbrev kind_start : Kind → List Sig → Sig → Sig
-kind_start (Flop kind) inputs given = flop_start kind inputs given
-kind_start kind inputs given = given
-
-abbrev cell_start : Option CellView → (ℕ → Sig) → Sig → Sig
-cell_start None value given = given
-cell_start (Some cell) value given = kind_start cell.kind (feed_values value cell.feeds) given
-
 abbrev start_state : NetlistView → (ℕ → Sig) → (ℕ → Sig) → ℕ → Sig
 start_state N value given i = cell_start (cell_at N i) value (given i)
-
--- what a cell holds after a step
-abbrev kind_next : Kind → List Sig → List Sig → Sig → Sig
-kind_next (Flop kind) before after kept = flop_next kind before after kept
-kind_next kind before after kept = kept
-
-abbrev cell_next : Option CellView → (ℕ → Sig) → (ℕ → Sig) → Sig → Sig
-cell_next None before after kept = kept
-cell_next (Some cell) before after kept = kind_next cell.kind (feed_values before cell.feeds) (feed_values after cell.feeds) kept
 
 abbrev next_state : NetlistView → (ℕ → Sig) → (ℕ → Sig) → (ℕ → Sig) → ℕ → Sig
 next_state N before after state i = cell_next (cell_at N i) before after (state i)
@@ -137,7 +118,7 @@ run_exists N formed pins given events known legal = (
   λ net. refl,
 )
 
-start_same : (N : NetlistView) (given given' : ℕ → Sig) (m m' : Moment) → IsWellFormed N → IsStart N given m → IsStart N given' m' → SamePins N m.pins m'.pins → SameFlops N given given'
+pub start_same : (N : NetlistView) (given given' : ℕ → Sig) (m m' : Moment) → IsWellFormed N → IsStart N given m → IsStart N given' m' → SamePins N m.pins m'.pins → SameFlops N given given'
     → SameMoment N m m'
 start_same N given given' m m' formed a b pins same =
     let controls : SameControlNets N m.value m'.value
@@ -145,14 +126,14 @@ start_same N given given' m m' formed a b pins same =
     let flops : SameFlops N m.state m'.state = flops_start_once N given given' m.value m'.value m.state m'.state same controls a.flops b.flops in
     record { pins = pins; flops = flops; value = settled_once N formed m.pins m'.pins m.state m'.state m.value m'.value pins flops a.settled b.settled }
 
-pins_after-same : (N : NetlistView) (pins pins' : ℕ → PinSig) (event : PinEvent) → SamePins N pins pins' → SamePins N (pins_after pins event) (pins_after pins' event)
+pub pins_after-same : (N : NetlistView) (pins pins' : ℕ → PinSig) (event : PinEvent) → SamePins N pins pins' → SamePins N (pins_after pins event) (pins_after pins' event)
 pins_after-same N pins pins' event same net g =
     elim (eqb_tells net event.net) [
       | inl e ↦ rw e.0 refl
       | inr e ↦ rw e.0 (same net g)
     ]
 
-step_same : (N : NetlistView) (event : PinEvent) (m m' n n' : Moment) → IsWellFormed N → SameMoment N m m' → IsStep N event m n → IsStep N event m' n' → SameMoment N n n'
+pub step_same : (N : NetlistView) (event : PinEvent) (m m' n n' : Moment) → IsWellFormed N → SameMoment N m m' → IsStep N event m n → IsStep N event m' n' → SameMoment N n n'
 step_same N event m m' n n' formed same a b =
     let pins : SamePins N n.pins n'.pins = λ net g. a.pins net ∙ pins_after-same N m.pins m'.pins event same.pins net g ∙ sym (b.pins net) in
     let controls : SameControlNets N n.value n'.value

@@ -1,5 +1,5 @@
 -- Finding the driver of a net.
-use Rattle.std.proofs.Common.{◌≡◌, ◌≢◌, ℕ, zero, suc, ◌⊎◌, Bool, true, false, List, [], ◌∷◌, Option, refl, ap, sym, ◌∙◌, inl, inr}
+use Rattle.std.proofs.Common.{◌≡◌, ◌≢◌, ℕ, zero, suc, ◌⊎◌, true, false, List, [], ◌∷◌, Option, refl, ap, sym, ◌∙◌, inl, inr}
 use Rattle.std.specs.Prelude.{Some, None, slice_get}
 use Rattle.std.proofs.lemmas.Bool.Decides.{eqb_tells}
 use Rattle.cell_library.specs.declared.Kind.{Kind}
@@ -10,11 +10,6 @@ use Rattle.netlist_model.specs.Lists.{CellView, NetlistView, cell_at, live_cell,
 use Rattle.netlist_model.specs.Settled.{is_output, driver_of}
 use Rattle.cell_library.specs.Gates.{is_flop}
 use Rattle.netlist_laws.specs.Settle.{IsDrivenOnce}
-
--- a test is true or false
-pub true_or_false : (b : Bool) → (b ≡ true) ⊎ (b ≡ false)
-true_or_false true = inl refl
-true_or_false false = inr refl
 
 -- a cell is a flip-flop or a gate
 pub flop_or_gate : (kind : Kind) → ((k : FlopKind) × (kind ≡ Flop k)) ⊎ (is_flop kind ≡ false)

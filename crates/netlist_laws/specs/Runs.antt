@@ -1,9 +1,12 @@
 -- A start and a list of legal events have exactly one run, and an event that repeats the present value changes nothing in it.
-use Rattle.std.specs.Prelude.{◌≡◌, ℕ, suc, ◌≤◌, List, length, slice_get, Some, All}
+use Rattle.std.specs.Prelude.{◌≡◌, ℕ, suc, ◌≤◌, List, length, slice_get, Option, Some, None, All}
 use Rattle.signal_values.specs.declared.Sig.{Sig}
 use Rattle.signal_values.specs.declared.PinSig.{PinSig}
-use Rattle.netlist_model.specs.Lists.{NetlistView}
-use Rattle.netlist_model.specs.Settled.{IsSettled}
+use Rattle.cell_library.specs.declared.Kind.{Kind}
+use Rattle.cell_library.specs.declared.Kind.TheVariants.{Flop}
+use Rattle.cell_library.specs.Flops.{flop_next, flop_start}
+use Rattle.netlist_model.specs.Lists.{CellView, NetlistView}
+use Rattle.netlist_model.specs.Settled.{feed_values, IsSettled}
 use Rattle.netlist_model.specs.Cones.{IsControlNet, IsControlPort}
 use Rattle.netlist_model.specs.Formed.{IsWellFormed}
 use Rattle.netlist_model.specs.Runs.{Moment, PinEvent, IsKnownPin, FlopsStart, FlopsStep, IsLegal, IsStep, IsRun}
@@ -22,6 +25,24 @@ FlopsStartOnce = (N : NetlistView) (given given' value value' state state' : ℕ
 abbrev pub FlopsStepOnce : Type 0
 FlopsStepOnce = (N : NetlistView) (before before' after after' state state' next next' : ℕ → Sig) → ((net : ℕ) → before net ≡ before' net)
     → SameControlNets N after after' → SameFlops N state state' → FlopsStep N before after state next → FlopsStep N before' after' state' next' → SameFlops N next next'
+
+-- own: what a cell holds at a start, where the nets have these values: a flip-flop its start value, and a gate what is given
+abbrev pub kind_start : Kind → List Sig → Sig → Sig
+kind_start (Flop kind) inputs given = flop_start kind inputs given
+kind_start kind inputs given = given
+
+abbrev pub cell_start : Option CellView → (ℕ → Sig) → Sig → Sig
+cell_start None value given = given
+cell_start (Some cell) value given = kind_start cell.kind (feed_values value cell.feeds) given
+
+-- own: what a cell holds after a step: a flip-flop its next value, and a gate what was held
+abbrev pub kind_next : Kind → List Sig → List Sig → Sig → Sig
+kind_next (Flop kind) before after kept = flop_next kind before after kept
+kind_next kind before after kept = kept
+
+abbrev pub cell_next : Option CellView → (ℕ → Sig) → (ℕ → Sig) → Sig → Sig
+cell_next None before after kept = kept
+cell_next (Some cell) before after kept = kind_next cell.kind (feed_values before cell.feeds) (feed_values after cell.feeds) kept
 
 -- own: two moments have the same pins, the same flip-flops and the same nets
 pub record SameMoment (N : NetlistView) (m m' : Moment) : Type 0 where

@@ -1,11 +1,11 @@
 -- The cells of a netlist and the named cells that they are.
 use Rattle.std.proofs.Common.{◌≡◌, ℕ, ◌<◌, List, length, refl, Option, Some, None, ap, sym, ◌∙◌}
 use Rattle.std.specs.Prelude.{slice_get}
+use Rattle.list_laws.proofs.Lists.{slice_get_there}
 use Rattle.netlist_model.specs.Lists.{CellView, NetlistView, cell_at, Drives, Reads}
 use Rattle.link_model.specs.Cells.{NamedCell}
 use Rattle.link_model.specs.Denoted.{AreCells, IsLive, IsCell}
 use Rattle.link_drivers.specs.Drivers.{DrivesNet, ReadsNet}
-use Rattle.netlist_link.proofs.Lists.{slice_get_there}
 
 -- the named cell of a live cell
 pub record NamedAt (table : List (List ℕ)) (cells : List NamedCell) (i : ℕ) (cell : CellView) : Type 0 where

@@ -1,9 +1,10 @@
 -- What the kinds of items are, and which faults a module without faults of its text has not.
-use Rattle.std.proofs.Common.{◌≡◌, ℕ, zero, suc, Bool, true, false, List, [], ◌∷◌, refl, ap, sym, ◌∙◌, ◌⊎◌, inl, inr, Option, Some, None}
+use Rattle.std.proofs.Common.{◌≡◌, ℕ, Bool, true, false, List, refl, ap, sym, ◌⊎◌, inl, inr, Option, Some, None}
 use Rattle.std.specs.Prelude.{slice_get, if◌then◌else◌}
 use Rattle.std.specs.Str.{bytes_eq}
 use Rattle.std.proofs.lemmas.Option.{same_Some}
 use Rattle.std.specs.Prelude.{codes}
+use Rattle.list_laws.proofs.Options.{or_else-parts, first_in-at}
 use Rattle.cell_library.specs.declared.Kind.{Kind}
 use Rattle.cell_library.specs.declared.Kind.TheVariants as kind
 use Rattle.cell_library.specs.declared.FlopKind.{FlopKind}
@@ -74,24 +75,13 @@ library_kind name k e =
 
 -- No fault.
 
-pub or_else_none : {X : Type 0} (a b : Option X) → or_else a b ≡ None → (a ≡ None) × (b ≡ None)
-or_else_none None b e = (refl, e)
-or_else_none (Some x) b e = absurd (cc)
-
-pub first_in_none : {X Y : Type 0} (test : X → Option Y) (xs : List X) (k : ℕ) (x : X) → first_in test xs ≡ None → slice_get xs k ≡ Some x → test x ≡ None
-first_in_none test [] k x e at = absurd (cc)
-first_in_none test (y ∷ xs) zero x e at =
-    let same : y ≡ x = same_Some y x at in
-    ap test (sym same) ∙ (or_else_none (test y) (first_in test xs) e).0
-first_in_none test (y ∷ xs) (suc k) x e at = first_in_none test xs k x (or_else_none (test y) (first_in test xs) e).1 at
-
 -- where no fault of the text stands, each instance is of a library cell
 pub known_cells : (m : Module) → text_fault m ≡ None → (i : ℕ) (x : Item) → slice_get m.items i ≡ Some x → cell_unknown x ≡ None
 known_cells m e i x at =
     let widths : Option LinkFault = first_in (item_width (declared_names m)) m.items in
-    let one = or_else_none (too_many_in m) (or_else (name_twice m) (or_else (bit_faults m) (or_else (instance_faults m) widths))) e in
-    let two = or_else_none (name_twice m) (or_else (bit_faults m) (or_else (instance_faults m) widths)) one.1 in
-    let three = or_else_none (bit_faults m) (or_else (instance_faults m) widths) two.1 in
-    let four = or_else_none (instance_faults m) widths three.1 in
-    let five = or_else_none (first_in cell_unknown m.items) (or_else (first_in (at_instance port_unknown) m.items) (or_else (first_in (at_instance port_missing) m.items) (first_in (at_instance port_twice) m.items))) four.0 in
-    first_in_none cell_unknown m.items i x five.0 at
+    let one = or_else-parts (too_many_in m) (or_else (name_twice m) (or_else (bit_faults m) (or_else (instance_faults m) widths))) e in
+    let two = or_else-parts (name_twice m) (or_else (bit_faults m) (or_else (instance_faults m) widths)) one.1 in
+    let three = or_else-parts (bit_faults m) (or_else (instance_faults m) widths) two.1 in
+    let four = or_else-parts (instance_faults m) widths three.1 in
+    let five = or_else-parts (first_in cell_unknown m.items) (or_else (first_in (at_instance port_unknown) m.items) (or_else (first_in (at_instance port_missing) m.items) (first_in (at_instance port_twice) m.items))) four.0 in
+    first_in-at cell_unknown m.items i x five.0 at

@@ -1,12 +1,13 @@
 -- The netlist that a module denotes is well named.
 use Rattle.std.proofs.Common.{◌≡◌, subst, ℕ, zero, suc, ◌+◌, ◌-◌, ◌<◌, ◌≤◌, inl, inr, true, false, List, [], ◌∷◌, ◌++◌, length, map, refl, ap, sym, ◌∙◌, Option, Some, None, arith, length-append, zero-add}
 use Rattle.std.specs.Prelude.{slice_get, IsSome, IfSome, unwrap_or}
-use Rattle.std.specs.List.{filter_map, AllByRecursion}
+use Rattle.std.specs.List.{filter_map}
 use Rattle.std.specs.Option.{option_map}
 use Rattle.std.proofs.lemmas.Grind.{flat_map-append}
 use Rattle.std.proofs.lemmas.Bool.{cases_lt}
 use Rattle.std.proofs.lemmas.List.{length-map}
 use Rattle.std.proofs.lemmas.Option.{slice_get-map, slice_get_within, same_Some}
+use Rattle.list_laws.proofs.Lists.{all_at, slice_get-append_left, slice_get-append_right, AreAll-right, AreAll-left}
 use Rattle.verilog_tree.specs.declared.tree.Module.{Module}
 use Rattle.verilog_tree.specs.declared.tree.Port.{Port}
 use Rattle.verilog_tree.specs.declared.tree.Wire.{Wire}
@@ -31,7 +32,6 @@ use Rattle.link_model.specs.Faults.{names_of, item_name, cells_in, text_fault, c
 use Rattle.link_model.specs.Denoted.{IsNamed, IsNet, IsPort, IsCell, IsName, AreAll, denoted, name_bytes, range_of, ports_from}
 use Rattle.link_drivers.specs.Drivers.{dir_at}
 use Rattle.netlist_link.specs.WellNamed.{IsKnown, IsWireNet, IsWireName, IsWellNamed, IsShortRange, index_from}
-use Rattle.netlist_link.proofs.Lists.{AreAll-left, AreAll-right, slice_get-append_left, slice_get-append_right}
 use Rattle.netlist_link.proofs.LibraryKinds.{gate_unnamed, gate_no_assign, library_kind, known_cells}
 use Rattle.netlist_link.proofs.Ports.{bits_of, nets_in-first, nets_in-rest, port_bit}
 use Rattle.netlist_link.proofs.Cells.{named_at}
@@ -346,11 +346,6 @@ same_declaration table N m net other number d w v =
     let same : Some v.bit.declaration.name ≡ Some w.bit.declaration.name = sym v.name ∙ w.name in
     once_names table N m d w.bit.d v.bit.d w.bit.declaration.name one.0 (two.0 ∙ same)
 
-AllByRecursion-at : {X : Type 0} (P : X → Type 0) (xs : List X) (k : ℕ) (x : X) → AllByRecursion P xs → slice_get xs k ≡ Some x → P x
-AllByRecursion-at P [] k x all at = absurd (cc)
-AllByRecursion-at P (y ∷ xs) zero x all at = subst P (same_Some y x at) all.0
-AllByRecursion-at P (y ∷ xs) (suc k) x all at = AllByRecursion-at P xs k x all.1 at
-
 short_range : (range : Option tree.Range) → IfSome range IsTreeRange → IfSome (option_map range_of range) IsShortRange
 short_range None is = tt
 short_range (Some range) is = record { left = is.left; right = is.right }
@@ -382,7 +377,7 @@ wire_of table N m net number tree d is =
             let less : v.bit.bit < width declaration.range = rw one v.bit.within in
             let wide : width_of (option_map range_of declaration.range) ≡ width declaration.range = width_is in
             (omega arith, omega arith);
-        short = short_range declaration.range (rw w.wire.is (AllByRecursion-at (λ (x : Wire). IsTreeWire x) m.wires w.wire.w w.wire.wire tree.wires w.wire.there).range);
+        short = short_range declaration.range (rw w.wire.is (all_at (λ (x : Wire). IsTreeWire x) m.wires w.wire.w w.wire.wire tree.wires w.wire.there).range);
       };
     }
 
@@ -463,7 +458,7 @@ well_named table N m tree text d =
           (h.number, h.original, slice_get_within table h.number t.port.name h.at);
       port_ranges = λ p view at.
           let t = port p view at in
-          rw t.range (short_range t.port.range (AllByRecursion-at (λ (x : Port). IsTreePort x) m.ports p t.port tree.ports t.there).range);
+          rw t.range (short_range t.port.range (all_at (λ (x : Port). IsTreePort x) m.ports p t.port tree.ports t.there).range);
       port_bits = λ p bit view net at bit_at.
           let t = port p view at in
           port_bit_view table N m p bit view net t d at bit_at;

@@ -6,11 +6,11 @@ use Rattle.std.specs.Str.{bytes_eq}
 use Rattle.std.proofs.lemmas.List.Folds.{list_any-append}
 use Rattle.std.proofs.lemmas.Option.{none-some}
 use Rattle.std.proofs.lemmas.Slice.Eq.{bytes_eq-Decides}
+use Rattle.list_laws.proofs.Options.{or_else-parts}
 use Rattle.verilog_tree.specs.declared.tree.Module.{Module}
 use Rattle.link_model.specs.Lists.{has_name, repeated, repeated_after}
 use Rattle.link_model.specs.Faults.{name_twice, names_of, text_fault, too_many_in}
 use Rattle.name_table.specs.Names.{IsOnce}
-use Rattle.netlist_link.proofs.LibraryKinds.{or_else_none}
 
 neither : (a b : Bool) → (a || (b || false)) ≡ false → (a ≡ false) × (b ≡ false)
 neither false false h = (refl, refl)
@@ -59,6 +59,6 @@ not_mapped f (Some x) e = absurd (none-some (f x) (sym e))
 
 pub names_once : (m : Module) → text_fault m ≡ None → IsOnce (names_of m)
 names_once m clear =
-    let late = (or_else_none (too_many_in m) _ clear).1 in
-    let twice : name_twice m ≡ None = (or_else_none (name_twice m) _ late).0 in
+    let late = (or_else-parts (too_many_in m) _ clear).1 in
+    let twice : name_twice m ≡ None = (or_else-parts (name_twice m) _ late).0 in
     once_after [] (names_of m) (not_mapped _ (repeated (names_of m)) twice)

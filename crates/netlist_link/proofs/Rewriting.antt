@@ -1,5 +1,5 @@
 -- What holds of a linked netlist while it is rewritten.
-use Rattle.std.proofs.Common.{◌≡◌, ℕ, zero, suc, ◌+◌, ◌<◌, ◌≤◌, ◌↔◌, inl, inr, Bool, true, false, cond, List, [], ◌∷◌, ◌++◌, length, length-append, arith, refl, sym, ap, ◌∙◌, subst, Option, Some, None}
+use Rattle.std.proofs.Common.{◌≡◌, ℕ, zero, suc, ◌+◌, ◌≤◌, ◌↔◌, inl, inr, Bool, true, false, cond, List, [], ◌∷◌, ◌++◌, length, length-append, arith, refl, sym, ap, ◌∙◌, subst, Option, Some, None}
 use Rattle.std.specs.Prelude.{slice_get, nat_lt}
 use Rattle.std.specs.Option.{option_or}
 use Rattle.std.specs.List.{list_any}
@@ -137,7 +137,7 @@ no_name table name none (Original other) = (
 no_name table name none (Added other) = (λ e. absurd (cc), λ at. absurd (cc))
 
 -- where no limit is passed
-within : (what : What) (count limit : ℕ) → excess_of what count limit ≡ None → count ≤ limit
+pub within : (what : What) (count limit : ℕ) → excess_of what count limit ≡ None → count ≤ limit
 within what count limit none = by (nat_lt limit count) refl none
   where
     by : (b : Bool) → nat_lt limit count ≡ b → cond b (Some (ReserveFault.TooMany what count limit)) None ≡ None → count ≤ limit

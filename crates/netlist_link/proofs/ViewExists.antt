@@ -7,6 +7,7 @@ use Rattle.std.proofs.lemmas.Bool.{cases_lt}
 use Rattle.std.proofs.lemmas.List.Sums.{sum_by-cons}
 use Rattle.std.proofs.lemmas.Option.{none-some, slice_get-map, slice_get_within, same_Some}
 use Rattle.std.proofs.lemmas.Slice.Eq.{bytes_eq-Decides}
+use Rattle.list_laws.proofs.Lists.{slice_get_there, slice_get-append_left, slice_get-append_right}
 use Rattle.verilog_tree.specs.declared.tree.Module.{Module}
 use Rattle.verilog_tree.specs.declared.tree.Port.{Port}
 use Rattle.netlist_model.specs.declared.Name.{Name}
@@ -18,7 +19,6 @@ use Rattle.link_model.specs.Cells.{NamedCell, cell_of}
 use Rattle.link_model.specs.Denoted.{AreAll, AreCells, IsCell, IsLive, IsName, IsNet, IsPort, NamedPort, NamedNetlist, denoted, name_bytes, net_id, ports_from, range_of}
 use Rattle.link_model.specs.Faults.{cells_in, names_of}
 use Rattle.netlist_link.specs.ViewLaws.{LinkViewExists}
-use Rattle.netlist_link.proofs.Lists.{slice_get-append_left, slice_get-append_right, slice_get_there}
 use Rattle.netlist_link.proofs.Named.{bit_in, cell_name_is, item_name_at, port_name_at, wire_name_at}
 
 -- the number of a name: the first place where it stands

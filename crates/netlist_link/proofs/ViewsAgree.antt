@@ -1,5 +1,6 @@
 -- Two link views of one tree are the same, and each is well named.
 use Rattle.std.proofs.Common.{◌≡◌, subst, ℕ, List, [], ◌∷◌, refl, ap, sym, ◌∙◌, Option, Some, None}
+use Rattle.list_laws.proofs.Options.{or_else-parts}
 use Rattle.verilog_tree.specs.declared.tree.Module.{Module}
 use Rattle.netlist_model.specs.declared.Name.{Name}
 use Rattle.netlist_model.specs.Lists.{PortView, NetView, CellView, NetlistView, cell_at}
@@ -18,7 +19,6 @@ use Rattle.netlist_link.specs.Links.{IsLinkOf}
 use Rattle.netlist_link.specs.ViewLaws.{LinkViewsAgree, LinkViewIsFormed, LinkViewIsNamed}
 use Rattle.netlist_link.proofs.Cells.{named_at}
 use Rattle.netlist_link.proofs.Formed.{well_formed}
-use Rattle.netlist_link.proofs.LibraryKinds.{or_else_none}
 use Rattle.netlist_link.proofs.Named.{same_name, well_named}
 use Rattle.netlist_link.proofs.NamesOnce.{names_once}
 
@@ -73,7 +73,7 @@ same_cells table once N M cells f g i = by (cell_at N i) (cell_at M i) refl refl
         ap (λ (c : CellView). Some c) (same_cell table once a b n.named n.is is)
 
 pub clear_text : (m : Module) → IsLinkable m → text_fault m ≡ None
-clear_text m linkable = (or_else_none (text_fault m) _ linkable.early).0
+clear_text m linkable = (or_else-parts (text_fault m) _ linkable.early).0
 
 -- the netlist of a link view, by the names of the text
 by_text : (m : Module) (linked : LinkedView) → IsLinkOf m linked → IsNamed (names_of m) linked.arena.lists (denoted m)
@@ -102,7 +102,7 @@ pub link_view_is_formed : ClearTextFits → HaveTheirDrivers → LooplessHasOrde
 link_view_is_formed fit drive order control m linked tree link =
     let nets : List NamedNet = nets_in (declared_nets m) in
     let cells : List NamedCell = cells_in m in
-    let faults = or_else_none (text_fault m) (driver_fault nets cells) link.linkable.early in
+    let faults = or_else-parts (text_fault m) (driver_fault nets cells) link.linkable.early in
     let fits = fit m tree faults.0 in
     let driven = drive nets cells fits faults.1 in
     let ordered = order nets cells fits driven link.linkable.loops in

@@ -1,6 +1,7 @@
 -- What linking comes to.
-use Rattle.std.specs.Prelude.{◌≡◌}
+use Rattle.std.specs.Prelude.{◌≡◌, ℕ, List}
 use Rattle.verilog_tree.specs.declared.tree.Module.{Module}
+use Rattle.verilog_tree.specs.Texts.{SpellsText}
 use Rattle.netlist_model.specs.Contained.{IsDense}
 use Rattle.link_model.specs.declared.fault.LinkFault.{LinkFault}
 use Rattle.link_model.specs.declared.fault.LinkFault.TheVariants.{OutOfMemory}
@@ -22,3 +23,10 @@ pub record IsLinkOf (m : Module) (linked : LinkedView) : Type 0 where
 pub data IsLinkFault (m : Module) : LinkFault → Type 0 where
   stands : {f : LinkFault} → StandsFirst m f → IsLinkFault m f
   memory : IsLinkFault m OutOfMemory
+
+-- own: the netlist's bytes spell a tree in which this fault of linking stands
+pub record HasLinkFault (f : LinkFault) (net : List ℕ) : Type 0 where
+  pub tree : Module
+  pub spells : SpellsText net tree
+  pub only : (other : Module) → SpellsText net other → other ≡ tree
+  pub fault : IsLinkFault tree f

@@ -2,6 +2,7 @@
 use Rattle.std.proofs.Common.{◌≡◌, ℕ, zero, suc, ◌+◌, ◌<◌, ◌≤◌, true, false, List, [], ◌∷◌, length, map, take, set, refl, arith, Option, Some, None, add-one}
 use Rattle.std.specs.Option.{option_map, option_and_then, IsSome, IfSome}
 use Rattle.std.specs.List.{slice_get}
+use Rattle.netlist_laws.specs.Runs.{kind_next, cell_next}
 use Rattle.signal_values.specs.declared.Sig.{Sig}
 use Rattle.signal_values.specs.declared.PinSig.{PinSig}
 use Rattle.signal_values.specs.Values.{pin_of}
@@ -19,7 +20,6 @@ use Rattle.netlist_model.specs.Settled.{feed_values, cell_drive, drive_by, drive
 use Rattle.netlist_arena.proofs.Growth.{takes_few}
 use Rattle.netlist_settling.specs.Values.{value_at, feeds_of}
 use Rattle.netlist_settling.specs.Passes.{driven_value, after_turn}
-use Rattle.netlist_settling.specs.Flops.{kind_next, place_next}
 use Rattle.netlist_settling.specs.Tables.{IsDriverOf}
 
 -- one operand more is gathered
@@ -66,7 +66,7 @@ turn_some (Some cell) sides pins kept values net kind inputs given output kinds 
 
 -- what a flip-flop holds next
 pub next_flop : (found : Option CellView) (before after : ℕ → Sig) (kept : Sig) (kind : FlopKind) (was is : List Sig) → option_map (λ (cell : CellView). cell.kind) found ≡ Some (Flop kind)
-    → was ≡ feed_values before (feeds_of found) → is ≡ feed_values after (feeds_of found) → flop_next kind was is kept ≡ place_next found before after kept
+    → was ≡ feed_values before (feeds_of found) → is ≡ feed_values after (feeds_of found) → flop_next kind was is kept ≡ cell_next found before after kept
 next_flop None before after kept kind was is kinds b a = absurd (cc)
 next_flop (Some cell) before after kept kind was is kinds b a =
     let same : cell.kind ≡ Flop kind = cc in rw (same, b, a) refl
@@ -76,7 +76,7 @@ kept_gate (Flop kind) before after kept gate = absurd (cc)
 kept_gate kind before after kept gate = refl
 
 pub next_gate : (found : Option CellView) (before after : ℕ → Sig) (kept : Sig) (kind : Kind) → option_map (λ (cell : CellView). cell.kind) found ≡ Some kind → is_flop kind ≡ false
-    → kept ≡ place_next found before after kept
+    → kept ≡ cell_next found before after kept
 next_gate None before after kept kind kinds gate = refl
 next_gate (Some cell) before after kept kind kinds gate =
     let same : cell.kind ≡ kind = cc in

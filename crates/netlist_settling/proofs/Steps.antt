@@ -3,6 +3,7 @@ use Rattle.std.proofs.Common.{◌≡◌, ◌≢◌, ℕ, ◌+◌, ◌<◌, ◌�
 use Rattle.std.proofs.lemmas.Bool.{cases_lt}
 use Rattle.std.proofs.lemmas.Bool.Decides.{eqb_tells}
 use Rattle.std.proofs.lemmas.Option.{slice_get_within}
+use Rattle.netlist_laws.specs.Runs.{kind_next, cell_next}
 use Rattle.signal_values.specs.declared.Sig.{Sig}
 use Rattle.signal_values.specs.declared.PinSig.{PinSig}
 use Rattle.cell_library.specs.declared.Kind.{Kind}
@@ -20,20 +21,20 @@ use Rattle.netlist_model.specs.Runs.{PinEvent, IsKnownPin, IsLegal, IsStart, IsS
 use Rattle.netlist_laws.proofs.Flops.{clock_same, reset_same, is_edge-same, flop_next-after, flop_start-same}
 use Rattle.netlist_laws.proofs.Moments.{controls_same}
 use Rattle.netlist_settling.specs.Values.{value_at, pin_at}
-use Rattle.netlist_settling.specs.Flops.{kind_next, place_next, AreNext}
+use Rattle.netlist_settling.specs.Flops.{AreNext}
 use Rattle.netlist_settling.proofs.Turns.{stands_same}
 
 -- the first so many cells of the order hold what they do after the event, and the others what they held
 pub record IsAdvancedUpTo (N : NetlistView) (order : List CellId) (before after : ℕ → Sig) (old new : List Sig) (count : ℕ) : Type 0 where
   pub long : length new ≡ length old
-  pub taken : (place number : ℕ) → place < count → StandsAt order place number → value_at new number ≡ place_next (cell_at N number) before after (value_at old number)
+  pub taken : (place number : ℕ) → place < count → StandsAt order place number → value_at new number ≡ cell_next (cell_at N number) before after (value_at old number)
   pub rest : (place number : ℕ) → count ≤ place → StandsAt order place number → value_at new number ≡ value_at old number
 
 pub none_advanced : (N : NetlistView) (order : List CellId) (before after : ℕ → Sig) (old : List Sig) → IsAdvancedUpTo N order before after old old 0
 none_advanced N order before after old = record { long = refl; taken = λ place number below there. absurd (omega arith); rest = λ place number past there. refl }
 
 pub one_advanced : (N : NetlistView) (order : List CellId) (before after : ℕ → Sig) (old new : List Sig) (count number : ℕ) (kept given : Sig) → IsCellOrder N order → StandsAt order count number
-    → number < length new → kept ≡ value_at new number → given ≡ place_next (cell_at N number) before after kept → IsAdvancedUpTo N order before after old new count
+    → number < length new → kept ≡ value_at new number → given ≡ cell_next (cell_at N number) before after kept → IsAdvancedUpTo N order before after old new count
     → IsAdvancedUpTo N order before after old (set new number given) (count + 1)
 one_advanced N order before after old new count number kept given ordered stands below held is so_far = record {
   long = length-set new number given ∙ so_far.long;
@@ -43,7 +44,7 @@ one_advanced N order before after old new count number kept given ordered stands
         | inr late ↦ (let here : place ≡ count = omega arith in
             let there_here : StandsAt order count other = rw here at there in
             let same : other ≡ number = stands_same order count other number there_here stands in
-            rw same (get_or-set_same new number given _ below ∙ is ∙ ap (λ (s : Sig). place_next (cell_at N number) before after s) (held ∙ so_far.rest count number (omega arith) stands)))
+            rw same (get_or-set_same new number given _ below ∙ is ∙ ap (λ (s : Sig). cell_next (cell_at N number) before after s) (held ∙ so_far.rest count number (omega arith) stands)))
       ];
   rest = λ place other past there. other_value place other there (λ e. omega arith) ∙ so_far.rest place other (omega arith) there;
 }

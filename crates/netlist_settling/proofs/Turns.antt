@@ -1,9 +1,9 @@
 -- The nets are settled one cell after another: a cell's turn changes no net that was settled before, nor what settled it.
 use Rattle.std.proofs.Common.{◌≡◌, ◌≢◌, ℕ, ◌+◌, ◌<◌, ◌≤◌, List, length, refl, sym, ◌∙◌, arith, ap, Option, Some, None, true, false, set, get_or-set_other, get_or-set_same, length-set, inl, inr}
-use Rattle.std.specs.Option.{IsSome}
 use Rattle.std.proofs.lemmas.Bool.{cases_lt}
 use Rattle.std.proofs.lemmas.List.{get_or_past}
 use Rattle.std.proofs.lemmas.Option.{slice_get_within}
+use Rattle.list_laws.proofs.Options.{some_there}
 use Rattle.signal_values.specs.declared.Sig.{Sig}
 use Rattle.signal_values.specs.declared.Sig.TheVariants.{Unknown}
 use Rattle.signal_values.specs.declared.PinSig.{PinSig}
@@ -42,10 +42,6 @@ pub stands_same : (order : List CellId) (place a b : ℕ) → StandsAt order pla
 stands_same order place a b x y =
     let number : Option CellId → ℕ = (λ o. elim o [ None ↦ 0 | Some n ↦ n.0 ]) in
     ap number (sym x ∙ y)
-
-pub live_some : (o : Option CellView) → IsSome o → (cell : CellView) × (o ≡ Some cell)
-live_some None live = absurd (let no : false ≡ true = live in cc)
-live_some (Some cell) live = (cell, refl)
 
 -- a flip-flop gives what it keeps, whatever its operands are
 driven_flop : (dir : Option Dir) (kind : Kind) (flop : FlopKind) (xs ys : List Sig) (kept : Sig) (outside : PinSig) → kind ≡ Flop flop → dir ≢ Some Inout
@@ -150,7 +146,7 @@ pub turn_settles : (N : NetlistView) (order : List CellId) (pins : ℕ → PinSi
 turn_settles N order pins state count values sides number formed laid ordered directed stands so_far = rw live.1 (by_output live.0.output refl)
   where
     live : (cell : CellView) × (cell_at N number ≡ Some cell)
-    live = live_some (cell_at N number) (ordered.only count number stands)
+    live = some_there (cell_at N number) (ordered.only count number stands)
 
     by_output : (output : Option NetId) → live.0.output ≡ output
         → IsSettledUpTo N order pins state (count + 1)

@@ -5,7 +5,8 @@ ghost use Rattle.netlist_model.specs.Lists.{cell_at};
 ghost use Rattle.netlist_model.specs.Orders.{IsCellOrder};
 ghost use Rattle.netlist_arena.specs.Looks.{IsLive};
 ghost use Rattle.netlist_settling.specs.Values.{value_at};
-ghost use Rattle.netlist_settling.specs.Flops.{place_next, AreKept, AreNext};
+ghost use Rattle.netlist_laws.specs.Runs.{cell_next};
+ghost use Rattle.netlist_settling.specs.Flops.{AreKept, AreNext};
 
 use crate::cells::{OPERAND_LIMIT, gather, value_at};
 use cell_library::{Kind, flop_next};
@@ -48,7 +49,7 @@ fn next_of(
     requires live { IsLive netlist.now.lists cell.0 }
     requires was { length was.old ≡ 256 }
     requires is { length is.old ≡ 256 }
-    ensures { result ≡ place_next (cell_at netlist.now.lists cell.0) (value_at before.now)
+    ensures { result ≡ cell_next (cell_at netlist.now.lists cell.0) (value_at before.now)
         (value_at after.now) kept }
 {
     match netlist.kind(cell) {

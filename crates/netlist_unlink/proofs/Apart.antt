@@ -78,13 +78,6 @@ bytes_differ xs ys apart = go (bytes_eq xs ys) refl
     go false e = e
     go true e = absurd (apart (grind (arith, bytes_eq-Decides xs ys)))
 
-pub bytes_same : (xs : List ℕ) → bytes_eq xs xs ≡ true
-bytes_same xs = go (bytes_eq xs xs) refl
-  where
-    go : (b : Bool) → bytes_eq xs xs ≡ b → bytes_eq xs xs ≡ true
-    go true e = e
-    go false e = absurd (grind (arith, bytes_eq-Decides xs xs))
-
 not_named : (names : List (List ℕ)) (name : List ℕ) → NotIn name names → has_name names name ≡ false
 not_named [] name out = refl
 not_named (first ∷ names) name out =

@@ -8,7 +8,7 @@ use Rattle.std.proofs.lemmas.Bool.Decides.{eqb_tells}
 use Rattle.std.proofs.lemmas.List.{map-append}
 use Rattle.std.proofs.lemmas.Map.Steps.{le-length_from_below, length-le_from_distinct_below}
 use Rattle.std.proofs.lemmas.Option.{slice_get-map}
-use Rattle.list_laws.proofs.Lists.{slice_get_there}
+use Rattle.list_laws.proofs.Lists.{slice_get_there, any_at}
 use Rattle.verilog_tree.specs.declared.tree.Module.{Module}
 use Rattle.verilog_tree.specs.declared.tree.Port.{Port}
 use Rattle.verilog_tree.specs.declared.tree.Wire.{Wire}
@@ -24,7 +24,7 @@ use Rattle.netlist_unlink.proofs.Apart.{Apart, NotIn}
 use Rattle.netlist_unlink.proofs.Declared.{IsFound, names, net_found}
 use Rattle.netlist_unlink.proofs.Keys.{CanName, names_apart}
 use Rattle.netlist_unlink.proofs.Members.{in_left, map_twice, place_found}
-use Rattle.netlist_unlink.proofs.Nets.{nets_are, some_passes}
+use Rattle.netlist_unlink.proofs.Nets.{nets_are}
 use Rattle.netlist_unlink.proofs.Ordering.{net_in_order, order_below}
 
 apart_left : {X : Type 0} (xs ys : List X) → Apart (xs ++ ys) → Apart xs
@@ -74,7 +74,7 @@ order_once linked prefix j k net w one two =
 -- Counts.
 
 some_equal : (xs : List ℕ) (k q : ℕ) → slice_get xs k ≡ Some q → list_any (eqb q) xs ≡ true
-some_equal xs k q at = some_passes (eqb q) xs k q at (grind arith)
+some_equal xs k q at = any_at (eqb q) xs k q at (grind arith)
 
 below_all : (xs : List ℕ) (count q : ℕ) → ((k x : ℕ) → slice_get xs k ≡ Some x → x < count) → list_any (eqb q) xs ≡ true → q < count
 below_all [] count q each found = absurd (cc)

@@ -5,12 +5,13 @@ use Rattle.std.specs.Option.{option_map}
 use Rattle.std.specs.Str.{bytes_eq}
 use Rattle.std.proofs.lemmas.Option.{same_Some, slice_get-map}
 use Rattle.std.proofs.lemmas.Bool.Decides.{nat_tests}
+use Rattle.list_laws.proofs.Bytes.{bytes_eq-same}
 use Rattle.verilog_tree.specs.declared.tree.Range.{Range}
 use Rattle.verilog_tree.specs.declared.tree.Bit.{Bit}
 use Rattle.link_model.specs.Nets.{Declared, NamedNet, NetDeclaration, declared_as, index_at, is_within, names_from, net_at, net_in, net_of, nets_in, offset, width}
 use Rattle.link_model.specs.Faults.{at_bit, bit_outside, name_unknown, wrong_width}
 use Rattle.netlist_link.proofs.Named.{bit_in, start}
-use Rattle.netlist_unlink.proofs.Apart.{Apart, bytes_differ, bytes_same}
+use Rattle.netlist_unlink.proofs.Apart.{Apart, bytes_differ}
 
 abbrev pub names : List NetDeclaration → List (List ℕ)
 names nets = map (λ (n : NetDeclaration). n.name) nets
@@ -25,7 +26,7 @@ declared_at : (nets : List NetDeclaration) (first d : ℕ) (net : NetDeclaration
 declared_at [] first d net apart at = absurd (cc)
 declared_at (n ∷ nets) first zero net apart at =
     let same : n ≡ net = same_Some n net at in
-    let here : bytes_eq net.name n.name ≡ true = ap (bytes_eq net.name) (ap (λ (x : NetDeclaration). x.name) same) ∙ bytes_same net.name in
+    let here : bytes_eq net.name n.name ≡ true = ap (bytes_eq net.name) (ap (λ (x : NetDeclaration). x.name) same) ∙ bytes_eq-same net.name in
     let place : first ≡ first + 0 = omega arith in
     rw here (ap (λ (x : NetDeclaration). Some (record { first = first; range = x.range })) same ∙ ap (λ (k : ℕ). Some (record { first = k; range = net.range })) place)
 declared_at (n ∷ nets) first (suc d) net apart at =

@@ -6,6 +6,7 @@ use Rattle.std.proofs.lemmas.List.{length-map}
 use Rattle.std.proofs.lemmas.List.Sums.{sum_by-cons}
 use Rattle.std.proofs.lemmas.Option.{slice_get-map, slice_get_within}
 use Rattle.list_laws.proofs.Lists.{slice_get-append_left, slice_get-append_right}
+use Rattle.list_laws.proofs.Options.{none_along}
 use Rattle.verilog_tree.specs.declared.tree.Bit.{Bit}
 use Rattle.verilog_tree.specs.declared.tree.Item.{Item}
 use Rattle.verilog_tree.specs.declared.tree.Module.{Module}
@@ -31,7 +32,7 @@ use Rattle.netlist_unlink.proofs.Keys.{CanName, names_apart}
 use Rattle.netlist_unlink.proofs.Members.{map_counted, place_found}
 use Rattle.netlist_unlink.proofs.Nets.{PortFits, dir_is, nets_are, port_bits, port_fits}
 use Rattle.netlist_unlink.proofs.NewCells.{NamesNets, cell_is, cells_are}
-use Rattle.netlist_unlink.proofs.NoFaults.{AreNarrow, HasNoItemFault, bits_of_item, item_fits, none_along, none_of_items}
+use Rattle.netlist_unlink.proofs.NoFaults.{AreNarrow, HasNoItemFault, bits_of_item, item_fits, none_of_items}
 use Rattle.netlist_unlink.proofs.Ordering.{net_number}
 
 -- Ports.

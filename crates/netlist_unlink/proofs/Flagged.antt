@@ -1,26 +1,14 @@
 -- Flags of the names of ports.
-use Rattle.std.proofs.Common.{◌≡◌, ◌≢◌, subst, ℕ, zero, suc, ◌+◌, ◌<◌, inl, inr, Bool, true, false, ◌||◌, ◌==◌, List, [], ◌∷◌, ◌++◌, length, take, refl, ap, sym, ◌∙◌, Option, Some, None, arith}
+use Rattle.std.proofs.Common.{◌≡◌, subst, ℕ, zero, suc, ◌+◌, ◌<◌, inl, inr, Bool, true, false, ◌||◌, ◌==◌, List, [], ◌∷◌, ◌++◌, length, take, refl, ap, sym, ◌∙◌, Option, Some, None, arith}
 use Rattle.std.specs.Prelude.{slice_get, slice_set}
 use Rattle.std.specs.Option.{option_map}
 use Rattle.std.proofs.lemmas.Bool.{cases_eq, or_right}
 use Rattle.std.proofs.lemmas.List.Folds.{list_any-append}
-use Rattle.list_laws.proofs.Lists.{taken_more}
+use Rattle.list_laws.proofs.Lists.{taken_more, slice_get-set_same, slice_get-set_other}
 use Rattle.netlist_model.specs.declared.Name.TheVariants.{Original}
 use Rattle.netlist_model.specs.Lists.{PortView}
 use Rattle.netlist_unlink.specs.Rows.{has_port_name, is_original}
 use Rattle.netlist_unlink.specs.Flags.{ArePortFlags}
-
-slice_get-set_same : {X : Type 0} (xs : List X) (k : ℕ) (x : X) → k < length xs → slice_get (slice_set xs k x) k ≡ Some x
-slice_get-set_same [] k x h = absurd (omega arith)
-slice_get-set_same (y ∷ xs) zero x h = refl
-slice_get-set_same (y ∷ xs) (suc k) x h = slice_get-set_same xs k x (omega arith)
-
-slice_get-set_other : {X : Type 0} (xs : List X) (k j : ℕ) (x : X) → j ≢ k → slice_get (slice_set xs k x) j ≡ slice_get xs j
-slice_get-set_other [] k j x h = refl
-slice_get-set_other (y ∷ xs) zero zero x h = absurd (h refl)
-slice_get-set_other (y ∷ xs) zero (suc j) x h = refl
-slice_get-set_other (y ∷ xs) (suc k) zero x h = refl
-slice_get-set_other (y ∷ xs) (suc k) (suc j) x h = slice_get-set_other xs k j x (λ e. h (ap suc e))
 
 length-slice_set : {X : Type 0} (xs : List X) (k : ℕ) (x : X) → length (slice_set xs k x) ≡ length xs
 length-slice_set [] k x = refl

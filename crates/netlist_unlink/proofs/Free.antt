@@ -1,12 +1,12 @@
 -- The test of a prefix is exact.
-use Rattle.std.proofs.Common.{◌≡◌, ℕ, zero, suc, ◌+◌, ◌<◌, ◌≤◌, Bool, true, false, ◌&&◌, not, List, [], ◌∷◌, ◌++◌, length, drop, refl, ap, sym, ◌∙◌, subst, Option, Some, None, IsTrue, arith}
+use Rattle.std.proofs.Common.{◌≡◌, ℕ, suc, ◌+◌, ◌<◌, ◌≤◌, Bool, true, false, ◌&&◌, not, List, [], ◌∷◌, ◌++◌, length, drop, refl, ap, sym, ◌∙◌, subst, Option, Some, None, IsTrue, arith}
 use Rattle.std.specs.Prelude.{slice_get, slice_index_or, unwrap_or, ◌↔◌, nat_eq, nat_le, IsSome}
 use Rattle.std.specs.List.{list_all, starts_with}
 use Rattle.std.proofs.lemmas.Bool.Decides.{nat_tests}
 use Rattle.std.specs.Option.{option_map}
 use Rattle.std.proofs.lemmas.Option.{same_Some, slice_get-get_or}
 use Rattle.std.proofs.lemmas.Bool.{and_parts, and_from}
-use Rattle.list_laws.proofs.Lists.{slice_get_there, left_at}
+use Rattle.list_laws.proofs.Lists.{slice_get_there, left_at, begins_joined, test_at}
 use Rattle.verilog_lexicon.specs.Bytes.{is_letter}
 use Rattle.netlist_model.specs.declared.CellId.{CellId}
 use Rattle.netlist_model.specs.declared.Name.{Name}
@@ -20,20 +20,11 @@ use Rattle.netlist_unlink.specs.Trees.{original}
 use Rattle.netlist_unlink.specs.Prefixes.{IsFreePrefix, IsPrefix, IsUsed, port as used_port, net as used_net, cell as used_cell}
 use Rattle.netlist_unlink.specs.FreeNames.{cells_are_free, has_free_name, is_free_cell, is_free_name, is_free_prefix, is_prefix, is_word_byte, nets_are_free, ports_are_free}
 
-all_at : {X : Type 0} (test : X → Bool) (xs : List X) (k : ℕ) (x : X) → list_all test xs ≡ true → slice_get xs k ≡ Some x → test x ≡ true
-all_at test [] k x all at = absurd (cc)
-all_at test (y ∷ xs) zero x all at = let same : y ≡ x = same_Some y x at in ap test (sym same) ∙ (and_parts (test y) (list_all test xs) all).0
-all_at test (y ∷ xs) (suc k) x all at = all_at test xs k x (and_parts (test y) (list_all test xs) all).1 at
-
 all_from : {X : Type 0} (test : X → Bool) (xs : List X) → ((k : ℕ) (x : X) → slice_get xs k ≡ Some x → test x ≡ true) → list_all test xs ≡ true
 all_from test [] each = refl
 all_from test (x ∷ xs) each = and_from (test x) (list_all test xs) (each 0 x refl) (all_from test xs (λ k y at. each (suc k) y at))
 
 -- what begins with the bytes
-
-begins_joined : (prefix rest : List ℕ) → starts_with nat_eq (prefix ++ rest) prefix ≡ true
-begins_joined [] rest = refl
-begins_joined (x ∷ prefix) rest = let here : nat_eq x x ≡ true = grind (arith, nat_tests) in and_from (nat_eq x x) (starts_with nat_eq (prefix ++ rest) prefix) here (begins_joined prefix rest)
 
 joined_begins : (xs prefix : List ℕ) → starts_with nat_eq xs prefix ≡ true → xs ≡ prefix ++ drop (length prefix) xs
 joined_begins xs [] h = refl
@@ -90,7 +81,7 @@ cell_free : (linked : LinkedView) (prefix : List ℕ) (i : ℕ) (cell : CellView
     → cell.name ≡ Some name → is_free_name linked.names prefix name ≡ true
 cell_free linked prefix i cell name order all at named =
     let place = order.each i (rw at refl) in
-    let here = all_at (λ (c : CellId). is_free_cell linked.names prefix (cell_at linked.arena.lists c.0)) linked.order place.0 (record { 0 = i }) all place.1 in
+    let here = test_at (λ (c : CellId). is_free_cell linked.names prefix (cell_at linked.arena.lists c.0)) linked.order place.0 (record { 0 = i }) all place.1 in
     ap (has_free_name linked.names prefix) (sym named) ∙ ap (is_free_cell linked.names prefix) (sym at) ∙ here
 
 free_all : (linked : LinkedView) (prefix : List ℕ) → IsLinked linked.arena.lists linked.names linked.order → is_free_prefix linked prefix ≡ true → IsFreePrefix linked prefix
@@ -103,8 +94,8 @@ free_all linked prefix is h =
   where
     go : (name : Name) → IsUsed linked.arena.lists name → ports_are_free linked.names prefix linked.arena.lists.ports ≡ true → nets_are_free linked.names prefix linked.arena.lists.nets ≡ true
         → cells_are_free linked prefix linked.order ≡ true → IsFree linked prefix name
-    go _ (used_port p view at) ports nets cells = name_free linked prefix view.name (all_at (λ (x : PortView). is_free_name linked.names prefix x.name) linked.arena.lists.ports p view ports at)
-    go _ (used_net n view at) ports nets cells = name_free linked prefix view.name (all_at (λ (x : NetView). is_free_name linked.names prefix x.name) linked.arena.lists.nets n view nets at)
+    go _ (used_port p view at) ports nets cells = name_free linked prefix view.name (test_at (λ (x : PortView). is_free_name linked.names prefix x.name) linked.arena.lists.ports p view ports at)
+    go _ (used_net n view at) ports nets cells = name_free linked prefix view.name (test_at (λ (x : NetView). is_free_name linked.names prefix x.name) linked.arena.lists.nets n view nets at)
     go _ (used_cell i cell name at named) ports nets cells = name_free linked prefix name (cell_free linked prefix i cell name is.ordered cells at named)
 
 all_free : (linked : LinkedView) (prefix : List ℕ) → IsLinked linked.arena.lists linked.names linked.order → IsFreePrefix linked prefix → is_free_prefix linked prefix ≡ true

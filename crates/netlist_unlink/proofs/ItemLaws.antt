@@ -1,16 +1,14 @@
 -- The items of the live cells are made from the first number on.
-use Rattle.std.proofs.Common.{◌≡◌, ℕ, zero, suc, ◌+◌, ◌≤◌, List, [], ◌∷◌, ◌++◌, ◌-◌, ◌⊎◌, inl, inr, drop, refl, sym, ◌∙◌, ap, subst, arith, cond, Option, Some, None, add-one, append_assoc, append-nil}
+use Rattle.std.proofs.Common.{◌≡◌, ℕ, zero, suc, ◌+◌, ◌≤◌, List, [], ◌∷◌, ◌++◌, ◌-◌, ◌⊎◌, inl, inr, drop, refl, sym, ◌∙◌, ap, subst, arith, Option, Some, None, add-one, append_assoc, append-nil}
 use Rattle.std.proofs.Math.Seq.{drop-nil}
-use Rattle.std.specs.Option.{is_some, option_map}
+use Rattle.std.specs.Option.{option_map}
 use Rattle.std.specs.List.{slice_get}
 use Rattle.std.proofs.lemmas.List.Sums.{sum_by-cons}
+use Rattle.netlist_arena.proofs.Changes.{one_if_live}
 use Rattle.verilog_tree.specs.declared.tree.Item.{Item}
 use Rattle.netlist_model.specs.Lists.{CellView, live_cell}
 use Rattle.netlist_arena.specs.Arena.{live_count}
 use Rattle.netlist_unlink.specs.Trees.{Naming, item_of, items_from}
-
-abbrev one_if_live : Option CellView → ℕ
-one_if_live place = cond (is_some place) 1 0
 
 live_count-cons : (p : Option CellView) (ps : List (Option CellView)) → live_count (p ∷ ps) ≡ one_if_live p + live_count ps
 live_count-cons p ps = sum_by-cons one_if_live p ps

@@ -7,7 +7,7 @@ use Rattle.std.specs.List.{filter_map}
 use Rattle.std.proofs.lemmas.Fmt.{decimal_injective}
 use Rattle.std.proofs.lemmas.List.{append_cancel_left, map-append}
 use Rattle.std.proofs.lemmas.Option.{same_Some, slice_get_within}
-use Rattle.list_laws.proofs.Lists.{slice_get_there}
+use Rattle.list_laws.proofs.Lists.{slice_get_there, map_same}
 use Rattle.verilog_tree.specs.declared.tree.Item.{Item}
 use Rattle.verilog_tree.specs.declared.tree.Item.TheVariants as item
 use Rattle.verilog_tree.specs.declared.tree.Port.{Port}
@@ -26,7 +26,7 @@ use Rattle.netlist_unlink.specs.Prefixes.{IsFreePrefix, IsUsed, port as used_por
 use Rattle.netlist_unlink.specs.Renumbered.{added_test, numbers_from}
 use Rattle.netlist_unlink.proofs.Apart.{Apart, Disjoint, NotIn, all_of_joined, apart_joined, apart_mapped, disjoint_joined, mapped_apart, not_in_joined}
 use Rattle.netlist_unlink.proofs.Kept.{are_kept}
-use Rattle.netlist_unlink.proofs.Members.{joined_source, map_same, map_twice, mapped_source, number_source, numbers_apart}
+use Rattle.netlist_unlink.proofs.Members.{joined_source, map_twice, mapped_source, number_source, numbers_apart}
 use Rattle.netlist_unlink.proofs.Nets.{AreNamed, rows_from}
 use Rattle.netlist_unlink.proofs.WireRows.{HasNet, row_name}
 

@@ -40,11 +40,6 @@ pub map_twice : {X Y Z : Type 0} (f : Y → Z) (g : X → Y) (xs : List X) → m
 map_twice f g [] = refl
 map_twice f g (x ∷ xs) = ap (λ rest. f (g x) ∷ rest) (map_twice f g xs)
 
-pub map_same : {X Y : Type 0} (f g : X → Y) (xs : List X) → ((k : ℕ) (x : X) → slice_get xs k ≡ Some x → f x ≡ g x) → map f xs ≡ map g xs
-map_same f g [] each = refl
-map_same f g (x ∷ xs) each =
-    ap (λ y. y ∷ map f xs) (each 0 x refl) ∙ ap (λ rest. g x ∷ rest) (map_same f g xs (λ k y at. each (suc k) y at))
-
 -- numbers that are counted up beside a list
 pub map_counted : {X Y : Type 0} (f : ℕ → Y) (g : X → Y) (first : ℕ) (xs : List X) → ((k : ℕ) (x : X) → slice_get xs k ≡ Some x → f (first + k) ≡ g x)
     → map f (counted_from first (length xs)) ≡ map g xs

@@ -3,10 +3,10 @@ use Rattle.std.proofs.Common.{◌≡◌, ℕ, suc, ◌+◌, ◌==◌, Bool, true
 use Rattle.std.specs.Prelude.{slice_get}
 use Rattle.std.specs.Option.{option_map}
 use Rattle.std.specs.Fmt.{decimal}
-use Rattle.std.specs.List.{list_any}
 use Rattle.std.proofs.lemmas.Grind.{flat_map-append}
 use Rattle.std.proofs.lemmas.List.{map-append}
 use Rattle.std.proofs.lemmas.Option.{same_Some}
+use Rattle.list_laws.proofs.Lists.{any_at}
 use Rattle.netlist_model.specs.declared.Dir.{Dir}
 use Rattle.netlist_model.specs.declared.Dir.TheVariants as dir
 use Rattle.netlist_model.specs.declared.Name.{Name}
@@ -25,7 +25,7 @@ use Rattle.netlist_unlink.specs.declared.rows.NetRow.{NetRow}
 use Rattle.netlist_unlink.specs.Rows.{before, has_port_name, is_original, named_row, one_index, rows, with_row}
 use Rattle.netlist_unlink.specs.Trees.{Naming, added_from, added_wire, dir_of, naming_of, port_of, port_text, range_of, tree_of, wire_of}
 use Rattle.netlist_unlink.specs.Renumbered.{added_test, is_added, is_wire, named_net, net_order, numbers_from, one_if, port_numbers, wire_test}
-use Rattle.netlist_unlink.proofs.Lists.{none_at, none_passes}
+use Rattle.netlist_unlink.proofs.Lists.{none_passes}
 use Rattle.netlist_unlink.proofs.Members.{map_counted, map_twice}
 use Rattle.netlist_unlink.proofs.Ordering.{net_number}
 use Rattle.netlist_unlink.proofs.WireRows.{AreRows, no_rows, none_more, one_more, wire_bit}
@@ -41,13 +41,6 @@ naming_in table prefix N = record { table = table; prefix = prefix; nets = N.net
 
 -- Names of ports.
 
-pub some_passes : {X : Type 0} (test : X → Bool) (xs : List X) (k : ℕ) (x : X) → slice_get xs k ≡ Some x → test x ≡ true → list_any test xs ≡ true
-some_passes test xs k x at passes = go (list_any test xs) refl
-  where
-    go : (b : Bool) → list_any test xs ≡ b → list_any test xs ≡ true
-    go true e = e
-    go false e = absurd (let no = none_at test xs k x e at in let bad : true ≡ false = sym passes ∙ no in cc)
-
 original_same : (number : ℕ) → is_original number (Original number) ≡ true
 original_same number = grind arith
 
@@ -59,7 +52,7 @@ port_named table N net number view dir w at is found =
     let here = w.named.port_bits b.number b.bit b.port (net_id net) b.stands b.has in
     let same : view ≡ record { name = b.port.name; index = index_from b.port.range b.bit } = same_Some view (record { name = b.port.name; index = index_from b.port.range b.bit }) (sym at ∙ here) in
     let name : b.port.name ≡ Original number = sym (ap (λ (v : NetView). v.name) same) ∙ is in
-    some_passes (λ (p : PortView). is_original number p.name) N.ports b.number b.port b.stands (ap (is_original number) name ∙ original_same number)
+    any_at (λ (p : PortView). is_original number p.name) N.ports b.number b.port b.stands (ap (is_original number) name ∙ original_same number)
 
 -- a net of a wire has no port's name
 wire_named : (table : List (List ℕ)) (N : NetlistView) (net number : ℕ) → AreNamed table N → IsWireNet N net (Original number) → has_port_name N.ports number ≡ false

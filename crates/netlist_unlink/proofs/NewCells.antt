@@ -2,6 +2,7 @@
 use Rattle.std.proofs.Common.{◌≡◌, ℕ, suc, ◌+◌, ◌<◌, List, [], ◌∷◌, ◌++◌, length, map, refl, ap, sym, ◌∙◌, subst, Option, Some, None, arith}
 use Rattle.std.specs.Prelude.{slice_get, unwrap_or, option_and_then, codes, IsSome}
 use Rattle.std.specs.Option.{option_map}
+use Rattle.list_laws.proofs.Lists.{map_same}
 use Rattle.verilog_tree.specs.declared.tree.GateKind.{GateKind}
 use Rattle.verilog_tree.specs.declared.tree.Link.{Link}
 use Rattle.cell_library.specs.declared.Kind.{Kind}
@@ -22,7 +23,7 @@ use Rattle.netlist_unlink.specs.Trees.{Naming, bit_of, cell_text, first_operand,
 use Rattle.netlist_unlink.specs.Renumbered.{cells_from, new_cell, new_feed, new_net}
 use Rattle.netlist_unlink.proofs.Facts.{gate_no_flop, gate_no_mux, library_count}
 use Rattle.netlist_unlink.proofs.Kept.{gate_back, library_back}
-use Rattle.netlist_unlink.proofs.Members.{map_same, map_twice}
+use Rattle.netlist_unlink.proofs.Members.{map_twice}
 use Rattle.netlist_unlink.proofs.Nets.{AreNamed}
 use Rattle.netlist_unlink.proofs.Written.{assign_kind}
 

@@ -6,6 +6,7 @@ use Rattle.std.specs.List.{AllByRecursion, flat_map}
 use Rattle.std.proofs.lemmas.Bool.Decides.{nat_tests}
 use Rattle.std.proofs.lemmas.List.{length-map}
 use Rattle.list_laws.proofs.Lists.{all_append}
+use Rattle.list_laws.proofs.Options.{none_along}
 use Rattle.verilog_tree.specs.declared.tree.Bit.{Bit}
 use Rattle.verilog_tree.specs.declared.tree.GateKind.{GateKind}
 use Rattle.verilog_tree.specs.declared.tree.Instance.{Instance}
@@ -36,10 +37,6 @@ use Rattle.netlist_unlink.proofs.NewCells.{AreBelow, IsBelow, feeds_below, links
 use Rattle.netlist_unlink.proofs.Written.{assign_kind}
 
 -- No fault along a list.
-
-pub none_along : {X Y : Type 0} (test : X → Option Y) (xs : List X) → AllByRecursion (λ x. test x ≡ None) xs → first_in test xs ≡ None
-none_along test [] all = refl
-none_along test (x ∷ xs) all = rw all.0 (none_along test xs all.1)
 
 -- the items of live cells
 pub none_of_items : (test : Item → Option LinkFault) (naming : Naming) (number : ℕ) (cells : List (Option CellView))

@@ -1,46 +1,31 @@
 -- A table of levels shows that the gates of a table stand above what they read.
-use Rattle.std.proofs.Common.{◌≡◌, ℕ, suc, zero, ◌+◌, ◌<◌, ◌≤◌, ◌&&◌, ◌||◌, List, [], ◌∷◌, map, refl, arith, ap, Bool, true, false, IsTrue, nat_lt, unwrap_or, length, Some}
+use Rattle.std.proofs.Common.{◌≡◌, ℕ, suc, zero, ◌+◌, ◌<◌, ◌≤◌, ◌&&◌, ◌||◌, List, [], ◌∷◌, map, refl, arith, ap, false, IsTrue, nat_lt, length, Some}
 use Rattle.std.specs.List.{list_all, slice_get, slice_index}
+use Rattle.list_laws.proofs.Tests.{both_hold, other_holds}
 use Rattle.cell_library.specs.Gates.{is_flop}
 use Rattle.netlist_model.specs.declared.Feed.{Feed}
-use Rattle.netlist_model.specs.declared.Feed.TheVariants.{Net, Const}
 use Rattle.netlist_model.specs.Formed.{FeedsBelow}
 use Rattle.gate_parts.specs.declared.Pin.{Pin}
 use Rattle.gate_parts.specs.declared.Pin.TheVariants.{Own, Given}
 use Rattle.gate_parts.specs.declared.Gate.{Gate}
 use Rattle.gate_parts.specs.Parts.{feed_of, pins_of, cells_from}
 use Rattle.gate_parts.specs.Levels.{AreFeedsUpTo}
+use Rattle.gate_parts.proofs.LevelProofs.{feed_below}
 use Rattle.part_levels.specs.Above.{StandsOn, IsAbove, AreAbove, StandsByPlace, PartsStandAbove, is_low_pin, fits_from, TablesStandAbove}
-
-both : (a b : Bool) → IsTrue (a && b) → IsTrue a × IsTrue b
-both true b is = (refl, is)
-both false b is = absurd (cc)
-
-or_false : (a b : Bool) → IsTrue (a || b) → a ≡ false → IsTrue b
-or_false true b either is = absurd (cc)
-or_false false b either is = either
-
-feed_below : (rank : ℕ → ℕ) (bound base : ℕ) (given : List Feed) (k : ℕ) (rest : List Feed) → AreFeedsUpTo rank base given → base < bound → FeedsBelow rank rest bound
-    → FeedsBelow rank (unwrap_or (slice_get given k) (Const false) ∷ rest) bound
-feed_below rank bound base [] k rest up above below = below
-feed_below rank bound base (Net net ∷ given) zero rest up above below = (omega arith, below)
-feed_below rank bound base (Const b ∷ given) zero rest up above below = below
-feed_below rank bound base (Net net ∷ given) (suc k) rest up above below = feed_below rank bound base given k rest up.1 above below
-feed_below rank bound base (Const b ∷ given) (suc k) rest up above below = feed_below rank bound base given k rest up above below
 
 pins_below : (rank : ℕ → ℕ) (first base level bound count : ℕ) (levels : List ℕ) (given : List Feed) (pins : List Pin)
     → ((j : ℕ) → j < count → rank (first + j) ≤ base + slice_index levels j) → AreFeedsUpTo rank base given → base + level ≤ bound
     → IsTrue (list_all (is_low_pin count levels level) pins) → FeedsBelow rank (map (feed_of first given) pins) bound
 pins_below rank first base level bound count levels given [] own up is low = tt
 pins_below rank first base level bound count levels given (Own j ∷ pins) own up is low =
-    let parts = both (nat_lt j count && nat_lt (slice_index levels j) level) (list_all (is_low_pin count levels level) pins) low in
-    let pin = both (nat_lt j count) (nat_lt (slice_index levels j) level) parts.0 in
+    let parts = both_hold (nat_lt j count && nat_lt (slice_index levels j) level) (list_all (is_low_pin count levels level) pins) low in
+    let pin = both_hold (nat_lt j count) (nat_lt (slice_index levels j) level) parts.0 in
     let inside : j < count = grind (arith, pin.0) in
     let below : slice_index levels j < level = grind (arith, pin.1) in
     let here = own j inside in
     (omega arith, pins_below rank first base level bound count levels given pins own up is parts.1)
 pins_below rank first base level bound count levels given (Given k ∷ pins) own up is low =
-    let parts = both (nat_lt 0 level) (list_all (is_low_pin count levels level) pins) low in
+    let parts = both_hold (nat_lt 0 level) (list_all (is_low_pin count levels level) pins) low in
     let above : 0 < level = grind (arith, parts.0) in
     feed_below rank bound base given k (map (feed_of first given) pins) up (omega arith) (pins_below rank first base level bound count levels given pins own up is parts.1)
 
@@ -50,12 +35,12 @@ above_from : (rank : ℕ → ℕ) (first number base count : ℕ) (levels : List
     → AreFeedsUpTo rank base given → IsTrue (fits_from count levels k gates) → AreAbove rank (cells_from first given number net gates)
 above_from rank first number base count levels given k net [] at own from up low = tt
 above_from rank first number base count levels given k net (gate ∷ gates) at own from up low =
-    let parts = both (is_flop gate.kind || list_all (is_low_pin count levels (slice_index levels k)) (pins_of gate.pins)) (fits_from count levels (suc k) gates) low in
+    let parts = both_hold (is_flop gate.kind || list_all (is_low_pin count levels (slice_index levels k)) (pins_of gate.pins)) (fits_from count levels (suc k) gates) low in
     let z : k + 0 ≡ k = omega arith in
     let same : rank net ≡ rank (first + k) = ap rank at in (
       (λ is. let here : base + slice_index levels (k + 0) ≤ rank (first + (k + 0)) = from 0 gate refl is in
           let here' : base + slice_index levels k ≤ rank (first + k) = rw z at here in
-          pins_below rank first base (slice_index levels k) (rank net) count levels given (pins_of gate.pins) own up (rw same here') (or_false _ _ parts.0 is)),
+          pins_below rank first base (slice_index levels k) (rank net) count levels given (pins_of gate.pins) own up (rw same here') (other_holds _ _ parts.0 is)),
       above_from rank first (suc number) base count levels given (suc k) (suc net) gates (omega arith) own
           (λ i other there is. let e : k + suc i ≡ suc k + i = omega arith in
           let here : base + slice_index levels (k + suc i) ≤ rank (first + (k + suc i)) = from (suc i) other there is in rw e at here) up parts.1,

@@ -4,7 +4,10 @@ use Rattle.std.specs.List.{list_any}
 use Rattle.std.proofs.lemmas.List.{append_assoc}
 use Rattle.indexmap.specs.IndexSet.{insert_key}
 use Rattle.list_laws.specs.Options.{or_else, first_in}
+use Rattle.list_laws.proofs.Options.{first_in-append}
+use Rattle.list_laws.proofs.Lists.{any_map}
 use Rattle.bsdl_lexicon.specs.Names.{is_same_name}
+use Rattle.bsdl_lexicon.specs.NameKeys.{names_in}
 use Rattle.plan_texts.specs.declared.plan.Plan.{Plan}
 use Rattle.plan_fitting.specs.declared.fault.FitFault.{FitFault}
 use Rattle.plan_fitting.specs.declared.fault.FitFault.TheVariants as fault
@@ -13,11 +16,9 @@ use Rattle.plan_fitting.specs.Names.{port_names, net_names, cell_names}
 use Rattle.plan_fitting.specs.Fits.{is_barred, barred_after, begun_fault, names_of, tap_lines, unit_names, name_fault, prefix_fault}
 use Rattle.pin_plan.specs.Names.{own_names, name_fault_among, prefix_fault_among}
 use Rattle.bsdl_lexicon.specs.declared.name_key.NameKey.{NameKey}
-use Rattle.pin_plan.specs.Keys.{names_in}
-use Rattle.pin_plan.proofs.Lists.{list_any-map, first_in-append}
 
 pub list_any-keys : (name : List ℕ) (ks : List NameKey) → list_any (λ (k : NameKey). is_same_name name k.0.now) ks ≡ list_any (is_same_name name) (names_in ks)
-list_any-keys name ks = sym (list_any-map (is_same_name name) (λ (k : NameKey). k.0.now) ks)
+list_any-keys name ks = sym (any_map (is_same_name name) (λ (k : NameKey). k.0.now) ks)
 
 names-last : (ks : List NameKey) (k : NameKey) → names_in (ks ++ k ∷ []) ≡ names_in ks ++ k.0.now ∷ []
 names-last [] k = refl

@@ -1,10 +1,11 @@
 -- The table of bits finds the first pin line of each, and its pin.
-use Rattle.std.proofs.Common.{◌≡◌, ℕ, suc, ◌+◌, ◌==◌, Bool, true, false, List, [], ◌∷◌, position, refl, ap, sym, ◌∙◌, arith, Some, None, if◌then◌else◌}
+use Rattle.std.proofs.Common.{◌≡◌, ℕ, suc, ◌+◌, Bool, true, false, List, [], ◌∷◌, position, refl, ap, sym, ◌∙◌, arith, Some, None, if◌then◌else◌}
 use Rattle.std.specs.Prelude.{slice_get}
 use Rattle.std.specs.Map.{lookup}
 use Rattle.std.specs.List.{position_from}
 use Rattle.std.specs.Option.{option_map_or}
 use Rattle.std.proofs.lemmas.Iterator.Adapters.{position_from-zero}
+use Rattle.list_laws.proofs.Numbers.{eqb-sym}
 use Rattle.netlist_model.specs.declared.PinBit.{PinBit}
 use Rattle.plan_texts.specs.declared.plan.PinLine.{PinLine}
 use Rattle.plan_fitting.specs.Pins.{PinSeen, same_bit}
@@ -12,9 +13,6 @@ use Rattle.plan_fitting.specs.Devices.{pin_for}
 use Rattle.pin_plan.specs.declared.keys.BitKey.{BitKey}
 use Rattle.pin_plan.specs.Keys.{FindsBits, key_of_bit, keys_of_pins, same_bit_key}
 use Rattle.pin_plan.proofs.Lists.{position-map, position-alike}
-
-eqb-sym : (a b : ℕ) → (a == b) ≡ (b == a)
-eqb-sym a b = grind arith
 
 bit-sym : (pin other : PinBit) → same_bit_key (key_of_bit pin) (key_of_bit other) ≡ same_bit other pin
 bit-sym pin other = rw (eqb-sym pin.port.0 other.port.0, eqb-sym pin.bit other.bit) refl

@@ -1,11 +1,13 @@
 -- The index of control cells agrees with the first cell of the same operand and polarity.
 use Rattle.std.proofs.Common.{◌≡◌, ℕ, ◌+◌, ◌<◌, ◌^◌, ◌&&◌, Bool, true, false, cond, List, [], ◌∷◌, ◌++◌, length, length-append, position, refl, ap, sym, ◌∙◌, arith, eqb-true, Some, None}
 use Rattle.std.specs.Map.{lookup}
+use Rattle.list_laws.proofs.Tests.{both_true}
 use Rattle.cell_library.specs.declared.codes.BoundaryKind.{BoundaryKind}
 use Rattle.netlist_model.specs.declared.Feed.{Feed}
 use Rattle.netlist_model.specs.declared.Feed.TheVariants.{Net, Const}
 use Rattle.plan_fitting.specs.declared.fitted.FitRow.{FitRow}
 use Rattle.plan_fitting.specs.Rows.{Driver, controls, control_row, same_bool, same_feed}
+use Rattle.plan_fitting.proofs.Drivers.{same_bool_is}
 use Rattle.pin_plan.specs.declared.keys.ControlKey.{ControlKey}
 use Rattle.pin_plan.specs.Keys.{FindsControls, control_key_of, operand_key, same_control, same_operand}
 use Rattle.pin_plan.proofs.Lists.{position-last_no, position-last_yes}
@@ -16,17 +18,11 @@ operand_is (Net a) (Const b) = refl
 operand_is (Const a) (Net b) = refl
 operand_is (Const a) (Const b) = refl
 
-bool_same : (a b : Bool) → same_bool a b ≡ true → a ≡ b
-bool_same true true h = refl
-bool_same false false h = refl
-bool_same true false h = absurd (cc)
-bool_same false true h = absurd (cc)
-
 feed_same : (x y : Feed) → same_feed x y ≡ true → x ≡ y
 feed_same (Net a) (Net b) h = ap (λ (n : ℕ). Net (record { 0 = n })) (eqb-true a.0 b.0 h)
 feed_same (Net a) (Const b) h = absurd (cc)
 feed_same (Const a) (Net b) h = absurd (cc)
-feed_same (Const a) (Const b) h = ap (λ (c : Bool). Const c) (bool_same a b h)
+feed_same (Const a) (Const b) h = ap (λ (c : Bool). Const c) (same_bool_is a b h)
 
 turned : (a b c : Bool) → (same_bool a b && c) ≡ (c && same_bool b a)
 turned true true true = refl
@@ -44,16 +40,11 @@ controls_is kind d e =
     turned e.active_high d.active_high (same_feed d.operand e.operand)
     ∙ ap (λ (b : Bool). b && same_bool d.active_high e.active_high) (sym (operand_is d.operand e.operand))
 
-both : (a b : Bool) → (a && b) ≡ true → (a ≡ true) × (b ≡ true)
-both true true h = (refl, refl)
-both true false h = absurd (cc)
-both false b h = absurd (cc)
-
 same_controls : (d e : Driver) → same_control (control_key_of d) (control_key_of e) ≡ true → (row : FitRow) → controls d row ≡ controls e row
 same_controls d e h row =
-    let parts = both (same_operand (operand_key d.operand) (operand_key e.operand)) (same_bool d.active_high e.active_high) h in
+    let parts = both_true (same_operand (operand_key d.operand) (operand_key e.operand)) (same_bool d.active_high e.active_high) h in
     let operands : d.operand ≡ e.operand = feed_same d.operand e.operand (sym (operand_is d.operand e.operand) ∙ parts.0) in
-    let levels : d.active_high ≡ e.active_high = bool_same d.active_high e.active_high parts.1 in
+    let levels : d.active_high ≡ e.active_high = same_bool_is d.active_high e.active_high parts.1 in
     rw (operands, levels) refl
 
 -- after a control cell

@@ -2,7 +2,7 @@
 use Rattle.std.proofs.Common.{◌≡◌, ℕ, zero, suc, ◌+◌, ◌<◌, Bool, List, [], ◌∷◌, ◌++◌, length, map, take, refl, ap, sym, ◌∙◌, arith, Option, Some, None, IsTrue, subst}
 use Rattle.std.specs.Prelude.{slice_get, IsSome, ◌↔◌}
 use Rattle.std.specs.Option.{option_map}
-use Rattle.list_laws.proofs.Lists.{slice_get_there, taken_more}
+use Rattle.list_laws.proofs.Lists.{slice_get_there, taken_more, map_push}
 use Rattle.netlist_model.specs.declared.NetId.{NetId}
 use Rattle.netlist_model.specs.declared.Dir.{Dir}
 use Rattle.netlist_model.specs.declared.PinBit.{PinBit}
@@ -18,6 +18,7 @@ use Rattle.plan_fitting.specs.declared.fault.FitFault.{FitFault}
 use Rattle.plan_fitting.specs.declared.fault.FitFault.TheVariants as fault
 use Rattle.plan_fitting.specs.Pins.{PinSeen, NamesBit, IsSeen, AreSeen}
 use Rattle.plan_fitting.specs.Rows.{Driver, three_state}
+use Rattle.plan_fitting.proofs.Seen.{and_seen}
 use Rattle.pin_plan.specs.Seen.{cell_of, plain, IsPinOf, IsPinOfLine, ArePinsOf, IsLineFault, IsPortFault}
 
 -- A bit.
@@ -59,26 +60,12 @@ pin_kept L pin net side clock control driver at sided clocks controls is = λ wo
 tail : (L : LinkedView) (line : PinLine) (lines : List PinLine) (one : PinSeen) (seen : List PinSeen) → AreSeen L (line ∷ lines) (one ∷ seen) → AreSeen L lines seen
 tail L line lines one seen all = record { count = let c = all.count in omega (arith, c); each = λ place. all.each (suc place) }
 
-cons : (L : LinkedView) (line : PinLine) (lines : List PinLine) (one : PinSeen) (seen : List PinSeen) → IsSeen L line.port one → AreSeen L lines seen → AreSeen L (line ∷ lines) (one ∷ seen)
-cons L line lines one seen first more = record { count = ap suc more.count; each = at }
-  where
-    at : (place : ℕ) (l : PinLine) (o : PinSeen) → slice_get (line ∷ lines) place ≡ Some l → slice_get (one ∷ seen) place ≡ Some o → IsSeen L l.port o
-    at zero l o here there =
-        let same_line : line ≡ l = cc in
-        let same_bit : one ≡ o = cc in
-        subst (λ (k : PinLine). IsSeen L k.port o) same_line (subst (λ (b : PinSeen). IsSeen L line.port b) same_bit first)
-    at (suc place) l o here there = more.each place l o here there
-
 seen_more : (L : LinkedView) (lines : List PinLine) (line : PinLine) (seen : List PinSeen) (one : PinSeen) → AreSeen L lines seen → IsSeen L line.port one
     → AreSeen L (lines ++ line ∷ []) (seen ++ one ∷ [])
-seen_more L [] line [] one all last = cons L line [] one [] last all
+seen_more L [] line [] one all last = and_seen L line [] one [] last all
 seen_more L [] line (s ∷ seen) one all last = let c = all.count in absurd (omega (arith, c))
 seen_more L (l ∷ lines) line [] one all last = let c = all.count in absurd (omega (arith, c))
-seen_more L (l ∷ lines) line (s ∷ seen) one all last = cons L l (lines ++ line ∷ []) s (seen ++ one ∷ []) (all.each 0 l s refl refl) (seen_more L lines line seen one (tail L l lines s seen all) last)
-
-map-last : {A B : Type 0} (f : A → B) (xs : List A) (x : A) → map f (xs ++ x ∷ []) ≡ map f xs ++ f x ∷ []
-map-last f [] x = refl
-map-last {A} {B} f (y ∷ xs) x = ap (λ (ys : List B). f y ∷ ys) (map-last f xs x)
+seen_more L (l ∷ lines) line (s ∷ seen) one all last = and_seen L l (lines ++ line ∷ []) s (seen ++ one ∷ []) (all.each 0 l s refl refl) (seen_more L lines line seen one (tail L l lines s seen all) last)
 
 pub kept_more : (L : LinkedView) (lines : List PinLine) (i : ℕ) (line : PinLine) (one : PinSeen) (kept new : List PinSeen) → slice_get lines i ≡ Some line → ArePinsOf L (take i lines) kept
     → IsPinOfLine L line one → new ≡ kept ++ one ∷ [] → ArePinsOf L (take (i + 1) lines) new
@@ -87,7 +74,7 @@ kept_more L lines i line one kept new at so_far next grown =
     subst (λ (ls : List PinLine). ArePinsOf L ls new) longer (
       so_far.0 ++ next.0 ∷ [],
       seen_more L (take i lines) line so_far.0 next.0 so_far.1 next.1,
-      grown ∙ ap (λ (k : List PinSeen). k ++ one ∷ []) so_far.2 ∙ ap (λ (o : PinSeen). map plain so_far.0 ++ o ∷ []) next.2 ∙ sym (map-last plain so_far.0 next.0),
+      grown ∙ ap (λ (k : List PinSeen). k ++ one ∷ []) so_far.2 ∙ ap (λ (o : PinSeen). map plain so_far.0 ++ o ∷ []) next.2 ∙ sym (map_push plain so_far.0 next.0),
     )
 
 -- each of the lines before names a bit

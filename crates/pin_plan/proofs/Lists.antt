@@ -5,10 +5,6 @@ use Rattle.std.specs.List.{list_any, position_or_len, position_from}
 use Rattle.std.proofs.lemmas.Iterator.Adapters.{position_from-zero}
 use Rattle.list_laws.specs.Options.{or_else, first_in}
 
-pub list_any-map : {A B : Type 0} (test : B → Bool) (f : A → B) (xs : List A) → list_any test (map f xs) ≡ list_any (λ x. test (f x)) xs
-list_any-map test f [] = refl
-list_any-map test f (x ∷ xs) = ap (λ b. test (f x) || b) (list_any-map test f xs)
-
 place-map : {A B : Type 0} (test : B → Bool) (f : A → B) (xs : List A) → position_or_len test (map f xs) ≡ position_or_len (λ x. test (f x)) xs
 place-map test f [] = refl
 place-map test f (x ∷ xs) = ap (λ (n : ℕ). cond (not (test (f x))) (1 + n) 0) (place-map test f xs)
@@ -31,10 +27,6 @@ first_in-alike {X} {Y} p q same xs = ap (λ (t : X → Option Y). first_in t xs)
 or_else-assoc : {X : Type 0} (a b c : Option X) → or_else a (or_else b c) ≡ or_else (or_else a b) c
 or_else-assoc None b c = refl
 or_else-assoc (Some x) b c = refl
-
-pub first_in-append : {X Y : Type 0} (test : X → Option Y) (xs ys : List X) → first_in test (xs ++ ys) ≡ or_else (first_in test xs) (first_in test ys)
-first_in-append test [] ys = refl
-first_in-append test (x ∷ xs) ys = ap (or_else (test x)) (first_in-append test xs ys) ∙ or_else-assoc (test x) (first_in test xs) (first_in test ys)
 
 -- Places in a list with one element more.
 

@@ -2,6 +2,7 @@
 use Rattle.std.proofs.Common.{◌≡◌, ℕ, Bool, true, false, List, [], ◌∷◌, ◌++◌, length, map, position, refl, ap, ◌∙◌, Option, Some, None, if◌then◌else◌}
 use Rattle.std.specs.List.{enumerate_from}
 use Rattle.std.specs.Option.{option_map}
+use Rattle.list_laws.proofs.Lists.{any_map}
 use Rattle.cell_library.specs.declared.codes.BoundaryKind.{BoundaryKind}
 use Rattle.cell_library.specs.declared.codes.Function.{Function}
 use Rattle.cell_library.specs.declared.codes.Function.TheVariants as function
@@ -28,7 +29,7 @@ use Rattle.plan_fitting.specs.Fits.{has_line, bit_fault, missing_fault, Taken, P
 use Rattle.plan_fitting.specs.Rows.{Driver, three_state, added_driver, output_driver, controls, controlled_by, output_rows, inout_rows, rows_at, rows_after, rows, has_highz}
 use Rattle.plan_fitting.specs.Devices.{pin_for, fit_port, fitted_of}
 use Rattle.pin_plan.specs.Seen.{cell_of, plain_cell, plain}
-use Rattle.pin_plan.proofs.Lists.{list_any-map, first_in-alike}
+use Rattle.pin_plan.proofs.Lists.{first_in-alike}
 
 of_parts : (core operand : Feed) (high : Bool) → three_state (Some (cell_of (record { core = core; operand = operand; active_high = high }))) ≡ Some (record { core = core; operand = operand; active_high = high })
 of_parts core operand true = refl
@@ -47,7 +48,7 @@ abbrev fault_unless : Bool → List ℕ → Option FitFault
 fault_unless found word = if found then None else Some (fault.PlanPortMissing word)
 
 plain_line : (seen : List PinSeen) (pin : PinBit) → has_line (map plain seen) pin ≡ has_line seen pin
-plain_line seen pin = list_any-map (λ (one : PinSeen). same_bit one.pin pin) plain seen
+plain_line seen pin = any_map (λ (one : PinSeen). same_bit one.pin pin) plain seen
 
 plain_bit : (seen : List PinSeen) (bit : NamedBit) → bit_fault (map plain seen) bit ≡ bit_fault seen bit
 plain_bit seen bit = ap (λ (b : Bool). fault_unless b bit.word) (plain_line seen bit.pin)

@@ -5,6 +5,7 @@ use Rattle.std.specs.List.{enumerate_from, flat_map}
 use Rattle.std.specs.Option.{option_map, option_map_or}
 use Rattle.list_laws.specs.Options.{or_else, first_in}
 use Rattle.list_laws.proofs.Lists.{left_at, slice_get_there}
+use Rattle.list_laws.proofs.Options.{first_in-append}
 use Rattle.link_model.specs.Nets.{counted_from}
 use Rattle.netlist_model.specs.Lists.{PortView}
 use Rattle.netlist_link.specs.Linked.{LinkedView}
@@ -15,7 +16,7 @@ use Rattle.plan_fitting.specs.Pins.{PinSeen, same_bit}
 use Rattle.plan_fitting.specs.Names.{bits_of_port, named_bit, NamedBit}
 use Rattle.plan_fitting.specs.Fits.{bit_fault}
 use Rattle.pin_plan.specs.Bits.{missing_at, word_at}
-use Rattle.pin_plan.proofs.Lists.{first_in-append, list_any-position}
+use Rattle.pin_plan.proofs.Lists.{list_any-position}
 
 -- What is left of the bits of a port, from this one on.
 

@@ -3,6 +3,7 @@ use Rattle.std.proofs.Common.{◌≡◌, ℕ, zero, suc, ◌+◌, ◌≤◌, Lis
 use Rattle.std.specs.Prelude.{slice_get}
 use Rattle.std.specs.List.{enumerate_from}
 use Rattle.std.specs.Option.{option_map}
+use Rattle.list_laws.proofs.Lists.{counted-last, map_push}
 use Rattle.link_model.specs.Nets.{counted_from}
 use Rattle.netlist_model.specs.Lists.{PortView}
 use Rattle.netlist_link.specs.Linked.{LinkedView}
@@ -11,22 +12,12 @@ use Rattle.plan_fitting.specs.declared.fitted.FitPort.{FitPort}
 use Rattle.plan_fitting.specs.Pins.{PinSeen}
 use Rattle.plan_fitting.specs.Devices.{fit_port}
 
-map-last : {A B : Type 0} (f : A → B) (xs : List A) (x : A) → map f (xs ++ x ∷ []) ≡ map f xs ++ f x ∷ []
-map-last f [] x = refl
-map-last {A} {B} f (y ∷ xs) x = ap (λ (ys : List B). f y ∷ ys) (map-last f xs x)
-
-counted-last : (first n : ℕ) → counted_from first (suc n) ≡ counted_from first n ++ (first + n) ∷ []
-counted-last first zero = let none : first + 0 ≡ first = omega arith in ap (λ (k : ℕ). k ∷ []) (sym none)
-counted-last first (suc n) =
-    let next : suc first + n ≡ first + suc n = omega arith in
-    ap (λ (l : List ℕ). first ∷ l) (counted-last (suc first) n ∙ ap (λ (k : ℕ). counted_from (suc first) n ++ k ∷ []) next)
-
 -- pins of the bits so far
 pub pins_more : {Y : Type 0} (f : ℕ → Y) (n : ℕ) (front new : List Y) (y : Y) → front ≡ map f (counted_from 0 n) → y ≡ f n → new ≡ front ++ y ∷ [] → new ≡ map f (counted_from 0 (n + 1))
 pins_more {Y} f n front new y so_far is grown =
     let next : suc n ≡ n + 1 = omega arith in
     let here : n ≡ 0 + n = omega arith in
-    grown ∙ ap (λ (l : List Y). l ++ y ∷ []) so_far ∙ ap (λ (z : Y). map f (counted_from 0 n) ++ z ∷ []) is ∙ sym (map-last f (counted_from 0 n) n)
+    grown ∙ ap (λ (l : List Y). l ++ y ∷ []) so_far ∙ ap (λ (z : Y). map f (counted_from 0 n) ++ z ∷ []) is ∙ sym (map_push f (counted_from 0 n) n)
     ∙ ap (λ (k : ℕ). map f (counted_from 0 n ++ k ∷ [])) here
     ∙ ap (map f) (sym (counted-last 0 n)) ∙ ap (λ (k : ℕ). map f (counted_from 0 k)) next
 
@@ -54,7 +45,7 @@ ports_more L p seen n front new made is so_far grown = by (slice_get L.arena.lis
         let here : fit_port L p seen (n, view) ≡ made = let s : Some (fit_port L p seen (n, view)) ≡ Some made = rw e at is in cc in
         let front_is : List (ℕ × PortView) = take n (enumerate_from 0 L.arena.lists.ports) in
         grown ∙ ap (λ (l : List FitPort). l ++ made ∷ []) so_far ∙ ap (λ (f : FitPort). map (fit_port L p seen) front_is ++ f ∷ []) (sym here)
-        ∙ sym (map-last (fit_port L p seen) front_is (n, view))
+        ∙ sym (map_push (fit_port L p seen) front_is (n, view))
         ∙ ap (λ (k : ℕ). map (fit_port L p seen) (front_is ++ (k, view) ∷ [])) number
         ∙ ap (map (fit_port L p seen)) (sym (counted-at 0 n L.arena.lists.ports view e))
         ∙ ap (λ (k : ℕ). map (fit_port L p seen) (take k (enumerate_from 0 L.arena.lists.ports))) next

@@ -1,6 +1,7 @@
 -- What pin lines come to, line by line with their bits.
-use Rattle.std.proofs.Common.{◌≡◌, ℕ, zero, suc, ◌≤◌, ◌⊎◌, inl, inr, Bool, min, List, [], ◌∷◌, ◌++◌, length, drop, refl, ap, sym, ◌∙◌, arith, Option, None}
+use Rattle.std.proofs.Common.{◌≡◌, ℕ, ◌⊎◌, inl, inr, Bool, min, List, [], ◌∷◌, ◌++◌, length, drop, refl, ap, sym, ◌∙◌, arith, Option, None}
 use Rattle.std.proofs.lemmas.Bool.{cases_lt}
+use Rattle.list_laws.proofs.Lists.{none_left}
 use Rattle.cell_library.specs.declared.codes.BoundaryKind.{BoundaryKind}
 use Rattle.plan_texts.specs.declared.plan.PinLine.{PinLine}
 use Rattle.plan_fitting.specs.declared.fault.FitFault.{FitFault}
@@ -13,15 +14,9 @@ use Rattle.plan_fitting.specs.Rows.{rows_after}
 -- no element is left of one of the lists
 pub ended : {X Y : Type 0} (xs : List X) (ys : List Y) (n : ℕ) → n ≡ min (length xs) (length ys) → (drop n xs ≡ []) ⊎ (drop n ys ≡ [])
 ended xs ys n is = elim (cases_lt (length ys) (length xs)) [
-  | inl less ↦ inr (none ys n (omega (arith, is)))
-  | inr more ↦ inl (none xs n (omega (arith, is)))
+  | inl less ↦ inr (none_left ys n (omega (arith, is)))
+  | inr more ↦ inl (none_left xs n (omega (arith, is)))
 ]
-  where
-    none : {X : Type 0} (zs : List X) (k : ℕ) → length zs ≤ k → drop k zs ≡ []
-    none [] zero h = refl
-    none [] (suc k) h = refl
-    none (z ∷ zs) zero h = absurd (omega arith)
-    none (z ∷ zs) (suc k) h = none zs k (omega arith)
 
 -- Boundary cells.
 

@@ -7,15 +7,10 @@ use Rattle.netlist_model.specs.declared.Feed.TheVariants.{Net, Const}
 use Rattle.plan_fitting.specs.declared.fitted.FitRow.{FitRow}
 use Rattle.plan_fitting.specs.Pins.{PinSeen, same_bit}
 use Rattle.plan_fitting.specs.Rows.{Driver, controls, same_bool}
-use Rattle.bsdl_lexicon.specs.declared.name_key.NameKey.{NameKey}
 use Rattle.pin_plan.specs.declared.keys.BitKey.{BitKey}
 use Rattle.pin_plan.specs.declared.keys.OperandKey.{OperandKey}
 use Rattle.pin_plan.specs.declared.keys.OperandKey.TheVariants as operand
 use Rattle.pin_plan.specs.declared.keys.ControlKey.{ControlKey}
-
--- the names of keys
-abbrev pub names_in : List NameKey → List (List ℕ)
-names_in keys = map (λ (k : NameKey). k.0.now) keys
 
 -- Bits.
 

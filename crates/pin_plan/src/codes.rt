@@ -3,10 +3,10 @@ ghost use Rattle.std.specs.Prelude.{◌≡◌, IfOk};
 ghost use Rattle.plan_fitting.specs.Devices as devices;
 ghost use Rattle.plan_fitting.specs.Rows as boundary;
 
-use crate::copies::opcodes_copy;
 use bsdl_device::is_instruction;
 use cell_library::{Bits, Instr, Opcode};
 use edge_io::OutOfMemory;
+use plan_fitting::copies::opcodes_copy;
 use plan_texts::Plan;
 use std::alloc::Global;
 use test_logic::{Codes, opcode_of};

@@ -1,8 +1,8 @@
 // Copies of what a plan gives the device as it stands.
 ghost use Rattle.std.specs.Prelude.{◌≡◌, IfOk};
 
-use cell_library::Opcode;
 use edge_io::{OutOfMemory, Row, Text};
+use plan_fitting::copies::text_copy;
 use plan_texts::{Plan, TapLine};
 use std::alloc::Global;
 
@@ -24,13 +24,6 @@ pub struct TapLines {
     pub trst: TapLine,
 }
 
-/// A copy of a text.
-pub fn text_copy(alloc: Global, text: &Text) -> Result<Text, OutOfMemory>
-    ensures { IfOk result (λ copy. copy ≡ text.now) }
-{
-    Text::from_bytes(alloc, text.as_bytes())
-}
-
 fn line_copy(alloc: Global, line: &TapLine) -> Result<TapLine, OutOfMemory>
     ensures { IfOk result (λ copy. copy ≡ line.now) }
 {
@@ -47,17 +40,6 @@ pub fn lines_copy(alloc: Global, lines: &[TapLine]) -> Result<Row<TapLine>, OutO
     let mut copy = Row::new(alloc);
     for line in lines {
         copy.push(line_copy(alloc, line)?)?;
-    }
-    Ok(copy)
-}
-
-/// Copies of opcodes, in order.
-pub fn opcodes_copy(alloc: Global, opcodes: &[Opcode]) -> Result<Row<Opcode>, OutOfMemory>
-    ensures { IfOk result (λ copy. copy ≡ opcodes.now) }
-{
-    let mut copy = Row::new(alloc);
-    for opcode in opcodes {
-        copy.push(*opcode)?;
     }
     Ok(copy)
 }

@@ -4,7 +4,7 @@ ghost use Rattle.std.specs.List.{list_any};
 ghost use Rattle.bsdl_lexicon.specs.Names.{is_same_name};
 ghost use Rattle.first_faults.specs.Repeated.{has_name, texts};
 ghost use Rattle.plan_fitting.specs.Fits as fits;
-ghost use Rattle.pin_plan.specs.Keys.{names_in};
+ghost use Rattle.bsdl_lexicon.specs.NameKeys.{names_in};
 ghost use Rattle.pin_plan.specs.Names.{name_fault_among};
 
 use bsdl_lexicon::{NameKey, is_reserved};

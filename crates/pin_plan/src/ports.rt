@@ -5,12 +5,12 @@ ghost use Rattle.std.specs.Option.{option_map, option_map_or};
 ghost use Rattle.plan_fitting.specs.Devices as devices;
 
 use crate::bits::BitTable;
-use crate::copies::text_copy;
 use crate::netlist_names::{port_width, text_of_port};
 use edge_io::{OutOfMemory, Row, Text};
 use netlist_link::Linked;
 use netlist_model::{PinBit, PortId};
 use plan_fitting::FitPort;
+use plan_fitting::copies::text_copy;
 use plan_texts::{PinLine, Plan};
 use std::alloc::Global;
 

@@ -1,18 +1,15 @@
 -- What the core gives the cells of a plan that fits: the data and control operands of the drivers of their bits.
-use Rattle.std.proofs.Common.{◌≡◌, ℕ, ◌&&◌, Bool, true, false, List, [], ◌∷◌, slice_get, if◌then◌else◌, Option, Some, None, refl, sym, ap, ◌∙◌, subst, inl, inr, eqb-true}
+use Rattle.std.proofs.Common.{◌≡◌, ℕ, ◌&&◌, Bool, true, false, List, [], slice_get, if◌then◌else◌, Option, Some, None, refl, sym, ap, ◌∙◌, inl, inr, eqb-true}
 use Rattle.std.specs.Prelude.{is_some}
 use Rattle.std.specs.Option.{option_map_or}
 use Rattle.list_laws.proofs.Tests.{and_right}
+use Rattle.list_laws.proofs.Options.{some_same}
 use Rattle.signal_values.specs.declared.Sig.{Sig}
 use Rattle.signal_values.specs.declared.Sig.TheVariants.{One}
 use Rattle.signal_values.specs.Values.{bit}
-use Rattle.cell_library.specs.declared.Kind.{Kind}
-use Rattle.cell_library.specs.declared.Kind.TheVariants.{Bufif0, Bufif1}
 use Rattle.cell_library.specs.Gates.{is_three_state, operand}
-use Rattle.cell_library.specs.declared.codes.Function.TheVariants as function
 use Rattle.bsdl_device.specs.RowRules.{is_function}
 use Rattle.netlist_model.specs.declared.Dir.{Dir}
-use Rattle.netlist_model.specs.declared.Dir.TheVariants as dir
 use Rattle.netlist_model.specs.declared.Feed.{Feed}
 use Rattle.netlist_model.specs.declared.Feed.TheVariants.{Net, Const}
 use Rattle.netlist_model.specs.declared.NetId.{NetId}
@@ -29,49 +26,24 @@ use Rattle.plan_texts.specs.declared.plan.Plan.{Plan}
 use Rattle.plan_fitting.specs.declared.fitted.FitRow.{FitRow}
 use Rattle.plan_fitting.specs.Pins.{PinSeen}
 use Rattle.plan_fitting.specs.Rows.{Driver, gate_driver, three_state, added_driver, same_bool, same_feed, controls, rows, has_highz}
+use Rattle.plan_fitting.proofs.Drivers.{not_three, same_bool_is, gate_is}
 use Rattle.plan_devices.specs.Laws.{fed, RowsTakeTheCore, ControlsTakeTheCore, ControlsFollowTheirRows}
-use Rattle.plan_devices.proofs.Lists.{some_same}
 use Rattle.plan_devices.proofs.Rows.{side_driver, data_core, Controlled, IsDataRow}
 use Rattle.plan_devices.proofs.Drivers.{seen_direction, gate_has_driver}
 use Rattle.plan_devices.proofs.Lined.{IsLined}
 use Rattle.plan_devices.proofs.Facts.{Facts, facts_of}
 use Rattle.plan_devices.proofs.RowPlaces.{net_of_line}
+use Rattle.cell_library.specs.declared.codes.Function.TheVariants as function
+use Rattle.netlist_model.specs.declared.Dir.TheVariants as dir
 
 -- A three-state gate as a driver.
-
-record IsGate (value : ℕ → Sig) (k : Kind) (feeds : List Feed) (d : Driver) : Type 0 where
-  three : is_three_state k ≡ true
-  datum : feed_value value d.core ≡ operand (feed_values value feeds) 0
-  level : feed_value value d.operand ≡ operand (feed_values value feeds) 1
-
-gate_is : (value : ℕ → Sig) (k : Kind) (feeds : List Feed) (d : Driver) → gate_driver k feeds ≡ Some d → IsGate value k feeds d
-gate_is value Bufif1 [] d h = absurd (cc)
-gate_is value Bufif1 (a ∷ []) d h = absurd (cc)
-gate_is value Bufif1 (a ∷ b ∷ []) d h =
-    let one : Driver = record { core = a; operand = b; active_high = true } in
-    subst (IsGate value Bufif1 (a ∷ b ∷ [])) (some_same one d (gate_driver Bufif1 (a ∷ b ∷ [])) refl h) (record { three = refl; datum = refl; level = refl })
-gate_is value Bufif1 (a ∷ b ∷ c ∷ feeds) d h = absurd (cc)
-gate_is value Bufif0 [] d h = absurd (cc)
-gate_is value Bufif0 (a ∷ []) d h = absurd (cc)
-gate_is value Bufif0 (a ∷ b ∷ []) d h =
-    let one : Driver = record { core = a; operand = b; active_high = false } in
-    subst (IsGate value Bufif0 (a ∷ b ∷ [])) (some_same one d (gate_driver Bufif0 (a ∷ b ∷ [])) refl h) (record { three = refl; datum = refl; level = refl })
-gate_is value Bufif0 (a ∷ b ∷ c ∷ feeds) d h = absurd (cc)
-gate_is value _ feeds d h = absurd (cc)
-
-not_three : (k : Kind) (gate : Option Driver) → gate ≡ None → (is_three_state k ≡ true → is_some gate ≡ true) → is_three_state k ≡ false
-not_three k gate none some = by (is_three_state k) some
-  where
-    by : (b : Bool) → (b ≡ true → is_some gate ≡ true) → b ≡ false
-    by true h = absurd (let yes = h refl in let no : is_some gate ≡ false = ap (λ (o : Option Driver). is_some o) none in cc)
-    by false h = refl
 
 -- Data.
 
 gate_datum : (value : ℕ → Sig) (cell : CellView) (net : ℕ) (d : Driver) → gate_driver cell.kind cell.feeds ≡ Some d → feed_value value d.core ≡ core_datum (Some cell) value net
 gate_datum value cell net d h =
-    let is = gate_is value cell.kind cell.feeds d h in
-    is.datum ∙ sym (ap (λ (b : Bool). if b then operand (feed_values value cell.feeds) 0 else value net) is.three)
+    let is = gate_is cell.kind cell.feeds d h in
+    sym (ap (λ (feeds : List Feed). operand (feed_values value feeds) 0) is.are) ∙ sym (ap (λ (b : Bool). if b then operand (feed_values value cell.feeds) 0 else value net) is.three)
 
 plain_datum : (value : ℕ → Sig) (cell : CellView) (net : ℕ) → is_three_state cell.kind ≡ false → value net ≡ core_datum (Some cell) value net
 plain_datum value cell net h = sym (ap (λ (b : Bool). if b then operand (feed_values value cell.feeds) 0 else value net) h)
@@ -124,8 +96,8 @@ datum_at found drives L formed value highz one dir.Inout seen at =
 
 gate_level : (value : ℕ → Sig) (cell : CellView) (d : Driver) → gate_driver cell.kind cell.feeds ≡ Some d → feed_value value d.operand ≡ core_control (Some cell) value
 gate_level value cell d h =
-    let is = gate_is value cell.kind cell.feeds d h in
-    is.level ∙ sym (ap (λ (b : Bool). if b then operand (feed_values value cell.feeds) 1 else One) is.three)
+    let is = gate_is cell.kind cell.feeds d h in
+    sym (ap (λ (feeds : List Feed). operand (feed_values value feeds) 1) is.are) ∙ sym (ap (λ (b : Bool). if b then operand (feed_values value cell.feeds) 1 else One) is.three)
 
 added_level : (value : ℕ → Sig) (highz : Bool) (core : Feed) (cell : CellView) (d : Driver) → is_three_state cell.kind ≡ false → added_driver highz core ≡ Some d → feed_value value d.operand ≡ core_control (Some cell) value
 added_level value true core cell d three h =
@@ -155,11 +127,6 @@ level_at found L formed value highz one dir.Inout d seen at is =
     ∙ sym (ap (λ (o : Option CellView). core_control o value) by.is)
 
 -- The same operand has the same value.
-
-same_bool_is : (a b : Bool) → same_bool a b ≡ true → a ≡ b
-same_bool_is true b h = sym h
-same_bool_is false true h = absurd (cc)
-same_bool_is false false h = refl
 
 same_feed_value : (value : ℕ → Sig) (a b : Feed) → same_feed a b ≡ true → feed_value value a ≡ feed_value value b
 same_feed_value value (Net a) (Net b) h = ap value (eqb-true a.0 b.0 h)

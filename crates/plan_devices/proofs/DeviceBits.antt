@@ -6,11 +6,11 @@ use Rattle.std.specs.Option.{option_map_or}
 use Rattle.std.proofs.lemmas.Bool.{cases_lt}
 use Rattle.std.proofs.lemmas.Option.{slice_get-map}
 use Rattle.std.proofs.lemmas.List.Folds.{list_all-append}
-use Rattle.list_laws.proofs.Tests.{and_left, and_right}
+use Rattle.list_laws.proofs.Tests.{and_left, and_right, and_true, or_more}
 use Rattle.list_laws.proofs.Numbers.{eqb_same}
-use Rattle.list_laws.proofs.Lists.{all_append, slice_get_there, slice_get-counted_from}
+use Rattle.list_laws.proofs.Lists.{all_append, slice_get_there, slice_get-counted_from, all_mapped, any_at, test_at}
+use Rattle.list_laws.proofs.Options.{some_same}
 use Rattle.cell_library.specs.declared.codes.BoundaryKind.{BoundaryKind}
-use Rattle.link_model.specs.Nets as link
 use Rattle.netlist_model.specs.declared.PinBit.{PinBit}
 use Rattle.netlist_model.specs.declared.Range.{Range}
 use Rattle.netlist_model.specs.Lists.{PortView}
@@ -18,7 +18,6 @@ use Rattle.netlist_model.specs.Formed.{width_of}
 use Rattle.netlist_link.specs.Linked.{LinkedView}
 use Rattle.netlist_link.specs.PinWords.{pin_at}
 use Rattle.netlist_link.specs.WellNamed.{index_from}
-use Rattle.bsdl_device.specs.declared.values.PortMode.TheVariants as mode
 use Rattle.bsdl_device.specs.declared.values.DevPort.{DevPort}
 use Rattle.bsdl_device.specs.declared.values.DevBit.{DevBit}
 use Rattle.bsdl_device.specs.Checks.{any_pair}
@@ -33,15 +32,16 @@ use Rattle.plan_fitting.specs.Fits.{has_line}
 use Rattle.plan_fitting.specs.Rows.{rows, has_highz}
 use Rattle.plan_fitting.specs.Devices.{fit_port, fitted_of, dev_port, port_range, scalar_port, tap_ports, dev_ports, dev_bit, cell_row, device_of}
 use Rattle.plan_devices.specs.Fitting.{HasWidths}
-use Rattle.plan_devices.proofs.Tests.{both}
-use Rattle.plan_devices.proofs.Lists.{some_same, all_from_places, all_mapped, enumerated_at, all_enumerated}
+use Rattle.plan_devices.proofs.Lists.{all_from_places, enumerated_at, all_enumerated}
 use Rattle.plan_devices.proofs.Rows.{Fact, Each}
 use Rattle.plan_devices.proofs.RowCounts.{weigh, count-cons, count_some, sits, makes_row, rows_count, at_most_one}
 use Rattle.plan_devices.proofs.Lined.{IsLined}
 use Rattle.plan_devices.proofs.PortPins.{same_bits_join}
 use Rattle.plan_devices.proofs.Indices.{IsBit, range_there, dev_port_at, count_of_ports, same_in_device, same_dev_bit}
 use Rattle.plan_devices.proofs.DeviceTap.{behind_own}
-use Rattle.plan_devices.proofs.DeviceRows.{any_at, list_all_at, lined_bit, mapped_at}
+use Rattle.plan_devices.proofs.DeviceRows.{lined_bit, mapped_at}
+use Rattle.link_model.specs.Nets as link
+use Rattle.bsdl_device.specs.declared.values.PortMode.TheVariants as mode
 
 -- Each bit of the netlist has a line.
 
@@ -60,17 +60,13 @@ bit_has_line L seen all k port j there low =
     let own = flat_at (λ (b : NamedBit). has_line seen b.pin) (bits_of_port L) (enumerate_from 0 L.arena.lists.ports) k (k, port) all number in
     let place : slice_get (link.counted_from 0 (length port.nets)) j ≡ Some (0 + j) = slice_get-counted_from 0 (length port.nets) j low in
     let bit : 0 + j ≡ j = omega arith in
-    list_all_at (λ (b : NamedBit). has_line seen b.pin) (bits_of_port L (k, port)) j (named_bit L k port j) own
+    test_at (λ (b : NamedBit). has_line seen b.pin) (bits_of_port L (k, port)) j (named_bit L k port j) own
     (slice_get-map (named_bit L k port) (link.counted_from 0 (length port.nets)) j ∙ ap (option_map (named_bit L k port)) place ∙ ap (λ (n : ℕ). Some (named_bit L k port n)) bit)
 
 -- One line, one row.
 
-same_self : (x : PinBit) → same_bit x x ≡ true
-same_self x = both (x.port.0 == x.port.0) (x.bit == x.bit) (eqb_same x.port.0) (eqb_same x.bit)
-
-or_second : (a b : Bool) → b ≡ true → (a || b) ≡ true
-or_second true b h = refl
-or_second false b h = h
+pub same_self : (x : PinBit) → same_bit x x ≡ true
+same_self x = and_true (x.port.0 == x.port.0) (x.bit == x.bit) (eqb_same x.port.0) (eqb_same x.bit)
 
 first_or : (a b : Bool) → a ≡ true → (a || b) ≡ true
 first_or true b h = refl
@@ -86,7 +82,7 @@ any_turned x (one ∷ seen) h = by (same_bit one.pin x) refl h (λ k. any_turned
     by : (b : Bool) → same_bit one.pin x ≡ b → (b || has_line seen x) ≡ true → (has_line seen x ≡ true → list_any (λ (y : PinSeen). same_bit x y.pin) seen ≡ true)
         → (same_bit x one.pin || list_any (λ (y : PinSeen). same_bit x y.pin) seen) ≡ true
     by true e k more = ap (λ (b : Bool). b || list_any (λ (y : PinSeen). same_bit x y.pin) seen) (turned_bit one.pin x e)
-    by false e k more = or_second (same_bit x one.pin) (list_any (λ (y : PinSeen). same_bit x y.pin) seen) (more k)
+    by false e k more = or_more (same_bit x one.pin) (list_any (λ (y : PinSeen). same_bit x y.pin) seen) (more k)
 
 mapped_any : (t : PinBit → Bool) (xs : List PinSeen) → list_any t (map (λ (y : PinSeen). y.pin) xs) ≡ list_any (λ (y : PinSeen). t y.pin) xs
 mapped_any t [] = refl
@@ -176,7 +172,7 @@ behind f n (suc (suc (suc zero))) q h = first_or _ _ (any_at (λ (tap : ℕ). n 
 behind f n (suc (suc (suc (suc zero)))) q h = first_or _ _ (any_at (λ (tap : ℕ). n + suc (suc (suc (suc zero))) == tap) (n ∷ (n + 1) ∷ (n + 2) ∷ (n + 3) ∷ (n + 4) ∷ []) 4 (n + 4) refl (eq-eqb (n + suc (suc (suc (suc zero)))) (n + 4) (omega arith)))
 behind f n (suc (suc (suc (suc (suc j))))) q h =
     let at = mapped_at (scalar_port mode.Linkage) f.linkage j q h in
-    or_second _ _ (ap (λ (x : DevPort). is_mode mode.Linkage x.mode) (sym at.2))
+    or_more _ _ (ap (λ (x : DevPort). is_mode mode.Linkage x.mode) (sym at.2))
 
 nothing_if : (P : DevBit → Type 0) (b : Bool) (bits : List DevBit) → b ≡ true → AllByRecursion P (if b then [] else bits)
 nothing_if P true bits h = tt

@@ -62,7 +62,7 @@ device_register rules L p seen fits register bits codes =
 
 -- How many rows there are.
 
-some_width : (range : Option Range) → 0 < width_of range
+pub some_width : (range : Option Range) → 0 < width_of range
 some_width None = omega arith
 some_width (Some r) = omega arith
 
@@ -100,12 +100,18 @@ lines_few L p seen fits facts =
         let one : count_by (λ (y : PinSeen). same_bit b.pin y.pin) seen ≡ 1 = one_line seen b.pin facts.once.bits (and_left (has_line seen b.pin) (list_all (λ (x : NamedBit). has_line seen x.pin) bits) all) in
         (omega arith, each_once bits (and_right (has_line seen b.pin) (list_all (λ (x : NamedBit). has_line seen x.pin) bits) all))
 
-few_rows : (L : LinkedView) (p : Plan) (seen : List PinSeen) → IsFitting L p seen → Facts L p seen → HasRoom L p → length (device_of L p seen).cells < 10 ^ 9
-few_rows L p seen fits facts room =
+-- two rows for each bit of the netlist's ports at most
+pub rows_within : (L : LinkedView) (p : Plan) (seen : List PinSeen) → IsFitting L p seen → Facts L p seen → length (rows p seen) ≤ 2 * bit_count L.arena.lists.ports
+rows_within L p seen fits facts =
     let lines : length seen ≤ length (port_bits L) = lines_few L p seen fits facts in
     let bits : length (port_bits L) ≡ bit_count L.arena.lists.ports = count_of_bits L in
     let many : length seen ≡ length p.pins = fits.are_seen.count in
     let rest : length (rows p seen) ≤ 0 + 2 * length p.pins = rows_few p.control (has_highz p.opcodes) [] p.pins seen in
+    omega arith
+
+few_rows : (L : LinkedView) (p : Plan) (seen : List PinSeen) → IsFitting L p seen → Facts L p seen → HasRoom L p → length (device_of L p seen).cells < 10 ^ 9
+few_rows L p seen fits facts room =
+    let within : length (rows p seen) ≤ 2 * bit_count L.arena.lists.ports = rows_within L p seen fits facts in
     let same : length (device_of L p seen).cells ≡ length (rows p seen) = length-map (rows p seen) (cell_row (fitted_of L p seen)) in
     let limit : bit_count L.arena.lists.ports + (5 + length p.linkage) ≤ 4096 = room in
     omega arith

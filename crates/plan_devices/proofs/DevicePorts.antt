@@ -7,8 +7,8 @@ use Rattle.std.specs.List.{list_any, list_all, flat_map, enumerate_from, cons_op
 use Rattle.std.proofs.lemmas.Simd.{map-map}
 use Rattle.std.proofs.lemmas.List.Folds.{list_all-append}
 use Rattle.std.proofs.lemmas.List.Sums.{sum_by-cons, sum_by-append}
-use Rattle.list_laws.proofs.Tests.{and_left, and_right}
-use Rattle.list_laws.proofs.Lists.{all_append, length-counted_from, slice_get_there}
+use Rattle.list_laws.proofs.Tests.{and_left, and_right, or_first, or_second, neither}
+use Rattle.list_laws.proofs.Lists.{all_append, length-counted_from, slice_get_there, all_at}
 use Rattle.link_model.specs.Nets.{counted_from}
 use Rattle.link_model.specs.Denoted.{name_bytes}
 use Rattle.bsdl_lexicon.specs.Names.{is_same_name}
@@ -28,6 +28,7 @@ use Rattle.netlist_arena.specs.Arena.{bit_count}
 use Rattle.netlist_link.specs.Linked.{LinkedView}
 use Rattle.netlist_link.specs.PinWords.{pin_at}
 use Rattle.netlist_link.specs.WellNamed.{IsShortRange, IsWellNamed}
+use Rattle.bsdl_lexicon.proofs.SameNames.{same_turned}
 use Rattle.plan_texts.specs.declared.plan.Plan.{Plan}
 use Rattle.plan_texts.specs.declared.plan.TapLine.{TapLine}
 use Rattle.plan_texts.specs.declared.plan.PinLine.{PinLine}
@@ -36,9 +37,8 @@ use Rattle.plan_fitting.specs.Names.{NamedBit, port_name, port_names, named_bit,
 use Rattle.plan_fitting.specs.Fits.{has_line, tap_lines, names_of}
 use Rattle.plan_fitting.specs.Devices.{pin_for, pins_of_port, fit_port, fitted_of, dev_port, port_range, scalar_port, tap_ports, dev_ports, device_of}
 use Rattle.plan_devices.specs.Fitting.{IsFitting, HasRoom}
-use Rattle.plan_devices.proofs.Tests.{neither, or_left, or_right}
-use Rattle.plan_devices.proofs.Names.{same_turned, NamesFit}
-use Rattle.plan_devices.proofs.Lists.{all_from_places, all_at}
+use Rattle.plan_devices.proofs.Names.{NamesFit}
+use Rattle.plan_devices.proofs.Lists.{all_from_places}
 use Rattle.plan_devices.proofs.PlanPins.{HasPins}
 use Rattle.plan_devices.proofs.PortBits.{bits_are_apart, AreLined}
 use Rattle.plan_devices.proofs.PortPins.{bit_pins, pins_once, pins_are_right}
@@ -121,8 +121,8 @@ apart_from a b [] h k = refl
 apart_from a b (name ∷ names) h k =
     neither (is_same_name name a || is_same_name name b) (list_any (λ n. is_same_name n a || is_same_name n b) names)
     (neither (is_same_name name a) (is_same_name name b)
-    (same_turned name a ∙ or_left (is_same_name a name) (list_any (is_same_name a) names) h) (same_turned name b ∙ or_left (is_same_name b name) (list_any (is_same_name b) names) k))
-    (apart_from a b names (or_right (is_same_name a name) (list_any (is_same_name a) names) h) (or_right (is_same_name b name) (list_any (is_same_name b) names) k))
+    (same_turned name a ∙ or_first (is_same_name a name) (list_any (is_same_name a) names) h) (same_turned name b ∙ or_first (is_same_name b name) (list_any (is_same_name b) names) k))
+    (apart_from a b names (or_second (is_same_name a name) (list_any (is_same_name a) names) h) (or_second (is_same_name b name) (list_any (is_same_name b) names) k))
 
 -- Each port.
 
@@ -220,8 +220,8 @@ device_ports L p seen fits room names pins once lined right =
     let bytes = ports_have_bytes L fits.named in
     let rest = port_names L ++ (names_of (tap_lines p) ++ names_of p.linkage) in
     let same = device_names L p seen bytes in
-    let of_entity : list_any (is_same_name p.entity) (p.«package» ∷ rest) ≡ false = or_left (list_any (is_same_name p.entity) (p.«package» ∷ rest)) (is_repeated (p.«package» ∷ rest)) names.distinct in
-    let of_package : is_repeated (p.«package» ∷ rest) ≡ false = or_right (list_any (is_same_name p.entity) (p.«package» ∷ rest)) (is_repeated (p.«package» ∷ rest)) names.distinct in
+    let of_entity : list_any (is_same_name p.entity) (p.«package» ∷ rest) ≡ false = or_first (list_any (is_same_name p.entity) (p.«package» ∷ rest)) (is_repeated (p.«package» ∷ rest)) names.distinct in
+    let of_package : is_repeated (p.«package» ∷ rest) ≡ false = or_second (list_any (is_same_name p.entity) (p.«package» ∷ rest)) (is_repeated (p.«package» ∷ rest)) names.distinct in
     let own : sum_by (λ (q : DevPort). width q.range) (map dev_port (fitted_of L p seen).ports) ≡ bit_count L.arena.lists.ports = own_width L p seen 0 L.arena.lists.ports right in
     let scalars : sum_by (λ (q : DevPort). width q.range) (taps ++ more) ≡ length (taps ++ more) = scalars_width (taps ++ more) (refl, (refl, (refl, (refl, (refl, linkage_width p.linkage))))) in
     let count : length more ≡ length p.linkage = length-map p.linkage (scalar_port mode.Linkage) in
@@ -246,9 +246,9 @@ device_ports L p seen fits room names pins once lined right =
               ),
             ),
           );
-      distinct = ap is_repeated same ∙ or_right (list_any (is_same_name p.«package») rest) (is_repeated rest) of_package;
+      distinct = ap is_repeated same ∙ or_second (list_any (is_same_name p.«package») rest) (is_repeated rest) of_package;
       apart = ap (list_any (λ name. is_same_name name p.entity || is_same_name name p.«package»)) same
-          ∙ apart_from p.entity p.«package» rest (or_right (is_same_name p.entity p.«package») (list_any (is_same_name p.entity) rest) of_entity) (or_left (list_any (is_same_name p.«package») rest) (is_repeated rest) of_package);
+          ∙ apart_from p.entity p.«package» rest (or_second (is_same_name p.entity p.«package») (list_any (is_same_name p.entity) rest) of_entity) (or_first (list_any (is_same_name p.«package») rest) (is_repeated rest) of_package);
       pins = ap is_repeated (device_pins L p seen) ∙ pins_once p seen (port_bits L) fits.are_seen.count once.pins lined.each (bits_are_apart L);
       few = omega arith;
     }

@@ -1,11 +1,12 @@
 -- Each row of the device of a plan that fits stands right.
-use Rattle.std.proofs.Common.{◌≡◌, ℕ, zero, suc, ◌<◌, ◌==◌, ◌&&◌, Bool, true, false, not, List, [], ◌∷◌, map, length, slice_get, Option, Some, None, option_map, refl, sym, ap, ◌∙◌, subst, inl, inr, arith}
+use Rattle.std.proofs.Common.{◌≡◌, ℕ, ◌<◌, ◌==◌, ◌&&◌, Bool, true, false, not, List, map, length, slice_get, Option, Some, None, option_map, refl, sym, ap, ◌∙◌, subst, inl, inr, arith}
 use Rattle.std.specs.Prelude.{◌||◌, is_none}
 use Rattle.std.specs.List.{list_any, list_all}
 use Rattle.std.specs.Option.{option_map_or}
 use Rattle.std.proofs.lemmas.Option.{slice_get-map}
-use Rattle.list_laws.proofs.Tests.{and_left, and_right}
+use Rattle.list_laws.proofs.Tests.{and_true}
 use Rattle.list_laws.proofs.Numbers.{eqb_same}
+use Rattle.list_laws.proofs.Lists.{any_at, test_at}
 use Rattle.cell_library.specs.declared.codes.Function.{Function}
 use Rattle.cell_library.specs.declared.codes.Function.TheVariants as function
 use Rattle.bsdl_device.specs.declared.values.PortMode.{PortMode}
@@ -32,7 +33,6 @@ use Rattle.plan_fitting.specs.Pins.{PinSeen}
 use Rattle.plan_fitting.specs.Rows.{Driver, rows, has_highz}
 use Rattle.plan_fitting.specs.Devices.{mode_of_side, fit_port, fitted_of, dev_port, dev_bit, disable_by, cell_row, device_of}
 use Rattle.plan_devices.specs.Fitting.{HasWidths}
-use Rattle.plan_devices.proofs.Tests.{both}
 use Rattle.plan_devices.proofs.Lists.{get_inside}
 use Rattle.plan_devices.proofs.Rows.{side_driver, data_function, IsDataRow, IsControlRow, Each}
 use Rattle.plan_devices.proofs.Lined.{IsLined, clocks_control, suits_data, suits_control}
@@ -45,20 +45,6 @@ mapped_at {X = X} {Y = Y} g xs k y h = by (slice_get xs k) refl (sym (slice_get-
     by : (o : Option X) → slice_get xs k ≡ o → option_map g o ≡ Some y → (x : X) × (slice_get xs k ≡ Some x) × (g x ≡ y)
     by None e f = absurd (cc)
     by (Some x) e f = (x, e, cc)
-
-pub any_at : {X : Type 0} (p : X → Bool) (xs : List X) (k : ℕ) (x : X) → slice_get xs k ≡ Some x → p x ≡ true → list_any p xs ≡ true
-any_at p [] k x h t = absurd (cc)
-any_at {X = X} p (y ∷ xs) zero x h t = let same : x ≡ y = cc in ap (λ (b : Bool). b || list_any p xs) (sym (ap p same) ∙ t)
-any_at p (y ∷ xs) (suc k) x h t = by (p y) (list_any p xs) (any_at p xs k x h t)
-  where
-    by : (a b : Bool) → b ≡ true → (a || b) ≡ true
-    by true b e = refl
-    by false b e = e
-
-pub list_all_at : {X : Type 0} (p : X → Bool) (xs : List X) (k : ℕ) (x : X) → list_all p xs ≡ true → slice_get xs k ≡ Some x → p x ≡ true
-list_all_at p [] k x all h = absurd (cc)
-list_all_at {X = X} p (y ∷ xs) zero x all h = let same : y ≡ x = cc in subst (λ (z : X). p z ≡ true) same (and_left (p y) (list_all p xs) all)
-list_all_at p (y ∷ xs) (suc k) x all h = list_all_at p xs k x (and_right (p y) (list_all p xs) all) h
 
 -- Bits.
 
@@ -86,8 +72,8 @@ bit_stands L p seen pin b side is =
     let q = dev_port (fit_port L p seen (pin.port.0, b.port)) in
     let inside : pin.port.0 < length L.arena.lists.ports = get_inside L.arena.lists.ports pin.port.0 b.port b.there in
     ap (λ (o : Option DevPort). option_map_or (λ (x : DevPort). has_bit x.range (dev_bit f pin).index && not (is_tap_place d pin.port.0) && is_mode (mode_of_side side) x.mode) o false) (dev_port_at L p seen pin.port.0 b.port b.there)
-    ∙ both (has_bit q.range (dev_bit f pin).index && not (is_tap_place d pin.port.0)) (is_mode (mode_of_side side) q.mode)
-    (both (has_bit q.range (dev_bit f pin).index) (not (is_tap_place d pin.port.0))
+    ∙ and_true (has_bit q.range (dev_bit f pin).index && not (is_tap_place d pin.port.0)) (is_mode (mode_of_side side) q.mode)
+    (and_true (has_bit q.range (dev_bit f pin).index) (not (is_tap_place d pin.port.0))
     (ap (λ (r : Option Range). has_bit q.range (index_from r pin.bit)) (range_there L p seen pin b) ∙ has_index b.port.range pin.bit b.within)
     (ap not (no_tap L p seen pin.port.0 inside)))
     (ap (λ (s : Dir). is_mode (mode_of_side side) (mode_of_side s)) (sym is) ∙ same_mode side)
@@ -153,7 +139,7 @@ right_row L p seen wide kind disabled each k row there =
     let d = device_of L p seen in
     let f = fitted_of L p seen in
     let at = mapped_at (cell_row f) (rows p seen) k row there in
-    let right : disable_right d.cells (cell_row f at.0) ≡ true = ap (disable_right d.cells) at.2 ∙ list_all_at (disable_right d.cells) d.cells k row disabled there in
+    let right : disable_right d.cells (cell_row f at.0) ≡ true = ap (disable_right d.cells) at.2 ∙ test_at (disable_right d.cells) d.cells k row disabled there in
     subst (λ (x : CellRow). IsDeviceRow d k x) at.2 (elim (each k at.0 at.1) [
       | inl data_row ↦ right_data L p seen k at.0 wide right data_row
       | inr control_row ↦ right_control L p seen k at.0 kind right control_row

@@ -6,6 +6,7 @@ use Rattle.std.specs.Option.{option_map_or}
 use Rattle.std.proofs.lemmas.List.{length-map}
 use Rattle.list_laws.proofs.Numbers.{eqb_less}
 use Rattle.list_laws.proofs.Lists.{slice_get-append_right}
+use Rattle.list_laws.proofs.Tests.{neither}
 use Rattle.bsdl_device.specs.declared.values.PortMode.{PortMode}
 use Rattle.bsdl_device.specs.declared.values.PortMode.TheVariants as mode
 use Rattle.bsdl_device.specs.declared.values.DevPort.{DevPort}
@@ -17,7 +18,6 @@ use Rattle.plan_texts.specs.declared.plan.Plan.{Plan}
 use Rattle.plan_fitting.specs.declared.fitted.Fitted.{Fitted}
 use Rattle.plan_fitting.specs.Pins.{PinSeen}
 use Rattle.plan_fitting.specs.Devices.{fitted_of, dev_port, scalar_port, tap_ports, dev_ports, device_of}
-use Rattle.plan_devices.proofs.Tests.{neither}
 use Rattle.plan_devices.proofs.PlanClock.{HasRegister}
 
 -- the ports behind the netlist's

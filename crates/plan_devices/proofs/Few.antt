@@ -7,17 +7,17 @@ use Rattle.std.proofs.lemmas.Option.{slice_get-map}
 use Rattle.std.proofs.lemmas.List.Folds.{list_any-append}
 use Rattle.std.proofs.lemmas.List.Sums.{sum_by-cons}
 use Rattle.list_laws.proofs.Numbers.{eqb_same}
-use Rattle.list_laws.proofs.Lists.{length-counted_from, slice_get-counted_from}
+use Rattle.list_laws.proofs.Lists.{length-counted_from, slice_get-counted_from, any_at}
+use Rattle.list_laws.proofs.Tests.{and_true, or_more}
+use Rattle.list_laws.proofs.Options.{some_same}
 use Rattle.link_model.specs.Nets.{counted_from}
 use Rattle.netlist_model.specs.Lists.{PortView}
 use Rattle.netlist_arena.specs.Arena.{bit_count}
 use Rattle.netlist_link.specs.Linked.{LinkedView}
 use Rattle.plan_fitting.specs.Pins.{PinSeen, IsSeen, same_bit}
 use Rattle.plan_fitting.specs.Names.{NamedBit, named_bit, bits_of_port, port_bits}
-use Rattle.plan_devices.proofs.Tests.{both}
-use Rattle.plan_devices.proofs.Lists.{get_inside, some_same, enumerated_at}
+use Rattle.plan_devices.proofs.Lists.{get_inside, enumerated_at}
 use Rattle.plan_devices.proofs.RowCounts.{weigh, count-cons, count_some}
-use Rattle.plan_devices.proofs.DeviceRows.{any_at}
 
 -- Two ways to count.
 
@@ -78,11 +78,7 @@ any_flat p g [] k x h t = absurd (cc)
 any_flat {X = X} p g (y ∷ xs) zero x h t =
     let same : x ≡ y = sym (some_same y x (Some y) refl h) in
     list_any-append p (g y) (flat_map g xs) ∙ ap (λ (b : Bool). b || list_any p (flat_map g xs)) (ap (λ (z : X). list_any p (g z)) (sym same) ∙ t)
-any_flat p g (y ∷ xs) (suc k) x h t = list_any-append p (g y) (flat_map g xs) ∙ by (list_any p (g y)) (list_any p (flat_map g xs)) (any_flat p g xs k x h t)
-  where
-    by : (a b : Bool) → b ≡ true → (a || b) ≡ true
-    by true b e = refl
-    by false b e = e
+any_flat p g (y ∷ xs) (suc k) x h t = list_any-append p (g y) (flat_map g xs) ∙ or_more (list_any p (g y)) (list_any p (flat_map g xs)) (any_flat p g xs k x h t)
 
 -- a bit that a word names is one of these
 pub seen_is_bit : (L : LinkedView) (word : List ℕ) (one : PinSeen) → IsSeen L word one → 1 ≤ count_by (λ (b : NamedBit). same_bit b.pin one.pin) (port_bits L)
@@ -98,4 +94,4 @@ seen_is_bit L word one seen =
     (any_flat (λ (b : NamedBit). same_bit b.pin one.pin) (bits_of_port L) (enumerate_from 0 L.arena.lists.ports) k (k, seen.port) number
     (any_at (λ (b : NamedBit). same_bit b.pin one.pin) (bits_of_port L (k, seen.port)) j (named_bit L k seen.port j)
     (slice_get-map (named_bit L k seen.port) (counted_from 0 (length seen.port.nets)) j ∙ ap (option_map (named_bit L k seen.port)) place ∙ ap (λ (n : ℕ). Some (named_bit L k seen.port n)) bit)
-    (both (k == k) (j == j) (eqb_same k) (eqb_same j))))
+    (and_true (k == k) (j == j) (eqb_same k) (eqb_same j))))

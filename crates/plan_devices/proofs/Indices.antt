@@ -6,6 +6,8 @@ use Rattle.std.proofs.lemmas.List.{length-map}
 use Rattle.std.proofs.lemmas.List.FromFn.{length-enumerate_from}
 use Rattle.std.proofs.lemmas.Option.{slice_get-map}
 use Rattle.list_laws.proofs.Lists.{slice_get-append_left}
+use Rattle.list_laws.proofs.Tests.{and_true, or_more}
+use Rattle.list_laws.proofs.Options.{some_same}
 use Rattle.netlist_model.specs.declared.Range.{Range}
 use Rattle.netlist_model.specs.declared.PinBit.{PinBit}
 use Rattle.netlist_model.specs.Lists.{PortView}
@@ -20,8 +22,8 @@ use Rattle.plan_texts.specs.declared.plan.Plan.{Plan}
 use Rattle.plan_fitting.specs.declared.fitted.FitPort.{FitPort}
 use Rattle.plan_fitting.specs.Pins.{PinSeen, same_bit}
 use Rattle.plan_fitting.specs.Devices.{fit_port, fitted_of, dev_port, port_range, scalar_port, tap_ports, dev_ports, range_at, dev_bit}
-use Rattle.plan_devices.proofs.Tests.{both, true_not_false}
-use Rattle.plan_devices.proofs.Lists.{enumerated_at, get_inside, some_same}
+use Rattle.plan_devices.proofs.Tests.{true_not_false}
+use Rattle.plan_devices.proofs.Lists.{enumerated_at, get_inside}
 
 -- Ports.
 
@@ -50,10 +52,6 @@ dev_port_at L p seen k port there =
 
 -- Indices.
 
-or_last : (a b : Bool) → b ≡ true → (a || b) ≡ true
-or_last true b h = refl
-or_last false b h = h
-
 falls : (a b : ℕ) → nat_le a b ≡ false → b < a
 falls a b h = grind arith
 
@@ -71,10 +69,10 @@ has_index None bit low = refl
 has_index (Some r) bit low = by (nat_le r.left r.right) refl
   where
     rising : (i : ℕ) → r.left ≤ i → i ≤ r.right → is_within (port_range r) i ≡ true
-    rising i a b = ap (λ (x : Bool). x || (nat_le r.right i && nat_le i r.left)) (both (nat_le r.left i) (nat_le i r.right) (le-leb r.left i a) (le-leb i r.right b))
+    rising i a b = ap (λ (x : Bool). x || (nat_le r.right i && nat_le i r.left)) (and_true (nat_le r.left i) (nat_le i r.right) (le-leb r.left i a) (le-leb i r.right b))
 
     falling : (i : ℕ) → r.right ≤ i → i ≤ r.left → is_within (port_range r) i ≡ true
-    falling i a b = or_last (nat_le r.left i && nat_le i r.right) (nat_le r.right i && nat_le i r.left) (both (nat_le r.right i) (nat_le i r.left) (le-leb r.right i a) (le-leb i r.left b))
+    falling i a b = or_more (nat_le r.left i && nat_le i r.right) (nat_le r.right i && nat_le i r.left) (and_true (nat_le r.right i) (nat_le i r.left) (le-leb r.right i a) (le-leb i r.left b))
 
     by : (b : Bool) → nat_le r.left r.right ≡ b → is_within (port_range r) (cond b (r.left + bit) (r.left - bit)) ≡ true
     by true e = let up : r.left ≤ r.right = leb-true r.left r.right e in rising (r.left + bit) (omega arith) (omega arith)

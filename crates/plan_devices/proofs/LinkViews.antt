@@ -1,16 +1,20 @@
--- What is fitted to a link view of a tree is fitting.
+-- A link view of a tree has a net for each bit, and what is fitted to it is fitting.
 use Rattle.std.proofs.Common.{◌≡◌, ℕ, zero, suc, ◌+◌, List, [], ◌∷◌, map, length, slice_get, Option, Some, None, option_map, refl, sym, ap, ◌∙◌}
 use Rattle.std.proofs.lemmas.List.{length-map}
 use Rattle.list_laws.proofs.Lists.{AreAll-right, length-counted_from}
+use Rattle.verilog_tree.specs.declared.tree.Module.{Module}
+use Rattle.list_laws.proofs.Options.{some_same}
 use Rattle.verilog_tree.specs.declared.tree.Port.{Port}
 use Rattle.verilog_tree.specs.declared.tree.Range as tree
 use Rattle.link_model.specs.Nets.{dir_of, width, counted_from}
 use Rattle.link_model.specs.Denoted.{range_of, NamedPort, IsPort, ports_from, net_id}
 use Rattle.netlist_model.specs.declared.NetId.{NetId}
 use Rattle.netlist_model.specs.Formed.{width_of}
+use Rattle.netlist_link.specs.Linked.{LinkedView}
+use Rattle.netlist_link.specs.Links.{IsLinkOf}
 use Rattle.netlist_link.specs.ViewLaws.{LinkViewIsNamed, LinkViewIsFormed}
+use Rattle.plan_devices.specs.Fitting.{HasWidths}
 use Rattle.plan_devices.specs.Laws.{FittedIsFitting}
-use Rattle.plan_devices.proofs.Lists.{some_same}
 
 same_width : (range : Option tree.Range) → width range ≡ width_of (option_map range_of range)
 same_width None = refl
@@ -29,12 +33,15 @@ from_wide first (q ∷ ports) zero named h =
     ∙ ap (λ (n : NamedPort). width_of n.range) same
 from_wide first (q ∷ ports) (suc k) named h = from_wide (first + width q.range) ports k named h
 
+pub view_is_wide : (m : Module) (L : LinkedView) → IsLinkOf m L → HasWidths L.arena.lists
+view_is_wide m L view number port there =
+    let at = AreAll-right (IsPort L.names) L.arena.lists.ports (ports_from 0 m.ports) number port view.denoted.ports there in
+    ap (λ (n : List NetId). length n) at.2.nets ∙ from_wide 0 m.ports number at.0 at.1 ∙ ap width_of (sym at.2.range)
+
 pub fitted_is_fitting : LinkViewIsNamed → LinkViewIsFormed → FittedIsFitting
 fitted_is_fitting named formed m L p f tree view spelled is = record {
   formed = formed m L tree view;
-  wide = λ number port there.
-      let at = AreAll-right (IsPort L.names) L.arena.lists.ports (ports_from 0 m.ports) number port view.denoted.ports there in
-      ap (λ (n : List NetId). length n) at.2.nets ∙ from_wide 0 m.ports number at.0 at.1 ∙ ap width_of (sym at.2.range);
+  wide = view_is_wide m L view;
   named = named m L tree view;
   spelled = spelled;
   are_seen = is.are_seen;

@@ -1,14 +1,12 @@
 -- Elements of lists by their places.
-use Rattle.std.proofs.Common.{◌≡◌, ℕ, zero, suc, ◌+◌, ◌<◌, Bool, true, false, ◌&&◌, List, [], ◌∷◌, map, length, slice_get, Option, Some, None, refl, ap, ◌∙◌, subst, arith}
+use Rattle.std.proofs.Common.{◌≡◌, ℕ, zero, suc, ◌+◌, ◌<◌, Bool, true, false, ◌&&◌, List, [], ◌∷◌, length, slice_get, Option, Some, None, refl, ap, ◌∙◌, subst, arith}
 use Rattle.std.specs.List.{AllByRecursion, enumerate_from}
+use Rattle.list_laws.proofs.Options.{some_same}
 
 pub get_inside : {X : Type 0} (xs : List X) (k : ℕ) (x : X) → slice_get xs k ≡ Some x → k < length xs
 get_inside [] k x h = absurd (cc)
 get_inside (y ∷ ys) zero x h = omega arith
 get_inside (y ∷ ys) (suc k) x h = let more : k < length ys = get_inside ys k x h in omega arith
-
-pub some_same : {X : Type 0} (x y : X) (o : Option X) → o ≡ Some x → o ≡ Some y → x ≡ y
-some_same x y o e f = cc
 
 pub none_there : {X : Type 0} (o : Option X) (x : X) → o ≡ None → o ≡ Some x → ⊥
 none_there o x e f = cc
@@ -17,18 +15,9 @@ pub all_from_places : {X : Type 0} (P : X → Type 0) (xs : List X) → ((k : �
 all_from_places P [] each = tt
 all_from_places P (x ∷ xs) each = (each 0 x refl, all_from_places P xs (λ k y h. each (suc k) y h))
 
-pub all_at : {X : Type 0} (P : X → Type 0) (xs : List X) (k : ℕ) (x : X) → AllByRecursion P xs → slice_get xs k ≡ Some x → P x
-all_at P [] k x all h = absurd (cc)
-all_at {X = X} P (y ∷ ys) zero x all h = let same : y ≡ x = some_same y x (Some y) refl h in subst P same all.0
-all_at P (y ∷ ys) (suc k) x all h = all_at P ys k x all.1 h
-
 pub all_weaker : {X : Type 0} (P Q : X → Type 0) (xs : List X) → ((x : X) → P x → Q x) → AllByRecursion P xs → AllByRecursion Q xs
 all_weaker P Q [] weaker all = tt
 all_weaker P Q (x ∷ xs) weaker all = (weaker x all.0, all_weaker P Q xs weaker all.1)
-
-pub all_mapped : {X Y : Type 0} (P : Y → Type 0) (f : X → Y) (xs : List X) → AllByRecursion (λ x. P (f x)) xs → AllByRecursion P (map f xs)
-all_mapped P f [] all = tt
-all_mapped P f (x ∷ xs) all = (all.0, all_mapped P f xs all.1)
 
 pub enumerated_at : {X : Type 0} (n : ℕ) (xs : List X) (k : ℕ) (x : X) → slice_get xs k ≡ Some x → slice_get (enumerate_from n xs) k ≡ Some (n + k, x)
 enumerated_at n [] k x h = absurd (cc)

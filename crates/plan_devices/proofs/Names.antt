@@ -1,10 +1,10 @@
 -- The names of a plan that fits: none is barred, and no two are the same.
-use Rattle.std.proofs.Common.{◌≡◌, ℕ, List, [], ◌∷◌, ◌++◌, Bool, true, false, not, ◌||◌, map, if◌then◌else◌, Option, Some, None, refl, sym, ap, ◌∙◌}
+use Rattle.std.proofs.Common.{◌≡◌, ℕ, List, [], ◌∷◌, ◌++◌, false, not, ◌||◌, None, refl, sym, ap, ◌∙◌}
 use Rattle.std.specs.List.{list_any, AllByRecursion}
 use Rattle.std.proofs.lemmas.List.{append_assoc}
-use Rattle.list_laws.proofs.Bytes.{bytes_eq-sym}
-use Rattle.list_laws.proofs.Options.{or_else-parts}
-use Rattle.bsdl_lexicon.specs.Names.{lower, is_same_name}
+use Rattle.list_laws.proofs.Options.{or_else-parts, not_there}
+use Rattle.list_laws.proofs.Tests.{or_first, or_second, neither, not_false}
+use Rattle.bsdl_lexicon.specs.Names.{is_same_name}
 use Rattle.bsdl_lexicon.specs.Reserved.{is_reserved}
 use Rattle.bsdl_device.specs.Runs.{is_identifier}
 use Rattle.bsdl_device.specs.Checks.{is_repeated}
@@ -12,20 +12,13 @@ use Rattle.bsdl_device.specs.IsDevice.{IsDeviceName}
 use Rattle.netlist_link.specs.Linked.{LinkedView}
 use Rattle.first_faults.specs.First.{or_else}
 use Rattle.first_faults.specs.Repeated.{has_name}
+use Rattle.bsdl_lexicon.proofs.SameNames.{same_turned}
 use Rattle.plan_texts.specs.declared.plan.Plan.{Plan}
-use Rattle.plan_fitting.specs.declared.fault.FitFault.TheVariants as fault
 use Rattle.plan_fitting.specs.Names.{net_names, cell_names}
 use Rattle.plan_fitting.specs.Fits.{is_barred, barred_after, names_of, tap_lines, unit_names, name_fault}
-use Rattle.plan_devices.proofs.Tests.{or_left, or_right, neither, not_false}
 use Rattle.plan_devices.proofs.Identifiers.{is_device_name}
 use Rattle.plan_devices.proofs.Pairs.{any_across, any_front, any_back, across_same, across_turned, pair_joined}
-
-pub same_turned : (a b : List ℕ) → is_same_name a b ≡ is_same_name b a
-same_turned a b = bytes_eq-sym (map lower a) (map lower b)
-
-pub not_there : {X : Type 0} (b : Bool) (x : X) (rest : Option X) → (if b then Some x else rest) ≡ None → (b ≡ false) × (rest ≡ None)
-not_there true x rest h = absurd (cc)
-not_there false x rest h = (refl, h)
+use Rattle.plan_fitting.specs.declared.fault.FitFault.TheVariants as fault
 
 -- a name that isn't barred
 pub record IsFreeName (others before : List (List ℕ)) (name : List ℕ) : Type 0 where
@@ -35,12 +28,12 @@ pub record IsFreeName (others before : List (List ℕ)) (name : List ℕ) : Type
 
 free_name : (others before : List (List ℕ)) (name : List ℕ) → is_barred others before name ≡ false → IsFreeName others before name
 free_name others before name h =
-    let three = or_left (not (is_identifier name) || is_reserved name || list_any (is_same_name name) before) (has_name others name) h in
-    let two = or_left (not (is_identifier name) || is_reserved name) (list_any (is_same_name name) before) three in
+    let three = or_first (not (is_identifier name) || is_reserved name || list_any (is_same_name name) before) (has_name others name) h in
+    let two = or_first (not (is_identifier name) || is_reserved name) (list_any (is_same_name name) before) three in
     record {
-      is = is_device_name name (not_false (is_identifier name) (or_left (not (is_identifier name)) (is_reserved name) two)) (or_right (not (is_identifier name)) (is_reserved name) two);
-      apart = or_right (not (is_identifier name) || is_reserved name) (list_any (is_same_name name) before) three;
-      new = or_right (not (is_identifier name) || is_reserved name || list_any (is_same_name name) before) (has_name others name) h;
+      is = is_device_name name (not_false (is_identifier name) (or_first (not (is_identifier name)) (is_reserved name) two)) (or_second (not (is_identifier name)) (is_reserved name) two);
+      apart = or_second (not (is_identifier name) || is_reserved name) (list_any (is_same_name name) before) three;
+      new = or_second (not (is_identifier name) || is_reserved name || list_any (is_same_name name) before) (has_name others name) h;
     }
 
 -- names none of which is barred
@@ -53,7 +46,7 @@ less : (others before : List (List ℕ)) (last : List ℕ) (names : List (List �
 less others before last [] all = (tt, refl)
 less others before last (name ∷ names) all =
     let more = less others before last names all.1 in
-    let turned : is_same_name last name ≡ false = same_turned last name ∙ or_left (is_same_name name last) false (any_back (is_same_name name) before (last ∷ []) all.0.apart) in (
+    let turned : is_same_name last name ≡ false = same_turned last name ∙ or_first (is_same_name name last) false (any_back (is_same_name name) before (last ∷ []) all.0.apart) in (
       (record { is = all.0.is; apart = any_front (is_same_name name) before (last ∷ []) all.0.apart; new = all.0.new }, more.0),
       neither (is_same_name last name) (list_any (is_same_name last) names) turned more.1,
     )

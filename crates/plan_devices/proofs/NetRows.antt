@@ -4,6 +4,7 @@ use Rattle.std.specs.Prelude.{option_and_then, count_by}
 use Rattle.std.specs.Option.{option_map_or}
 use Rattle.std.proofs.lemmas.Option.{slice_get-map}
 use Rattle.list_laws.proofs.Tests.{and_left, and_right}
+use Rattle.list_laws.proofs.Options.{some_same}
 use Rattle.netlist_model.specs.declared.NetId.{NetId}
 use Rattle.netlist_model.specs.declared.Dir.{Dir}
 use Rattle.netlist_model.specs.declared.PinBit.{PinBit}
@@ -21,7 +22,7 @@ use Rattle.plan_fitting.specs.Rows.{rows, has_highz}
 use Rattle.plan_fitting.specs.Devices.{fitted_of, dev_bit, cell_row, device_of}
 use Rattle.plan_devices.specs.Fitting.{IsFitting, HasWidths}
 use Rattle.plan_devices.proofs.Tests.{true_not_false}
-use Rattle.plan_devices.proofs.Lists.{get_inside, some_same, none_there}
+use Rattle.plan_devices.proofs.Lists.{get_inside, none_there}
 use Rattle.plan_devices.proofs.Lined.{IsLined}
 use Rattle.plan_devices.proofs.Rows.{IsDataRow}
 use Rattle.plan_devices.proofs.RowCounts.{sits, count_at}

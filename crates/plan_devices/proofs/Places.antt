@@ -3,6 +3,7 @@ use Rattle.std.proofs.Common.{◌≡◌, ℕ, suc, ◌+◌, List, [], ◌++◌, 
 use Rattle.std.specs.Prelude.{unwrap_or}
 use Rattle.std.proofs.lemmas.List.{length-map, length-append}
 use Rattle.std.proofs.lemmas.Option.{slice_get-map}
+use Rattle.list_laws.proofs.Lists.{all_at}
 use Rattle.netlist_model.specs.Lists.{PortView}
 use Rattle.netlist_link.specs.Linked.{LinkedView}
 use Rattle.bsdl_device.specs.declared.values.PortMode.TheVariants as mode
@@ -13,7 +14,6 @@ use Rattle.plan_fitting.specs.Pins.{PinSeen}
 use Rattle.plan_fitting.specs.Devices.{fitted_of, fit_port, dev_port, scalar_port, tap_ports, dev_ports, device_of}
 use Rattle.plan_devices.specs.Fitting.{IsFitting}
 use Rattle.plan_devices.specs.Laws.{HasOwnPort, HasPorts, HasTapPlaces, DevicesHavePorts}
-use Rattle.plan_devices.proofs.Lists.{all_at}
 use Rattle.plan_devices.proofs.Indices.{count_of_ports, dev_port_at}
 use Rattle.plan_devices.proofs.DeviceTap.{behind_own}
 use Rattle.plan_devices.proofs.DevicePorts.{HasBytes, ports_have_bytes}

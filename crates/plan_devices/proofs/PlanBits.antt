@@ -1,10 +1,10 @@
 -- The bits of a plan that some text spells: opcodes, and what the instruction register captures.
-use Rattle.std.proofs.Common.{◌≡◌, ℕ, ◌+◌, ◌-◌, ◌*◌, ◌^◌, ◌≤◌, List, [], ◌∷◌, true, length, map, Option, Some, None, option_map, filter_map, sym, ap, ◌∙◌, subst, arith, leb-true}
+use Rattle.std.proofs.Common.{◌≡◌, ℕ, ◌+◌, ◌-◌, ◌*◌, ◌^◌, ◌≤◌, List, [], ◌∷◌, true, length, map, Option, Some, None, option_map, filter_map, sym, subst, arith, leb-true}
 use Rattle.std.specs.Prelude.{◌==◌, ◌||◌, ◌&&◌, nat_le}
 use Rattle.std.specs.List.{list_all, cons_option, AllByRecursion}
-use Rattle.std.proofs.Math.Nat.{mul-le-mul_right, pow-succ', mul_assoc}
 use Rattle.std.proofs.lemmas.List.Elements.{recursion_from_All}
 use Rattle.list_laws.proofs.Tests.{and_left, and_right}
+use Rattle.list_laws.proofs.Digits.{value_below}
 use Rattle.cell_library.specs.declared.codes.Instr.{Instr}
 use Rattle.cell_library.specs.declared.codes.Opcode.{Opcode}
 use Rattle.bsdl_device.specs.declared.entries.OpcodeEntry.{OpcodeEntry}
@@ -16,19 +16,6 @@ use Rattle.plan_texts.specs.Rules.{instruction_of}
 use Rattle.plan_texts.specs.Meaning.{typed, plan_of}
 use Rattle.plan_texts.specs.Grammar.{PlanSource, IsSource, OpcodeWords, IsOpcode, entry_of, written_of}
 use Rattle.plan_texts.specs.Canonical.{IsPlan}
-
-digit : (b : ℕ) → (b == 48 || b == 49) ≡ true → b - 48 ≤ 1
-digit b k = grind arith
-
-value_below : (n : ℕ) (ds : List ℕ) → list_all (λ b. b == 48 || b == 49) ds ≡ true → value_after 2 n ds + 1 ≤ (n + 1) * 2 ^ length ds
-value_below n [] h = omega arith
-value_below n (d ∷ ds) h =
-    let low = digit d (and_left (d == 48 || d == 49) (list_all (λ b. b == 48 || b == 49) ds) h) in
-    let more : value_after 2 (2 * n + (d - 48)) ds + 1 ≤ (2 * n + (d - 48) + 1) * 2 ^ length ds = value_below (2 * n + (d - 48)) ds (and_right (d == 48 || d == 49) (list_all (λ b. b == 48 || b == 49) ds) h) in
-    let least : 2 * n + (d - 48) + 1 ≤ (n + 1) * 2 = omega arith in
-    let wider : (2 * n + (d - 48) + 1) * 2 ^ length ds ≤ ((n + 1) * 2) * 2 ^ length ds = mul-le-mul_right (2 ^ length ds) least in
-    let power : (n + 1) * 2 ^ length (d ∷ ds) ≡ ((n + 1) * 2) * 2 ^ length ds = ap (λ (k : ℕ). (n + 1) * k) (pow-succ' 2 (length ds)) ∙ sym (mul_assoc (n + 1) 2 (2 ^ length ds)) in
-    omega arith
 
 pattern_bits : (word : List ℕ) → is_pattern word ≡ true → IsBits (bits_of word)
 pattern_bits word h =

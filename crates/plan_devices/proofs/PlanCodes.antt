@@ -1,23 +1,20 @@
 -- The instructions of a plan that some text spells stand once each, and it has an identification code just with IDCODE.
-use Rattle.std.proofs.Common.{◌≡◌, ℕ, List, [], ◌∷◌, ◌++◌, Bool, true, false, cond, not, map, find, filter_map, is_some, Option, Some, None, option_map, bytes_eq, refl, sym, ap, ◌∙◌, subst, arith}
+use Rattle.std.proofs.Common.{◌≡◌, ℕ, List, [], ◌∷◌, ◌++◌, Bool, false, cond, not, map, filter_map, is_some, Option, Some, None, option_map, bytes_eq, refl, sym, ap, ◌∙◌, subst, arith}
 use Rattle.std.specs.Prelude.{◌||◌, IfSome}
 use Rattle.std.specs.List.{list_any, cons_option, AllByRecursion}
-use Rattle.std.specs.Cmp.Lexicographic.{bytes_decides}
 use Rattle.list_laws.proofs.Bytes.{bytes_eq-sym}
-use Rattle.list_laws.proofs.Options.{or_else-parts}
-use Rattle.cell_library.specs.declared.codes.Bits.{Bits}
+use Rattle.list_laws.proofs.Options.{or_else-parts, not_there}
+use Rattle.list_laws.proofs.Tests.{or_first, or_second, neither, not_false}
 use Rattle.cell_library.specs.declared.codes.Instr.{Instr}
-use Rattle.cell_library.specs.declared.codes.Instr.TheVariants as instr
 use Rattle.cell_library.specs.declared.codes.Opcode.{Opcode}
 use Rattle.bsdl_lexicon.specs.Names.{is_same_name}
 use Rattle.bsdl_device.specs.declared.entries.OpcodeEntry.{OpcodeEntry}
-use Rattle.bsdl_device.specs.Instructions.{instruction_word, all_instructions, is_instruction}
+use Rattle.bsdl_device.specs.Instructions.{instruction_word, is_instruction}
 use Rattle.bsdl_device.specs.Checks.{any_pair, is_repeated, opcode_named_twice, has_instruction, code_is_barred}
 use Rattle.bsdl_device.specs.Canonical.{has_opcode}
 use Rattle.bsdl_device.specs.IsDevice.{IsDeviceCode, opcode_entries}
 use Rattle.first_faults.specs.First.{or_else, first_in}
 use Rattle.first_faults.specs.Repeated.{has_name, repeated, repeated_after}
-use Rattle.plan_texts.specs.declared.fault.PlanFault.TheVariants as fault
 use Rattle.plan_texts.specs.declared.plan.Plan.{Plan}
 use Rattle.plan_texts.specs.declared.written.CodeGroups.{CodeGroups}
 use Rattle.plan_texts.specs.declared.written.Written.{Written}
@@ -25,9 +22,10 @@ use Rattle.plan_texts.specs.Rules.{instruction_of, known, names_of, twice_fault,
 use Rattle.plan_texts.specs.Meaning.{typed, plan_of}
 use Rattle.plan_texts.specs.Grammar.{written_of}
 use Rattle.plan_texts.specs.Canonical.{IsPlan}
-use Rattle.plan_devices.proofs.Tests.{or_left, or_right, neither, not_false}
+use Rattle.plan_fitting.proofs.Opcodes.{name_of, opcode_with}
 use Rattle.plan_devices.proofs.Pairs.{any_front, any_back}
-use Rattle.plan_devices.proofs.Names.{not_there}
+use Rattle.cell_library.specs.declared.codes.Instr.TheVariants as instr
+use Rattle.plan_texts.specs.declared.fault.PlanFault.TheVariants as fault
 
 -- Names that stand once.
 
@@ -36,7 +34,7 @@ less : (before : List (List ℕ)) (last : List ℕ) (names : List (List ℕ)) �
 less before last [] all = (tt, refl)
 less before last (name ∷ names) all =
     let more = less before last names all.1 in
-    let turned : bytes_eq last name ≡ false = bytes_eq-sym last name ∙ or_left (bytes_eq name last) false (any_back (bytes_eq name) before (last ∷ []) all.0) in
+    let turned : bytes_eq last name ≡ false = bytes_eq-sym last name ∙ or_first (bytes_eq name last) false (any_back (bytes_eq name) before (last ∷ []) all.0) in
     ((any_front (bytes_eq name) before (last ∷ []) all.0, more.0), neither (bytes_eq last name) (list_any (bytes_eq last) names) turned more.1)
 
 unrepeated : (before names : List (List ℕ)) → repeated_after before names ≡ None → AllByRecursion (λ name. has_name before name ≡ false) names × (any_pair bytes_eq names ≡ false)
@@ -68,20 +66,6 @@ is_idcode instr.Idcode = refl
 is_idcode instr.Highz = refl
 is_idcode instr.Clamp = refl
 
-found-step : {X : Type 0} (p : X → Bool) (y x : X) (rest : Option X) (t : Bool) → p y ≡ t → (rest ≡ Some x → p x ≡ true) → cond t (Some y) rest ≡ Some x → p x ≡ true
-found-step {X = X} p y x rest true e more h = let same : y ≡ x = cc in subst (λ (z : X). p z ≡ true) same e
-found-step p y x rest false e more h = more h
-
-found : {X : Type 0} (p : X → Bool) (xs : List X) (x : X) → find p xs ≡ Some x → p x ≡ true
-found p [] x h = absurd (cc)
-found p (y ∷ ys) x h = found-step p y x (find p ys) (p y) refl (λ k. found p ys x k) h
-
-name_of : (name : List ℕ) (i : Instr) → instruction_of name ≡ Some i → name ≡ instruction_word i
-name_of name i e = (bytes_decides name (instruction_word i)).0 (found (λ (j : Instr). bytes_eq name (instruction_word j)) all_instructions i e)
-
-abbrev opcode_with : Bits → Instr → Opcode
-opcode_with bits i = record { instr = i; bits = bits }
-
 abbrev words : List Opcode → List (List ℕ)
 words opcodes = map (λ (o : OpcodeEntry). o.name) (opcode_entries opcodes)
 
@@ -92,8 +76,8 @@ opcodes_of entries = filter_map typed entries
 others : (i : Instr) (entries : List OpcodeEntry) → list_any (bytes_eq (instruction_word i)) (names_of entries) ≡ false → list_any (is_same_name (instruction_word i)) (words (opcodes_of entries)) ≡ false
 others i [] h = refl
 others i (o ∷ entries) h =
-    by (instruction_of o.name) refl (or_left (bytes_eq (instruction_word i) o.name) (list_any (bytes_eq (instruction_word i)) (names_of entries)) h)
-    (others i entries (or_right (bytes_eq (instruction_word i) o.name) (list_any (bytes_eq (instruction_word i)) (names_of entries)) h))
+    by (instruction_of o.name) refl (or_first (bytes_eq (instruction_word i) o.name) (list_any (bytes_eq (instruction_word i)) (names_of entries)) h)
+    (others i entries (or_second (bytes_eq (instruction_word i) o.name) (list_any (bytes_eq (instruction_word i)) (names_of entries)) h))
   where
     by : (f : Option Instr) → instruction_of o.name ≡ f → bytes_eq (instruction_word i) o.name ≡ false → list_any (is_same_name (instruction_word i)) (words (opcodes_of entries)) ≡ false
         → list_any (is_same_name (instruction_word i)) (words (cons_option (option_map (opcode_with o.bits) f) (opcodes_of entries))) ≡ false
@@ -105,8 +89,8 @@ others i (o ∷ entries) h =
 named_once : (entries : List OpcodeEntry) → any_pair bytes_eq (names_of entries) ≡ false → is_repeated (words (opcodes_of entries)) ≡ false
 named_once [] h = refl
 named_once (o ∷ entries) h =
-    by (instruction_of o.name) refl (or_left (list_any (bytes_eq o.name) (names_of entries)) (any_pair bytes_eq (names_of entries)) h)
-    (named_once entries (or_right (list_any (bytes_eq o.name) (names_of entries)) (any_pair bytes_eq (names_of entries)) h))
+    by (instruction_of o.name) refl (or_first (list_any (bytes_eq o.name) (names_of entries)) (any_pair bytes_eq (names_of entries)) h)
+    (named_once entries (or_second (list_any (bytes_eq o.name) (names_of entries)) (any_pair bytes_eq (names_of entries)) h))
   where
     by : (f : Option Instr) → instruction_of o.name ≡ f → list_any (bytes_eq o.name) (names_of entries) ≡ false → is_repeated (words (opcodes_of entries)) ≡ false
         → is_repeated (words (cons_option (option_map (opcode_with o.bits) f) (opcodes_of entries))) ≡ false
@@ -140,14 +124,14 @@ right_code : (entries : List OpcodeEntry) (groups : Option CodeGroups) → idcod
 right_code entries None h = tt
 right_code entries (Some g) h = record {
   short = omega arith;
-  right = or_right (not (has_instruction entries instr.Idcode) || groups_misfit g) (code_is_barred (code_of g)) h;
+  right = or_second (not (has_instruction entries instr.Idcode) || groups_misfit g) (code_is_barred (code_of g)) h;
 }
 
 has_code : (entries : List OpcodeEntry) (groups : Option CodeGroups) → idcode_fails entries groups ≡ false → has_instruction entries instr.Idcode ≡ is_some (option_map code_of groups)
 has_code entries None h = h
 has_code entries (Some g) h =
     not_false (has_instruction entries instr.Idcode)
-    (or_left (not (has_instruction entries instr.Idcode)) (groups_misfit g) (or_left (not (has_instruction entries instr.Idcode) || groups_misfit g) (code_is_barred (code_of g)) h))
+    (or_first (not (has_instruction entries instr.Idcode)) (groups_misfit g) (or_first (not (has_instruction entries instr.Idcode) || groups_misfit g) (code_is_barred (code_of g)) h))
 
 no_fault : {X : Type 0} (o : Option (List ℕ)) (f : List ℕ → X) → option_map f o ≡ None → o ≡ None
 no_fault None f h = refl

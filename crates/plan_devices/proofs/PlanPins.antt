@@ -3,12 +3,13 @@ use Rattle.std.proofs.Common.{◌≡◌, ℕ, ◌≤◌, List, [], ◌∷◌, Bo
 use Rattle.std.specs.Prelude.{◌&&◌, ◌||◌, nat_le}
 use Rattle.std.specs.List.{list_all, AllByRecursion}
 use Rattle.std.proofs.lemmas.List.Elements.{recursion_from_All}
-use Rattle.list_laws.proofs.Tests.{and_left, and_right}
+use Rattle.list_laws.proofs.Tests.{and_left, and_right, and_true}
 use Rattle.list_laws.proofs.Lists.{all_front, all_back}
 use Rattle.line_texts.specs.Words.{is_empty}
 use Rattle.bsdl_lexicon.specs.Bytes.{is_digit, is_name_byte}
 use Rattle.bsdl_device.specs.Runs.{begins_with_letter, has_single_underscores, is_identifier}
 use Rattle.bsdl_device.specs.IsDevice.{IsDevicePin}
+use Rattle.bsdl_device.proofs.Identifiers.{digits_are_name_bytes}
 use Rattle.plan_texts.specs.declared.plan.Plan.{Plan}
 use Rattle.plan_texts.specs.declared.plan.TapLine.{TapLine}
 use Rattle.plan_texts.specs.declared.plan.PinLine.{PinLine}
@@ -17,18 +18,12 @@ use Rattle.plan_texts.specs.Meaning.{plan_of}
 use Rattle.plan_texts.specs.Grammar.{PlanSource, IsSource, IsTapLine, IsPinLine, plan_rows, opcode_words, idcode_rows, pin_words, tap_words, written_of}
 use Rattle.plan_texts.specs.Canonical.{IsPlan}
 use Rattle.plan_fitting.specs.Fits.{tap_lines}
-use Rattle.plan_devices.proofs.Tests.{both}
 use Rattle.plan_devices.proofs.FilledWords.{IsFilled, AreFilled, kept_lines_filled}
 
 -- Pins.
 
 digit_is_name : (b : ℕ) → is_digit b ≡ true → is_name_byte b ≡ true
 digit_is_name b h = grind arith
-
-digits_are_names : (bytes : List ℕ) → list_all is_digit bytes ≡ true → list_all is_name_byte bytes ≡ true
-digits_are_names [] h = refl
-digits_are_names (b ∷ bytes) h =
-    both (is_name_byte b) (list_all is_name_byte bytes) (digit_is_name b (and_left (is_digit b) (list_all is_digit bytes) h)) (digits_are_names bytes (and_right (is_digit b) (list_all is_digit bytes) h))
 
 identifier_bytes : (bytes : List ℕ) → is_identifier bytes ≡ true → list_all is_name_byte bytes ≡ true
 identifier_bytes bytes h =
@@ -37,7 +32,7 @@ identifier_bytes bytes h =
     and_right (begins_with_letter bytes) (list_all is_name_byte bytes) two
 
 either_bytes : (bytes : List ℕ) (a b : Bool) → list_all is_digit bytes ≡ a → is_identifier bytes ≡ b → (a || b) ≡ true → list_all is_name_byte bytes ≡ true
-either_bytes bytes true b e f h = digits_are_names bytes e
+either_bytes bytes true b e f h = digits_are_name_bytes bytes e
 either_bytes bytes false true e f h = identifier_bytes bytes f
 either_bytes bytes false false e f h = absurd (cc)
 
@@ -47,7 +42,7 @@ some_bytes (b ∷ bytes) h = omega arith
 
 device_pin : (pin : List ℕ) → is_pin pin ≡ true → IsFilled pin → IsDevicePin pin
 device_pin pin h filled = record {
-  short = both (nat_le 1 (length pin)) (nat_le (length pin) 32) (le-leb 1 (length pin) (some_bytes pin filled)) (and_left (nat_le (length pin) 32) (list_all is_digit pin || is_identifier pin) h);
+  short = and_true (nat_le 1 (length pin)) (nat_le (length pin) 32) (le-leb 1 (length pin) (some_bytes pin filled)) (and_left (nat_le (length pin) 32) (list_all is_digit pin || is_identifier pin) h);
   bytes = either_bytes pin (list_all is_digit pin) (is_identifier pin) refl refl (and_right (nat_le (length pin) 32) (list_all is_digit pin || is_identifier pin) h);
 }
 

@@ -2,7 +2,7 @@
 use Rattle.std.proofs.Common.{◌≡◌, ℕ, List, [], ◌∷◌, true, length, refl, sym, subst, arith, leb-true}
 use Rattle.std.specs.Prelude.{◌==◌, ◌||◌, ◌&&◌, nat_le}
 use Rattle.std.specs.List.{list_all}
-use Rattle.list_laws.proofs.Tests.{and_left, and_right}
+use Rattle.list_laws.proofs.Tests.{and_left, and_right, and_true}
 use Rattle.bsdl_lexicon.specs.Bytes as bsdl
 use Rattle.verilog_lexicon.specs.Bytes as verilog
 use Rattle.netlist_unlink.specs.Prefixes.{IsPrefix}
@@ -10,7 +10,6 @@ use Rattle.plan_texts.specs.declared.plan.Plan.{Plan}
 use Rattle.plan_texts.specs.Forms.{begins_prefix, is_prefix}
 use Rattle.plan_texts.specs.Grammar.{IsControl}
 use Rattle.plan_texts.specs.Canonical.{IsPlan}
-use Rattle.plan_devices.proofs.Tests.{both}
 
 first_byte : (b : ℕ) → (bsdl.is_letter b || b == 95) ≡ true → verilog.is_letter b ≡ true
 first_byte b h = grind arith
@@ -21,7 +20,7 @@ next_byte b h = grind arith
 next_bytes : (bytes : List ℕ) → list_all bsdl.is_name_byte bytes ≡ true → list_all (λ byte. verilog.is_letter byte || verilog.is_digit byte) bytes ≡ true
 next_bytes [] h = refl
 next_bytes (b ∷ bytes) h =
-    both (verilog.is_letter b || verilog.is_digit b) (list_all (λ byte. verilog.is_letter byte || verilog.is_digit byte) bytes)
+    and_true (verilog.is_letter b || verilog.is_digit b) (list_all (λ byte. verilog.is_letter byte || verilog.is_digit byte) bytes)
     (next_byte b (and_left (bsdl.is_name_byte b) (list_all bsdl.is_name_byte bytes) h)) (next_bytes bytes (and_right (bsdl.is_name_byte b) (list_all bsdl.is_name_byte bytes) h))
 
 prefix_is : (word : List ℕ) → is_prefix word ≡ true → IsPrefix word

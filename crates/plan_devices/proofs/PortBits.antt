@@ -3,7 +3,7 @@ use Rattle.std.proofs.Common.{◌≡◌, ℕ, zero, suc, ◌+◌, ◌<◌, ◌�
 use Rattle.std.specs.Prelude.{nat_le}
 use Rattle.std.specs.List.{list_any, list_all, flat_map, enumerate_from}
 use Rattle.std.proofs.lemmas.List.Folds.{list_all-append}
-use Rattle.list_laws.proofs.Tests.{and_left, and_right}
+use Rattle.list_laws.proofs.Tests.{and_left, and_right, and_true, neither}
 use Rattle.list_laws.proofs.Numbers.{eqb_less}
 use Rattle.list_laws.proofs.Options.{or_else-parts}
 use Rattle.link_model.specs.Nets.{counted_from}
@@ -20,7 +20,6 @@ use Rattle.plan_fitting.specs.declared.fault.FitFault.TheVariants as fault
 use Rattle.plan_fitting.specs.Pins.{PinSeen, same_bit}
 use Rattle.plan_fitting.specs.Names.{NamedBit, named_bit, bits_of_port, port_bits}
 use Rattle.plan_fitting.specs.Fits.{has_line, bit_fault, missing_fault}
-use Rattle.plan_devices.proofs.Tests.{both, neither}
 use Rattle.plan_devices.proofs.Lists.{false_left, false_right}
 use Rattle.plan_devices.proofs.Pairs.{any_across, pair_joined}
 
@@ -34,7 +33,7 @@ all_lined : (seen : List PinSeen) (bits : List NamedBit) → first_in (bit_fault
 all_lined seen [] h = refl
 all_lined seen (b ∷ bits) h =
     let t = or_else-parts (bit_fault seen b) (first_in (bit_fault seen) bits) h in
-    both (has_line seen b.pin) (list_all (λ (x : NamedBit). has_line seen x.pin) bits) (lined (has_line seen b.pin) (fault.PlanPortMissing b.word) t.0) (all_lined seen bits t.1)
+    and_true (has_line seen b.pin) (list_all (λ (x : NamedBit). has_line seen x.pin) bits) (lined (has_line seen b.pin) (fault.PlanPortMissing b.word) t.0) (all_lined seen bits t.1)
 
 -- there is a port, and each bit has a line
 pub record AreLined (L : LinkedView) (seen : List PinSeen) : Type 0 where
@@ -103,13 +102,13 @@ from_port n b = nat_le n b.pin.port.0
 
 bits_at : (L : LinkedView) (m n : ℕ) (port : PortView) (first count : ℕ) → m ≤ n → list_all (from_port m) (map (named_bit L n port) (counted_from first count)) ≡ true
 bits_at L m n port first zero low = refl
-bits_at L m n port first (suc count) low = both (nat_le m n) (list_all (from_port m) (map (named_bit L n port) (counted_from (suc first) count))) (le-leb m n low) (bits_at L m n port (suc first) count low)
+bits_at L m n port first (suc count) low = and_true (nat_le m n) (list_all (from_port m) (map (named_bit L n port) (counted_from (suc first) count))) (le-leb m n low) (bits_at L m n port (suc first) count low)
 
 bits_on : (L : LinkedView) (m n : ℕ) (ports : List PortView) → m ≤ n → list_all (from_port m) (flat_map (bits_of_port L) (enumerate_from n ports)) ≡ true
 bits_on L m n [] low = refl
 bits_on L m n (port ∷ ports) low =
     list_all-append (from_port m) (bits_of_port L (n, port)) (flat_map (bits_of_port L) (enumerate_from (n + 1) ports))
-    ∙ both (list_all (from_port m) (bits_of_port L (n, port))) (list_all (from_port m) (flat_map (bits_of_port L) (enumerate_from (n + 1) ports)))
+    ∙ and_true (list_all (from_port m) (bits_of_port L (n, port))) (list_all (from_port m) (flat_map (bits_of_port L) (enumerate_from (n + 1) ports)))
     (bits_at L m n port 0 (length port.nets) low) (bits_on L m (n + 1) ports (omega arith))
 
 other_port : (L : LinkedView) (n : ℕ) (port : PortView) (k : ℕ) (bits : List NamedBit) → list_all (from_port (n + 1)) bits ≡ true → list_any (same_named (named_bit L n port k)) bits ≡ false

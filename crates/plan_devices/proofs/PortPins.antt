@@ -2,11 +2,13 @@
 use Rattle.std.proofs.Common.{◌≡◌, ℕ, Bool, true, false, cond, ◌==◌, List, [], ◌∷◌, ◌++◌, map, length, refl, ◌∙◌, arith, eqb-true, eq-eqb}
 use Rattle.std.specs.Prelude.{◌||◌}
 use Rattle.std.specs.List.{list_any, list_all, AllByRecursion}
-use Rattle.list_laws.proofs.Tests.{and_left, and_right}
+use Rattle.list_laws.proofs.Tests.{and_left, and_right, and_true, or_first, or_second, neither}
+use Rattle.list_laws.proofs.Lists.{each_fails}
 use Rattle.bsdl_lexicon.specs.Names.{is_same_name}
 use Rattle.bsdl_device.specs.Checks.{any_pair, is_repeated}
 use Rattle.bsdl_device.specs.IsDevice.{IsDevicePin}
 use Rattle.netlist_model.specs.declared.PinBit.{PinBit}
+use Rattle.bsdl_lexicon.proofs.SameNames.{same_turned}
 use Rattle.plan_texts.specs.declared.plan.Plan.{Plan}
 use Rattle.plan_texts.specs.declared.plan.TapLine.{TapLine}
 use Rattle.plan_texts.specs.declared.plan.PinLine.{PinLine}
@@ -14,9 +16,8 @@ use Rattle.plan_fitting.specs.Pins.{PinSeen, same_bit}
 use Rattle.plan_fitting.specs.Names.{NamedBit}
 use Rattle.plan_fitting.specs.Fits.{has_line, tap_lines}
 use Rattle.plan_fitting.specs.Devices.{pin_for}
-use Rattle.plan_devices.proofs.Tests.{both, or_left, or_right, neither, true_not_false}
-use Rattle.plan_devices.proofs.Names.{same_turned}
-use Rattle.plan_devices.proofs.Pairs.{any_across, pair_split, pair_joined, pair_through, across_same, across_turned, across_front, across_back, across_joined, none_each}
+use Rattle.plan_devices.proofs.Tests.{true_not_false}
+use Rattle.plan_devices.proofs.Pairs.{any_across, pair_split, pair_joined, pair_through, across_same, across_turned, across_front, across_back, across_joined}
 use Rattle.plan_devices.proofs.PortBits.{same_named}
 
 pub same_bits_join : (a x y : PinBit) → same_bit a x ≡ true → same_bit a y ≡ true → same_bit x y ≡ true
@@ -25,7 +26,7 @@ same_bits_join a x y h k =
     let q : a.port.0 ≡ y.port.0 = eqb-true a.port.0 y.port.0 (and_left (a.port.0 == y.port.0) (a.bit == y.bit) k) in
     let r : a.bit ≡ x.bit = eqb-true a.bit x.bit (and_right (a.port.0 == x.port.0) (a.bit == x.bit) h) in
     let s : a.bit ≡ y.bit = eqb-true a.bit y.bit (and_right (a.port.0 == y.port.0) (a.bit == y.bit) k) in
-    both (x.port.0 == y.port.0) (x.bit == y.bit) (eq-eqb x.port.0 y.port.0 (omega arith)) (eq-eqb x.bit y.bit (omega arith))
+    and_true (x.port.0 == y.port.0) (x.bit == y.bit) (eq-eqb x.port.0 y.port.0 (omega arith)) (eq-eqb x.bit y.bit (omega arith))
 
 -- what holds of each line's pin holds of a bit's
 pin_among : (Q : List ℕ → Type 0) (lines : List PinLine) (seen : List PinSeen) (x : PinBit) → length seen ≡ length lines
@@ -53,7 +54,7 @@ unmapped P (line ∷ lines) all = (all.0, unmapped P lines all.1)
 pin_not : (pin : List ℕ) (lines : List PinLine) (seen : List PinSeen) (x : PinBit) → length seen ≡ length lines → list_any (is_same_name pin) (line_pins lines) ≡ false
     → has_line seen x ≡ true → is_same_name pin (pin_for lines seen x) ≡ false
 pin_not pin lines seen x many h there =
-    pin_among (λ (q : List ℕ). is_same_name pin q ≡ false) lines seen x many (unmapped (λ (q : List ℕ). is_same_name pin q ≡ false) lines (none_each (is_same_name pin) (line_pins lines) h)) there
+    pin_among (λ (q : List ℕ). is_same_name pin q ≡ false) lines seen x many (unmapped (λ (q : List ℕ). is_same_name pin q ≡ false) lines (each_fails (is_same_name pin) (line_pins lines) h)) there
 
 pins_differ : (lines : List PinLine) (seen : List PinSeen) (x y : PinBit) → length seen ≡ length lines → is_repeated (line_pins lines) ≡ false
     → has_line seen x ≡ true → has_line seen y ≡ true → same_bit x y ≡ false → is_same_name (pin_for lines seen x) (pin_for lines seen y) ≡ false
@@ -62,10 +63,10 @@ pins_differ [] (one ∷ seen) x y many once hx hy differ = absurd (omega arith)
 pins_differ (line ∷ lines) [] x y many once hx hy differ = absurd (omega arith)
 pins_differ (line ∷ lines) (one ∷ seen) x y many once hx hy differ =
     by (same_bit one.pin x) (same_bit one.pin y) refl refl hx hy
-    (λ a b. pins_differ lines seen x y (omega arith) (or_right (list_any (is_same_name line.pin) (line_pins lines)) (is_repeated (line_pins lines)) once) a b differ)
+    (λ a b. pins_differ lines seen x y (omega arith) (or_second (list_any (is_same_name line.pin) (line_pins lines)) (is_repeated (line_pins lines)) once) a b differ)
   where
     here : (z : PinBit) → has_line seen z ≡ true → is_same_name line.pin (pin_for lines seen z) ≡ false
-    here z there = pin_not line.pin lines seen z (omega arith) (or_left (list_any (is_same_name line.pin) (line_pins lines)) (is_repeated (line_pins lines)) once) there
+    here z there = pin_not line.pin lines seen z (omega arith) (or_first (list_any (is_same_name line.pin) (line_pins lines)) (is_repeated (line_pins lines)) once) there
 
     by : (a b : Bool) → same_bit one.pin x ≡ a → same_bit one.pin y ≡ b → (a || has_line seen x) ≡ true → (b || has_line seen y) ≡ true
         → (has_line seen x ≡ true → has_line seen y ≡ true → is_same_name (pin_for lines seen x) (pin_for lines seen y) ≡ false)
@@ -85,7 +86,7 @@ bits_not p seen others [] many h all = refl
 bits_not p seen others (b ∷ bits) many h all =
     neither (list_any (is_same_name (pin_for p.pins seen b.pin)) others) (any_across is_same_name (bit_pins p seen bits) others)
     (pin_among (λ (q : List ℕ). list_any (is_same_name q) others ≡ false) p.pins seen b.pin many
-    (unmapped (λ (q : List ℕ). list_any (is_same_name q) others ≡ false) p.pins (none_each (λ (q : List ℕ). list_any (is_same_name q) others) (line_pins p.pins) h))
+    (unmapped (λ (q : List ℕ). list_any (is_same_name q) others ≡ false) p.pins (each_fails (λ (q : List ℕ). list_any (is_same_name q) others) (line_pins p.pins) h))
     (and_left (has_line seen b.pin) (list_all (λ (x : NamedBit). has_line seen x.pin) bits) all))
     (bits_not p seen others bits many h (and_right (has_line seen b.pin) (list_all (λ (x : NamedBit). has_line seen x.pin) bits) all))
 

@@ -1,10 +1,10 @@
 -- No name begins with the prefix of a plan that fits.
-use Rattle.std.proofs.Common.{◌≡◌, ℕ, zero, suc, true, false, List, [], ◌∷◌, ◌++◌, filter_map, slice_get, Option, Some, None, refl, ap, ◌∙◌, subst, eq-eqb}
+use Rattle.std.proofs.Common.{◌≡◌, ℕ, zero, suc, false, List, [], ◌∷◌, ◌++◌, filter_map, slice_get, Option, Some, None, refl, ap, ◌∙◌, subst}
 use Rattle.std.specs.Prelude.{nat_eq, option_and_then}
 use Rattle.std.specs.List.{starts_with, cons_option, AllByRecursion}
 use Rattle.std.proofs.lemmas.List.Elements.{All-from_recursion}
-use Rattle.list_laws.proofs.Lists.{all_front, all_back}
-use Rattle.list_laws.proofs.Options.{or_else-parts}
+use Rattle.list_laws.proofs.Lists.{all_front, all_back, begins_joined}
+use Rattle.list_laws.proofs.Options.{or_else-parts, some_same, not_there}
 use Rattle.link_model.specs.Denoted.{name_bytes}
 use Rattle.netlist_model.specs.declared.Name.{Name}
 use Rattle.netlist_model.specs.declared.Name.TheVariants.{Original}
@@ -17,15 +17,9 @@ use Rattle.plan_fitting.specs.declared.fault.FitFault.TheVariants as fault
 use Rattle.plan_fitting.specs.Names.{port_names, net_names, cell_names, name_of_cell}
 use Rattle.plan_fitting.specs.Fits.{tap_lines, names_of, begun_fault}
 use Rattle.plan_devices.specs.Laws.{PrefixesAreFree}
-use Rattle.plan_devices.proofs.Tests.{both, true_not_false}
-use Rattle.plan_devices.proofs.Lists.{some_same}
-use Rattle.plan_devices.proofs.Names.{not_there}
+use Rattle.plan_devices.proofs.Tests.{true_not_false}
 use Rattle.plan_devices.proofs.PlanPrefix.{plans_have_prefixes}
 use Rattle.plan_devices.proofs.Facts.{no_fault}
-
-begins_joined : (prefix rest : List ℕ) → starts_with nat_eq (prefix ++ rest) prefix ≡ true
-begins_joined [] rest = refl
-begins_joined (x ∷ prefix) rest = both (nat_eq x x) (starts_with nat_eq (prefix ++ rest) prefix) (eq-eqb x x refl) (begins_joined prefix rest)
 
 -- a name that doesn't begin with the prefix
 abbrev IsApart : List ℕ → List ℕ → Type 0

@@ -5,6 +5,7 @@ use Rattle.std.specs.List.{list_any, AllByRecursion}
 use Rattle.std.specs.Option.{option_map_or}
 use Rattle.std.proofs.lemmas.List.{length-append}
 use Rattle.std.proofs.lemmas.List.Sums.{sum_by-cons, sum_by-append}
+use Rattle.list_laws.proofs.Tests.{or_first, or_second}
 use Rattle.bsdl_device.specs.Checks.{any_pair}
 use Rattle.cell_library.specs.declared.codes.BoundaryKind.{BoundaryKind}
 use Rattle.cell_library.specs.declared.codes.Function.{Function}
@@ -16,7 +17,7 @@ use Rattle.plan_texts.specs.declared.plan.PinLine.{PinLine}
 use Rattle.plan_fitting.specs.declared.fitted.FitRow.{FitRow}
 use Rattle.plan_fitting.specs.Pins.{PinSeen, same_bit}
 use Rattle.plan_fitting.specs.Rows.{Driver, controls, input_row, two_state_row, data_row, control_row, controlled_by, output_rows, inout_rows, rows_at, rows_after, output_driver, three_state}
-use Rattle.plan_devices.proofs.Tests.{or_left, or_right, true_not_false}
+use Rattle.plan_devices.proofs.Tests.{true_not_false}
 
 abbrev pub weigh : Bool → ℕ
 weigh b = cond b 1 0
@@ -30,7 +31,7 @@ count-append {X = X} p xs ys = sum_by-append (λ (y : X). weigh (p y)) xs ys
 pub count_none : {X : Type 0} (p : X → Bool) (xs : List X) → list_any p xs ≡ false → count_by p xs ≡ 0
 count_none p [] h = refl
 count_none p (x ∷ xs) h =
-    count-cons p x xs ∙ ap (λ (b : Bool). weigh b + count_by p xs) (or_left (p x) (list_any p xs) h) ∙ (let rest : count_by p xs ≡ 0 = count_none p xs (or_right (p x) (list_any p xs) h) in omega arith)
+    count-cons p x xs ∙ ap (λ (b : Bool). weigh b + count_by p xs) (or_first (p x) (list_any p xs) h) ∙ (let rest : count_by p xs ≡ 0 = count_none p xs (or_second (p x) (list_any p xs) h) in omega arith)
 
 pub count_some : {X : Type 0} (p : X → Bool) (xs : List X) → list_any p xs ≡ true → 1 ≤ count_by p xs
 count_some p [] h = absurd (cc)
@@ -117,20 +118,20 @@ rows_count x kind highz before (line ∷ lines) (one ∷ seen) many makes =
 
 none_again : {X : Type 0} (p : X → Bool) (r : X → X → Bool) (x : X) → p x ≡ true → ((y : X) → p y ≡ true → r x y ≡ true) → (ys : List X) → list_any (r x) ys ≡ false → list_any p ys ≡ false
 none_again p r x e joins [] k = refl
-none_again p r x e joins (y ∷ ys) k = not_here (p y) refl (none_again p r x e joins ys (or_right (r x y) (list_any (r x) ys) k))
+none_again p r x e joins (y ∷ ys) k = not_here (p y) refl (none_again p r x e joins ys (or_second (r x y) (list_any (r x) ys) k))
   where
     not_here : (b : Bool) → p y ≡ b → list_any p ys ≡ false → list_any p (y ∷ ys) ≡ false
-    not_here true f more = absurd (true_not_false (r x y) (joins y f) (or_left (r x y) (list_any (r x) ys) k))
+    not_here true f more = absurd (true_not_false (r x y) (joins y f) (or_first (r x y) (list_any (r x) ys) k))
     not_here false f more = ap (λ (b : Bool). b || list_any p ys) f ∙ more
 
 pub at_most_one : {X : Type 0} (p : X → Bool) (r : X → X → Bool) → ((x y : X) → p x ≡ true → p y ≡ true → r x y ≡ true) → (xs : List X) → any_pair r xs ≡ false → count_by p xs ≤ 1
 at_most_one p r joins [] h = omega arith
-at_most_one {X = X} p r joins (x ∷ xs) h = by (p x) refl (at_most_one p r joins xs (or_right (list_any (r x) xs) (any_pair r xs) h))
+at_most_one {X = X} p r joins (x ∷ xs) h = by (p x) refl (at_most_one p r joins xs (or_second (list_any (r x) xs) (any_pair r xs) h))
   where
     by : (b : Bool) → p x ≡ b → count_by p xs ≤ 1 → count_by p (x ∷ xs) ≤ 1
     by true e more =
         let here : count_by p (x ∷ xs) ≡ 1 + count_by p xs = count-cons p x xs ∙ ap (λ (c : Bool). weigh c + count_by p xs) e in
-        let rest : count_by p xs ≡ 0 = count_none p xs (none_again p r x e (λ y f. joins x y e f) xs (or_left (list_any (r x) xs) (any_pair r xs) h)) in
+        let rest : count_by p xs ≡ 0 = count_none p xs (none_again p r x e (λ y f. joins x y e f) xs (or_first (list_any (r x) xs) (any_pair r xs) h)) in
         omega arith
     by false e more =
         let here : count_by p (x ∷ xs) ≡ 0 + count_by p xs = count-cons p x xs ∙ ap (λ (c : Bool). weigh c + count_by p xs) e in

@@ -3,8 +3,9 @@ use Rattle.std.proofs.Common.{◌≡◌, ℕ, zero, suc, ◌+◌, ◌<◌, ◌�
 use Rattle.std.specs.Prelude.{option_and_then, count_by}
 use Rattle.std.specs.Option.{option_map_or}
 use Rattle.std.proofs.lemmas.Option.{slice_get-map}
-use Rattle.list_laws.proofs.Tests.{and_left, and_right}
-use Rattle.list_laws.proofs.Numbers.{eqb_same}
+use Rattle.list_laws.proofs.Tests.{and_left, and_right, and_true}
+use Rattle.list_laws.proofs.Options.{some_same}
+use Rattle.list_laws.proofs.Lists.{any_at}
 use Rattle.netlist_model.specs.declared.NetId.{NetId}
 use Rattle.netlist_model.specs.declared.PinBit.{PinBit}
 use Rattle.netlist_model.specs.Lists.{PortView, bit_net}
@@ -23,14 +24,13 @@ use Rattle.plan_fitting.specs.Rows.{rows, has_highz}
 use Rattle.plan_fitting.specs.Devices.{fitted_of, cell_row, device_of}
 use Rattle.plan_devices.specs.Fitting.{IsFitting}
 use Rattle.plan_devices.specs.Laws.{IsRowOf, RowsStandAtBits, BitsHaveRows}
-use Rattle.plan_devices.proofs.Tests.{both}
-use Rattle.plan_devices.proofs.Lists.{get_inside, some_same}
+use Rattle.plan_devices.proofs.Lists.{get_inside}
 use Rattle.plan_devices.proofs.Lined.{IsLined}
 use Rattle.plan_devices.proofs.Rows.{IsDataRow}
 use Rattle.plan_devices.proofs.RowCounts.{sits, weigh, count-cons, count_some, count_at}
 use Rattle.plan_devices.proofs.Indices.{IsBit}
-use Rattle.plan_devices.proofs.DeviceRows.{any_at, lined_bit}
-use Rattle.plan_devices.proofs.DeviceBits.{bit_has_line, one_row}
+use Rattle.plan_devices.proofs.DeviceRows.{lined_bit}
+use Rattle.plan_devices.proofs.DeviceBits.{bit_has_line, one_row, same_self}
 use Rattle.plan_devices.proofs.Facts.{Facts, facts_of}
 use Rattle.plan_devices.proofs.NetRows.{row_at, is_net_at, net_of_data, row_is_found, sits_by}
 
@@ -74,9 +74,6 @@ net_of_line_is L line one is net e = net_of_line L line one is ∙ ap (λ (n : N
 sits_at : (x : PinBit) (r : FitRow) (y : PinBit) → r.pin ≡ Some y → same_bit x y ≡ true → sits x r ≡ true
 sits_at x r y pin same = ap (λ (o : Option PinBit). option_map_or (same_bit x) o false) pin ∙ same
 
-self_bit : (x : PinBit) → same_bit x x ≡ true
-self_bit x = both (x.port.0 == x.port.0) (x.bit == x.bit) (eqb_same x.port.0) (eqb_same x.bit)
-
 data_stands : (L : LinkedView) (p : Plan) (seen : List PinSeen) → IsFitting L p seen → Facts L p seen → (number : ℕ) (r : FitRow) (pin : PinBit) → slice_get (rows p seen) number ≡ Some r → r.pin ≡ Some pin
     → IsDataRow (IsLined L) (has_highz p.opcodes) (rows p seen) r → IsRowOf L p seen number r pin
 unfolding row_of
@@ -92,12 +89,12 @@ data_stands L p seen fits facts number r pin at is d =
     let y = other.line.one.pin in
     let net : other.line.one.net ≡ d.one.net = same_net other.line.one.net d.one.net other.same in
     let apart = fits.formed.bits_apart y.port.0 x.port.0 y.bit x.bit d.one.net (net_of_line_is L other.line.line other.line.one other.line.on d.one.net net) (net_of_line L d.line d.one d.on) in
-    let same : same_bit x y ≡ true = both (x.port.0 == y.port.0) (x.bit == y.bit) (eq-eqb x.port.0 y.port.0 (sym apart.0)) (eq-eqb x.bit y.bit (sym apart.1)) in
+    let same : same_bit x y ≡ true = and_true (x.port.0 == y.port.0) (x.bit == y.bit) (eq-eqb x.port.0 y.port.0 (sym apart.0)) (eq-eqb x.bit y.bit (sym apart.1)) in
     let b : IsBit L x = lined_bit L fits.wide d.line d.one d.on in
     let line = bit_has_line L seen facts.lined.each x.port.0 d.on.seen.port x.bit d.on.seen.there (get_inside d.on.seen.port.nets x.bit d.one.net d.on.seen.net) in
     let one : count_by (sits x) (rows p seen) ≡ 1 = (one_row L p seen fits.wide fits.are_seen.count facts.each facts.makes facts.once.bits x b line).0 in
     let place : found.0.number ≡ number =
-    once_at (sits x) (rows p seen) found.0.number number other.row r (omega arith) other.there at (sits_at x other.row y other.line.pin same) (sits_at x r x d.pin (self_bit x)) in
+    once_at (sits x) (rows p seen) found.0.number number other.row r (omega arith) other.there at (sits_at x other.row y other.line.pin same) (sits_at x r x d.pin (same_self x)) in
     let row : other.row ≡ r = some_same other.row r (slice_get (rows p seen) number) (ap (slice_get (rows p seen)) (sym place) ∙ other.there) at in
     let last : found.0.row ≡ cell_row f r = sym other.is ∙ ap (cell_row f) row in
     record {

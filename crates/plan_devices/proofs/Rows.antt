@@ -5,6 +5,7 @@ use Rattle.std.proofs.lemmas.Option.{get_or_from_slice_get}
 use Rattle.std.proofs.lemmas.List.Quantifiers.{position-Some}
 use Rattle.list_laws.proofs.Numbers.{eqb_same}
 use Rattle.list_laws.proofs.Lists.{slice_get_there, slice_get-append_left, slice_get-append_right}
+use Rattle.list_laws.proofs.Tests.{and_true}
 use Rattle.cell_library.specs.declared.codes.BoundaryKind.{BoundaryKind}
 use Rattle.cell_library.specs.declared.codes.Function.{Function}
 use Rattle.cell_library.specs.declared.codes.Function.TheVariants as function
@@ -17,7 +18,6 @@ use Rattle.plan_texts.specs.declared.plan.PinLine.{PinLine}
 use Rattle.plan_fitting.specs.declared.fitted.FitRow.{FitRow}
 use Rattle.plan_fitting.specs.Pins.{PinSeen}
 use Rattle.plan_fitting.specs.Rows.{Driver, same_bool, same_feed, controls, input_row, two_state_row, data_row, control_row, controlled_by, output_rows, inout_rows, rows_at, rows_after, rows, output_driver, three_state, has_highz}
-use Rattle.plan_devices.proofs.Tests.{both}
 use Rattle.plan_devices.proofs.Lists.{get_inside}
 
 -- the driver of a bit that a control cell is to control
@@ -119,7 +119,7 @@ same_feed_self (Net n) = eqb_same n.0
 same_feed_self (Const b) = same_bool_self b
 
 own_control : (kind : BoundaryKind) (d : Driver) → controls d (control_row kind d) ≡ true
-own_control kind d = both (same_bool d.active_high d.active_high) (same_feed d.operand d.operand) (same_bool_self d.active_high) (same_feed_self d.operand)
+own_control kind d = and_true (same_bool d.active_high d.active_high) (same_feed d.operand d.operand) (same_bool_self d.active_high) (same_feed_self d.operand)
 
 found_control : (d : Driver) (before : List FitRow) (number : ℕ) (any : FitRow) → position (controls d) before ≡ Some number → (row : FitRow) × (slice_get before number ≡ Some row) × (controls d row ≡ true)
 found_control d before number any is =

@@ -3,6 +3,7 @@ use Rattle.std.proofs.Common.{◌≡◌, ◌⊎◌, ℕ, Bool, true, false, not,
 use Rattle.std.specs.Prelude.{is_some, ◌&&◌}
 use Rattle.std.specs.Option.{option_map_or}
 use Rattle.list_laws.proofs.Tests.{and_left, and_right}
+use Rattle.list_laws.proofs.Options.{some_same}
 use Rattle.cell_library.specs.declared.Kind.{Kind}
 use Rattle.cell_library.specs.declared.Kind.TheVariants.{Bufif0, Bufif1}
 use Rattle.cell_library.specs.Gates.{is_three_state}
@@ -31,9 +32,9 @@ use Rattle.plan_fitting.specs.Pins.{PinSeen}
 use Rattle.plan_fitting.specs.Fits.{suits_port}
 use Rattle.plan_fitting.specs.Rows.{Driver, gate_driver, three_state, added_driver, same_bool, same_feed, rows, has_highz}
 use Rattle.plan_fitting.specs.Devices.{disable_value, disable_by, device_of}
+use Rattle.plan_fitting.proofs.Drivers.{same_bool_is, not_three}
 use Rattle.plan_devices.specs.Fitting.{IsFitting}
 use Rattle.plan_devices.specs.Laws.{PlansSuitNetlists}
-use Rattle.plan_devices.proofs.Lists.{some_same}
 use Rattle.plan_devices.proofs.Rows.{side_driver, data_function, Controlled}
 use Rattle.plan_devices.proofs.Drivers.{seen_direction, seen_driver, gate_has_driver}
 use Rattle.plan_devices.proofs.Facts.{Facts, facts_of}
@@ -41,7 +42,7 @@ use Rattle.plan_devices.proofs.NetRows.{RowAt, row_at, some_row}
 
 -- Functions.
 
-does_input : (clock : Bool) (d : Option Driver) → is_input (data_function dir.Input clock d) ≡ true
+pub does_input : (clock : Bool) (d : Option Driver) → is_input (data_function dir.Input clock d) ≡ true
 does_input true d = refl
 does_input false d = refl
 
@@ -111,15 +112,10 @@ gate_polarity Bufif0 (a ∷ b ∷ []) d h =
 gate_polarity Bufif0 (a ∷ b ∷ c ∷ feeds) d h = absurd (cc)
 gate_polarity _ feeds d h = absurd (cc)
 
-plain_level : (k : Kind) → is_three_state k ≡ false → inactive_level k ≡ false
+pub plain_level : (k : Kind) → is_three_state k ≡ false → inactive_level k ≡ false
 plain_level Bufif1 h = refl
 plain_level Bufif0 h = absurd (cc)
 plain_level _ h = refl
-
-plain_driver : (k : Kind) (feeds : List Feed) → is_three_state k ≡ false → gate_driver k feeds ≡ None
-plain_driver Bufif1 feeds h = absurd (cc)
-plain_driver Bufif0 feeds h = absurd (cc)
-plain_driver _ feeds h = refl
 
 -- the driver that is controlled, of a bit that this cell drives
 abbrev driver_by : Bool → PinSeen → CellView → Dir → Option Driver
@@ -144,19 +140,11 @@ output_polarity : (highz : Bool) (core : Feed) (k : Kind) (gate : Option Driver)
 output_polarity highz core k (Some x) d right plain h = right d h
 output_polarity highz core k None d right plain h = added_polarity highz core k d (plain refl) h
 
--- a three-state gate of a well-formed netlist is a driver
-gate_none : (cell : CellView) → (is_three_state cell.kind ≡ true → is_some (gate_driver cell.kind cell.feeds) ≡ true) → gate_driver cell.kind cell.feeds ≡ None → is_three_state cell.kind ≡ false
-gate_none cell gate none = by (is_three_state cell.kind) gate
-  where
-    by : (b : Bool) → (b ≡ true → is_some (gate_driver cell.kind cell.feeds) ≡ true) → b ≡ false
-    by true h = absurd (let some = h refl in let no : is_some (gate_driver cell.kind cell.feeds) ≡ false = ap (λ (o : Option Driver). is_some o) none in cc)
-    by false h = refl
-
 polarity : (highz : Bool) (one : PinSeen) (cell : CellView) (side : Dir) (d : Driver) → (is_three_state cell.kind ≡ true → is_some (gate_driver cell.kind cell.feeds) ≡ true)
     → driver_by highz one cell side ≡ Some d → not d.active_high ≡ inactive_level cell.kind
 polarity highz one cell dir.Input d gate h = absurd (cc)
 polarity highz one cell dir.Output d gate h =
-    output_polarity highz (Net one.net) cell.kind (gate_driver cell.kind cell.feeds) d (λ x e. gate_polarity cell.kind cell.feeds x e) (gate_none cell gate) h
+    output_polarity highz (Net one.net) cell.kind (gate_driver cell.kind cell.feeds) d (λ x e. gate_polarity cell.kind cell.feeds x e) (λ none. not_three cell.kind (gate_driver cell.kind cell.feeds) none gate) h
 polarity highz one cell dir.Inout d gate h = gate_polarity cell.kind cell.feeds d h
 
 some_first : {X : Type 0} (a b : Option X) → is_some a ≡ true → is_some (or_else a b) ≡ true
@@ -168,11 +156,6 @@ is_controlled : (highz : Bool) (one : PinSeen) (cell : CellView) (side : Dir) �
 is_controlled highz one cell dir.Input read h = absurd (elim read [ inl e ↦ (cc) | inr e ↦ (cc) ])
 is_controlled highz one cell dir.Output read h = some_first (gate_driver cell.kind cell.feeds) (added_driver highz (Net one.net)) h
 is_controlled highz one cell dir.Inout read h = h
-
-same_bool_is : (a b : Bool) → same_bool a b ≡ true → a ≡ b
-same_bool_is true b h = sym h
-same_bool_is false true h = absurd (cc)
-same_bool_is false false h = refl
 
 suits_by : (k : Kind) (rs : List FitRow) (d : Option Driver) (named : Option ℕ) → Controlled rs d named → (is_three_state k ≡ true → is_some d ≡ true)
     → ((x : Driver) → d ≡ Some x → not x.active_high ≡ inactive_level k) → SuitsDriver k (option_map (disable_by rs) named)

@@ -2,18 +2,19 @@
 use Rattle.std.proofs.Common.{◌≡◌, ℕ, List, [], ◌∷◌, ◌++◌, Bool, false, ◌||◌, map, length, None, refl, sym, ap, ◌∙◌, arith}
 use Rattle.std.specs.List.{list_any}
 use Rattle.std.proofs.lemmas.List.{append-nil}
+use Rattle.list_laws.proofs.Tests.{or_first, or_second, neither}
+use Rattle.list_laws.proofs.Options.{not_there}
 use Rattle.bsdl_lexicon.specs.Names.{is_same_name}
 use Rattle.bsdl_device.specs.Checks.{any_pair, is_repeated}
 use Rattle.netlist_model.specs.declared.PinBit.{PinBit}
+use Rattle.bsdl_lexicon.proofs.SameNames.{same_turned}
 use Rattle.plan_texts.specs.declared.plan.Plan.{Plan}
 use Rattle.plan_texts.specs.declared.plan.TapLine.{TapLine}
 use Rattle.plan_texts.specs.declared.plan.PinLine.{PinLine}
 use Rattle.plan_fitting.specs.declared.fault.FitFault.TheVariants as fault
 use Rattle.plan_fitting.specs.Pins.{PinSeen, same_bit}
 use Rattle.plan_fitting.specs.Fits.{Taken, PhysicalPin, PortBit, same_taken, told, tap_lines, taken_alone, taken_by, all_taken, twice_after, twice_fault}
-use Rattle.plan_devices.proofs.Tests.{or_left, or_right, neither}
 use Rattle.plan_devices.proofs.Pairs.{any_front, any_back, pair_same}
-use Rattle.plan_devices.proofs.Names.{not_there, same_turned}
 
 -- the earlier one is the later one again
 abbrev again : Taken → Taken → Bool
@@ -28,7 +29,7 @@ taken_apart before [] h = (refl, none before)
 taken_apart before (one ∷ list) h =
     let t = not_there (list_any (same_taken one) before) (fault.PlanTwice (told one)) (twice_after (before ++ one ∷ []) list) h in
     let more = taken_apart (before ++ one ∷ []) list t.1 in
-    let here : list_any (again one) list ≡ false = or_left (list_any (again one) list) false (any_back (λ early. list_any (again early) list) before (one ∷ []) more.1) in (
+    let here : list_any (again one) list ≡ false = or_first (list_any (again one) list) false (any_back (λ early. list_any (again early) list) before (one ∷ []) more.1) in (
       neither (list_any (again one) list) (any_pair again list) here more.0,
       one_more before t.0 (any_front (λ early. list_any (again early) list) before (one ∷ []) more.1),
     )
@@ -37,8 +38,8 @@ taken_apart before (one ∷ list) h =
     one_more [] a b = refl
     one_more (x ∷ xs) a b =
         neither (same_taken one x || list_any (again x) list) (list_any (λ early. list_any (again early) (one ∷ list)) xs)
-        (neither (same_taken one x) (list_any (again x) list) (or_left (same_taken one x) (list_any (same_taken one) xs) a) (or_left (list_any (again x) list) (list_any (λ early. list_any (again early) list) xs) b))
-        (one_more xs (or_right (same_taken one x) (list_any (same_taken one) xs) a) (or_right (list_any (again x) list) (list_any (λ early. list_any (again early) list) xs) b))
+        (neither (same_taken one x) (list_any (again x) list) (or_first (same_taken one x) (list_any (same_taken one) xs) a) (or_first (list_any (again x) list) (list_any (λ early. list_any (again early) list) xs) b))
+        (one_more xs (or_second (same_taken one x) (list_any (same_taken one) xs) a) (or_second (list_any (again x) list) (list_any (λ early. list_any (again early) list) xs) b))
 
 -- Physical pins.
 
@@ -64,17 +65,17 @@ pins_by (line ∷ lines) (one ∷ seen) many = ap (λ (l : List (List ℕ)). lin
 pin_none : (pin : List ℕ) (list : List Taken) → list_any (again (PhysicalPin pin)) list ≡ false → list_any (λ other. is_same_name other pin) (pins_among list) ≡ false
 pin_none pin [] h = refl
 pin_none pin (PhysicalPin other ∷ list) h =
-    neither (is_same_name other pin) (list_any (λ o. is_same_name o pin) (pins_among list)) (or_left (is_same_name other pin) (list_any (again (PhysicalPin pin)) list) h)
-    (pin_none pin list (or_right (is_same_name other pin) (list_any (again (PhysicalPin pin)) list) h))
+    neither (is_same_name other pin) (list_any (λ o. is_same_name o pin) (pins_among list)) (or_first (is_same_name other pin) (list_any (again (PhysicalPin pin)) list) h)
+    (pin_none pin list (or_second (is_same_name other pin) (list_any (again (PhysicalPin pin)) list) h))
 pin_none pin (PortBit bit word ∷ list) h = pin_none pin list h
 
 pins_apart : (list : List Taken) → any_pair again list ≡ false → any_pair (λ early late. is_same_name late early) (pins_among list) ≡ false
 pins_apart [] h = refl
 pins_apart (PhysicalPin pin ∷ list) h =
     neither (list_any (λ other. is_same_name other pin) (pins_among list)) (any_pair (λ early late. is_same_name late early) (pins_among list))
-    (pin_none pin list (or_left (list_any (again (PhysicalPin pin)) list) (any_pair again list) h))
-    (pins_apart list (or_right (list_any (again (PhysicalPin pin)) list) (any_pair again list) h))
-pins_apart (PortBit bit word ∷ list) h = pins_apart list (or_right (list_any (again (PortBit bit word)) list) (any_pair again list) h)
+    (pin_none pin list (or_first (list_any (again (PhysicalPin pin)) list) (any_pair again list) h))
+    (pins_apart list (or_second (list_any (again (PhysicalPin pin)) list) (any_pair again list) h))
+pins_apart (PortBit bit word ∷ list) h = pins_apart list (or_second (list_any (again (PortBit bit word)) list) (any_pair again list) h)
 
 -- Bits.
 
@@ -102,16 +103,16 @@ bit_none : (bit : PinBit) (word : List ℕ) (list : List Taken) → list_any (ag
 bit_none bit word [] h = refl
 bit_none bit word (PhysicalPin pin ∷ list) h = bit_none bit word list h
 bit_none bit word (PortBit other name ∷ list) h =
-    neither (same_bit other bit) (list_any (λ o. same_bit o bit) (bits_among list)) (or_left (same_bit other bit) (list_any (again (PortBit bit word)) list) h)
-    (bit_none bit word list (or_right (same_bit other bit) (list_any (again (PortBit bit word)) list) h))
+    neither (same_bit other bit) (list_any (λ o. same_bit o bit) (bits_among list)) (or_first (same_bit other bit) (list_any (again (PortBit bit word)) list) h)
+    (bit_none bit word list (or_second (same_bit other bit) (list_any (again (PortBit bit word)) list) h))
 
 bits_apart : (list : List Taken) → any_pair again list ≡ false → any_pair (λ early late. same_bit late early) (bits_among list) ≡ false
 bits_apart [] h = refl
-bits_apart (PhysicalPin pin ∷ list) h = bits_apart list (or_right (list_any (again (PhysicalPin pin)) list) (any_pair again list) h)
+bits_apart (PhysicalPin pin ∷ list) h = bits_apart list (or_second (list_any (again (PhysicalPin pin)) list) (any_pair again list) h)
 bits_apart (PortBit bit word ∷ list) h =
     neither (list_any (λ other. same_bit other bit) (bits_among list)) (any_pair (λ early late. same_bit late early) (bits_among list))
-    (bit_none bit word list (or_left (list_any (again (PortBit bit word)) list) (any_pair again list) h))
-    (bits_apart list (or_right (list_any (again (PortBit bit word)) list) (any_pair again list) h))
+    (bit_none bit word list (or_first (list_any (again (PortBit bit word)) list) (any_pair again list) h))
+    (bits_apart list (or_second (list_any (again (PortBit bit word)) list) (any_pair again list) h))
 
 -- The whole.
 

@@ -5,7 +5,8 @@ use Rattle.std.specs.List.{list_any, AllByRecursion}
 use Rattle.std.specs.Str.{bytes_eq}
 use Rattle.std.proofs.lemmas.List.Elements.{All-from_recursion}
 use Rattle.list_laws.proofs.Bytes.{bytes_eq-same}
-use Rattle.list_laws.proofs.Lists.{all_front, all_back}
+use Rattle.list_laws.proofs.Lists.{all_front, all_back, each_fails}
+use Rattle.list_laws.proofs.Tests.{or_first, or_second}
 use Rattle.bsdl_lexicon.specs.Bytes.{is_letter, is_name_byte}
 use Rattle.bsdl_lexicon.specs.Names.{lower, is_same_name}
 use Rattle.bsdl_device.specs.Checks.{is_repeated}
@@ -15,13 +16,14 @@ use Rattle.netlist_model.specs.declared.Name.TheVariants.{Original}
 use Rattle.netlist_link.specs.Linked.{LinkedView}
 use Rattle.netlist_unlink.specs.Prefixes.{IsUsed}
 use Rattle.first_faults.specs.Repeated.{has_name}
+use Rattle.bsdl_lexicon.proofs.SameNames.{same_turned}
 use Rattle.plan_texts.specs.declared.plan.TapLine.{TapLine}
 use Rattle.plan_fitting.specs.Names.{port_names, net_names, cell_names}
 use Rattle.plan_fitting.specs.Fits.{tap_lines, names_of, unit_names}
 use Rattle.plan_devices.specs.Laws.{TapNamesAreNew}
-use Rattle.plan_devices.proofs.Tests.{or_left, or_right, true_not_false}
-use Rattle.plan_devices.proofs.Pairs.{any_across, pair_split, across_front, across_turned, across_same, none_each}
-use Rattle.plan_devices.proofs.Names.{names_fit, same_turned}
+use Rattle.plan_devices.proofs.Tests.{true_not_false}
+use Rattle.plan_devices.proofs.Pairs.{any_across, pair_split, across_front, across_turned, across_same}
+use Rattle.plan_devices.proofs.Names.{names_fit}
 use Rattle.plan_devices.proofs.Facts.{no_fault}
 use Rattle.plan_devices.proofs.Prefix.{used_holds}
 
@@ -60,19 +62,19 @@ not_later : (name : List ℕ) (lines : List TapLine) (k : ℕ) (line : TapLine) 
 not_later name [] k line h at e = absurd (cc)
 not_later name (x ∷ lines) zero line h at e =
     let same : x ≡ line = cc in
-    true_not_false (is_same_name name x.name) (same_self name x.name (e ∙ ap (λ (l : TapLine). l.name) (sym same))) (or_left (is_same_name name x.name) (list_any (is_same_name name) (names_of lines)) h)
-not_later name (x ∷ lines) (suc k) line h at e = not_later name lines k line (or_right (is_same_name name x.name) (list_any (is_same_name name) (names_of lines)) h) at e
+    true_not_false (is_same_name name x.name) (same_self name x.name (e ∙ ap (λ (l : TapLine). l.name) (sym same))) (or_first (is_same_name name x.name) (list_any (is_same_name name) (names_of lines)) h)
+not_later name (x ∷ lines) (suc k) line h at e = not_later name lines k line (or_second (is_same_name name x.name) (list_any (is_same_name name) (names_of lines)) h) at e
 
 lines_distinct : (lines : List TapLine) → is_repeated (names_of lines) ≡ false → (j k : ℕ) (one other : TapLine) → slice_get lines j ≡ Some one → slice_get lines k ≡ Some other → one.name ≡ other.name → j ≡ k
 lines_distinct [] h j k one other a b e = absurd (cc)
 lines_distinct (x ∷ lines) h zero zero one other a b e = refl
 lines_distinct (x ∷ lines) h zero (suc k) one other a b e =
     let same : x ≡ one = cc in
-    absurd (not_later x.name lines k other (or_left (list_any (is_same_name x.name) (names_of lines)) (is_repeated (names_of lines)) h) b (ap (λ (l : TapLine). l.name) same ∙ e))
+    absurd (not_later x.name lines k other (or_first (list_any (is_same_name x.name) (names_of lines)) (is_repeated (names_of lines)) h) b (ap (λ (l : TapLine). l.name) same ∙ e))
 lines_distinct (x ∷ lines) h (suc j) zero one other a b e =
     let same : x ≡ other = cc in
-    absurd (not_later x.name lines j one (or_left (list_any (is_same_name x.name) (names_of lines)) (is_repeated (names_of lines)) h) a (ap (λ (l : TapLine). l.name) same ∙ sym e))
-lines_distinct (x ∷ lines) h (suc j) (suc k) one other a b e = ap suc (lines_distinct lines (or_right (list_any (is_same_name x.name) (names_of lines)) (is_repeated (names_of lines)) h) j k one other a b e)
+    absurd (not_later x.name lines j one (or_first (list_any (is_same_name x.name) (names_of lines)) (is_repeated (names_of lines)) h) a (ap (λ (l : TapLine). l.name) same ∙ sym e))
+lines_distinct (x ∷ lines) h (suc j) (suc k) one other a b e = ap suc (lines_distinct lines (or_second (list_any (is_same_name x.name) (names_of lines)) (is_repeated (names_of lines)) h) j k one other a b e)
 
 -- None is in the netlist.
 
@@ -83,15 +85,15 @@ IsOther name other = name ≡ other → ⊥
 others_same : (name : List ℕ) (names : List (List ℕ)) → list_any (is_same_name name) names ≡ false → AllByRecursion (IsOther name) names
 others_same name [] h = tt
 others_same name (other ∷ names) h = (
-  λ e. true_not_false (is_same_name name other) (same_self name other e) (or_left (is_same_name name other) (list_any (is_same_name name) names) h),
-  others_same name names (or_right (is_same_name name other) (list_any (is_same_name name) names) h),
+  λ e. true_not_false (is_same_name name other) (same_self name other e) (or_first (is_same_name name other) (list_any (is_same_name name) names) h),
+  others_same name names (or_second (is_same_name name other) (list_any (is_same_name name) names) h),
 )
 
 others_bytes : (name : List ℕ) (names : List (List ℕ)) → has_name names name ≡ false → AllByRecursion (IsOther name) names
 others_bytes name [] h = tt
 others_bytes name (other ∷ names) h = (
-  λ e. true_not_false (bytes_eq name other) (ap (bytes_eq name) (sym e) ∙ bytes_eq-same name) (or_left (bytes_eq name other) (has_name names name) h),
-  others_bytes name names (or_right (bytes_eq name other) (has_name names name) h),
+  λ e. true_not_false (bytes_eq name other) (ap (bytes_eq name) (sym e) ∙ bytes_eq-same name) (or_first (bytes_eq name other) (has_name names name) h),
+  others_bytes name names (or_second (bytes_eq name other) (has_name names name) h),
 )
 
 lines_new : (L : LinkedView) (lines : List TapLine) → AllByRecursion (λ name. list_any (is_same_name name) (port_names L) ≡ false) (names_of lines)
@@ -116,13 +118,13 @@ tap_names_are_new L p seen fits =
     let whole = pair_split is_same_name (unit_names L p) (taps ++ more) names.distinct in
     let rest = pair_split is_same_name taps more whole.back in
     let ports : any_across is_same_name (port_names L) taps ≡ false =
-    or_right (list_any (is_same_name p.«package») taps) (any_across is_same_name (port_names L) taps)
-    (or_right (list_any (is_same_name p.entity) taps) (any_across is_same_name (p.«package» ∷ port_names L) taps) (across_front is_same_name (unit_names L p) taps more whole.across)) in
+    or_second (list_any (is_same_name p.«package») taps) (any_across is_same_name (port_names L) taps)
+    (or_second (list_any (is_same_name p.entity) taps) (any_across is_same_name (p.«package» ∷ port_names L) taps) (across_front is_same_name (unit_names L p) taps more whole.across)) in
     let turned : any_across is_same_name taps (port_names L) ≡ false =
     across_turned is_same_name taps (port_names L) (across_same (λ y x. is_same_name x y) is_same_name (λ y x. same_turned x y) (port_names L) taps ∙ ports) in
     record {
       written = All-from_recursion (λ (line : TapLine). IsTreeName line.name) (tap_lines p) (lines_written (tap_lines p) names.tap);
       distinct = lines_distinct (tap_lines p) rest.front;
       new = All-from_recursion (λ (line : TapLine). (number : ℕ) → IsUsed L.arena.lists (Original number) → slice_get L.names number ≡ Some line.name → ⊥) (tap_lines p)
-          (lines_new L (tap_lines p) (none_each (λ name. list_any (is_same_name name) (port_names L)) taps turned) names.new);
+          (lines_new L (tap_lines p) (each_fails (λ name. list_any (is_same_name name) (port_names L)) taps turned) names.new);
     }

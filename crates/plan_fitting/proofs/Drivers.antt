@@ -1,11 +1,16 @@
 -- Drivers of one control cell agree, and with HIGHZ each output has one.
-use Rattle.std.proofs.Common.{◌≡◌, ℕ, ◌==◌, ◌&&◌, ◌||◌, Bool, true, false, List, [], ◌∷◌, ◌++◌, map, position, slice_get, if◌then◌else◌, Option, Some, None, option_map, refl, ap, ◌∙◌, subst, eqb-true}
+use Rattle.std.proofs.Common.{◌≡◌, ℕ, ◌==◌, ◌&&◌, ◌||◌, Bool, true, false, List, [], ◌∷◌, ◌++◌, map, position, slice_get, if◌then◌else◌, Option, Some, None, option_map, refl, sym, ap, ◌∙◌, subst, eqb-true}
+use Rattle.std.specs.Prelude.{is_some}
 use Rattle.std.specs.List.{list_any}
 use Rattle.std.specs.Option.{option_map_or}
 use Rattle.std.proofs.lemmas.List.Folds.{list_any-append}
+use Rattle.list_laws.proofs.Tests.{neither}
 use Rattle.cell_library.specs.declared.codes.BoundaryKind.{BoundaryKind}
 use Rattle.cell_library.specs.declared.codes.Function.{Function}
 use Rattle.cell_library.specs.declared.codes.Function.TheVariants as function
+use Rattle.cell_library.specs.declared.Kind.{Kind}
+use Rattle.cell_library.specs.declared.Kind.TheVariants.{Bufif1, Bufif0}
+use Rattle.cell_library.specs.Gates.{is_three_state, is_flop}
 use Rattle.bsdl_device.specs.declared.values.Disable.{Disable}
 use Rattle.bsdl_device.specs.Canonical.{has_opcode}
 use Rattle.bsdl_device.specs.Checks.{any_pair}
@@ -13,16 +18,57 @@ use Rattle.bsdl_device.specs.RowRules.{is_function, differ, disables_disagree}
 use Rattle.bsdl_device.specs.IsDevice.{rows_clash}
 use Rattle.netlist_model.specs.declared.Dir.{Dir}
 use Rattle.netlist_model.specs.declared.Dir.TheVariants as dir
+use Rattle.netlist_model.specs.declared.Feed.{Feed}
 use Rattle.netlist_model.specs.declared.Feed.TheVariants.{Net}
 use Rattle.first_faults.specs.First.{or_else}
 use Rattle.plan_texts.specs.declared.plan.PinLine.{PinLine}
 use Rattle.plan_fitting.specs.declared.fitted.FitRow.{FitRow}
 use Rattle.plan_fitting.specs.declared.fitted.Fitted.{Fitted}
 use Rattle.plan_fitting.specs.Pins.{PinSeen}
-use Rattle.plan_fitting.specs.Rows.{Driver, controls, added_driver, controlled_by, output_rows, inout_rows, rows_at, rows_after, rows, three_state, has_highz}
+use Rattle.plan_fitting.specs.Rows.{Driver, gate_driver, same_bool, controls, added_driver, controlled_by, output_rows, inout_rows, rows_at, rows_after, rows, three_state, has_highz}
 use Rattle.plan_fitting.specs.Devices.{disable_value, disable_by, cell_row, fitted_of}
 use Rattle.plan_fitting.specs.Laws.{DriversAgree, HighzDisablesAll, is_two_state_row}
-use Rattle.plan_fitting.proofs.Opcodes.{or_both}
+
+-- Gates as drivers.
+
+pub plain_driver : (k : Kind) (feeds : List Feed) → is_three_state k ≡ false → gate_driver k feeds ≡ None
+plain_driver Bufif1 feeds h = absurd (cc)
+plain_driver Bufif0 feeds h = absurd (cc)
+plain_driver _ feeds h = refl
+
+-- a driver is a three-state gate, which reads its data and its control
+pub record IsGate (kind : Kind) (feeds : List Feed) (d : Driver) : Type 0 where
+  pub three : is_three_state kind ≡ true
+  pub gate : is_flop kind ≡ false
+  pub are : feeds ≡ d.core ∷ d.operand ∷ []
+
+pub gate_is : (kind : Kind) (feeds : List Feed) (d : Driver) → gate_driver kind feeds ≡ Some d → IsGate kind feeds d
+gate_is Bufif1 [] d h = absurd (cc)
+gate_is Bufif1 (a ∷ []) d h = absurd (cc)
+gate_is Bufif1 (a ∷ b ∷ []) d h =
+    let e : record { core = a; operand = b; active_high = true } ≡ d = cc in
+    record { three = refl; gate = refl; are = ap (λ (x : Driver). x.core ∷ x.operand ∷ []) e }
+gate_is Bufif1 (a ∷ b ∷ c ∷ feeds) d h = absurd (cc)
+gate_is Bufif0 [] d h = absurd (cc)
+gate_is Bufif0 (a ∷ []) d h = absurd (cc)
+gate_is Bufif0 (a ∷ b ∷ []) d h =
+    let e : record { core = a; operand = b; active_high = false } ≡ d = cc in
+    record { three = refl; gate = refl; are = ap (λ (x : Driver). x.core ∷ x.operand ∷ []) e }
+gate_is Bufif0 (a ∷ b ∷ c ∷ feeds) d h = absurd (cc)
+gate_is _ feeds d h = absurd (cc)
+
+-- where a well-formed netlist's gate is no driver, its kind isn't three-state
+pub not_three : (k : Kind) (gate : Option Driver) → gate ≡ None → (is_three_state k ≡ true → is_some gate ≡ true) → is_three_state k ≡ false
+not_three k gate none some = by (is_three_state k) some
+  where
+    by : (b : Bool) → (b ≡ true → is_some gate ≡ true) → b ≡ false
+    by true h = absurd (let yes = h refl in let no : is_some gate ≡ false = ap (λ (o : Option Driver). is_some o) none in cc)
+    by false h = refl
+
+pub same_bool_is : (a b : Bool) → same_bool a b ≡ true → a ≡ b
+same_bool_is true b h = sym h
+same_bool_is false true h = absurd (cc)
+same_bool_is false false h = refl
 
 -- Disable values.
 
@@ -48,13 +94,13 @@ agree rs (Some m) (Some n) = agree_by rs m n (m == n) refl
 none_clashes : (f : Fitted) (row : FitRow) (rs : List FitRow) → list_any (rows_clash (cell_row f row)) (map (cell_row f) rs) ≡ false
 none_clashes f row [] = refl
 none_clashes f row (r ∷ rs) =
-    or_both (rows_clash (cell_row f row) (cell_row f r)) (list_any (rows_clash (cell_row f row)) (map (cell_row f) rs))
+    neither (rows_clash (cell_row f row) (cell_row f r)) (list_any (rows_clash (cell_row f row)) (map (cell_row f) rs))
     (agree f.rows row.control r.control) (none_clashes f row rs)
 
 all_agree : (f : Fitted) (rs : List FitRow) → any_pair rows_clash (map (cell_row f) rs) ≡ false
 all_agree f [] = refl
 all_agree f (r ∷ rs) =
-    or_both (list_any (rows_clash (cell_row f r)) (map (cell_row f) rs)) (any_pair rows_clash (map (cell_row f) rs)) (none_clashes f r rs) (all_agree f rs)
+    neither (list_any (rows_clash (cell_row f r)) (map (cell_row f) rs)) (any_pair rows_clash (map (cell_row f) rs)) (none_clashes f r rs) (all_agree f rs)
 
 pub drivers_agree : DriversAgree
 drivers_agree L p seen = all_agree (fitted_of L p seen) (rows p seen)
@@ -66,8 +112,8 @@ two row = is_function function.Output2 row.function
 
 controlled_none : (kind : BoundaryKind) (before : List FitRow) (does : Function) (line : PinLine) (seen : PinSeen) (d : Driver) (number : Option ℕ)
     → is_function function.Output2 does ≡ false → list_any two (controlled_by kind before does line seen d number) ≡ false
-controlled_none kind before does line seen d (Some number) h = or_both (is_function function.Output2 does) false h refl
-controlled_none kind before does line seen d None h = or_both (is_function function.Output2 does) false h refl
+controlled_none kind before does line seen d (Some number) h = neither (is_function function.Output2 does) false h refl
+controlled_none kind before does line seen d None h = neither (is_function function.Output2 does) false h refl
 
 input_none : (clock : Bool) → (is_function function.Output2 (if clock then function.Clock else function.Input) || false) ≡ false
 input_none true = refl
@@ -94,7 +140,7 @@ rows_none kind before (line ∷ lines) [] h = h
 rows_none kind before (line ∷ lines) (one ∷ seen) h =
     let new = rows_at kind true before line one one.side in
     rows_none kind (before ++ new) lines seen
-    (list_any-append two before new ∙ or_both (list_any two before) (list_any two new) h (line_none kind before line one one.side))
+    (list_any-append two before new ∙ neither (list_any two before) (list_any two new) h (line_none kind before line one one.side))
 
 highz_none : (kind : BoundaryKind) (highz : Bool) (lines : List PinLine) (seen : List PinSeen) → (highz && list_any two (rows_after kind highz [] lines seen)) ≡ false
 highz_none kind true lines seen = rows_none kind [] lines seen refl

@@ -7,7 +7,7 @@ use Rattle.std.specs.Str.{bytes_eq}
 use Rattle.std.specs.Fmt.{decimal}
 use Rattle.std.specs.Cmp.Lexicographic.{bytes_decides}
 use Rattle.std.proofs.lemmas.List.Elements.{All-nil, All-cons, All-head, All-tail}
-use Rattle.list_laws.proofs.Tests.{both_true}
+use Rattle.list_laws.proofs.Tests.{both_true, not_false}
 use Rattle.list_laws.proofs.Options.{or_else-parts, found}
 use Rattle.cell_library.specs.declared.codes.Instr.{Instr}
 use Rattle.bsdl_lexicon.specs.Bytes.{is_digit}
@@ -20,6 +20,7 @@ use Rattle.line_texts.specs.Words.{is_line_end, is_blank_byte, kept_lines}
 use Rattle.line_texts.specs.Rows.{IsWordByte, IsWord, IsRow, rows_text}
 use Rattle.line_texts.specs.Laws.{KeptAreRows, ReadsBack, RowsReadBack}
 use Rattle.first_faults.specs.First.{or_else, first_in}
+use Rattle.line_texts.proofs.Rows.{IsNumberedRow}
 use Rattle.plan_texts.specs.declared.fault.PlanFault.TheVariants as fault
 use Rattle.plan_texts.specs.declared.plan.Plan.{Plan}
 use Rattle.plan_texts.specs.declared.written.Written.{Written}
@@ -54,11 +55,7 @@ opcodes_again (o ∷ os) each none =
         ∙ ap (λ (l : List (List (List ℕ))). opcode_words o ∷ l) more)
 
 right_length : (n : ℕ) (w : List ℕ) → has_other_length n (bits_of w) ≡ false → length w ≡ n
-right_length n w h = eqb-true (length w) n (by (length w == n) h)
-  where
-    by : (t : Bool) → not t ≡ false → t ≡ true
-    by true h = refl
-    by false h = absurd (cc)
+right_length n w h = eqb-true (length w) n (not_false (length w == n) h)
 
 no_four : (a b d e : Bool) → a || b || d || e ≡ false → (a ≡ false) × (b ≡ false) × (d ≡ false) × (e ≡ false)
 no_four false false false false h = (refl, refl, refl, refl)
@@ -200,9 +197,6 @@ length_row old n low row = record {
 other_row : (front : List (List (List ℕ))) (x y : List (List ℕ)) (back : List (List (List ℕ))) → All IsRow (front ++ x ∷ back) → (IsRow x → IsRow y) → All IsRow (front ++ y ∷ back)
 other_row [] x y back all f = All-cons IsRow y back (f (All-head IsRow x back all)) (All-tail IsRow x back all)
 other_row (r ∷ front) x y back all f = All-cons IsRow r (front ++ y ∷ back) (All-head IsRow r (front ++ x ∷ back) all) (other_row front x y back (All-tail IsRow r (front ++ x ∷ back) all) f)
-
-abbrev IsNumberedRow : ℕ × List (List ℕ) → Type 0
-IsNumberedRow row = IsRow row.1
 
 rows_of_kept : (rows : List (ℕ × List (List ℕ))) → All IsNumberedRow rows → All IsRow (map (λ (row : ℕ × List (List ℕ)). row.1) rows)
 rows_of_kept [] all = All-nil IsRow

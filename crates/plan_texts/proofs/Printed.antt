@@ -3,9 +3,10 @@ use Rattle.std.specs.Prelude.{IfOk, OnOk}
 use Rattle.std.proofs.Common.{Result, Ok, Err, ◌≡◌, ℕ, List, [], ◌∷◌, ◌++◌, map, codes, refl, sym, ap, ◌∙◌, append_assoc}
 use Rattle.std.specs.Fmt.{decimal}
 use Rattle.bsdl_device.specs.Canonical.{pattern_text}
+use Rattle.bsdl_device.specs.Grammar.{cell_word}
 use Rattle.line_texts.specs.Rows.{row_text, rows_text}
 use Rattle.plan_texts.specs.declared.plan.Plan.{Plan}
-use Rattle.plan_texts.specs.Grammar.{cell_word, keyed, tap_words, pin_words}
+use Rattle.plan_texts.specs.Grammar.{keyed, tap_words, pin_words}
 use Rattle.plan_texts.specs.Canonical.{opcode_row, code_rows_of, head_rows, canonical_plan}
 
 rows_append : (xs ys : List (List (List ℕ))) → rows_text (xs ++ ys) ≡ rows_text xs ++ rows_text ys

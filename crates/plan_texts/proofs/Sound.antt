@@ -6,6 +6,7 @@ use Rattle.std.proofs.lemmas.List.Elements.{All-nil, All-cons}
 use Rattle.cell_library.specs.declared.codes.Bits.{Bits}
 use Rattle.bsdl_device.specs.Runs.{is_pattern, value_after}
 use Rattle.bsdl_device.specs.declared.entries.OpcodeEntry.{OpcodeEntry}
+use Rattle.bsdl_device.specs.Grammar.{cell_word}
 use Rattle.plan_texts.specs.declared.plan.TapLine.{TapLine}
 use Rattle.plan_texts.specs.declared.plan.PinLine.{PinLine}
 use Rattle.plan_texts.specs.declared.written.Names.{Names}
@@ -17,7 +18,7 @@ use Rattle.plan_texts.specs.declared.written.Pins.{Pins}
 use Rattle.plan_texts.specs.declared.written.Written.{Written}
 use Rattle.plan_texts.specs.Forms.{is_name, is_prefix, is_clock, is_length, bits_of, version_line, word_line, length_line, capture_line, tap_line, opcode_line, idcode_line, control_line, pin_line}
 use Rattle.plan_texts.specs.Reading.{Rows, Read, done, after, front, rest_if, line_at, put_first, many_at, some_of, linkage_line, ended, names_at, tap_at, registers_at, codes_at, pins_at, written_at}
-use Rattle.plan_texts.specs.Grammar.{PlanSource, OpcodeWords, GroupWords, cell_word, keyed, tap_words, opcode_words, idcode_rows, pin_words, plan_rows, IsTapLine, IsOpcode, AreGroupsIf, IsControl, IsPinLine, IsSource, entry_of, groups_of, written_of}
+use Rattle.plan_texts.specs.Grammar.{PlanSource, OpcodeWords, GroupWords, keyed, tap_words, opcode_words, idcode_rows, pin_words, plan_rows, IsTapLine, IsOpcode, AreGroupsIf, IsControl, IsPinLine, IsSource, entry_of, groups_of, written_of}
 use Rattle.plan_texts.proofs.Complete.{words}
 use Rattle.plan_texts.proofs.Parts.{names_second, names_third, tap_second, tap_third, tap_fourth, tap_fifth, registers_second, registers_third, codes_second, written_second, written_third, written_fourth, written_fifth, written_sixth}
 use Rattle.plan_texts.proofs.Views.{version_seen, word_seen, length_seen, capture_seen, tap_seen, opcode_seen, idcode_seen, control_seen, pin_seen}

@@ -9,13 +9,14 @@ use Rattle.cell_library.specs.declared.codes.BoundaryKind.{BoundaryKind}
 use Rattle.cell_library.specs.declared.codes.BoundaryKind.TheVariants as kind
 use Rattle.bsdl_device.specs.Runs.{is_pattern, value_after}
 use Rattle.bsdl_device.specs.declared.entries.OpcodeEntry.{OpcodeEntry}
+use Rattle.bsdl_device.specs.Grammar.{cell_word}
 use Rattle.line_texts.specs.Words.{is_empty}
 use Rattle.line_texts.specs.Forms.{after_key, one_of, two_of, three_of, four_of}
 use Rattle.plan_texts.specs.declared.plan.TapLine.{TapLine}
 use Rattle.plan_texts.specs.declared.plan.PinLine.{PinLine}
 use Rattle.plan_texts.specs.declared.written.CodeGroups.{CodeGroups}
 use Rattle.plan_texts.specs.Forms.{is_name, is_pin, is_length, bits_of, if_word, word_behind, word_line, version_if, version_line, number_if, length_line, bits_if, capture_line, tap_if, tap_line, opcode_if, opcode_line, groups_if, idcode_line, cell_named, control_only, control_line, pin_with, pin_if, pin_line}
-use Rattle.plan_texts.specs.Grammar.{OpcodeWords, GroupWords, cell_word, keyed, tap_words, opcode_words, idcode_words, pin_words, IsTapLine, IsOpcode, AreGroups, IsControl, IsPinLine, entry_of, groups_of}
+use Rattle.plan_texts.specs.Grammar.{OpcodeWords, GroupWords, keyed, tap_words, opcode_words, idcode_words, pin_words, IsTapLine, IsOpcode, AreGroups, IsControl, IsPinLine, entry_of, groups_of}
 
 -- the value where a test holds
 holding : {X : Type 0} (t : Bool) (x y : X) → cond t (Some x) None ≡ Some y → (t ≡ true) × (x ≡ y)

@@ -4,9 +4,10 @@ use Rattle.std.specs.Fmt.{decimal}
 use Rattle.cell_library.specs.declared.codes.Opcode.{Opcode}
 use Rattle.bsdl_device.specs.Instructions.{instruction_word}
 use Rattle.bsdl_device.specs.Canonical.{bits_text, pattern_text}
+use Rattle.bsdl_device.specs.Grammar.{cell_word}
 use Rattle.line_texts.specs.Rows.{rows_text}
 use Rattle.plan_texts.specs.declared.plan.Plan.{Plan}
-use Rattle.plan_texts.specs.Grammar.{SpellsPlan, cell_word, keyed, tap_words, pin_words}
+use Rattle.plan_texts.specs.Grammar.{SpellsPlan, keyed, tap_words, pin_words}
 
 abbrev pub opcode_row : Opcode → List (List ℕ)
 opcode_row o = codes "opcode" ∷ instruction_word o.instr ∷ pattern_text o.bits ∷ []

@@ -6,6 +6,7 @@ use Rattle.cell_library.specs.declared.codes.BoundaryKind.{BoundaryKind}
 use Rattle.cell_library.specs.declared.codes.BoundaryKind.TheVariants as kind
 use Rattle.bsdl_device.specs.Runs.{is_pattern, value_after}
 use Rattle.bsdl_device.specs.declared.entries.OpcodeEntry.{OpcodeEntry}
+use Rattle.bsdl_device.specs.Grammar.{cell_word}
 use Rattle.line_texts.specs.Words.{kept_lines}
 use Rattle.plan_texts.specs.declared.plan.TapLine.{TapLine}
 use Rattle.plan_texts.specs.declared.plan.PinLine.{PinLine}
@@ -48,12 +49,6 @@ pub record PlanSource : Type 0 where
   pub linkage : List TapLine
 
 -- The words of the lines.
-
-abbrev pub cell_word : BoundaryKind → List ℕ
-cell_word kind.Bc1 = codes "BC_1"
-cell_word kind.Bc2 = codes "BC_2"
-cell_word kind.Bc4 = codes "BC_4"
-cell_word kind.Bc7 = codes "BC_7"
 
 abbrev pub keyed : List ℕ → List ℕ → List (List ℕ)
 keyed key word = key ∷ word ∷ []

@@ -46,7 +46,8 @@ fn read_name(alloc: Global, reader: &mut LineReader<'_>, key: &[u8]) -> Result<T
 }
 
 fn read_prefix(alloc: Global, reader: &mut LineReader<'_>) -> Result<Text, LineFault>
-    ensures gives { Gives result reader.new.rows (line_at (forms.word_line (codes "prefix") forms.is_prefix) reader.old.rows) }
+    ensures gives { Gives result reader.new.rows
+        (line_at (forms.word_line (codes "prefix") forms.is_prefix) reader.old.rows) }
     ensures end { reader.new.end ≡ reader.old.end }
 {
     let Some(line) = reader.line() else {
@@ -117,7 +118,8 @@ fn read_tap_lines(alloc: Global, reader: &mut LineReader<'_>) -> Result<TapLines
 }
 
 fn read_clock(alloc: Global, reader: &mut LineReader<'_>) -> Result<Text, LineFault>
-    ensures gives { Gives result reader.new.rows (line_at (forms.word_line (codes "clock") forms.is_clock) reader.old.rows) }
+    ensures gives { Gives result reader.new.rows
+        (line_at (forms.word_line (codes "clock") forms.is_clock) reader.old.rows) }
     ensures end { reader.new.end ≡ reader.old.end }
 {
     let Some(line) = reader.line() else {

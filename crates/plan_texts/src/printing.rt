@@ -6,26 +6,15 @@ ghost use Rattle.line_texts.specs.Rows.{row_text, rows_text};
 ghost use Rattle.plan_texts.specs.Grammar as grammar;
 ghost use Rattle.plan_texts.specs.Canonical as canonical;
 
-use crate::instructions::word_of;
 use crate::plan::{PinLine, Plan, TapLine};
-use bsdl_runs::written::{put_bits, put_number, put_pattern};
-use cell_library::{Bits, BoundaryKind, Opcode};
+use bsdl_device::instruction_word;
+use bsdl_runs::written::{cell_word, put_bits, put_number, put_pattern};
+use cell_library::{Bits, Opcode};
 use edge_io::{OutOfMemory, Text};
 use line_texts::{
     put_five, put_four, put_three, put_two, rows_of_texts_are_rows, texts_of_rows_read_back,
 };
 use std::alloc::Global;
-
-fn cell_word(kind: BoundaryKind) -> &'static [u8]
-    ensures { result.now ≡ grammar.cell_word kind }
-{
-    match kind {
-        BoundaryKind::Bc1 => b"BC_1",
-        BoundaryKind::Bc2 => b"BC_2",
-        BoundaryKind::Bc4 => b"BC_4",
-        BoundaryKind::Bc7 => b"BC_7",
-    }
-}
 
 fn pattern_word(alloc: Global, bits: Bits) -> Result<Text, OutOfMemory>
     ensures { IfOk result (λ word. word ≡ pattern_text bits) }
@@ -58,8 +47,10 @@ fn put_tap(text: &mut Text, key: &[u8], line: &TapLine) -> Result<(), OutOfMemor
 }
 
 fn put_names(text: &mut Text, plan: &Plan) -> Result<(), OutOfMemory>
-    ensures { OnOk result (text.new ≡ text.old ++ row_text (grammar.keyed (codes "plan") (codes "1")) ++ row_text (grammar.keyed (codes "entity") plan.now.entity)
-        ++ row_text (grammar.keyed (codes "package") plan.now.«package») ++ row_text (grammar.keyed (codes "prefix") plan.now.prefix)) }
+    ensures { OnOk result (text.new ≡ text.old ++ row_text (grammar.keyed (codes "plan") (codes "1"))
+        ++ row_text (grammar.keyed (codes "entity") plan.now.entity)
+        ++ row_text (grammar.keyed (codes "package") plan.now.«package»)
+        ++ row_text (grammar.keyed (codes "prefix") plan.now.prefix)) }
 {
     put_two(text, b"plan", b"1")?;
     put_two(text, b"entity", plan.entity.as_bytes())?;
@@ -68,8 +59,11 @@ fn put_names(text: &mut Text, plan: &Plan) -> Result<(), OutOfMemory>
 }
 
 fn put_tap_lines(text: &mut Text, plan: &Plan) -> Result<(), OutOfMemory>
-    ensures { OnOk result (text.new ≡ text.old ++ row_text (grammar.tap_words (codes "tck") plan.now.tck) ++ row_text (grammar.tap_words (codes "tms") plan.now.tms)
-        ++ row_text (grammar.tap_words (codes "tdi") plan.now.tdi) ++ row_text (grammar.tap_words (codes "tdo") plan.now.tdo) ++ row_text (grammar.tap_words (codes "trst") plan.now.trst)) }
+    ensures { OnOk result (text.new ≡ text.old ++ row_text (grammar.tap_words (codes "tck") plan.now.tck)
+        ++ row_text (grammar.tap_words (codes "tms") plan.now.tms)
+        ++ row_text (grammar.tap_words (codes "tdi") plan.now.tdi)
+        ++ row_text (grammar.tap_words (codes "tdo") plan.now.tdo)
+        ++ row_text (grammar.tap_words (codes "trst") plan.now.trst)) }
 {
     put_tap(text, b"tck", &plan.tck)?;
     put_tap(text, b"tms", &plan.tms)?;
@@ -79,7 +73,8 @@ fn put_tap_lines(text: &mut Text, plan: &Plan) -> Result<(), OutOfMemory>
 }
 
 fn put_registers(alloc: Global, text: &mut Text, plan: &Plan) -> Result<(), OutOfMemory>
-    ensures { OnOk result (text.new ≡ text.old ++ row_text (grammar.keyed (codes "clock") plan.now.clock) ++ row_text (grammar.keyed (codes "length") (decimal plan.now.length))
+    ensures { OnOk result (text.new ≡ text.old ++ row_text (grammar.keyed (codes "clock") plan.now.clock)
+        ++ row_text (grammar.keyed (codes "length") (decimal plan.now.length))
         ++ row_text (grammar.keyed (codes "capture") (pattern_text plan.now.capture))) }
 {
     let length = number_word(alloc, plan.length)?;
@@ -101,7 +96,12 @@ fn put_opcode(alloc: Global, text: &mut Text, opcode: &Opcode) -> Result<(), Out
     ensures { OnOk result (text.new ≡ text.old ++ row_text (canonical.opcode_row opcode.now)) }
 {
     let bits = pattern_word(alloc, opcode.bits)?;
-    put_three(text, b"opcode", word_of(opcode.instr), bits.as_bytes())
+    put_three(
+        text,
+        b"opcode",
+        instruction_word(opcode.instr),
+        bits.as_bytes(),
+    )
 }
 
 fn put_opcodes(alloc: Global, text: &mut Text, opcodes: &[Opcode]) -> Result<(), OutOfMemory>
@@ -156,7 +156,8 @@ fn put_pins(text: &mut Text, pins: &[PinLine]) -> Result<(), OutOfMemory>
 }
 
 fn put_linkage(text: &mut Text, linkage: &[TapLine]) -> Result<(), OutOfMemory>
-    ensures { OnOk result (text.new ≡ text.old ++ rows_text (map (grammar.tap_words (codes "linkage")) linkage.now)) }
+    ensures { OnOk result (text.new ≡ text.old
+        ++ rows_text (map (grammar.tap_words (codes "linkage")) linkage.now)) }
 {
     for line in linkage {
         put_tap(text, b"linkage", line)?;

@@ -7,12 +7,12 @@ ghost use Rattle.first_faults.specs.Repeated.{texts};
 ghost use Rattle.plan_texts.specs.Rules as rules;
 
 use crate::fault::PlanFault;
-use crate::instructions::{
-    bypass_is_not_ones, clash, code_is_barred, has_instruction, has_other_length, instruction_of,
-    word_of,
-};
+use crate::instructions::instruction_of;
 use crate::written::{CodeGroups, Written};
-use bsdl_device::OpcodeEntry;
+use bsdl_device::{OpcodeEntry, instruction_word};
+use bsdl_runs::opcodes::{
+    bypass_is_not_ones, clash, code_is_barred, has_instruction, has_other_length,
+};
 use cell_library::{Bits, Instr};
 use edge_io::{OutOfMemory, Row, Text};
 use first_faults::first_repeated;
@@ -108,7 +108,7 @@ fn missing(
     if has_instruction(opcodes, instruction) {
         return Ok(None);
     }
-    let word = Text::from_bytes(alloc, word_of(instruction))?;
+    let word = Text::from_bytes(alloc, instruction_word(instruction))?;
     Ok(Some(PlanFault::PlanOpcode { word }))
 }
 

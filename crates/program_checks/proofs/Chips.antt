@@ -29,7 +29,7 @@ use Rattle.insertions.specs.Written.{spelt, tap_of}
 use Rattle.insertions.specs.Insertions.{IsInsertion}
 use Rattle.program_checks.specs.Laws.{IsRead, InsertionsHaveChips, InsertionsAgree, ProgramsOfInsertionsAreLegal, InsertionsMissNothing, WrittenProgramsMissNothing}
 use Rattle.program_checks.proofs.Same.{same_realises}
-use Rattle.program_checks.proofs.Widths.{view_is_wide}
+use Rattle.plan_devices.proofs.LinkViews.{view_is_wide}
 use Rattle.program_checks.proofs.Ports.{Known, own_port, inner_port, device_port, ports_agree, are_plain, input_at, input_is, tdo_is}
 
 -- The same netlist, read anew.

@@ -1,4 +1,3 @@
 mod Same
-mod Widths
 mod Ports
 mod Chips

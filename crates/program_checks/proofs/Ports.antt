@@ -5,7 +5,8 @@ use Rattle.std.specs.List.{AllByRecursion}
 use Rattle.std.proofs.lemmas.Bool.{cases_lt}
 use Rattle.std.proofs.lemmas.List.{length-map}
 use Rattle.std.proofs.lemmas.Option.{slice_get-map, slice_get_within}
-use Rattle.list_laws.proofs.Lists.{slice_get_there, slice_get-append_left, slice_get-append_right}
+use Rattle.list_laws.proofs.Lists.{slice_get_there, slice_get-append_left, slice_get-append_right, all_at}
+use Rattle.list_laws.proofs.Options.{some_same}
 use Rattle.link_model.specs.Denoted.{name_bytes}
 use Rattle.netlist_model.specs.declared.Dir.{Dir}
 use Rattle.netlist_model.specs.declared.Dir.TheVariants.{Input, Output}
@@ -24,7 +25,6 @@ use Rattle.plan_texts.specs.declared.plan.Plan.{Plan}
 use Rattle.plan_texts.specs.declared.plan.TapLine.{TapLine}
 use Rattle.plan_fitting.specs.Devices.{mode_of_side, port_range, scalar_port}
 use Rattle.plan_devices.specs.Laws.{HasPorts, HasTapPlaces}
-use Rattle.plan_devices.proofs.Lists.{some_same, all_at}
 use Rattle.plan_devices.proofs.DevicePorts.{HasBytes, ports_have_bytes}
 use Rattle.scan_programs.specs.Met.{input_place}
 use Rattle.conformance_report.specs.Agreement.{IsSamePort, PortsAgree}

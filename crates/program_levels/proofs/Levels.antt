@@ -7,10 +7,10 @@ use Rattle.std.specs.Option.{option_map_or}
 use Rattle.std.proofs.lemmas.Bool.{cases_lt}
 use Rattle.std.proofs.lemmas.Option.{slice_get-map}
 use Rattle.list_laws.proofs.Bytes.{bytes_eq-same}
-use Rattle.list_laws.proofs.Lists.{slice_get-append_left, slice_get-append_right}
-use Rattle.list_laws.proofs.Tests.{and_right}
+use Rattle.list_laws.proofs.Lists.{slice_get-append_left, slice_get-append_right, all_at}
+use Rattle.list_laws.proofs.Tests.{and_right, or_first, or_second}
+use Rattle.list_laws.proofs.Options.{some_same}
 use Rattle.signal_values.specs.declared.PinSig.TheVariants as pin
-use Rattle.signal_values.specs.Values.{bit, pin_of}
 use Rattle.netlist_model.specs.Runs.{IsKnownPin}
 use Rattle.bsdl_lexicon.specs.Names.{lower, is_same_name}
 use Rattle.bsdl_device.specs.declared.values.PortMode.{PortMode}
@@ -22,8 +22,7 @@ use Rattle.bsdl_device.specs.Ports.{is_mode}
 use Rattle.bsdl_device.specs.IsDevice.{IsDevice, IsDevicePort, names_of, is_scalar_at}
 use Rattle.test_logic.specs.declared.TapInput.{TapInput}
 use Rattle.test_logic.specs.declared.TapInput.TheVariants.{Tck, Tms, Tdi, Trst}
-use Rattle.plan_devices.proofs.Lists.{all_at, some_same}
-use Rattle.plan_devices.proofs.Tests.{or_left, or_right}
+use Rattle.wrapped_chip.proofs.Legal.{level_known}
 use Rattle.scan_vectors.specs.declared.lines.Act.TheVariants as act
 use Rattle.scan_vectors.specs.declared.lines.Line.{Line}
 use Rattle.scan_vectors.specs.declared.lines.Line.TheVariants.{Start, Set, Expect}
@@ -45,21 +44,21 @@ not_later name [] k none there = cc
 not_later name (x ∷ names) zero none there =
     let same : x ≡ name = some_same x name (Some x) refl there in
     let yes : is_same_name name x ≡ true = ap (is_same_name name) same ∙ bytes_eq-same (map lower name) in
-    let no : is_same_name name x ≡ false = or_left (is_same_name name x) (list_any (is_same_name name) names) none in
+    let no : is_same_name name x ≡ false = or_first (is_same_name name x) (list_any (is_same_name name) names) none in
     let both : true ≡ false = sym yes ∙ no in
     cc
-not_later name (x ∷ names) (suc k) none there = not_later name names k (or_right (is_same_name name x) (list_any (is_same_name name) names) none) there
+not_later name (x ∷ names) (suc k) none there = not_later name names k (or_second (is_same_name name x) (list_any (is_same_name name) names) none) there
 
 one_place : (names : List (List ℕ)) → is_repeated names ≡ false → (j k : ℕ) (name : List ℕ) → slice_get names j ≡ Some name → slice_get names k ≡ Some name → j ≡ k
 one_place [] none j k name one other = absurd (cc)
 one_place (x ∷ names) none zero zero name one other = refl
 one_place (x ∷ names) none zero (suc k) name one other =
     let same : x ≡ name = some_same x name (Some x) refl one in
-    absurd (not_later x names k (or_left (list_any (is_same_name x) names) (is_repeated names) none) (other ∙ ap (λ (n : List ℕ). Some n) (sym same)))
+    absurd (not_later x names k (or_first (list_any (is_same_name x) names) (is_repeated names) none) (other ∙ ap (λ (n : List ℕ). Some n) (sym same)))
 one_place (x ∷ names) none (suc j) zero name one other =
     let same : x ≡ name = some_same x name (Some x) refl other in
-    absurd (not_later x names j (or_left (list_any (is_same_name x) names) (is_repeated names) none) (one ∙ ap (λ (n : List ℕ). Some n) (sym same)))
-one_place (x ∷ names) none (suc j) (suc k) name one other = ap suc (one_place names (or_right (list_any (is_same_name x) names) (is_repeated names) none) j k name one other)
+    absurd (not_later x names j (or_first (list_any (is_same_name x) names) (is_repeated names) none) (one ∙ ap (λ (n : List ℕ). Some n) (sym same)))
+one_place (x ∷ names) none (suc j) (suc k) name one other = ap suc (one_place names (or_second (list_any (is_same_name x) names) (is_repeated names) none) j k name one other)
 
 port_place : (B : Device) → IsDevice B → (j k : ℕ) (port other : DevPort) → slice_get B.ports j ≡ Some port → slice_get B.ports k ≡ Some other → port.name ≡ other.name → j ≡ k
 port_place B is j k port other one two same =
@@ -119,11 +118,11 @@ turned a b h = grind arith
 trst_not_tms : (B : Device) → IsDevice B → B.trst == B.tms ≡ false
 trst_not_tms B is =
     let same : ℕ → ℕ → Bool = λ a b. a == b in
-    let first = or_right (list_any (same B.tck) (B.tms ∷ B.tdi ∷ B.tdo ∷ B.trst ∷ [])) (any_pair same (B.tms ∷ B.tdi ∷ B.tdo ∷ B.trst ∷ [])) is.tap.apart in
-    let second = or_left (list_any (same B.tms) (B.tdi ∷ B.tdo ∷ B.trst ∷ [])) (any_pair same (B.tdi ∷ B.tdo ∷ B.trst ∷ [])) first in
-    let third = or_right (B.tms == B.tdi) (list_any (same B.tms) (B.tdo ∷ B.trst ∷ [])) second in
-    let fourth = or_right (B.tms == B.tdo) (list_any (same B.tms) (B.trst ∷ [])) third in
-    turned B.tms B.trst (or_left (B.tms == B.trst) false fourth)
+    let first = or_second (list_any (same B.tck) (B.tms ∷ B.tdi ∷ B.tdo ∷ B.trst ∷ [])) (any_pair same (B.tms ∷ B.tdi ∷ B.tdo ∷ B.trst ∷ [])) is.tap.apart in
+    let second = or_first (list_any (same B.tms) (B.tdi ∷ B.tdo ∷ B.trst ∷ [])) (any_pair same (B.tdi ∷ B.tdo ∷ B.trst ∷ [])) first in
+    let third = or_second (B.tms == B.tdi) (list_any (same B.tms) (B.tdo ∷ B.trst ∷ [])) second in
+    let fourth = or_second (B.tms == B.tdo) (list_any (same B.tms) (B.trst ∷ [])) third in
+    turned B.tms B.trst (or_first (B.tms == B.trst) false fourth)
 
 start_keeps : (B : Device) → IsDevice B → (k : ℕ) (line : Line) → IsPlaced B 0 B.ports k line → KeepsLevels B line
 start_keeps B is k line p = record {
@@ -138,14 +137,10 @@ start_keeps B is k line p = record {
       ap value_of p.line_is ∙ input_value B (0 + p.number) p.port false (start_mode B k line p B.trst port at) (ap (λ (n : ℕ). n == B.tms) place ∙ trst_not_tms B is);
 }
 
-known_level : (level : Bool) → IsKnownPin (pin_of (bit level))
-known_level true = inr refl
-known_level false = inl refl
-
 event_keeps : (B : Device) (line : Line) → IsEvent B line → KeepsLevels B line
 event_keeps B (Start word value) event = absurd event
 event_keeps B (Set word value) event =
-    record { known = λ input named gives. subst IsKnownPin (sym event.set.value_is) (known_level event.level); reset = λ named start. absurd (let no : act.Set ≡ act.Start = start in cc) }
+    record { known = λ input named gives. subst IsKnownPin (sym event.set.value_is) (level_known event.level); reset = λ named start. absurd (let no : act.Set ≡ act.Start = start in cc) }
 event_keeps B (Expect word value) event = record { known = λ input named gives. absurd (gives refl); reset = λ named start. absurd (let no : act.Expect ≡ act.Start = start in cc) }
 
 keeps_at : (B : Device) → IsDevice B → (rest : List Line) → AreEvents B rest → (place : ℕ) (line : Line) → slice_get (starts B ++ rest) place ≡ Some line → KeepsLevels B line

@@ -17,16 +17,16 @@ use Rattle.netlist_model.specs.declared.NetId.{NetId}
 use Rattle.netlist_model.specs.Lists.{NetlistView}
 use Rattle.test_logic.specs.declared.Mode.{Mode}
 use Rattle.test_logic.specs.Instructions.{mode_of, is_extest}
-use Rattle.test_logic.specs.Machine.{in_effect, test_logic_of}
+use Rattle.test_logic.specs.Machine.{in_effect, test_logic_of, update_of}
 use Rattle.test_logic.specs.Rows.{ControlAt, CellAt, row_reading, output_captured, row_captured}
 use Rattle.bsdl_device.specs.declared.values.Disable.{Disable}
 use Rattle.bsdl_device.specs.declared.values.CellRow.{CellRow}
 use Rattle.bsdl_device.specs.declared.values.Device.{Device}
-use Rattle.wrapped_chip.specs.Cells.{net_of_bit, net_of_row, update_of, shared_control, bit_cell_at, cell_at_net, captured_from, captured, reading_by, chip_reading}
+use Rattle.wrapped_chip.specs.Cells.{net_of_bit, net_of_row, shared_control, bit_cell_at, cell_at_net, captured_from, captured, reading_by, chip_reading}
 use Rattle.wrapped_chip.specs.ChipRuns.{ChipMoment}
 use Rattle.scan_programs.specs.Cells.{Core, outside_at, cell_at, captured_at, reading}
 use Rattle.scan_programs.specs.Cells as alone
-use Rattle.program_runs.proofs.Alone.{captured_is}
+use Rattle.scan_programs.proofs.Opened.{captured_is}
 use Rattle.program_runs.specs.Around.{StandsAtNet, StandsAtNone}
 
 -- What the core gives.

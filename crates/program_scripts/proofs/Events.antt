@@ -1,6 +1,6 @@
 -- The lines of a program behind its starts: sets of the test access port, and expectations of TDO and of outputs and inouts.
-use Rattle.std.proofs.Common.{◌≡◌, ◌⊎◌, ℕ, suc, ◌+◌, Bool, true, false, List, [], ◌∷◌, ◌++◌, map, slice_get, if◌then◌else◌, Option, Some, refl, sym, ap, ◌∙◌, inl, inr, arith}
-use Rattle.std.specs.List.{AllByRecursion, enumerate_from, flat_map}
+use Rattle.std.proofs.Common.{◌≡◌, ◌⊎◌, ℕ, ◌+◌, Bool, true, false, List, [], ◌∷◌, ◌++◌, slice_get, if◌then◌else◌, Option, Some, refl, inl, inr}
+use Rattle.std.specs.List.{AllByRecursion, flat_map}
 use Rattle.list_laws.proofs.Lists.{all_append}
 use Rattle.signal_values.specs.declared.PinSig.{PinSig}
 use Rattle.signal_values.specs.declared.PinSig.TheVariants as pin
@@ -15,9 +15,10 @@ use Rattle.scan_vectors.specs.declared.lines.Line.TheVariants.{Start, Set, Expec
 use Rattle.scan_programs.specs.declared.clocks.Clock.{Clock}
 use Rattle.scan_programs.specs.declared.pins.Reader.{Reader}
 use Rattle.scan_programs.specs.Scans.{all_clocks}
-use Rattle.scan_programs.specs.Pins.{bit_word, port_word, is_read_port, reader_at, readers_of, readers, starts}
+use Rattle.scan_programs.specs.Pins.{bit_word, port_word, is_read_port, readers, starts}
 use Rattle.scan_programs.specs.Program.{expected, tdo_lines, reader_value, pin_lines, look, is_update, look_after, set_line, set_if, Bench, machine_after, bench_after, clock_lines, scan_lines, in_reset, first_bench, program_of}
 use Rattle.scan_programs.specs.Met.{input_place}
+use Rattle.scan_programs.proofs.Goes.{AreReaders, readers_are}
 use Rattle.program_runs.specs.Lines.{IsSetOf}
 
 -- the word is that of a bit of an output or inout of the device's own logic
@@ -46,36 +47,6 @@ AreEvents B lines = AllByRecursion (IsEvent B) lines
 joined : (B : Device) (xs ys : List Line) → AreEvents B xs → AreEvents B ys → AreEvents B (xs ++ ys)
 joined B xs ys h k = all_append (IsEvent B) xs ys h k
 
--- Readers.
-
-abbrev AreReaders : Device → List Reader → Type 0
-AreReaders B rs = AllByRecursion (λ (r : Reader). IsReadOf B r.word) rs
-
-port_readers : (B : Device) (place : ℕ) (p : DevPort) (is : List (Option ℕ)) → slice_get B.ports place ≡ Some p → is_read_port B (place, p) ≡ true
-    → ((k : ℕ) (i : Option ℕ) → slice_get is k ≡ Some i → (bit : ℕ) × (slice_get (indices p.range) bit ≡ Some i)) → AreReaders B (map (reader_at B.cells place p.name) is)
-port_readers B place p [] there read are = tt
-port_readers B place p (i ∷ is) there read are =
-    let at = are 0 i refl in (
-      inr (record { place = place; port = p; bit = at.0; index = i; there = there; read = read; at = at.1; named = refl }),
-      port_readers B place p is there read (λ k j h. are (suc k) j h),
-    )
-
-readers_if : (B : Device) (place : ℕ) (p : DevPort) (b : Bool) → slice_get B.ports place ≡ Some p → is_read_port B (place, p) ≡ b
-    → AreReaders B (if b then map (reader_at B.cells place p.name) (indices p.range) else [])
-readers_if B place p true there read = port_readers B place p (indices p.range) there read (λ k i h. (k, h))
-readers_if B place p false there read = tt
-
-readers_from : (B : Device) (place : ℕ) (ps : List DevPort) → ((k : ℕ) → slice_get ps k ≡ slice_get B.ports (place + k)) → AreReaders B (flat_map (readers_of B) (enumerate_from place ps))
-readers_from B place [] same = tt
-readers_from B place (p ∷ ps) same =
-    let here : slice_get B.ports place ≡ Some p = ap (slice_get B.ports) (let e : place ≡ place + 0 = omega arith in e) ∙ sym (same 0) in
-    all_append (λ (r : Reader). IsReadOf B r.word) (readers_of B (place, p)) (flat_map (readers_of B) (enumerate_from (place + 1) ps)) (readers_if B place p (is_read_port B (place, p)) here refl)
-    (readers_from B (place + 1) ps (λ k. same (suc k) ∙ ap (slice_get B.ports) (let e : place + suc k ≡ place + 1 + k = omega arith in e)))
-
-readers_are : (B : Device) → AreReaders B (readers B)
-unfolding readers
-readers_are B = readers_from B 0 B.ports (λ k. ap (slice_get B.ports) (let e : k ≡ 0 + k = omega arith in e))
-
 -- Lines.
 
 expected_is : (B : Device) (word : List ℕ) (value : PinSig) → IsReadOf B word → AreEvents B (expected word value)
@@ -87,7 +58,9 @@ expected_is B word pin.HighZ h = (h, tt)
 pins_are : (B : Device) (m : Machine) (rs : List Reader) → AreReaders B rs → AreEvents B (flat_map (λ (r : Reader). expected r.word (reader_value B m r)) rs)
 pins_are B m [] h = tt
 pins_are B m (r ∷ rs) h =
-    joined B (expected r.word (reader_value B m r)) (flat_map (λ (q : Reader). expected q.word (reader_value B m q)) rs) (expected_is B r.word (reader_value B m r) h.0) (pins_are B m rs h.1)
+    let one = h.0 in
+    let of : IsReaderOf B r.word = record { place = one.place; port = one.port; bit = one.bit; index = one.index; there = one.there; read = one.read; at = one.at; named = one.named } in
+    joined B (expected r.word (reader_value B m r)) (flat_map (λ (q : Reader). expected q.word (reader_value B m q)) rs) (expected_is B r.word (reader_value B m r) (inr of)) (pins_are B m rs h.1)
 
 tdo_is : (B : Device) (m : Machine) → AreEvents B (tdo_lines B m)
 tdo_is B m = expected_is B (port_word B B.tdo) m.tdo (inl refl)

@@ -1,17 +1,17 @@
 -- Lines of a program with their pins found.
-use Rattle.std.proofs.Common.{◌≡◌, ℕ, zero, suc, List, [], ◌∷◌, length, slice_get, Some, refl, sym, ap, ◌∙◌, subst, arith}
+use Rattle.std.proofs.Common.{◌≡◌, ℕ, zero, suc, List, [], ◌∷◌, length, slice_get, Some, refl, ap, ◌∙◌, subst, arith}
 use Rattle.std.specs.Prelude.{⊤}
-use Rattle.std.proofs.lemmas.List.{length-map}
 use Rattle.netlist_link.specs.Linked.{LinkedView}
 use Rattle.bsdl_device.specs.declared.values.Device.{Device}
 use Rattle.scan_vectors.specs.declared.lines.Act.TheVariants as act
 use Rattle.scan_vectors.specs.declared.lines.Line.{Line}
 use Rattle.scan_vectors.specs.declared.lines.Line.TheVariants.{Start, Set, Expect}
 use Rattle.scan_vectors.specs.declared.lines.Lines.{Lines}
-use Rattle.scan_vectors.specs.Grammar.{act_of, pin_of, value_of, Written}
+use Rattle.scan_vectors.specs.Grammar.{act_of, pin_of, value_of}
 use Rattle.event_scripts.specs.declared.script.ScriptLine.{ScriptLine}
 use Rattle.event_scripts.specs.Pins.{Names}
 use Rattle.event_scripts.specs.Scripts.{IsSpelled, IsFound, IsScriptOf}
+use Rattle.event_scripts.proofs.Verdicts.{spelled_lengths}
 use Rattle.program_runs.specs.Lines.{IsStartOf, NamePins}
 
 -- the line with its pin found
@@ -45,14 +45,9 @@ found_by L (line ∷ lines) (number ∷ numbers) (found ∷ script) many numbere
       found_by L lines numbers script (omega (arith, m)) (omega (arith, n)) (λ place. each (suc place)),
     )
 
-count_is : (lines : Lines) → IsSpelled lines → length lines.numbers ≡ length lines.list
-count_is lines spelled =
-    let written = spelled.spells.written in
-    ap length spelled.spells.numbers_are ∙ length-map written (λ (w : Written). w.number) ∙ sym (length-map written (λ (w : Written). w.line)) ∙ sym (ap length spelled.spells.list_is)
-
 -- what is resolved is found
 pub are_found : (L : LinkedView) (lines : Lines) (script : List ScriptLine) → IsSpelled lines → IsScriptOf L lines script → AreFound L lines.list script
-are_found L lines script spelled is = found_by L lines.list lines.numbers script is.count (count_is lines spelled) is.each
+are_found L lines script spelled is = found_by L lines.list lines.numbers script is.count (spelled_lengths lines spelled) is.each
 
 -- One line.
 

@@ -4,11 +4,12 @@ use Rattle.std.specs.Prelude.{option_and_then}
 use Rattle.std.specs.Option.{option_map_or}
 use Rattle.std.proofs.lemmas.Bool.{cases_lt}
 use Rattle.std.proofs.lemmas.Option.{slice_get_within}
-use Rattle.list_laws.proofs.Lists.{slice_get-append_left, slice_get-append_right}
+use Rattle.list_laws.proofs.Lists.{slice_get-append_left, slice_get-append_right, all_at, in_front}
 use Rattle.list_laws.proofs.Tests.{and_right}
+use Rattle.list_laws.proofs.Options.{some_same}
 use Rattle.signal_values.specs.declared.PinSig.{PinSig}
 use Rattle.signal_values.specs.declared.PinSig.TheVariants as pin
-use Rattle.signal_values.specs.Values.{bit, pin_of}
+use Rattle.signal_values.specs.Values.{bit}
 use Rattle.netlist_model.specs.declared.Dir.{Dir}
 use Rattle.netlist_model.specs.declared.Dir.TheVariants.{Input, Output, Inout}
 use Rattle.netlist_model.specs.declared.NetId.{NetId}
@@ -28,8 +29,8 @@ use Rattle.bsdl_device.specs.declared.values.DevPort.{DevPort}
 use Rattle.bsdl_device.specs.declared.values.Device.{Device}
 use Rattle.bsdl_device.specs.Ports.{indices, is_mode}
 use Rattle.bsdl_device.specs.IsDevice.{is_tap_place}
+use Rattle.wrapped_chip.proofs.Legal.{level_known}
 use Rattle.plan_fitting.specs.Devices.{mode_of_side}
-use Rattle.plan_devices.proofs.Lists.{all_at}
 use Rattle.scan_vectors.specs.declared.lines.Act.TheVariants as act
 use Rattle.scan_vectors.specs.declared.lines.Line.{Line}
 use Rattle.scan_vectors.specs.declared.lines.Line.TheVariants.{Start, Set, Expect}
@@ -37,7 +38,6 @@ use Rattle.scan_vectors.specs.Grammar.{act_of, pin_of as word_of, value_of}
 use Rattle.event_scripts.specs.Pins.{Names, side_of, net_of, TakesValue, HasStart}
 use Rattle.event_scripts.specs.Rules.{BreaksRule, IsBroken, DrivesOutput, BlursControl, ExpectsInput, StartsAgain, StartsLate, RunsEarly}
 use Rattle.event_scripts.specs.Rules.BreaksRule.{unknown, output, control, input, again, late, early}
-use Rattle.event_scripts.proofs.Flags.{get_take}
 use Rattle.event_scripts.proofs.Named.{bit_direction}
 use Rattle.scan_programs.specs.Pins.{bit_word, port_word, start_value, takes_start, starts}
 use Rattle.scan_programs.specs.Met.{input_place}
@@ -45,7 +45,7 @@ use Rattle.program_runs.specs.Lines.{IsSetOf}
 use Rattle.program_scripts.specs.Words.{WordsNameBits}
 use Rattle.program_scripts.specs.Beside.{HasScalarPort, IsDescribed}
 use Rattle.program_scripts.specs.Laws.{ProgramsAreLegal}
-use Rattle.program_scripts.proofs.Pins.{some_same, index_at_bit, index_there, index_within, place_is, start_is_inside, names_bit}
+use Rattle.program_scripts.proofs.Pins.{index_at_bit, index_there, index_within, place_is, start_is_inside, names_bit}
 use Rattle.program_scripts.proofs.Starts.{input_value}
 use Rattle.program_scripts.proofs.Named.{port_named}
 use Rattle.program_scripts.proofs.Places.{starts_before, IsPlaced, placed, listed}
@@ -190,14 +190,10 @@ known_start B place other side = by (place == B.tms) refl
         of true = inr refl
         of false = inl refl
 
-known_level : (level : Bool) → IsKnownPin (pin_of (bit level))
-known_level true = inr refl
-known_level false = inl refl
-
 no_control : WordsNameBits → BitHasDirection → (L : LinkedView) (B : Device) → IsDescribed L B → (place : ℕ) (line : Line) → IsLineOf B place line → BlursControl L line → ⊥
 no_control law directed L B described place (Start word value) (inr event) d = event.1
 no_control law directed L B described place (Expect word value) (inr event) d = d.gives refl
-no_control law directed L B described place (Set word value) (inr event) d = d.value (subst IsKnownPin (sym event.1.set.value_is) (known_level event.1.level))
+no_control law directed L B described place (Set word value) (inr event) d = d.value (subst IsKnownPin (sym event.1.set.value_is) (level_known event.1.level))
 no_control law directed L B described place line (inl own) d =
     let p = own.0 in
     let n = start_named law L B described place line p in
@@ -322,7 +318,7 @@ no_early law L B described rest place line is d =
     let high : length (starts B) ≤ place = (event_high B place line d.event is).0 in
     let before : s.place < place = omega (arith, low, high) in
     let there : slice_get (starts B ++ rest) s.place ≡ Some s.line = slice_get-append_left (starts B) rest s.place low ∙ s.there in
-    d.lacks.none (record { place = s.place; line = s.line; there = get_take (starts B ++ rest) place s.place s.line before there; start = s.start; named = s.named })
+    d.lacks.none (record { place = s.place; line = s.line; there = in_front (starts B ++ rest) place s.place s.line before there; start = s.start; named = s.named })
 
 -- The whole.
 

@@ -3,6 +3,8 @@ use Rattle.std.proofs.Common.{◌≡◌, ◌≢◌, ℕ, zero, suc, ◌+◌, ◌
 use Rattle.std.specs.Prelude.{unwrap_or}
 use Rattle.std.specs.Option.{option_map_or}
 use Rattle.std.proofs.lemmas.Option.{slice_get-map}
+use Rattle.list_laws.proofs.Options.{some_same}
+use Rattle.list_laws.proofs.Lists.{slice_get-counted_from}
 use Rattle.netlist_model.specs.declared.Dir.{Dir}
 use Rattle.netlist_model.specs.declared.Dir.TheVariants.{Input, Output, Inout}
 use Rattle.netlist_model.specs.declared.NetId.{NetId}
@@ -29,9 +31,6 @@ use Rattle.conformance_report.specs.Agreement.{IsSamePort}
 use Rattle.program_scripts.specs.Words.{WordsNameBits}
 use Rattle.program_scripts.specs.Beside.{HasScalarPort, IsDescribed}
 
-pub some_same : {X : Type 0} (x y : X) (o : Option X) → o ≡ Some x → o ≡ Some y → x ≡ y
-some_same x y o e f = cc
-
 -- Indices.
 
 record IsCounted (first n k x : ℕ) : Type 0 where
@@ -42,12 +41,6 @@ counted_at : (first n k x : ℕ) → slice_get (counted_from first n) k ≡ Some
 counted_at first zero k x h = absurd (cc)
 counted_at first (suc n) zero x h = let same : first ≡ x = cc in record { is = omega (arith, same); within = omega arith }
 counted_at first (suc n) (suc k) x h = let more = counted_at (suc first) n k x h in record { is = omega (arith, more.is); within = omega (arith, more.within) }
-
-counted_there : (first n k : ℕ) → k < n → slice_get (counted_from first n) k ≡ Some (first + k)
-counted_there first zero k low = absurd (omega (arith, low))
-counted_there first (suc n) zero low = ap (λ (x : ℕ). Some x) (let e : first ≡ first + 0 = omega arith in e)
-counted_there first (suc n) (suc k) low =
-    counted_there (suc first) n k (omega (arith, low)) ∙ ap (λ (x : ℕ). Some x) (let e : suc first + k ≡ first + suc k = omega arith in e)
 
 -- the device's port has this index at the bit of the netlist's port
 pub record IsIndexAt (range : Option Range) (bit : ℕ) (index : Option ℕ) : Type 0 where
@@ -75,7 +68,7 @@ index_there None zero low = refl
 index_there None (suc bit) low = absurd (omega (arith, low))
 index_there (Some r) bit low =
     slice_get-map (λ (place : ℕ). Some (index_at (port_range r) place)) (counted_from 0 (width (Some (port_range r)))) bit
-    ∙ ap (option_map (λ (place : ℕ). Some (index_at (port_range r) place))) (counted_there 0 (width (Some (port_range r))) bit low ∙ ap (λ (x : ℕ). Some x) (let e : 0 + bit ≡ bit = omega arith in e))
+    ∙ ap (option_map (λ (place : ℕ). Some (index_at (port_range r) place))) (slice_get-counted_from 0 (width (Some (port_range r))) bit low ∙ ap (λ (x : ℕ). Some x) (let e : 0 + bit ≡ bit = omega arith in e))
 
 -- it stands at that place
 pub place_is : (range : Option Range) (bit : ℕ) (index : Option ℕ) → IsIndexAt range bit index → bit_place range index ≡ bit

@@ -2,6 +2,8 @@
 use Rattle.std.proofs.Common.{◌≡◌, ℕ, ◌+◌, ◌<◌, ◌==◌, Bool, true, false, List, length, slice_get, if◌then◌else◌, Option, Some, None, option_map, refl, sym, ap, ◌∙◌, subst, arith}
 use Rattle.std.specs.Prelude.{option_and_then}
 use Rattle.std.proofs.lemmas.Option.{slice_get_within}
+use Rattle.list_laws.proofs.Numbers.{eqb_same}
+use Rattle.list_laws.proofs.Options.{some_same}
 use Rattle.signal_values.specs.declared.PinSig.TheVariants as pin
 use Rattle.signal_values.specs.Values.{bit, pin_of}
 use Rattle.netlist_model.specs.declared.Dir.{Dir}
@@ -39,7 +41,7 @@ use Rattle.program_runs.specs.There.{IsStartThere}
 use Rattle.program_scripts.specs.Words.{WordsNameBits}
 use Rattle.program_scripts.specs.Beside.{IsBeside}
 use Rattle.program_scripts.proofs.Found.{AreFound, found_there, start_there}
-use Rattle.program_scripts.proofs.Pins.{some_same, index_at_bit, index_within, side_of_input, start_is_inside, number_is, names_bit, scalar_pin}
+use Rattle.program_scripts.proofs.Pins.{index_at_bit, index_within, side_of_input, start_is_inside, number_is, names_bit, scalar_pin}
 
 -- What is known of the starts.
 
@@ -98,9 +100,6 @@ behind_tms place n tms k is high at = grind arith
 
 first_tap : (place n tms : ℕ) → place ≡ n + 0 → tms ≡ n + 1 → place == tms ≡ false
 first_tap place n tms is at = grind arith
-
-at_tms : (tms : ℕ) → tms == tms ≡ true
-at_tms tms = grind arith
 
 -- The bits of N.
 
@@ -170,7 +169,7 @@ tap_starts law L B N lines script m have input there tap =
 tap_value : (B : Device) (N : NetlistView) → ((input : TapInput) → input_place B input ≡ length N.ports + tap_place input) → (input : TapInput) (other : DevPort) → other.mode ≡ mode.Input
     → start_value B (input_place B input) other ≡ pin_of (bit (level_of first_levels input))
 tap_value B N at Tck other side = input_value B B.tck other false side (first_tap B.tck (length N.ports) B.tms (at Tck) (at Tms))
-tap_value B N at Tms other side = input_value B B.tms other true side (at_tms B.tms)
+tap_value B N at Tms other side = input_value B B.tms other true side (eqb_same B.tms)
 tap_value B N at Tdi other side = input_value B B.tdi other false side (behind_tms B.tdi (length N.ports) B.tms 2 (at Tdi) (omega arith) (at Tms))
 tap_value B N at Trst other side = input_value B B.trst other false side (behind_tms B.trst (length N.ports) B.tms 4 (at Trst) (omega arith) (at Tms))
 

@@ -1,5 +1,5 @@
 -- A chain grows by the bit before it.
-use Rattle.std.proofs.Common.{◌≡◌, ℕ, suc, ◌+◌, ◌-◌, ◌*◌, ◌<◌, ◌≤◌, List, [], ◌∷◌, ◌++◌, length, drop, get_or, length-append, refl, sym, ◌∙◌, ap, subst, Some, arith}
+use Rattle.std.proofs.Common.{◌≡◌, ℕ, suc, ◌+◌, ◌-◌, ◌*◌, ◌<◌, ◌≤◌, List, [], ◌∷◌, ◌++◌, length, drop, get_or, refl, sym, ◌∙◌, ap, subst, Some, arith}
 use Rattle.std.proofs.Math.Seq.{drop-cons, drop-length}
 use Rattle.std.proofs.lemmas.List.{length-drop}
 use Rattle.std.proofs.lemmas.Option.{slice_get_within, get_or_from_slice_get}
@@ -15,6 +15,7 @@ use Rattle.gate_parts.specs.Laws.{AppendedNone, AppendedCount, AppendedMore}
 use Rattle.register_bits.specs.declared.Steering.{Steering}
 use Rattle.register_bits.specs.Bits.{shift_bit_cells}
 use Rattle.register_bits.specs.Chains.{chain_last, chain_cells}
+use Rattle.register_bits.proofs.Lengths.{chain_length}
 
 -- the chain of these was added, and this is its last bit
 pub record Chained (old new : ArenaView) (by : Steering) (tdi last : NetId) (captured : List Feed) : Type 0 where
@@ -31,16 +32,6 @@ chained_none none old by tdi captured dense =
 -- where a list of cells stands in a chain's place
 same_part : (old new : ArenaView) (count count' : ℕ) (part part' : List CellView) → count ≡ count' → part ≡ part' → Appended old new count part → Appended old new count' part'
 same_part old new count count' part part' e f h = let P : ℕ → Type 0 = λ n. Appended old new n part' in let Q : List CellView → Type 0 = λ xs. Appended old new count xs in subst P e (subst Q f h)
-
-chain_length : (first number : ℕ) (by : Steering) (tdi : NetId) (captured : List Feed) → length (chain_cells first number by tdi captured) ≡ 3 * length captured
-chain_length first number by tdi [] = refl
-chain_length first number by tdi (c ∷ rest) =
-    let xs = chain_cells first number by tdi rest in
-    let ys = shift_bit_cells (first + 3 * length rest) (number + 3 * length rest) by c (chain_last first tdi rest) in
-    let three : length ys ≡ 3 = refl in
-    let both = length-append xs ys in
-    let before = chain_length first number by tdi rest in
-    omega arith
 
 chained_more : AppendedCount → AppendedMore → (old middle new : ArenaView) (by : Steering) (tdi last last' : NetId) (c : Feed) (rest : List Feed) → Chained old middle by tdi last rest
     → last'.0 ≡ length middle.lists.nets → Appended middle new 3 (shift_bit_cells (length middle.lists.nets) (cell_count middle.lists) by c last) → IsDense new.lists

@@ -3,6 +3,7 @@ use Rattle.std.proofs.Common.{◌≡◌, ℕ, ◌+◌, Bool, true, false, refl, 
 use Rattle.std.specs.Prelude.{if◌then◌else◌}
 use Rattle.signal_values.specs.declared.Sig.{Sig}
 use Rattle.signal_values.specs.Values.{bit, sig_mux}
+use Rattle.signal_values.proofs.Laws.{mux-one, mux-zero}
 use Rattle.cell_library.specs.declared.Edge.TheVariants.{Fall}
 use Rattle.cell_library.specs.declared.ResetTo.{ResetTo}
 use Rattle.cell_library.specs.declared.ResetTo.TheVariants.{Zero as ToZero, One as ToOne}
@@ -21,7 +22,6 @@ use Rattle.register_bits.specs.declared.Holding.{Holding}
 use Rattle.register_bits.specs.declared.TheConstants.{CLEARED_BIT, PRESET_BIT}
 use Rattle.register_bits.specs.Bits.{held_bit_given, held_bit_cells}
 use Rattle.register_bits.specs.Laws.{Carries, on_edge, bit_after, HeldBitsFollow}
-use Rattle.register_bits.proofs.ShiftBit.{mux_zero, mux_one}
 
 -- what TRST at 0 makes of the bit
 abbrev reset_of : Bool → ResetTo
@@ -29,8 +29,8 @@ reset_of true = ToOne
 reset_of false = ToZero
 
 loaded_or : (loads : Bool) (loaded kept : Sig) → sig_mux (bit loads) kept loaded ≡ (if loads then loaded else kept)
-loaded_or true loaded kept = mux_one kept loaded
-loaded_or false loaded kept = mux_zero kept loaded
+loaded_or true loaded kept = mux-one kept loaded
+loaded_or false loaded kept = mux-zero kept loaded
 
 -- the flip-flop, by the levels
 fallen : (preset clock clock' reset' : Bool) (next kept : Sig)

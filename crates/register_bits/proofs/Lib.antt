@@ -1,3 +1,4 @@
+pub mod Lengths
 pub mod ShiftBit
 pub mod HeldBit
 pub mod ChainBits

@@ -4,6 +4,7 @@ use Rattle.std.specs.Prelude.{if◌then◌else◌}
 use Rattle.signal_values.specs.declared.Sig.{Sig}
 use Rattle.signal_values.specs.declared.Sig.TheVariants.{Zero, One, Unknown}
 use Rattle.signal_values.specs.Values.{bit, sig_mux, sig_and, sig_or, sig_not}
+use Rattle.signal_values.proofs.Laws.{mux-one, mux-zero}
 use Rattle.cell_library.specs.declared.Edge.TheVariants.{Rise}
 use Rattle.cell_library.specs.declared.ResetTo.TheVariants.{Zero as ToZero}
 use Rattle.cell_library.specs.Flops.{is_edge, reset_or}
@@ -26,19 +27,12 @@ use Rattle.register_bits.specs.declared.TheConstants.{SHIFT_BIT}
 use Rattle.register_bits.specs.Bits.{shift_bit_given, shift_bit_cells}
 use Rattle.register_bits.specs.Laws.{Carries, Steers, is_capture, is_shift, on_edge, bit_after, ShiftBitsFollow}
 
--- a multiplexer whose select is known gives that operand
-pub mux_zero : (a b : Sig) → sig_mux Zero a b ≡ a
-mux_zero a b = grind arith
-
-pub mux_one : (a b : Sig) → sig_mux One a b ≡ b
-mux_one a b = grind arith
-
 -- the two multiplexers before the bit
 acted : (action : Action) (captured next kept : Sig)
     → sig_mux (bit (is_capture action)) (sig_mux (bit (is_shift action)) kept next) captured ≡ act action captured next kept
-acted Captures captured next kept = mux_one (sig_mux Zero kept next) captured
-acted Shifts captured next kept = rw (mux_zero (sig_mux One kept next) captured) (mux_one kept next)
-acted Keeps captured next kept = rw (mux_zero (sig_mux Zero kept next) captured) (mux_zero kept next)
+acted Captures captured next kept = mux-one (sig_mux Zero kept next) captured
+acted Shifts captured next kept = rw (mux-zero (sig_mux One kept next) captured) (mux-one kept next)
+acted Keeps captured next kept = rw (mux-zero (sig_mux Zero kept next) captured) (mux-zero kept next)
 
 -- the flip-flop, by the levels
 risen : (clock clock' reset' : Bool) (next kept : Sig)

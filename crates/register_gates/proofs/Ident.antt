@@ -38,7 +38,7 @@ pub record PartLaws : Type 0 where
   pub moments : RunHasMoments
 
 -- as many zeros
-cleared_is : (value : ℕ → Sig) (captured : List Feed) → cleared captured ≡ zeros (feed_values value captured)
+pub cleared_is : (value : ℕ → Sig) (captured : List Feed) → cleared captured ≡ zeros (feed_values value captured)
 cleared_is value [] = refl
 cleared_is value (c ∷ cs) = ap (λ (xs : List Sig). Zero ∷ xs) (cleared_is value cs)
 

@@ -6,6 +6,7 @@ use Rattle.signal_values.specs.declared.Sig.TheVariants.{Zero, One}
 use Rattle.signal_values.specs.declared.PinSig.{PinSig}
 use Rattle.signal_values.specs.declared.PinSig.TheVariants.{HighZ}
 use Rattle.signal_values.specs.Values.{bit, sig_mux, sig_or, drive}
+use Rattle.signal_values.proofs.Laws.{mux-one, mux-zero}
 use Rattle.cell_library.specs.declared.Edge.{Edge}
 use Rattle.cell_library.specs.declared.Edge.TheVariants.{Rise, Fall}
 use Rattle.cell_library.specs.declared.ResetTo.TheVariants.{Zero as ToZero}
@@ -50,12 +51,6 @@ pub record PartLaws : Type 0 where
   pub found : DriverIsFound
   pub moments : RunHasMoments
 
-mux_zero : (a b : Sig) → sig_mux Zero a b ≡ a
-mux_zero a b = grind arith
-
-mux_one : (a b : Sig) → sig_mux One a b ≡ b
-mux_one a b = grind arith
-
 -- a flip-flop by the levels
 fallen : (clock clock' reset' : Bool) (next kept : Sig)
     → reset_or ToZero (bit reset') (if is_edge Fall (bit clock) (bit clock') then next else kept) ≡ (if reset' then on_edge (edge_of clock clock') kept next kept else Zero)
@@ -79,10 +74,10 @@ chosen : (selected : Register) (bypass : NetId) (ident : Option NetId) (boundary
     → sig_mux (bit (is_register register.DeviceId selected)) (sig_mux (bit (is_register register.Bypass selected)) (m.value boundary.0) (m.value bypass.0)) (feed_value m.value (ident_feed ident))
     ≡ data_bit selected bypass ident boundary m
 chosen register.Boundary bypass ident boundary m =
-    mux_zero (sig_mux Zero (m.value boundary.0) (m.value bypass.0)) (feed_value m.value (ident_feed ident)) ∙ mux_zero (m.value boundary.0) (m.value bypass.0)
+    mux-zero (sig_mux Zero (m.value boundary.0) (m.value bypass.0)) (feed_value m.value (ident_feed ident)) ∙ mux-zero (m.value boundary.0) (m.value bypass.0)
 chosen register.Bypass bypass ident boundary m =
-    mux_zero (sig_mux One (m.value boundary.0) (m.value bypass.0)) (feed_value m.value (ident_feed ident)) ∙ mux_one (m.value boundary.0) (m.value bypass.0)
-chosen register.DeviceId bypass ident boundary m = mux_one (sig_mux Zero (m.value boundary.0) (m.value bypass.0)) (feed_value m.value (ident_feed ident))
+    mux-zero (sig_mux One (m.value boundary.0) (m.value bypass.0)) (feed_value m.value (ident_feed ident)) ∙ mux-one (m.value boundary.0) (m.value bypass.0)
+chosen register.DeviceId bypass ident boundary m = mux-one (sig_mux Zero (m.value boundary.0) (m.value bypass.0)) (feed_value m.value (ident_feed ident))
 
 -- what a falling edge gives TDO
 by_state : (w : TapState) (near last : Sig)
@@ -91,14 +86,14 @@ by_state TestLogicReset near last = refl
 by_state RunTestIdle near last = refl
 by_state SelectDrScan near last = refl
 by_state CaptureDr near last = refl
-by_state ShiftDr near last = ap (λ (x : Sig). drive x One) (mux_zero near last)
+by_state ShiftDr near last = ap (λ (x : Sig). drive x One) (mux-zero near last)
 by_state Exit1Dr near last = refl
 by_state PauseDr near last = refl
 by_state Exit2Dr near last = refl
 by_state UpdateDr near last = refl
 by_state SelectIrScan near last = refl
 by_state CaptureIr near last = refl
-by_state ShiftIr near last = ap (λ (x : Sig). drive x One) (mux_one near last)
+by_state ShiftIr near last = ap (λ (x : Sig). drive x One) (mux-one near last)
 by_state Exit1Ir near last = refl
 by_state PauseIr near last = refl
 by_state Exit2Ir near last = refl

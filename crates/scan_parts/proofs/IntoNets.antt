@@ -4,7 +4,7 @@ use Rattle.std.specs.Prelude.{◌&&◌, slice_get, ⊤}
 use Rattle.std.proofs.lemmas.Bool.{eqb-true, eqb-false}
 use Rattle.netlist_model.specs.declared.Dir.TheVariants.{Input}
 use Rattle.netlist_model.specs.declared.NetId.{NetId}
-use Rattle.netlist_model.specs.Lists.{PortView, CellView, NetlistView, direction, IsUndriven, Drives}
+use Rattle.netlist_model.specs.Lists.{CellView, NetlistView, direction, IsUndriven, Drives}
 use Rattle.netlist_model.specs.Settled.{is_output}
 use Rattle.netlist_arena.specs.Adds.{IsFree}
 use Rattle.plan_fitting.specs.declared.fitted.FitRow.{FitRow}
@@ -15,6 +15,8 @@ use Rattle.stitch_model.specs.Sides.{is_moved, moves, side_from}
 use Rattle.stitch_model.specs.Rows.{net_at}
 use Rattle.std.proofs.lemmas.List.Sums.{sum_by-cons}
 use Rattle.std.specs.List.{sum_by}
+use Rattle.stitch_model.proofs.Moves.{moved_counts, side_range, moved_here, moved_on}
+use Rattle.list_laws.proofs.Tests.{both_true, true_or_false}
 use Rattle.scan_parts.specs.Rows.{into_at, into_of, into_from, IsApart, AreApart, AreFree}
 
 pub record RowFits (N : NetlistView) (B : Boundary) (base : ℕ) (row : FitRow) : Type 0 where
@@ -31,55 +33,9 @@ later N B base row rows each = λ k r h. each (suc k) r h
 
 -- Bools.
 
-true_or_false : (b : Bool) → (b ≡ true) ⊎ (b ≡ false)
-true_or_false true = inl refl
-true_or_false false = inr refl
-
-both_true : (a b : Bool) → (a && b) ≡ true → (a ≡ true) × (b ≡ true)
-both_true true true e = (refl, refl)
-both_true true false e = absurd (cc)
-both_true false b e = absurd (cc)
-
 true_and : (a b : Bool) → a ≡ true → (a && b) ≡ false → b ≡ false
 true_and true b e f = f
 true_and false b e f = absurd (cc)
-
--- Sides.
-
-moved_counts : (at : Site) → is_moved at ≡ true → 0 < side_count at
-moved_counts site.Observed e = absurd (cc)
-moved_counts site.Input e = omega arith
-moved_counts site.Output e = omega arith
-moved_counts site.AddedDriver e = omega arith
-moved_counts site.Driver e = absurd (cc)
-moved_counts site.Inout e = absurd (cc)
-moved_counts site.Control e = absurd (cc)
-
--- the first row decides
-moved_here : (ports : List PortView) (net side : ℕ) (row : FitRow) (rows : List FitRow) → moves ports net row ≡ true → side_from ports net side (row ∷ rows) ≡ side
-moved_here ports net side row rows e = rw e refl
-
-moved_on : (ports : List PortView) (net side : ℕ) (row : FitRow) (rows : List FitRow) → moves ports net row ≡ false
-    → side_from ports net side (row ∷ rows) ≡ side_from ports net (side + row_sides ports row) rows
-moved_on ports net side row rows e = rw e refl
-
--- a net stays, or goes to one between
-pub side_within : (ports : List PortView) (net side : ℕ) (rows : List FitRow)
-    → (side_from ports net side rows ≡ net) ⊎ ((side ≤ side_from ports net side rows) × (side_from ports net side rows < side + sides_of ports rows))
-side_within ports net side [] = inl refl
-side_within ports net side (row ∷ rows) =
-    let more = sum_by-cons (row_sides ports) row rows in
-    elim (true_or_false (moves ports net row)) [
-      | inl e ↦
-          (let here = moved_here ports net side row rows e in
-          let some = moved_counts (site_of ports row) (both_true (is_moved (site_of ports row)) (is_output (row_net ports row) net) e).0 in
-          inr (omega arith, omega arith))
-      | inr e ↦ (let on = moved_on ports net side row rows e in
-          elim (side_within ports net (side + row_sides ports row) rows) [
-            | inl stays ↦ inl (on ∙ stays)
-            | inr past ↦ (let a = past.0 in let b = past.1 in inr (omega arith, omega arith))
-          ])
-    ]
 
 -- A net apart from those that cells give values.
 
@@ -170,7 +126,7 @@ core_apart N B base side out (row ∷ rows) each past low i cell drives =
           (before_rows N B base next side rows (later N B base row rows each) past (omega arith))))
       | inr e ↦
           (let off : (side_from B.ports out next rows ≡ out) ⊎ (next ≤ side_from B.ports out next rows)
-          = elim (side_within B.ports out next rows) [ inl stays ↦ inl stays | inr beyond ↦ inr beyond.0 ] in
+          = elim (side_range B.ports out next rows) [ inl stays ↦ inl stays | inr beyond ↦ inr beyond.0 ] in
           subst P (sym (moved_on B.ports out side row rows e))
           (apart_both (into_of B side row) (into_from B next rows) (side_from B.ports out next rows)
           (unmoved_apart N B base side out (side_from B.ports out next rows) row (site_of B.ports row) refl fits past low off e)

@@ -13,9 +13,9 @@ use Rattle.test_logic.specs.declared.Codes.{Codes}
 use Rattle.test_logic.specs.declared.TapNets.{TapNets}
 use Rattle.test_logic.specs.declared.InstrNets.{InstrNets}
 use Rattle.tap_gates.specs.Controller.{tap_cells, tap_nets}
-use Rattle.register_bits.specs.declared.Steering.{Steering}
-use Rattle.register_bits.specs.Bits.{AreNetsBelow, shift_bit_cells}
+use Rattle.register_bits.specs.Bits.{AreNetsBelow}
 use Rattle.register_bits.specs.Chains.{chain_last, chain_cells}
+use Rattle.register_bits.proofs.Lengths.{chain_length}
 use Rattle.register_gates.specs.Constants.{ConstantsAreBits, constant_bits}
 use Rattle.register_gates.specs.Registers.{selected_cells, selected_steering, bypass_cells, ident_cells, ident_last}
 use Rattle.register_gates.specs.Tdo.{AreIdentBelow}
@@ -132,16 +132,6 @@ pub bypass_room : (old new : ArenaView) (tap : TapNets) (on tdi : NetId) → App
 bypass_room old new tap on tdi added =
     let long : length (bypass_cells (length old.lists.nets) (cell_count old.lists) tap on tdi) ≡ 5 = refl in
     let room = added.cell_room in
-    omega arith
-
-chain_length : (first number : ℕ) (by : Steering) (tdi : NetId) (captured : List Feed) → length (chain_cells first number by tdi captured) ≡ 3 * length captured
-chain_length first number by tdi [] = refl
-chain_length first number by tdi (c ∷ rest) =
-    let xs = chain_cells first number by tdi rest in
-    let ys = shift_bit_cells (first + 3 * length rest) (number + 3 * length rest) by c (chain_last first tdi rest) in
-    let three : length ys ≡ 3 = refl in
-    let both = length-append xs ys in
-    let before = chain_length first number by tdi rest in
     omega arith
 
 pub ident_room : ConstantsAreBits → (old new : ArenaView) (tap : TapNets) (on tdi : NetId) (code : ℕ)

@@ -57,7 +57,7 @@ drives_both first xs ys hx hy = λ k net cell here drives. both_at first xs ys h
 pub drives_later : (first later : ℕ) (cells : List CellView) → first ≤ later → DrivesFrom later cells → DrivesFrom first cells
 drives_later first later cells more h = λ k net cell at drives. let past = h k net cell at drives in omega arith
 
-abbrev net_number : Option NetId → ℕ
+abbrev pub net_number : Option NetId → ℕ
 net_number None = 0
 net_number (Some net) = net.0
 

@@ -1,10 +1,8 @@
 -- What a row reads stays there as nets are added, and what its cell gives a value.
-use Rattle.std.proofs.Common.{◌≡◌, ◌≢◌, ℕ, ◌+◌, ◌<◌, ◌≤◌, List, [], ◌∷◌, length, sym, subst, arith}
-use Rattle.netlist_model.specs.declared.Feed.{Feed}
-use Rattle.netlist_model.specs.declared.Feed.TheVariants.{Net, Const}
-use Rattle.netlist_model.specs.Below.{IsFeedBelow}
+use Rattle.std.proofs.Common.{◌≡◌, ◌≢◌, ℕ, ◌+◌, ◌≤◌, List, [], ◌∷◌, length, sym, subst, arith}
 use Rattle.netlist_model.specs.Lists.{NetlistView}
 use Rattle.netlist_arena.specs.Adds.{IsFree}
+use Rattle.boundary_cells.proofs.Adding.{feed_more}
 use Rattle.plan_fitting.specs.declared.fitted.FitRow.{FitRow}
 use Rattle.stitch_model.specs.declared.Site.{Site}
 use Rattle.stitch_model.specs.declared.Site.TheVariants as site
@@ -12,10 +10,6 @@ use Rattle.stitch_model.specs.Sites.{Boundary, site_of, side_count, row_sides}
 use Rattle.stitch_model.specs.Sides.{core_feed}
 use Rattle.stitch_model.specs.Rows.{net_at, enable_of}
 use Rattle.scan_parts.specs.Rows.{into_at, into_of, IsApart, AreApart, AreFree, IsReady}
-
-pub feed_more : (n m : ℕ) → n ≤ m → (feed : Feed) → IsFeedBelow n feed → IsFeedBelow m feed
-feed_more n m more (Net net) below = let b : net.0 < n = below in let r : net.0 < m = omega arith in r
-feed_more n m more (Const b) below = tt
 
 pub ready_more : (B : Boundary) (n m : ℕ) (row : FitRow) → n ≤ m → IsReady B n row → IsReady B m row
 ready_more B n m row more ready =

@@ -9,35 +9,16 @@ use Rattle.netlist_model.specs.declared.Feed.{Feed}
 use Rattle.netlist_model.specs.declared.Feed.TheVariants.{Net}
 use Rattle.netlist_model.specs.Lists.{PortView, CellView}
 use Rattle.test_logic.specs.declared.ScanNets.{ScanNets}
-use Rattle.boundary_cells.specs.Cells.{stage_count, output_cells}
-use Rattle.boundary_cells.specs.ThreeState.{control_count, control_cells, bidir_cells}
+use Rattle.boundary_cells.specs.Cells.{output_cells}
+use Rattle.boundary_cells.specs.ThreeState.{control_cells, bidir_cells}
 use Rattle.plan_fitting.specs.declared.fitted.FitRow.{FitRow}
 use Rattle.stitch_model.specs.declared.Site.{Site}
 use Rattle.stitch_model.specs.declared.Site.TheVariants as site
-use Rattle.stitch_model.specs.Sites.{Boundary, site_of, side_count, row_sides, sides_of}
+use Rattle.stitch_model.specs.Sites.{Boundary, site_of, row_sides, sides_of}
 use Rattle.stitch_model.specs.Sides.{core_feed, level_net}
 use Rattle.stitch_model.specs.Rows.{nets_by, row_nets, nets_of_rows, behind, net_at, enable_of, is_active_high, added_driver, site_cells, row_cells, last_bit, rows_cells}
-
-pub stage_few : (cell : BoundaryKind) → stage_count cell ≤ 6
-stage_few Bc1 = omega arith
-stage_few Bc2 = omega arith
-stage_few Bc4 = omega arith
-stage_few Bc7 = omega arith
-
-control_few : (cell : BoundaryKind) → control_count cell ≤ 7
-control_few Bc1 = omega arith
-control_few Bc2 = omega arith
-control_few Bc4 = omega arith
-control_few Bc7 = omega arith
-
-site_nets_few : (at : Site) (cell : BoundaryKind) → nets_by at cell ≤ 7
-site_nets_few site.Observed cell = omega arith
-site_nets_few site.Input cell = omega arith
-site_nets_few site.Inout cell = omega arith
-site_nets_few site.Control cell = control_few cell
-site_nets_few site.Output cell = let few = stage_few cell in omega arith
-site_nets_few site.AddedDriver cell = let few = stage_few cell in omega arith
-site_nets_few site.Driver cell = let few = stage_few cell in omega arith
+use Rattle.stitch_model.proofs.Moves.{count_few}
+use Rattle.stitch_model.proofs.Few.{nets_by_few}
 
 pub output_length : (cell : BoundaryKind) (first number : ℕ) (scan : ScanNets) (core : Feed) (into next : NetId)
     → length (output_cells cell first number scan core into next) ≤ 7
@@ -79,7 +60,7 @@ pub nets_few : (ports : List PortView) (rows : List FitRow) → nets_of_rows por
 nets_few ports [] = omega arith
 nets_few ports (row ∷ rows) =
     let more = sum_by-cons (row_nets ports) row rows in
-    let one = site_nets_few (site_of ports row) row.cell in
+    let one = nets_by_few (site_of ports row) row.cell in
     let rest = nets_few ports rows in
     omega arith
 
@@ -104,30 +85,13 @@ last_sides ports (suc k) (row ∷ rows) =
     let rest = last_sides ports k rows in
     omega arith
 
-site_few : (at : Site) → side_count at ≤ 2
-site_few site.Observed = omega arith
-site_few site.Input = omega arith
-site_few site.Output = omega arith
-site_few site.AddedDriver = omega arith
-site_few site.Driver = omega arith
-site_few site.Inout = omega arith
-site_few site.Control = omega arith
-
-pub sides_few : (ports : List PortView) (rows : List FitRow) → sides_of ports rows ≤ 2 * length rows
-sides_few ports [] = omega arith
-sides_few ports (row ∷ rows) =
-    let more = sum_by-cons (row_sides ports) row rows in
-    let one = site_few (site_of ports row) in
-    let rest = sides_few ports rows in
-    omega arith
-
 -- all rows but the first so many
 pub sides_behind : (ports : List PortView) (k : ℕ) (rows : List FitRow) → k ≤ length rows → sides_of ports rows ≤ sides_of ports (drop k rows) + 2 * k
 sides_behind ports zero rows low = omega arith
 sides_behind ports (suc k) [] low = absurd (omega arith)
 sides_behind ports (suc k) (row ∷ rows) low =
     let more = sum_by-cons (row_sides ports) row rows in
-    let one = site_few (site_of ports row) in
+    let one = count_few (site_of ports row) in
     let rest = sides_behind ports k rows (omega arith) in
     omega arith
 

@@ -30,7 +30,7 @@ use Rattle.scan_sides.specs.Pins.{between}
 use Rattle.scan_parts.specs.Logic.{logic_room, IsLogicBelow}
 use Rattle.scan_parts.specs.Rows.{into_from, IsApart, AreApart, AreFree, IsBoundary, IsReady, CanTakeRows}
 use Rattle.scan_parts.specs.Whole.{CanTakeLogic}
-use Rattle.scan_parts.proofs.Outputs.{DrivesFrom, part_drives}
+use Rattle.scan_parts.proofs.Outputs.{DrivesFrom, part_drives, net_number}
 use Rattle.scan_parts.proofs.LogicAdded.{behind_added}
 use Rattle.scan_parts.proofs.Ready.{ready_more}
 use Rattle.scan_parts.proofs.RowSizes.{nets_few, cells_few, last_there}
@@ -74,16 +74,12 @@ leaves_both net xs ys hx hy = λ k cell here. both_leave net xs ys hx hy k cell 
 leaves_before : (net first : ℕ) (cells : List CellView) → net < first → DrivesFrom first cells → Leaves net cells
 leaves_before net first cells low drives = λ k cell at e. let past = drives k net cell at e in omega arith
 
-abbrev number_of : Option NetId → ℕ
-number_of None = 0
-number_of (Some net) = net.0
-
 one_leaves : (net : ℕ) (cell : CellView) (out : NetId) → cell.output ≡ Some out → net ≢ out.0 → (k : ℕ) (other : CellView) → slice_get (cell ∷ []) k ≡ Some other
     → other.output ≢ Some (record { 0 = net })
 one_leaves net cell out drives differ zero other here e =
     let same : cell ≡ other = cc in
     let both = sym drives ∙ ap (λ (c : CellView). c.output) same ∙ e in
-    differ (sym (ap number_of both))
+    differ (sym (ap net_number both))
 one_leaves net cell out drives differ (suc k) other here e = absurd (cc)
 
 leaves_other : (net : ℕ) (cell : CellView) (out : NetId) → cell.output ≡ Some out → net ≢ out.0 → Leaves net (cell ∷ [])

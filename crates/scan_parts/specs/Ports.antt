@@ -2,13 +2,9 @@
 -- IEEE Std 1149.1-2001: test access port; that the ports are added last is own.
 use Rattle.std.specs.Prelude.{ℕ, ◌<◌, List, ◌++◌}
 use Rattle.netlist_model.specs.declared.Dir.TheVariants.{Input, Output}
-use Rattle.netlist_model.specs.Lists.{PortView, NetView, NetlistView}
+use Rattle.netlist_model.specs.Lists.{PortView, NetlistView}
 use Rattle.netlist_arena.specs.Adds.{CanBePin}
 use Rattle.stitch_model.specs.declared.TapPort.{TapPort}
-
--- own: the lists with these nets behind the others
-abbrev pub with_nets : List NetView → NetlistView → NetlistView
-with_nets nets N = record N { nets = N.nets ++ nets }
 
 -- own: the lists with these ports behind the others
 abbrev pub with_ports : List PortView → NetlistView → NetlistView

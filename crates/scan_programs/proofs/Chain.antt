@@ -29,12 +29,12 @@ clocks_end clocks i b all h e = sym (clocks_nil b) ∙ sym (ap (λ (l : List Clo
 
 -- all cycles put down the lines of the scan
 after_all_device : (clocks : List Clock) (b : BenchView) → (after_clocks clocks b).device ≡ b.device
-unfolding after_clocks
+unfolding after_clock after_clocks
 after_all_device [] b = refl
 after_all_device (c ∷ clocks) b = after_all_device clocks (after_clock c b)
 
 after_all_lines : (clocks : List Clock) (b : BenchView) → (after_clocks clocks b).list ≡ b.list ++ scan_lines b.device clocks b.bench
-unfolding after_clocks scan_lines
+unfolding after_clock after_clocks scan_lines
 after_all_lines [] b = sym (append-nil b.list)
 after_all_lines (c ∷ clocks) b =
     after_all_lines clocks (after_clock c b)

@@ -116,16 +116,18 @@ tdo_met B moment levels m rest go =
     (λ t above known. inl (record { named = refl; reads = known_is m.tdo (moment t).machine.tdo above.machine.tdo known })) go
 
 -- a reader is of a bit, and of the cell there
-record IsReader (B : Device) (r : Reader) : Type 0 where
-  place : ℕ
-  port : DevPort
-  index : Option ℕ
-  there : slice_get B.ports place ≡ Some port
-  read : is_read_port B (place, port) ≡ true
-  named : r.word ≡ bit_word port.name index
-  cell : cell_of B.cells (record { port = place; index = index }) ≡ r.number
+pub record IsReader (B : Device) (r : Reader) : Type 0 where
+  pub place : ℕ
+  pub port : DevPort
+  pub bit : ℕ
+  pub index : Option ℕ
+  pub there : slice_get B.ports place ≡ Some port
+  pub read : is_read_port B (place, port) ≡ true
+  pub at : slice_get (indices port.range) bit ≡ Some index
+  pub named : r.word ≡ bit_word port.name index
+  pub cell : cell_of B.cells (record { port = place; index = index }) ≡ r.number
 
-abbrev AreReaders : Device → List Reader → Type 0
+abbrev pub AreReaders : Device → List Reader → Type 0
 AreReaders B [] = ⊤
 AreReaders B (r ∷ rs) = IsReader B r × AreReaders B rs
 
@@ -133,14 +135,18 @@ joined_readers : (B : Device) (xs ys : List Reader) → AreReaders B xs → AreR
 joined_readers B [] ys h k = k
 joined_readers B (x ∷ xs) ys h k = (h.0, joined_readers B xs ys h.1 k)
 
-port_readers : (B : Device) (place : ℕ) (p : DevPort) (is : List (Option ℕ)) → slice_get B.ports place ≡ Some p → is_read_port B (place, p) ≡ true → AreReaders B (map (reader_at B.cells place p.name) is)
-port_readers B place p [] there read = tt
-port_readers B place p (i ∷ is) there read =
-    (record { place = place; port = p; index = i; there = there; read = read; named = refl; cell = refl }, port_readers B place p is there read)
+port_readers : (B : Device) (place : ℕ) (p : DevPort) (is : List (Option ℕ)) → slice_get B.ports place ≡ Some p → is_read_port B (place, p) ≡ true
+    → ((k : ℕ) (i : Option ℕ) → slice_get is k ≡ Some i → (bit : ℕ) × (slice_get (indices p.range) bit ≡ Some i)) → AreReaders B (map (reader_at B.cells place p.name) is)
+port_readers B place p [] there read are = tt
+port_readers B place p (i ∷ is) there read are =
+    let at = are 0 i refl in (
+      record { place = place; port = p; bit = at.0; index = i; there = there; read = read; at = at.1; named = refl; cell = refl },
+      port_readers B place p is there read (λ k j h. are (suc k) j h),
+    )
 
 readers_if : (B : Device) (place : ℕ) (p : DevPort) (b : Bool) → slice_get B.ports place ≡ Some p → is_read_port B (place, p) ≡ b
     → AreReaders B (if b then map (reader_at B.cells place p.name) (indices p.range) else [])
-readers_if B place p true there read = port_readers B place p (indices p.range) there read
+readers_if B place p true there read = port_readers B place p (indices p.range) there read (λ k i h. (k, h))
 readers_if B place p false there read = tt
 
 readers_from : (B : Device) (place : ℕ) (ps : List DevPort) → ((k : ℕ) → slice_get ps k ≡ slice_get B.ports (place + k)) → AreReaders B (flat_map (readers_of B) (enumerate_from place ps))
@@ -151,7 +157,7 @@ readers_from B place (p ∷ ps) same =
     (readers_if B place p (is_read_port B (place, p)) here refl)
     (readers_from B (place + 1) ps (λ k. same (suc k) ∙ ap (slice_get B.ports) (let e : place + suc k ≡ place + 1 + k = omega arith in e)))
 
-readers_are : (B : Device) → AreReaders B (readers B)
+pub readers_are : (B : Device) → AreReaders B (readers B)
 unfolding readers
 readers_are B = readers_from B 0 B.ports (λ k. ap (slice_get B.ports) (let e : k ≡ 0 + k = omega arith in e))
 

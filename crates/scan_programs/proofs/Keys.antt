@@ -1,9 +1,9 @@
 -- Bits of ports as keys.
-use Rattle.std.proofs.Common.{◌≡◌, ℕ, Bool, false, ◌&&◌, ◌==◌, List, position, Option, Some, None, refl, sym, ap, ◌∙◌, inl, inr}
+use Rattle.std.proofs.Common.{◌≡◌, ℕ, Bool, false, ◌&&◌, ◌==◌, List, position, Option, Some, None, refl, ap, ◌∙◌}
 use Rattle.std.specs.Prelude.{nat_eq}
 use Rattle.std.specs.Map.{lookup}
 use Rattle.std.specs.Option.{option_eq, option_map_or}
-use Rattle.std.proofs.lemmas.Bool.Decides.{eqb_tells}
+use Rattle.list_laws.proofs.Numbers.{eqb-sym}
 use Rattle.bsdl_device.specs.declared.values.DevBit.{DevBit}
 use Rattle.bsdl_device.specs.declared.values.CellRow.{CellRow}
 use Rattle.bsdl_device.specs.Ports.{same_index}
@@ -11,20 +11,14 @@ use Rattle.bsdl_device.specs.IsDevice.{is_at}
 use Rattle.scan_programs.specs.declared.cell_table.BitKey.{BitKey}
 use Rattle.scan_programs.specs.Tables.{key_of, same_key, is_key, FindsCells}
 
-eqb-swap : (a b : ℕ) → (a == b) ≡ (b == a)
-eqb-swap a b = elim (eqb_tells a b) [
-  | inl e ↦ e.0 ∙ sym (elim (eqb_tells b a) [ inl f ↦ f.0 | inr f ↦ absurd (f.1 (sym e.1)) ])
-  | inr e ↦ e.0 ∙ sym (elim (eqb_tells b a) [ inl f ↦ absurd (e.1 (sym f.1)) | inr f ↦ f.0 ])
-]
-
 index_alike : (i j : Option ℕ) → option_eq nat_eq i j ≡ same_index j i
 index_alike None None = refl
 index_alike None (Some j) = refl
 index_alike (Some i) None = refl
-index_alike (Some i) (Some j) = eqb-swap i j
+index_alike (Some i) (Some j) = eqb-sym i j
 
 key_alike : (bit b : DevBit) → same_key (key_of b) (key_of bit) ≡ (bit.port == b.port && same_index bit.index b.index)
-key_alike bit b = ap (λ (t : Bool). t && option_eq nat_eq b.index bit.index) (eqb-swap b.port bit.port) ∙ ap (λ (t : Bool). bit.port == b.port && t) (index_alike b.index bit.index)
+key_alike bit b = ap (λ (t : Bool). t && option_eq nat_eq b.index bit.index) (eqb-sym b.port bit.port) ∙ ap (λ (t : Bool). bit.port == b.port && t) (index_alike b.index bit.index)
 
 row_alike : (bit : DevBit) (row : CellRow) → is_key (key_of bit) row ≡ is_at bit row
 row_alike bit row = by row.pin

@@ -8,8 +8,9 @@ use Rattle.std.proofs.lemmas.List.Sums.{sum_by-cons}
 use Rattle.std.proofs.lemmas.List.Folds.{list_any-append}
 use Rattle.std.proofs.lemmas.Bool.{cases_lt}
 use Rattle.std.proofs.lemmas.Bool.Decides.{eqb_tells, nat_tests}
-use Rattle.list_laws.proofs.Tests.{and_left, and_right}
+use Rattle.list_laws.proofs.Tests.{and_left, and_right, not_true, both_false}
 use Rattle.list_laws.proofs.Numbers.{eqb_same, eqb_less}
+use Rattle.list_laws.proofs.Lists.{length-counted_from, any_map}
 use Rattle.cell_library.specs.declared.codes.Function.{Function}
 use Rattle.cell_library.specs.declared.codes.Function.TheVariants as function
 use Rattle.cell_library.specs.declared.codes.Instr.{Instr}
@@ -35,13 +36,9 @@ use Rattle.scan_programs.proofs.Pairs.{one_if, count, count_is, count_all, count
 
 -- Ports and their bits.
 
-length-counted : (first n : ℕ) → length (counted_from first n) ≡ n
-length-counted first zero = refl
-length-counted first (suc n) = ap suc (length-counted (suc first) n)
-
 pub length-indices : (range : Option PortRange) → length (indices range) ≡ width range
 length-indices None = refl
-length-indices (Some r) = length-map (counted_from 0 (width (Some r))) (λ place. Some (index_at r place)) ∙ length-counted 0 (width (Some r))
+length-indices (Some r) = length-map (counted_from 0 (width (Some r))) (λ place. Some (index_at r place)) ∙ length-counted_from 0 (width (Some r))
 
 abbrev pub bits_in : List DevPort → ℕ
 bits_in ports = sum_by (λ (p : DevPort). width p.range) ports
@@ -80,10 +77,6 @@ any_later test x xs e = by (test x) refl
     by : (b : Bool) → test x ≡ b → (test x || list_any test xs) ≡ true
     by true h = ap (λ (b : Bool). b || list_any test xs) h
     by false h = ap (λ (b : Bool). b || list_any test xs) h ∙ e
-
-any_map : {A B : Type 0} (test : B → Bool) (f : A → B) (xs : List A) → list_any test (map f xs) ≡ list_any (λ x. test (f x)) xs
-any_map test f [] = refl
-any_map test f (x ∷ xs) = ap (λ (b : Bool). test (f x) || b) (any_map test f xs)
 
 any_left : {A : Type 0} (test : A → Bool) (xs ys : List A) → list_any test xs ≡ true → list_any test (xs ++ ys) ≡ true
 any_left test xs ys e = list_any-append test xs ys ∙ ap (λ (b : Bool). b || list_any test ys) e
@@ -199,10 +192,6 @@ owned_by d f wanted b (Some p) e there h =
         driven = not_linkage f wanted p.mode e last;
       },
     )
-  where
-    not_true : (t : Bool) → not t ≡ true → t ≡ false
-    not_true true k = absurd (cc)
-    not_true false k = refl
 
 pin_stands : (d : Device) (f : Function) (o : Option PortMode) (b : DevBit) → wanted_mode f ≡ o
     → option_map_or (λ wanted. is_bit_of d wanted b) o false ≡ true → (p : DevPort) × IsOwn d b p
@@ -393,14 +382,10 @@ name_itself instr.Clamp = refl
 abbrev names_in : List Opcode → List (List ℕ)
 names_in opcodes = map (λ (o : OpcodeEntry). o.name) (map opcode_entry opcodes)
 
-or_parts : (a b : Bool) → (a || b) ≡ false → (a ≡ false) × (b ≡ false)
-or_parts true b h = absurd (cc)
-or_parts false b h = (refl, h)
-
 none_named : (i : Instr) (opcodes : List Opcode) → list_any (is_same_name (instruction_word i)) (names_in opcodes) ≡ false → count (λ o. has_instruction o i) opcodes ≡ 0
 none_named i [] h = refl
 none_named i (o ∷ opcodes) h =
-    let parts = or_parts (is_same_name (instruction_word i) (instruction_word o.instr)) (list_any (is_same_name (instruction_word i)) (names_in opcodes)) h in
+    let parts = both_false (is_same_name (instruction_word i) (instruction_word o.instr)) (list_any (is_same_name (instruction_word i)) (names_in opcodes)) h in
     by (is_instruction i o.instr) refl parts.0 (none_named i opcodes parts.1)
   where
     by : (b : Bool) → is_instruction i o.instr ≡ b → is_same_name (instruction_word i) (instruction_word o.instr) ≡ false → count (λ q. has_instruction q i) opcodes ≡ 0
@@ -413,7 +398,7 @@ none_named i (o ∷ opcodes) h =
 opcode_once : (i : Instr) (opcodes : List Opcode) → any_pair is_same_name (names_in opcodes) ≡ false → count (λ o. has_instruction o i) opcodes ≤ 1
 opcode_once i [] h = omega arith
 opcode_once i (o ∷ opcodes) h =
-    let parts = or_parts (list_any (is_same_name (instruction_word o.instr)) (names_in opcodes)) (any_pair is_same_name (names_in opcodes)) h in
+    let parts = both_false (list_any (is_same_name (instruction_word o.instr)) (names_in opcodes)) (any_pair is_same_name (names_in opcodes)) h in
     by (is_instruction i o.instr) refl parts.0 (opcode_once i opcodes parts.1)
   where
     by : (b : Bool) → is_instruction i o.instr ≡ b → list_any (is_same_name (instruction_word o.instr)) (names_in opcodes) ≡ false → count (λ q. has_instruction q i) opcodes ≤ 1

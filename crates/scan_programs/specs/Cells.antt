@@ -1,6 +1,6 @@
 -- What stands at the boundary cells of a device by itself, what they capture and what pins read.
 -- IEEE Std 1149.1-2001: boundary-scan register. What is outside, and that nothing is known of the core, is own.
-use Rattle.std.specs.Prelude.{ℕ, List, map, slice_get, slice_index_or, option_map}
+use Rattle.std.specs.Prelude.{ℕ, List, map, slice_get, option_map}
 use Rattle.std.specs.List.{enumerate_from}
 use Rattle.std.specs.Option.{option_map_or}
 use Rattle.signal_values.specs.declared.Sig.{Sig}
@@ -13,7 +13,7 @@ use Rattle.bsdl_device.specs.declared.values.CellRow.{CellRow}
 use Rattle.bsdl_device.specs.declared.values.Disable.{Disable}
 use Rattle.bsdl_device.specs.declared.values.Device.{Device}
 use Rattle.test_logic.specs.Instructions.{mode_of}
-use Rattle.test_logic.specs.Machine.{Machine, in_effect, test_logic_of}
+use Rattle.test_logic.specs.Machine.{Machine, in_effect, test_logic_of, update_of}
 use Rattle.test_logic.specs.Rows.{ControlAt, CellAt, row_reading, row_captured}
 
 -- what the core gives the cells, by their numbers: its value before each, and its control of the driver behind each
@@ -31,9 +31,6 @@ outside_at Input = pin.Zero
 outside_at Clock = pin.Zero
 outside_at Bidir = pin.HighZ
 outside_at _ = pin.Unknown
-
-abbrev pub update_of : Machine → ℕ → Sig
-update_of m number = slice_index_or m.update number Unknown
 
 -- the control cell of the driver behind a cell
 abbrev pub control_at : Machine → Core → ℕ → Disable → ControlAt

@@ -52,7 +52,7 @@ abbrev pub fallen : Device → Machine → Machine
 fallen B m = fall (test_logic_of B) m
 
 -- after one cycle, and after some
-abbrev pub after_clock : Clock → BenchView → BenchView
+unfoldable pub after_clock : Clock → BenchView → BenchView
 after_clock c b = adds (with_bench b (bench_after b.device c b.bench)) (clock_lines b.device c b.bench)
 
 unfoldable pub after_clocks : List Clock → BenchView → BenchView

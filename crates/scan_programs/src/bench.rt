@@ -204,6 +204,7 @@ impl<'a> Bench<'a> {
     }
 
     /// A cycle of TCK.
+    #[tactic(auto, unfolding(crate::specs::Runs::after_clock))]
     pub fn clock(&mut self, clock: Clock) -> Result<(), OutOfMemory>
         ensures { OnOk result (self.new ≡ after_clock clock self.old) }
     {

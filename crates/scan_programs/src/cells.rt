@@ -4,7 +4,7 @@ ghost use Rattle.std.specs.Prelude.{◌≡◌, ℕ, ◌<◌, ◌^◌, ◌++◌, 
 ghost use Rattle.std.specs.Option.{option_map};
 ghost use Rattle.signal_values.specs.Values as values;
 ghost use Rattle.test_logic.specs.Instructions as instructions;
-ghost use Rattle.test_logic.specs.Machine.{in_effect, test_logic_of};
+ghost use Rattle.test_logic.specs.Machine.{in_effect, test_logic_of, update_of};
 ghost use Rattle.test_logic.specs.Rows as rows;
 ghost use Rattle.scan_programs.specs.Cells as definition;
 ghost use Rattle.scan_programs.specs.Views.{control_view, cell_view};
@@ -148,7 +148,7 @@ fn outside_at(function: Function) -> PinSig
 
 fn update_of(machine: &Machine, number: u32) -> Sig
     requires { number < length machine.now.logic.kinds }
-    ensures { result ≡ definition.update_of machine.now.holds number }
+    ensures { result ≡ update_of machine.now.holds number }
 {
     machine.update_bit(number)
 }

@@ -1,13 +1,10 @@
 -- What was fitted to a netlist can be built into it.
-use Rattle.std.proofs.Common.{◌≡◌, ◌≢◌, ℕ, zero, suc, ◌+◌, ◌*◌, ◌^◌, ◌<◌, ◌≤◌, inl, inr, ◌&&◌, Bool, true, false, not, List, [], ◌∷◌, ◌++◌, map, length, length-append, get_or, refl, sym, ◌∙◌, ap, subst, arith, Option, Some, None}
+use Rattle.std.proofs.Common.{◌≡◌, ◌≢◌, ℕ, ◌+◌, ◌*◌, ◌^◌, ◌<◌, ◌≤◌, inl, inr, ◌&&◌, Bool, true, false, not, List, [], ◌++◌, length, length-append, get_or, refl, sym, ◌∙◌, ap, subst, arith, Option, Some, None}
 use Rattle.std.specs.Prelude.{slice_get, option_map, option_and_then, MatchOption, IsSome, ⊤, if◌then◌else◌}
 use Rattle.std.specs.Option.{option_map_or}
-use Rattle.std.specs.List.{list_all}
 use Rattle.std.proofs.lemmas.Bool.{eqb-true}
 use Rattle.std.proofs.lemmas.Option.{slice_get-get_or}
 use Rattle.list_laws.proofs.Tests.{and_left, and_right}
-use Rattle.cell_library.specs.declared.Kind.{Kind}
-use Rattle.cell_library.specs.declared.Kind.TheVariants.{Bufif0, Bufif1}
 use Rattle.cell_library.specs.declared.codes.Function.{Function}
 use Rattle.cell_library.specs.declared.codes.Function.TheVariants as function
 use Rattle.bsdl_device.specs.declared.values.CellRow.{CellRow}
@@ -33,11 +30,11 @@ use Rattle.netlist_link.specs.Linked.{LinkedView}
 use Rattle.plan_texts.specs.declared.plan.Plan.{Plan}
 use Rattle.plan_texts.specs.declared.plan.PinLine.{PinLine}
 use Rattle.plan_fitting.specs.declared.fitted.FitRow.{FitRow}
-use Rattle.plan_fitting.specs.declared.fitted.Fitted.{Fitted}
 use Rattle.plan_fitting.specs.Pins.{PinSeen}
-use Rattle.plan_fitting.specs.Rows.{Driver, gate_driver, three_state, added_driver, output_driver, same_feed, controls, rows, has_highz}
+use Rattle.plan_fitting.specs.Rows.{Driver, three_state, added_driver, output_driver, same_feed, controls, rows, has_highz}
 use Rattle.plan_fitting.specs.Devices.{fitted_of, cell_row, disable_by, device_of}
 use Rattle.plan_fitting.proofs.Controls.{control_cells_are_there}
+use Rattle.plan_fitting.proofs.Drivers.{gate_is}
 use Rattle.plan_devices.specs.Fitting.{IsFitting}
 use Rattle.plan_devices.proofs.Lined.{IsLined}
 use Rattle.plan_devices.proofs.Rows.{side_driver, data_function, data_core, Controlled, IsDataRow, IsControlRow}
@@ -48,7 +45,7 @@ use Rattle.stitch_model.specs.Sites.{sides_of}
 use Rattle.stitch_model.specs.Stitched.{tap_net_views}
 use Rattle.stitch_names.specs.Prepared.{room_of}
 use Rattle.stitch_ready.specs.Laws.{FittedCanStandBehind}
-use Rattle.scan_parts.proofs.RowSizes.{sides_few}
+use Rattle.stitch_ready.proofs.Rows.{all_at}
 use Rattle.scan_stitch.specs.Ready.{IsSmall}
 use Rattle.scan_stitch.specs.Stitching.{nets_around, IsRowFit, CanBeStitched}
 
@@ -57,24 +54,13 @@ use Rattle.scan_stitch.specs.Stitching.{nets_around, IsRowFit, CanBeStitched}
 abbrev BothBelow : ℕ → Driver → Type 0
 BothBelow n d = IsFeedBelow n d.core × IsFeedBelow n d.operand
 
-operands_are : (kind : Kind) (feeds : List Feed) (d : Driver) → gate_driver kind feeds ≡ Some d → feeds ≡ d.core ∷ d.operand ∷ []
-operands_are Bufif1 [] d h = absurd (cc)
-operands_are Bufif1 (a ∷ []) d h = absurd (cc)
-operands_are Bufif1 (a ∷ b ∷ []) d h = let e : record { core = a; operand = b; active_high = true } ≡ d = cc in ap (λ (x : Driver). x.core ∷ x.operand ∷ []) e
-operands_are Bufif1 (a ∷ b ∷ c ∷ feeds) d h = absurd (cc)
-operands_are Bufif0 [] d h = absurd (cc)
-operands_are Bufif0 (a ∷ []) d h = absurd (cc)
-operands_are Bufif0 (a ∷ b ∷ []) d h = let e : record { core = a; operand = b; active_high = false } ≡ d = cc in ap (λ (x : Driver). x.core ∷ x.operand ∷ []) e
-operands_are Bufif0 (a ∷ b ∷ c ∷ feeds) d h = absurd (cc)
-operands_are _ feeds d h = absurd (cc)
-
 read_below : (N : NetlistView) → IsLaidOut N → (i place : ℕ) (cell : CellView) (feed : Feed) → cell_at N i ≡ Some cell → slice_get cell.feeds place ≡ Some feed → IsFeedBelow (length N.nets) feed
 read_below N laid i place cell (Net net) live at = laid.operands i cell place net.0 (record { live = live; operand = at })
 read_below N laid i place cell (Const b) live at = tt
 
 gate_below : (N : NetlistView) → IsLaidOut N → (i : ℕ) (cell : CellView) (d : Driver) → cell_at N i ≡ Some cell → three_state (Some cell) ≡ Some d → BothBelow (length N.nets) d
 gate_below N laid i cell d live h =
-    let feeds = operands_are cell.kind cell.feeds d h in (
+    let feeds = (gate_is cell.kind cell.feeds d h).are in (
       read_below N laid i 0 cell d.core live (ap (λ (fs : List Feed). slice_get fs 0) feeds),
       read_below N laid i 1 cell d.operand live (ap (λ (fs : List Feed). slice_get fs 1) feeds),
     )
@@ -141,14 +127,6 @@ named_row rs d named number row by is at =
     let equal : by.row ≡ row = cc in
     ap (λ (r : FitRow). controls d r) (sym equal) ∙ by.right
 
--- a row that names a control cell is that of a driver
-right_at : (test : CellRow → Bool) (f : Fitted) (rs : List FitRow) (k : ℕ) (row : FitRow) → list_all test (map (cell_row f) rs) ≡ true → slice_get rs k ≡ Some row → test (cell_row f row) ≡ true
-right_at test f [] k row all at = absurd (cc)
-right_at test f (r ∷ rs) zero row all at =
-    let same : r ≡ row = cc in
-    ap (λ (x : FitRow). test (cell_row f x)) (sym same) ∙ and_left (test (cell_row f r)) (list_all test (map (cell_row f) rs)) all
-right_at test f (r ∷ rs) (suc k) row all at = right_at test f rs k row (and_right (test (cell_row f r)) (list_all test (map (cell_row f) rs)) all) at
-
 named_drives : (rs : List FitRow) (cells : List CellRow) (does : Function) (named : Option ℕ) (number : ℕ) → named ≡ Some number
     → option_map_or (λ (d : Disable). is_disabled does && is_control_at cells d.control) (option_map (disable_by rs) named) (not (is_disabled does)) ≡ true → is_disabled does ≡ true
 named_drives rs cells does None number is right = absurd (cc)
@@ -163,7 +141,7 @@ inout_named rs cells does None is right =
 
 row_right : (L : LinkedView) (p : Plan) (seen : List PinSeen) (k : ℕ) (row : FitRow) → slice_get (rows p seen) k ≡ Some row
     → disable_right (device_of L p seen).cells (cell_row (fitted_of L p seen) row) ≡ true
-row_right L p seen k row at = right_at (disable_right (device_of L p seen).cells) (fitted_of L p seen) (rows p seen) k row (control_cells_are_there L p seen) at
+row_right L p seen k row at = all_at (disable_right (device_of L p seen).cells) (fitted_of L p seen) (rows p seen) k row (control_cells_are_there L p seen) at
 
 not_both : (row : FitRow) → row.function ≡ function.Control → is_disabled row.function ≡ true → ⊥
 not_both row is disabled = let e : is_disabled function.Control ≡ true = ap is_disabled (sym is) ∙ disabled in cc

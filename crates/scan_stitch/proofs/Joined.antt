@@ -1,13 +1,12 @@
 -- The steps of stitching a netlist, and the netlist that they come to.
-use Rattle.std.proofs.Common.{◌≡◌, ℕ, zero, suc, ◌+◌, ◌-◌, ◌<◌, ◌≤◌, inl, inr, List, [], ◌∷◌, ◌++◌, length, length-append, append_assoc, refl, sym, ◌∙◌, ap, subst, arith, Option, Some, None}
-use Rattle.std.specs.Prelude.{map, slice_get, count_by, is_some, filter_map, IsSome, if◌then◌else◌}
+use Rattle.std.proofs.Common.{◌≡◌, ℕ, suc, ◌+◌, ◌-◌, ◌<◌, ◌≤◌, inl, inr, List, [], ◌∷◌, ◌++◌, length, length-append, append_assoc, refl, sym, ◌∙◌, ap, subst, arith, Option, Some, None}
+use Rattle.std.specs.Prelude.{map, slice_get, IsSome}
 use Rattle.std.specs.List.{sum_by}
-use Rattle.std.proofs.lemmas.List.Sums.{sum_by-cons}
 use Rattle.std.specs.Option.{option_map}
 use Rattle.std.proofs.lemmas.Bool.{cases_lt}
 use Rattle.netlist_model.specs.declared.NetId.{NetId}
 use Rattle.netlist_model.specs.Contained.{IsDense}
-use Rattle.netlist_model.specs.Lists.{PortView, NetView, CellView, NetlistView, live_cell, cell_at, cell_count}
+use Rattle.netlist_model.specs.Lists.{PortView, NetView, CellView, NetlistView, cell_at, cell_count}
 use Rattle.netlist_arena.specs.Arena.{ArenaView, SpareView}
 use Rattle.netlist_arena.proofs.Walking.{slice_get-append_right}
 use Rattle.gate_parts.specs.Parts.{added_nets}
@@ -18,14 +17,17 @@ use Rattle.plan_fitting.specs.declared.fitted.Fitted.{Fitted}
 use Rattle.stitch_model.specs.declared.TapNames.{TapNames}
 use Rattle.stitch_model.specs.Sites.{Boundary, boundary_of, sides_of}
 use Rattle.stitch_model.specs.Sides.{core_cell}
-use Rattle.stitch_model.specs.Stitched.{tap_port, tap_ports, tap_net_views, same_place, live_cells, boundary_at, first_net, test_logic_nets, test_logic_cells, stitched}
+use Rattle.stitch_model.specs.Stitched.{tap_port, tap_ports, tap_net_views, live_cells, boundary_at, first_net, test_logic_nets, test_logic_cells, stitched, with_nets}
 use Rattle.stitch_laws.specs.Laws.{StitchedHoldsTheCore}
+use Rattle.stitch_laws.proofs.Places.{listed_at}
+use Rattle.stitch_cells.proofs.Cells.{live_length}
 use Rattle.scan_sides.specs.Pins.{between}
 use Rattle.core_moves.specs.Ready.{CanStandBehind, with_core_behind}
-use Rattle.scan_parts.specs.Ports.{with_nets, with_ports}
+use Rattle.core_moves.proofs.Behind.{mapped_at}
+use Rattle.scan_parts.specs.Ports.{with_ports}
 use Rattle.stitch_names.specs.Same.{IsSameNetlist}
 use Rattle.scan_stitch.specs.Stitching.{nets_around, surrounded, CanBeStitched}
-use Rattle.scan_stitch.proofs.Surrounded.{mapped_at, mapped_count}
+use Rattle.scan_stitch.proofs.Surrounded.{mapped_count}
 
 -- Nets behind nets.
 
@@ -75,30 +77,13 @@ mapped_lists : {X Y : Type 0} (to : X → Y) (xs : List X) → length (map to xs
 mapped_lists to [] = refl
 mapped_lists to (x ∷ xs) = ap (λ (n : ℕ). suc n) (mapped_lists to xs)
 
-live_count : (places : List (Option CellView)) → length (filter_map same_place places) ≡ count_by is_some places
-live_count [] = refl
-live_count (None ∷ places) =
-    let e = sum_by-cons (λ (x : Option CellView). if is_some x then 1 else 0) None places in
-    let rest = live_count places in
-    omega arith
-live_count (Some cell ∷ places) =
-    let e = sum_by-cons (λ (x : Option CellView). if is_some x then 1 else 0) (Some cell) places in
-    let rest = live_count places in
-    let here : length (filter_map same_place (Some cell ∷ places)) ≡ suc (length (filter_map same_place places)) = refl in
-    omega arith
-
-listed_at : (cells : List CellView) (k : ℕ) → live_cell (slice_get (map Some cells) k) ≡ slice_get cells k
-listed_at [] k = refl
-listed_at (cell ∷ cells) zero = refl
-listed_at (cell ∷ cells) (suc k) = listed_at cells k
-
 -- the cells of the test logic stand behind those of the core
 added_at : (N : NetlistView) (names : TapNames) (f : Fitted) (k : ℕ)
     → cell_at (stitched N names f) (cell_count N + k) ≡ slice_get (test_logic_cells (boundary_at N f) (first_net N f) (cell_count N) (tap_port (length N.nets)) f) k
 added_at N names f k =
     let core : List CellView = map (core_cell (boundary_at N f)) (live_cells N) in
     let added : List CellView = test_logic_cells (boundary_at N f) (first_net N f) (cell_count N) (tap_port (length N.nets)) f in
-    let long : length core ≡ cell_count N = mapped_lists (core_cell (boundary_at N f)) (live_cells N) ∙ live_count N.cells in
+    let long : length core ≡ cell_count N = mapped_lists (core_cell (boundary_at N f)) (live_cells N) ∙ live_length N.cells in
     let e : cell_count N + k ≡ length core + k = omega arith in
     listed_at (core ++ added) (cell_count N + k) ∙ ap (λ (n : ℕ). slice_get (core ++ added) n) e ∙ slice_get-append_right core added k
 

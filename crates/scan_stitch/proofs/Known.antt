@@ -1,21 +1,17 @@
 -- What linking, fitting and preparing give stitching.
-use Rattle.std.proofs.Common.{◌≡◌, ℕ, ◌+◌, ◌^◌, ◌<◌, ◌≤◌, max, Bool, true, false, List, [], length, refl, sym, ◌∙◌, ap, subst, arith, inl, Option, Some, None}
-use Rattle.std.specs.Prelude.{nat_lt, slice_get, if◌then◌else◌}
-use Rattle.std.specs.Option.{option_or}
-use Rattle.std.proofs.lemmas.Bool.Decides.{nat_tests}
-use Rattle.netlist_model.specs.declared.What.{What}
-use Rattle.netlist_model.specs.declared.What.TheVariants.{Cells, Nets, Ports}
+use Rattle.std.proofs.Common.{◌≡◌, ℕ, ◌+◌, ◌^◌, ◌<◌, ◌≤◌, max, List, [], length, sym, ◌∙◌, ap, subst, arith, inl}
+use Rattle.std.specs.Prelude.{slice_get}
 use Rattle.netlist_model.specs.Formed.{IsWellFormed, IsNumbered, IsLaidOut, FeedsBelow}
 use Rattle.netlist_model.specs.Contained.{IsDense}
 use Rattle.netlist_model.specs.Lists.{CellView, NetlistView, cell_at, cell_count, Drives}
 use Rattle.netlist_laws.specs.Settle.{IsDrivenOnce}
-use Rattle.netlist_arena.specs.Arena.{ArenaView, SpareView, bit_count}
-use Rattle.netlist_arena.specs.declared.room.ReserveFault.TheVariants.{TooMany}
-use Rattle.netlist_arena.specs.Room.{excess_of, too_many, raised}
+use Rattle.netlist_arena.specs.Arena.{ArenaView, SpareView}
+use Rattle.netlist_arena.specs.Room.{raised}
 use Rattle.cell_order.specs.Tables.{RoomView, FitsRoom}
 use Rattle.draft_laws.specs.Grown.{IsOneOf, AddsCells, GrownIsFormed}
 use Rattle.netlist_link.specs.Linked.{LinkedView}
 use Rattle.netlist_link.specs.WellNamed.{IsWellNamed}
+use Rattle.netlist_link.proofs.Rewriting.{few_nets}
 use Rattle.plan_fitting.specs.declared.fitted.Fitted.{Fitted}
 use Rattle.plan_fitting.specs.Devices.{fitted_of}
 use Rattle.stitch_model.specs.declared.TapNames.{TapNames}
@@ -31,26 +27,6 @@ use Rattle.scan_stitch.specs.Stitch.{CanStitch}
 use Rattle.scan_stitch.proofs.Fit.{can_be_stitched}
 
 -- Room.
-
-no_first : {A : Type 0} (a b : Option A) → option_or a b ≡ None → (a ≡ None) × (b ≡ None)
-no_first None b e = (refl, e)
-no_first (Some x) b e = absurd (cc)
-
-over_none : {A : Type 0} (over : Bool) (x : A) → (if over then Some x else None) ≡ None → over ≡ false
-over_none true x e = absurd (cc)
-over_none false x e = refl
-
-not_over : (limit count : ℕ) → nat_lt limit count ≡ false → count ≤ limit
-not_over limit count e = grind (arith, nat_tests)
-
-within : (what : What) (count limit : ℕ) → excess_of what count limit ≡ None → count ≤ limit
-within what count limit e = not_over limit count (over_none (nat_lt limit count) (TooMany what count limit) e)
-
-pub few_nets_asked : (N : NetlistView) (cells nets bits : ℕ) → too_many N cells nets bits ≡ None → length N.nets + nets ≤ 524288
-few_nets_asked N cells nets bits e =
-    let a = no_first (option_or (excess_of Cells (cell_count N + cells) 262144) (excess_of Nets (length N.nets + nets) 524288)) (excess_of Ports (bit_count N.ports + bits) 4096) e in
-    let b = no_first (excess_of Cells (cell_count N + cells) 262144) (excess_of Nets (length N.nets + nets) 524288) a.0 in
-    within Nets (length N.nets + nets) 524288 b.1
 
 -- Well formed.
 
@@ -87,7 +63,7 @@ can_of stand linked f names can laid =
     let fit = can.fitted.is in
     let made : Fitted = fitted_of L can.plan can.fitted.seen in
     let S : Fitted → Type 0 = λ g. IsSmall g in
-    let few = few_nets_asked L.arena.lists (room_of f) (room_of f) (ports_of f) can.few in
+    let few = few_nets L.arena.lists (room_of f) (room_of f) (ports_of f) can.few in
     let room : room_of f ≡ room_of made = ap room_of fit in
     let base = can_be_stitched stand L can.plan can.fitted.seen names can.fitting (laid_before linked f can laid) can.dense (subst S fit can.small) (omega arith) in
     let P : NetlistView → Fitted → Type 0 = λ N g. CanBeStitched N names g in
@@ -96,7 +72,7 @@ can_of stand linked f names can laid =
 pub room_made : (linked : LinkedView) (f : Fitted) → CanStitch linked f → HasStitchRoom linked.arena f
 room_made linked f can =
     let L : LinkedView = can.before in
-    let few = few_nets_asked L.arena.lists (room_of f) (room_of f) (ports_of f) can.few in
+    let few = few_nets L.arena.lists (room_of f) (room_of f) (ports_of f) can.few in
     let nets : linked.arena.spare.nets ≡ max L.arena.spare.nets (room_of f) = ap (λ (K : LinkedView). K.arena.spare.nets) can.prepared_is in
     let cells : linked.arena.spare.cells ≡ max L.arena.spare.cells (room_of f) = ap (λ (K : LinkedView). K.arena.spare.cells) can.prepared_is in
     let bits : linked.arena.spare.port_bits ≡ max L.arena.spare.port_bits (ports_of f) = ap (λ (K : LinkedView). K.arena.spare.port_bits) can.prepared_is in

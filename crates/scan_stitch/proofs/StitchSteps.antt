@@ -15,12 +15,12 @@ use Rattle.stitch_model.specs.declared.TapPort.{TapPort}
 use Rattle.stitch_model.specs.Sites.{Boundary, boundary_of, sides_of}
 use Rattle.stitch_model.specs.Sides.{core_cell}
 use Rattle.stitch_model.specs.Stitched.{tap_port, tap_ports}
+use Rattle.stitch_model.proofs.Moves.{sides_few}
 use Rattle.stitch_names.specs.Prepared.{room_of}
 use Rattle.scan_sides.specs.Pins.{between}
 use Rattle.scan_parts.specs.Ports.{with_ports, CanBePort}
 use Rattle.scan_parts.specs.Rows.{into_from, IsApart}
 use Rattle.scan_parts.specs.Whole.{net_room, cell_room, CanTakeLogic}
-use Rattle.scan_parts.proofs.RowSizes.{sides_few}
 use Rattle.scan_stitch.specs.Stitching.{surrounded, CanBeStitched}
 use Rattle.scan_stitch.proofs.Surrounded.{no_port, lone_free, length_around, mapped_count, can_take, port_apart}
 

@@ -1,9 +1,9 @@
 -- The netlist whose core stands behind its boundary cells, and that it can take the test logic.
-use Rattle.std.proofs.Common.{◌≡◌, ◌≢◌, ℕ, zero, suc, ◌+◌, ◌==◌, ◌<◌, ◌≤◌, ◌⊎◌, inl, inr, Bool, true, false, List, [], ◌∷◌, ◌++◌, length, length-append, take, get_or, refl, sym, ◌∙◌, ap, subst, arith, Option, Some, None}
+use Rattle.std.proofs.Common.{◌≡◌, ◌≢◌, ℕ, suc, ◌+◌, ◌==◌, ◌<◌, ◌≤◌, ◌⊎◌, inl, inr, Bool, true, false, List, [], ◌∷◌, ◌++◌, length, length-append, get_or, refl, sym, ◌∙◌, ap, subst, arith, Option, Some, None}
 use Rattle.std.specs.Prelude.{map, slice_get, count_by, is_some, option_and_then, unwrap_or, MatchOption, IsSome, ⊤, if◌then◌else◌}
 use Rattle.std.specs.Option.{option_map, option_map_or}
 use Rattle.std.specs.List.{sum_by}
-use Rattle.std.proofs.lemmas.Option.{slice_get-map, slice_get-get_or, slice_get_within}
+use Rattle.std.proofs.lemmas.Option.{slice_get-get_or, slice_get_within}
 use Rattle.std.proofs.lemmas.Bool.{ne_eqb}
 use Rattle.std.proofs.lemmas.List.Sums.{sum_by-cons}
 use Rattle.cell_library.specs.declared.codes.BoundaryKind.{BoundaryKind}
@@ -33,14 +33,16 @@ use Rattle.stitch_model.specs.declared.TapNames.{TapNames}
 use Rattle.stitch_model.specs.Sites.{Boundary, boundary_of, pin_net, row_net, is_own_net, input_site, output_site, site_by, site_of, side_count, row_sides, sides_of, side_at}
 use Rattle.stitch_model.specs.Sides.{is_moved, side_from, core_side, level_net, core_cell, core_feed}
 use Rattle.stitch_model.specs.Rows.{net_at}
-use Rattle.stitch_model.specs.Stitched.{tap_port, tap_net_views}
+use Rattle.stitch_model.specs.Stitched.{tap_port, tap_net_views, with_nets}
+use Rattle.stitch_model.proofs.Moves.{sides_within, side_range}
 use Rattle.scan_sides.specs.Pins.{IsPinThere, ArePinsThere}
 use Rattle.core_moves.specs.Ready.{IsDrivenAt, IsControlAt, HasControl}
-use Rattle.scan_parts.specs.Ports.{with_nets}
+use Rattle.core_moves.proofs.Behind.{mapped_at}
 use Rattle.scan_parts.specs.Rows.{into_from, IsApart, IsReady}
 use Rattle.scan_parts.specs.Whole.{net_room, cell_room, CanTakeLogic}
 use Rattle.scan_stitch.specs.Stitching.{nets_around, surrounded, IsRowFit, CanBeStitched}
-use Rattle.scan_parts.proofs.IntoNets.{EachFits, side_within, before_rows, core_apart, into_apart, into_free}
+use Rattle.scan_parts.proofs.IntoNets.{EachFits, before_rows, core_apart, into_apart, into_free}
+use Rattle.scan_parts.proofs.Outputs.{net_number}
 
 -- Bits of rows.
 
@@ -103,9 +105,6 @@ lived : (change : CellView → CellView) (place : Option (Option CellView)) → 
 lived change None = refl
 lived change (Some place) = refl
 
-pub mapped_at : (change : CellView → CellView) (cells : List (Option CellView)) (i : ℕ) → live_cell (slice_get (map (option_map change) cells) i) ≡ option_map change (live_cell (slice_get cells i))
-mapped_at change cells i = ap live_cell (slice_get-map (option_map change) cells i) ∙ lived change (slice_get cells i)
-
 some_same : (change : CellView → CellView) (place : Option CellView) → is_some (option_map change place) ≡ is_some place
 some_same change None = refl
 some_same change (Some cell) = refl
@@ -139,10 +138,6 @@ record FromCore (N : NetlistView) (B : Boundary) (i net : ℕ) : Type 0 where
   pub drives : Drives N i cell out
   pub is : net ≡ core_side B out
 
-abbrev number_of : Option NetId → ℕ
-number_of None = 0
-number_of (Some net) = net.0
-
 by_output : (N : NetlistView) (B : Boundary) (i net : ℕ) (old : CellView) → cell_at N i ≡ Some old → (output : Option NetId) → old.output ≡ output
     → option_map (renamed_net (core_side B)) old.output ≡ Some (record { 0 = net }) → FromCore N B i net
 by_output N B i net old here None is drives =
@@ -152,7 +147,7 @@ by_output N B i net old here None is drives =
 by_output N B i net old here (Some out) is drives =
     let moved : option_map (renamed_net (core_side B)) (Some out) ≡ Some (record { 0 = net })
     = sym (ap (λ (o : Option NetId). option_map (renamed_net (core_side B)) o) is) ∙ drives in
-    record { cell = old; out = out.0; drives = record { live = here; output = is }; is = sym (ap number_of moved) }
+    record { cell = old; out = out.0; drives = record { live = here; output = is }; is = sym (ap net_number moved) }
 
 from_core : (N : NetlistView) (B : Boundary) (i net : ℕ) (place : Option CellView) (cell : CellView) → cell_at N i ≡ place → option_map (core_cell B) place ≡ Some cell
     → cell.output ≡ Some (record { 0 = net }) → FromCore N B i net
@@ -209,7 +204,7 @@ lone_free N names rows laid net past low = record {
       let from = driver_around N names rows i cell net (record { live = live; output = drives }) in
       let out = laid.outputs i from.cell from.out from.drives in
       let is = from.is in
-      elim (side_within N.ports from.out (length N.nets + 5) rows) [
+      elim (side_range N.ports from.out (length N.nets + 5) rows) [
         | inl stays ↦ omega arith
         | inr beyond ↦ (let a = beyond.0 in omega arith)
       ];
@@ -218,24 +213,11 @@ lone_free N names rows laid net past low = record {
 
 -- What the rows read.
 
-taken_sides : (ports : List PortView) (rows : List FitRow) (k : ℕ) (row : FitRow) → slice_get rows k ≡ Some row → sides_of ports (take k rows) + row_sides ports row ≤ sides_of ports rows
-taken_sides ports [] k row at = absurd (cc)
-taken_sides ports (first ∷ rows) zero row at =
-    let same : first ≡ row = cc in
-    let more = sum_by-cons (row_sides ports) first rows in
-    let equal : row_sides ports first ≡ row_sides ports row = ap (row_sides ports) same in
-    omega arith
-taken_sides ports (first ∷ rows) (suc k) row at =
-    let more = sum_by-cons (row_sides ports) first rows in
-    let more' = sum_by-cons (row_sides ports) first (take k rows) in
-    let rest = taken_sides ports rows k row at in
-    omega arith
-
 moved_below : (B : Boundary) (limit n : ℕ) (feed : Feed) → limit ≤ n → B.first + sides_of B.ports B.rows ≤ n → IsFeedBelow limit feed → IsFeedBelow n (renamed_feed (core_side B) feed)
 moved_below B limit n (Const b) more sides below = tt
 moved_below B limit n (Net net) more sides below =
     let b : net.0 < limit = below in
-    let there : core_side B net.0 < n = elim (side_within B.ports net.0 B.first B.rows) [
+    let there : core_side B net.0 < n = elim (side_range B.ports net.0 B.first B.rows) [
       | inl stays ↦ omega arith
       | inr beyond ↦ (let past = beyond.1 in omega arith)
     ] in
@@ -261,7 +243,7 @@ level_below B n None there low sides = low
 level_below B n (Some k) there low sides =
     let kind : (does : Function) → ℕ = λ does. side_count (site_by does there.row.cell (is_own_net (row_net B.ports there.row) there.row.core)) in
     let one : row_sides B.ports there.row ≡ 1 = ap kind there.does in
-    let taken = taken_sides B.ports B.rows k there.row there.there in
+    let taken = sides_within B.ports B.rows k there.row there.there in
     let goal : side_at B k < n = omega arith in
     goal
 
@@ -302,7 +284,7 @@ rows_ready N names f laid can n more k row at =
       enable = enabled_below B n f.rows row.control each;
       level = λ is.
           let two : row_sides N.ports row ≡ 2 = ap side_count is in
-          let taken = taken_sides N.ports f.rows k row at in
+          let taken = sides_within N.ports f.rows k row at in
           level_below B n row.control named (omega arith) more;
       control = named_below f.rows row.control named;
       inout = λ is. (All-slice_get (IsRowFit N) f.rows k row can.fit at).inout (is_inout row.function row.cell (is_own_net (row_net N.ports row) row.core) is);

@@ -14,10 +14,9 @@ use Rattle.plan_fitting.specs.declared.fitted.Fitted.{Fitted}
 use Rattle.stitch_model.specs.declared.TapNames.{TapNames}
 use Rattle.stitch_model.specs.Sites.{boundary_of, sides_of}
 use Rattle.stitch_model.specs.Sides.{core_cell}
-use Rattle.stitch_model.specs.Stitched.{tap_net_views}
+use Rattle.stitch_model.specs.Stitched.{tap_net_views, with_nets}
 use Rattle.stitch_names.specs.Prepared.{room_of}
 use Rattle.core_moves.specs.Ready.{CanStandBehind}
-use Rattle.scan_parts.specs.Ports.{with_nets}
 use Rattle.scan_stitch.specs.Ready.{IsSmall}
 
 -- own: the nets that are added before anything else: those of the test access port, and those between

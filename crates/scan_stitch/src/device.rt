@@ -6,36 +6,21 @@ ghost use Rattle.plan_fitting.specs.Devices as devices;
 ghost use Rattle.scan_stitch.specs.Ready.{IsBitInRange, IsRowInRange, AreBitsInRange};
 
 use bsdl_device::{CellRow, DevBit, DevPort, Device, Disable, PortMode, PortRange, Safe, Stop};
-use cell_library::{Function, Opcode};
+use cell_library::Function;
 use edge_io::{OutOfMemory, Row, Text};
 use netlist_model::{Dir, PinBit, Range};
+use plan_fitting::copies::{opcodes_copy, text_copy};
 use plan_fitting::{FitPort, FitRow, Fitted};
 use plan_texts::TapLine;
 use std::alloc::Global;
-
-fn copy_text(alloc: Global, text: &Text) -> Result<Text, OutOfMemory>
-    ensures { IfOk result (λ copy. copy ≡ text.now) }
-{
-    Text::from_bytes(alloc, text.as_bytes())
-}
 
 fn copy_texts(alloc: Global, texts: &[Text]) -> Result<Row<Text>, OutOfMemory>
     ensures { IfOk result (λ copies. copies ≡ texts.now) }
 {
     let mut copies = Row::new(alloc);
     for text in texts {
-        let copy = copy_text(alloc, text)?;
+        let copy = text_copy(alloc, text)?;
         copies.push(copy)?;
-    }
-    Ok(copies)
-}
-
-fn copy_opcodes(alloc: Global, opcodes: &[Opcode]) -> Result<Row<Opcode>, OutOfMemory>
-    ensures { IfOk result (λ copies. copies ≡ opcodes.now) }
-{
-    let mut copies = Row::new(alloc);
-    for opcode in opcodes {
-        copies.push(*opcode)?;
     }
     Ok(copies)
 }
@@ -66,7 +51,7 @@ fn port_range(range: Option<Range>) -> Option<PortRange>
 fn device_port(alloc: Global, port: &FitPort) -> Result<DevPort, OutOfMemory>
     ensures { IfOk result (λ made. made ≡ devices.dev_port port.now) }
 {
-    let name = copy_text(alloc, &port.name)?;
+    let name = text_copy(alloc, &port.name)?;
     let pins = copy_texts(alloc, port.pins.as_slice())?;
     Ok(DevPort {
         name,
@@ -80,8 +65,8 @@ fn device_port(alloc: Global, port: &FitPort) -> Result<DevPort, OutOfMemory>
 fn scalar_port(alloc: Global, mode: PortMode, line: &TapLine) -> Result<DevPort, OutOfMemory>
     ensures { IfOk result (λ made. made ≡ devices.scalar_port mode line.now) }
 {
-    let name = copy_text(alloc, &line.name)?;
-    let pin = copy_text(alloc, &line.pin)?;
+    let name = text_copy(alloc, &line.name)?;
+    let pin = text_copy(alloc, &line.pin)?;
     let mut pins = Row::new(alloc);
     pins.push(pin)?;
     Ok(DevPort {
@@ -243,7 +228,7 @@ fn device_rows(alloc: Global, fitted: &Fitted) -> Result<Row<CellRow>, OutOfMemo
 fn clock_of(alloc: Global, fitted: &Fitted) -> Result<Text, OutOfMemory>
     ensures { IfOk result (λ clock. clock ≡ fitted.now.clock ++ codes ".0e6") }
 {
-    let mut clock = copy_text(alloc, &fitted.clock)?;
+    let mut clock = text_copy(alloc, &fitted.clock)?;
     clock.append(b".0e6")?;
     Ok(clock)
 }
@@ -254,11 +239,11 @@ pub fn device_of_fit(alloc: Global, fitted: &Fitted) -> Result<Device, OutOfMemo
     requires ports { length fitted.now.ports + 5 < 2 ^ 32 }
     ensures { IfOk result (λ device. device ≡ devices.device_of_fitted fitted.now) }
 {
-    let entity = copy_text(alloc, &fitted.entity)?;
-    let package = copy_text(alloc, &fitted.package)?;
+    let entity = text_copy(alloc, &fitted.entity)?;
+    let package = text_copy(alloc, &fitted.package)?;
     let ports = device_ports(alloc, fitted)?;
     let clock = clock_of(alloc, fitted)?;
-    let opcodes = copy_opcodes(alloc, fitted.codes.opcodes.as_slice())?;
+    let opcodes = opcodes_copy(alloc, fitted.codes.opcodes.as_slice())?;
     let cells = device_rows(alloc, fitted)?;
     let first = fitted.ports.len() as u32;
     Ok(Device {

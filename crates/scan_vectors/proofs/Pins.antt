@@ -1,19 +1,18 @@
 -- Pins of event lines that bytes spell are words.
-use Rattle.std.proofs.Common.{◌≡◌, ℕ, suc, ◌+◌, ◌≤◌, Bool, true, false, List, [], ◌∷◌, map, length, refl, sym, ap, ◌∙◌, subst, arith}
+use Rattle.std.proofs.Common.{◌≡◌, ℕ, ◌+◌, ◌≤◌, Bool, true, false, List, [], ◌∷◌, map, length, sym, ap, ◌∙◌, subst, arith}
 use Rattle.std.specs.Prelude.{All}
 use Rattle.std.proofs.lemmas.List.{append-nil}
 use Rattle.std.proofs.lemmas.List.Elements.{All-nil, All-cons, All-head, All-tail}
 use Rattle.line_texts.specs.Words.{lines_of}
-use Rattle.line_texts.specs.Rows.{IsWord, IsRow}
+use Rattle.line_texts.specs.Rows.{IsWord}
 use Rattle.line_texts.specs.Laws.{KeptAreRows}
+use Rattle.line_texts.proofs.Rows.{IsNumberedRow}
 use Rattle.scan_vectors.specs.declared.lines.Line.{Line}
 use Rattle.scan_vectors.specs.declared.lines.Lines.{Lines}
 use Rattle.scan_vectors.specs.Grammar.{Written, written_words, header_words, act_word, act_of, pin_of, SpellsLines}
 use Rattle.scan_vectors.specs.Reading.{IsBehind, IsReading}
 use Rattle.scan_vectors.specs.Canonical.{IsLines}
-
-abbrev IsNumberedRow : ℕ × List (List ℕ) → Type 0
-IsNumberedRow row = IsRow row.1
+use Rattle.scan_vectors.proofs.Steps.{lines_count}
 
 pins_of : (written : List Written) → All IsNumberedRow (map written_words written) → All (λ (line : Line). IsWord (pin_of line)) (map (λ w. w.line) written)
 pins_of [] each = All-nil (λ (line : Line). IsWord (pin_of line))
@@ -22,10 +21,6 @@ pins_of (w ∷ written) each =
     (All-head IsWord (pin_of w.line) ((w.letter ∷ []) ∷ [])
     (All-tail IsWord (act_word (act_of w.line)) (pin_of w.line ∷ (w.letter ∷ []) ∷ []) (All-head IsNumberedRow (written_words w) (map written_words written) each).each))
     (pins_of written (All-tail IsNumberedRow (written_words w) (map written_words written) each))
-
-lines_count : (written : List Written) → length (map (λ w. w.line) written) ≡ length written
-lines_count [] = refl
-lines_count (w ∷ written) = ap (λ (n : ℕ). suc n) (lines_count written)
 
 pub spelled_is_printable : KeptAreRows → (bytes : List ℕ) (lines : Lines) → SpellsLines bytes lines → IsLines lines.list
 spelled_is_printable law bytes lines s =

@@ -14,12 +14,10 @@ use Rattle.scan_vectors.specs.declared.reader.Reader.{Reader}
 use Rattle.line_texts.specs.Words.{words_of, is_kept, kept_from, kept_lines, lines_of}
 use Rattle.scan_vectors.specs.Grammar.{Written, written_words, HasLetter, header_words}
 use Rattle.first_faults.specs.First.{or_else, first_in}
+use Rattle.line_texts.proofs.Written.{kept_from-kept}
 use Rattle.scan_vectors.specs.Faults.{line_fault, fault_in, first_fault, event_of, is_header, IsFault}
 use Rattle.scan_vectors.specs.Reading.{IsBefore, IsBehind, IsReading, HasRead, AddsLine, CannotAdd}
 use Rattle.scan_vectors.proofs.Events.{header_is, event_has_words, HasWords}
-
-pub kept_from-kept : (n : ℕ) (line : List ℕ) (rest : List (List ℕ)) → is_kept (words_of line) ≡ true → kept_from n (line ∷ rest) ≡ (n, words_of line) ∷ kept_from (n + 1) rest
-kept_from-kept n line rest e = ap (λ (t : Bool). cond t ((n, words_of line) ∷ kept_from (n + 1) rest) (kept_from (n + 1) rest)) e
 
 pub header_read : (bytes : List ℕ) (lines : Lines) (n : ℕ) (line : List ℕ) (rest : List (List ℕ)) → is_kept (words_of line) ≡ true → is_header (words_of line) ≡ true
     → IsBefore bytes lines n (line ∷ rest) → IsBehind bytes lines (n + 1) rest
@@ -66,7 +64,7 @@ kept_added written w line rest kept e =
     (kept_from-kept w.number line rest kept ∙ ap (λ (row : ℕ × List (List ℕ)). row ∷ kept_from (w.number + 1) rest) e)
     ∙ map_push written_words written w (kept_from (w.number + 1) rest)
 
-lines_count : (written : List Written) → length (map (λ w. w.line) written) ≡ length written
+pub lines_count : (written : List Written) → length (map (λ w. w.line) written) ≡ length written
 lines_count [] = refl
 lines_count (w ∷ written) = ap (λ (n : ℕ). suc n) (lines_count written)
 

@@ -1,14 +1,9 @@
 -- A fault that stands where both texts are free of faults and no count rises is want of memory.
 use Rattle.std.proofs.Common.{◌≡◌, ℕ, List, Option, Some, None, Result, Ok, Err, IfErr, inl, inr, sym, subst, ◌∙◌, refl}
-use Rattle.verilog_lexicon.specs.declared.word.Spanned.{Spanned}
+use Rattle.list_laws.proofs.Options.{none_some}
+use Rattle.command_edges.proofs.Memory.{text_memory, has_link_memory}
 use Rattle.verilog_tree.specs.declared.tree.Module.{Module}
-use Rattle.verilog_tree.specs.Texts.{SpellsModule, SpellsText}
-use Rattle.verilog_texts.specs.declared.fault.TextFault.{TextFault}
-use Rattle.verilog_texts.specs.declared.fault.TextFault.TheVariants as text
-use Rattle.verilog_texts.specs.TextFaults.{IsTextFault}
-use Rattle.link_model.specs.declared.fault.LinkFault.{LinkFault}
-use Rattle.link_model.specs.Late.{IsLinkable}
-use Rattle.netlist_link.specs.Links.{IsLinkOf, IsLinkFault}
+use Rattle.netlist_link.specs.Links.{IsLinkOf}
 use Rattle.netlist_link.specs.Laws.{FaultsForbidLinks}
 use Rattle.scan_vectors.specs.declared.fault.EventFault.{EventFault}
 use Rattle.scan_vectors.specs.declared.fault.EventFault.TheVariants as event
@@ -22,8 +17,7 @@ use Rattle.event_scripts.specs.Laws.{LegalIsNotIllegal}
 use Rattle.command_faults.specs.declared.fault.Fault.{Fault}
 use Rattle.command_faults.specs.declared.fault.Fault.TheVariants as fault
 use Rattle.command_faults.specs.declared.status.Status.TheVariants as status
-use Rattle.command_faults.specs.Statuses.{status_of, text_status, link_status, event_status, script_status}
-use Rattle.command_edges.specs.Spelled.{HasLinkFault}
+use Rattle.command_faults.specs.Statuses.{status_of, event_status, script_status}
 use Rattle.command_edges.specs.Seen.{ShelfSeen, SinkSeen, SinkRose}
 use Rattle.command_edges.proofs.Told.{reading_memory}
 use Rattle.sim_command.specs.Simulations.{IsSimulable, HasScriptFault}
@@ -37,27 +31,9 @@ pub record Laws : Type 0 where
   pub faultless : SpelledIsFaultless
   pub legal : LegalIsNotIllegal
 
-text_memory : (bytes : List ℕ) (tree : Module) (f : TextFault) → SpellsText bytes tree → IsTextFault bytes f → text_status f ≡ status.Memory
-text_memory bytes tree (text.BadWord place) spells bad = absurd (bad.none spells.words spells.cut)
-text_memory bytes tree (text.BadSyntax place word) spells bad =
-    absurd (bad.syntax.unspelled tree (subst (λ (ws : List Spanned). SpellsModule ws tree) (bad.has.only spells.words spells.cut) spells.spells))
-text_memory bytes tree text.OutOfMemory spells bad = refl
-
-link_memory : FaultsForbidLinks → (m : Module) (f : LinkFault) → IsLinkable m → IsLinkFault m f → link_status f ≡ status.Memory
-link_memory law m f ok (IsLinkFault.stands s) = absurd (law m f s ok)
-link_memory law m f ok IsLinkFault.memory = refl
-
--- a netlist that can be linked has no fault of linking
-has_link_memory : FaultsForbidLinks → (f : LinkFault) (net events : List ℕ) → IsSimulable net events → HasLinkFault f net → link_status f ≡ status.Memory
-has_link_memory law f net events ok bad =
-    link_memory law bad.tree f (subst IsLinkable (bad.only ok.tree ok.spells) ok.linkable) bad.fault
-
-some_none : {X : Type 0} (x : X) → None ≡ Some x → ⊥
-some_none x e = cc
-
 event_memory : SpelledIsFaultless → (bytes : List ℕ) (lines : Lines) (f : EventFault) → first_fault bytes ≡ None → IsFault bytes f → event_status f ≡ status.Memory
-event_memory law bytes lines (event.EventLine number) none bad = absurd (some_none (event.EventLine number) (sym none ∙ bad))
-event_memory law bytes lines (event.TooMany what count limit) none bad = absurd (some_none (event.TooMany what count limit) (sym none ∙ bad))
+event_memory law bytes lines (event.EventLine number) none bad = none_some (sym none ∙ bad)
+event_memory law bytes lines (event.TooMany what count limit) none bad = none_some (sym none ∙ bad)
 event_memory law bytes lines event.OutOfMemory none bad = refl
 
 -- legal lines have no fault for the netlist
@@ -72,7 +48,7 @@ script_memory laws script.OutOfMemory net events ok bad = refl
 -- faults of both texts
 play_memory : Laws → (f : Fault) (net text : List ℕ) (sink : SinkSeen) → IsSimulable net text → (SinkRose sink → ⊥) → StandsInPlay (Some net) (Some text) sink f → status_of f ≡ status.Memory
 play_memory laws (fault.Netlist f) net text sink ok still stands = text_memory net ok.tree f ok.spells stands
-play_memory laws (fault.Link f) net text sink ok still stands = has_link_memory laws.links f net text ok stands
+play_memory laws (fault.Link f) net text sink ok still stands = has_link_memory laws.links net ok.tree f ok.spells ok.linkable stands
 play_memory laws (fault.Events f) net text sink ok still stands = event_memory laws.faultless text ok.lines f (laws.faultless text ok.lines ok.spells_lines) stands.1
 play_memory laws (fault.Script f) net text sink ok still stands = script_memory laws f net text ok stands.2
 play_memory laws (fault.WriteFault name) net text sink ok still stands = absurd (still stands.0.1)

@@ -8,7 +8,7 @@ use Rattle.verilog_tree.specs.declared.tree.Module.{Module}
 use Rattle.verilog_texts.specs.TextFaults.{IsTextFault}
 use Rattle.verilog_texts.specs.Reading.{IsReadAs}
 use Rattle.netlist_link.specs.Linked.{LinkedView}
-use Rattle.netlist_link.specs.Links.{IsLinkOf}
+use Rattle.netlist_link.specs.Links.{IsLinkOf, HasLinkFault}
 use Rattle.scan_vectors.specs.declared.lines.Lines.{Lines}
 use Rattle.scan_vectors.specs.Faults.{IsFault}
 use Rattle.scan_vectors.specs.Grammar.{SpellsLines}
@@ -16,12 +16,12 @@ use Rattle.event_scripts.specs.declared.script.ScriptLine.{ScriptLine}
 use Rattle.event_scripts.specs.Scripts.{IsResolved, IsScriptFault}
 use Rattle.event_scripts.specs.declared.fault.ScriptFault.{ScriptFault}
 use Rattle.sim_runs.specs.Outputs.{IsOutput}
-use Rattle.command_edges.specs.Spelled.{HasLinkFault, SpellsLinkable, SpellsEvents}
+use Rattle.command_edges.specs.Spelled.{SpellsLinkable, SpellsEvents, StandsInNetlist}
 use Rattle.command_edges.specs.Ends.{run_status}
 use Rattle.command_edges.specs.Seen.{ShelfSeen, SinkSeen, SinkRose}
 use Rattle.command_edges.proofs.Told.{IsTold, told_as, both_told, AreRead, are_short}
 use Rattle.sim_command.specs.Simulations.{IsSimulation, HasScriptFault}
-use Rattle.sim_command.specs.Faults.{HasRun, StandsInNetlist, StandsInPlay}
+use Rattle.sim_command.specs.Faults.{HasRun, StandsInPlay}
 use Rattle.sim_command.specs.Runs.{StandsInSim, IsPlayed, IsFrontOfRun, GaveFront, GaveInPlay, IsSimulated, CompletesSim}
 
 -- the netlist's fault is one of both texts

@@ -5,7 +5,9 @@ use Rattle.command_faults.specs.declared.fault.Fault.{Fault}
 use Rattle.command_faults.specs.declared.fault.Fault.TheVariants as fault
 use Rattle.verilog_texts.specs.TextFaults.{IsTextFault}
 use Rattle.scan_vectors.specs.Faults.{IsFault}
-use Rattle.command_edges.specs.Spelled.{HasLinkFault, SpellsLinkable, SpellsEvents}
+use Rattle.netlist_link.specs.Links.{HasLinkFault}
+use Rattle.command_edges.specs.Spelled.{SpellsLinkable, SpellsEvents}
+pub use Rattle.command_edges.specs.Spelled.{StandsInNetlist}
 use Rattle.command_edges.specs.Seen.{SinkSeen, WhereBothTold}
 use Rattle.command_edges.specs.EdgeFaults.{StandsInPutting}
 use Rattle.sim_command.specs.Simulations.{IsSimulation, HasScriptFault}
@@ -15,12 +17,6 @@ pub record HasRun (net events : List ℕ) : Type 0 where
   pub text : List ℕ
   pub missed : ℕ
   pub simulation : IsSimulation net events text missed
-
--- the fault stands in the bytes of a netlist
-abbrev pub StandsInNetlist : List ℕ → Fault → Type 0
-StandsInNetlist net (fault.Netlist f) = IsTextFault net f
-StandsInNetlist net (fault.Link f) = HasLinkFault f net
-StandsInNetlist net f = ⊥
 
 -- The fault stands in the texts of a netlist and of events, or in giving what their run puts. Each text is
 -- spoken of wherever it is told, and the netlist is looked at first.

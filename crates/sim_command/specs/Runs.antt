@@ -48,7 +48,8 @@ GaveInPlay net events f before after =
 abbrev pub IsSimulated : List ℕ → List ℕ → ShelfSeen → SinkSeen → Status → Type 0
 IsSimulated netlist events shelf sink end = AreShort netlist events shelf × IsPlayed (shelf.held netlist) (shelf.held events) sink end
 
--- A refusal with this status, where no fault stands in both texts and no count of the names or of the sink rises, is want of memory.
+-- A refusal with this status, where no fault stands in both texts and neither a count of reads of these nor the sink's rises, is want
+-- of memory.
 abbrev pub CompletesSim : List ℕ → List ℕ → ShelfSeen → SinkSeen → Status → Type 0
 CompletesSim netlist events shelf sink end = (net text : List ℕ) → shelf.held netlist ≡ Some net → shelf.held events ≡ Some text → IsSimulable net text
     → (ReadRose shelf netlist → ⊥) → (ReadRose shelf events → ⊥) → (SinkRose sink → ⊥) → end ≡ status.Memory

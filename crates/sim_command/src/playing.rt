@@ -5,7 +5,8 @@ ghost use Rattle.verilog_texts.specs.Reading.{IsReadAs};
 ghost use Rattle.netlist_link.specs.Links.{IsLinkOf};
 ghost use Rattle.command_edges.specs.Ends.{IsEnd, run_status};
 ghost use Rattle.command_edges.specs.Seen.{sink_seen};
-ghost use Rattle.sim_command.specs.Faults.{StandsInNetlist, StandsInPlay};
+ghost use Rattle.command_edges.specs.Spelled.{StandsInNetlist};
+ghost use Rattle.sim_command.specs.Faults.{StandsInPlay};
 ghost use Rattle.sim_command.specs.Runs.{GaveInPlay, IsPlayed};
 
 use command_faults::{Fault, Status};

@@ -3,13 +3,14 @@ use Rattle.std.proofs.Common.{◌≡◌, ℕ, zero, suc, ◌+◌, ◌<◌, ◌�
 use Rattle.std.specs.Option.{option_and_then}
 use Rattle.std.specs.List.{slice_get, flat_map}
 use Rattle.std.proofs.lemmas.Option.{same_Some}
+use Rattle.list_laws.proofs.Lists.{map_push}
 use Rattle.netlist_model.specs.declared.NetId.{NetId}
 use Rattle.netlist_model.specs.Lists.{PortView, NetlistView}
 use Rattle.netlist_meaning.specs.Pins.{net_of}
 use Rattle.sim_runs.specs.declared.shown.Shown.{Shown}
 use Rattle.sim_runs.specs.Shown.{shown_of}
 use Rattle.sim_runs.specs.Bits.{net_at, port_nets, shown_at, HavePins}
-use Rattle.sim_runs.proofs.Lists.{front_next, map-push, flat_map-push}
+use Rattle.sim_runs.proofs.Lists.{front_next, flat_map-push}
 
 pushed_at : {X : Type 0} (xs : List X) (x : X) (k : ℕ) (y : X) → slice_get (xs ++ x ∷ []) k ≡ Some y → (slice_get xs k ≡ Some y) ⊎ (x ≡ y)
 pushed_at [] x zero y at = inr (same_Some x y at)
@@ -33,7 +34,7 @@ net_in (Some port) bit = refl
 pub nets_more : (found : Option PortView) (place : ℕ) (bits old new : List Shown) (bit : Shown) → option_and_then (λ (port : PortView). slice_get port.nets place) found ≡ Some bit.net
     → map net_at bits ≡ map net_at old ++ take place (port_nets found) → new ≡ bits ++ bit ∷ [] → map net_at new ≡ map net_at old ++ take (place + 1) (port_nets found)
 nets_more found place bits old new bit at so_far is =
-    ap (λ (bs : List Shown). map net_at bs) is ∙ map-push net_at bits bit ∙ ap (λ (ns : List NetId). ns ++ bit.net ∷ []) so_far
+    ap (λ (bs : List Shown). map net_at bs) is ∙ map_push net_at bits bit ∙ ap (λ (ns : List NetId). ns ++ bit.net ∷ []) so_far
     ∙ append_assoc (map net_at old) (take place (port_nets found)) (bit.net ∷ [])
     ∙ ap (λ (ns : List NetId). map net_at old ++ ns) (front_next (port_nets found) place bit.net (net_in found place ∙ at))
 

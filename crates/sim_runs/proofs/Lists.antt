@@ -11,25 +11,6 @@ front_next xs i x at =
     let here = get_or_from_slice_get xs i x x at in
     rw (take_more xs i x within, here) refl
 
--- what is left, by its first element
-pub left_at : {X : Type 0} (xs : List X) (i : ℕ) (x : X) → slice_get xs i ≡ Some x → drop i xs ≡ x ∷ drop (suc i) xs
-left_at [] i x at = absurd (cc)
-left_at (y ∷ xs) zero x at = let same : y ≡ x = grind arith in rw same refl
-left_at (y ∷ xs) (suc i) x at = left_at xs i x at
-
--- the front that is as long as the list is the list, and nothing is left
-pub front_all : {X : Type 0} (xs : List X) (n : ℕ) → length xs ≤ n → take n xs ≡ xs
-front_all [] zero long = refl
-front_all [] (suc n) long = refl
-front_all (x ∷ xs) zero long = absurd (omega arith)
-front_all {X = X} (x ∷ xs) (suc n) long = ap (λ (zs : List X). x ∷ zs) (front_all xs n (omega arith))
-
-pub none_left : {X : Type 0} (xs : List X) (n : ℕ) → length xs ≤ n → drop n xs ≡ []
-none_left [] zero long = refl
-none_left [] (suc n) long = refl
-none_left (x ∷ xs) zero long = absurd (omega arith)
-none_left (x ∷ xs) (suc n) long = none_left xs n (omega arith)
-
 -- the first of what is left stands at its place
 pub at_left : {X : Type 0} (xs : List X) (n : ℕ) (y : X) (ys : List X) → drop n xs ≡ y ∷ ys → slice_get xs n ≡ Some y
 at_left [] zero y ys is = absurd (cc)
@@ -60,10 +41,6 @@ flat_map-same f g (x ∷ xs) same = rw (same x, flat_map-same f g xs same) refl
 pub flat_map-push : {X Z : Type 0} (f : X → List Z) (xs : List X) (x : X) → flat_map f (xs ++ x ∷ []) ≡ flat_map f xs ++ f x
 flat_map-push f [] x = append-nil (f x)
 flat_map-push {Z = Z} f (y ∷ ys) x = ap (λ (l : List Z). f y ++ l) (flat_map-push f ys x) ∙ sym (append_assoc (f y) (flat_map f ys) (f x))
-
-pub map-push : {X Z : Type 0} (f : X → Z) (xs : List X) (x : X) → map f (xs ++ x ∷ []) ≡ map f xs ++ f x ∷ []
-map-push f [] x = refl
-map-push {Z = Z} f (y ∷ ys) x = ap (λ (l : List Z). f y ∷ l) (map-push f ys x)
 
 -- a list whose first elements are made anew
 pub renewed_next : {X Y : Type 0} (f : X → Y) (xs : List X) (i : ℕ) (x : X) (old : List Y) → slice_get xs i ≡ Some x → length old ≡ length xs

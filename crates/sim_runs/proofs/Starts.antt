@@ -1,11 +1,12 @@
 -- The start of a script, and that each of its lines can be played.
-use Rattle.std.proofs.Common.{◌≡◌, ◌≢◌, ℕ, zero, suc, ◌+◌, ◌<◌, ◌≤◌, true, false, List, [], ◌∷◌, ◌++◌, length, refl, sym, ◌∙◌, ap, arith, Option, Some, None, inl, inr}
-use Rattle.std.specs.Option.{option_map, option_and_then, IsSome}
+use Rattle.std.proofs.Common.{◌≡◌, ◌≢◌, ℕ, zero, suc, ◌+◌, ◌<◌, ◌≤◌, true, List, [], ◌∷◌, ◌++◌, length, refl, sym, ◌∙◌, ap, arith, Option, Some, None, inl, inr}
+use Rattle.std.specs.Option.{option_map, option_and_then}
 use Rattle.std.specs.List.{slice_get, flat_map, All, AllByRecursion}
 use Rattle.std.proofs.lemmas.Bool.{cases_lt}
 use Rattle.std.proofs.lemmas.Bool.Decides.{eqb_tells}
 use Rattle.std.proofs.lemmas.List.Elements.{All-from_recursion}
 use Rattle.std.proofs.lemmas.Option.{same_Some}
+use Rattle.list_laws.proofs.Options.{some_there}
 use Rattle.signal_values.specs.declared.Sig.{Sig}
 use Rattle.signal_values.specs.declared.Sig.TheVariants.{Unknown}
 use Rattle.signal_values.specs.declared.PinSig.{PinSig}
@@ -19,7 +20,7 @@ use Rattle.netlist_model.specs.Settled.{feed_values, follows_pin}
 use Rattle.netlist_model.specs.Formed.{IsWellFormed}
 use Rattle.netlist_model.specs.Runs.{Moment, PinEvent, IsKnownPin, IsLegal, IsStart, IsRun, pins_after}
 use Rattle.netlist_laws.specs.Runs.{SameMoment}
-use Rattle.netlist_laws.proofs.Runs.{run_exists}
+use Rattle.netlist_laws.proofs.Runs.{run_exists, start_same}
 use Rattle.scan_vectors.specs.declared.lines.Act.{Act}
 use Rattle.scan_vectors.specs.declared.lines.Act.TheVariants.{Start, Set, Expect}
 use Rattle.event_scripts.specs.declared.script.ScriptLine.{ScriptLine}
@@ -27,11 +28,6 @@ use Rattle.event_scripts.specs.Scripts.{IsPlayable, IsStartAt}
 use Rattle.netlist_meaning.specs.Pins.{PinsView, ArePinsOf, AreFirstPins, IsDrivenPin, SetsPin, net_of, outside}
 use Rattle.sim_runs.specs.Runs.{net_number, event_of, events_at, events_of, HasStarts, IsRunOf}
 use Rattle.sim_runs.specs.Playing.{AreKnown, CanPlay, CanStart, HaveStarts, IsFirst, TakesStart, line_event}
-use Rattle.sim_runs.proofs.Same.{start_same}
-
-live_some : {X : Type 0} (o : Option X) → IsSome o → (x : X) × (o ≡ Some x)
-live_some None live = absurd (let no : false ≡ true = live in cc)
-live_some (Some x) live = (x, refl)
 
 -- each line can be played
 pub can_play : (N : NetlistView) (script : List ScriptLine) (place : ℕ) (line : ScriptLine) → IsPlayable N script → slice_get script place ≡ Some line → CanPlay line.act N line
@@ -40,7 +36,7 @@ can_play N script place line playable at = go line.act refl
     go : (act : Act) → line.act ≡ act → CanPlay act N line
     go Start is = tt
     go Set is =
-        let net = live_some (bit_net N line.pin.port.0 line.pin.bit) (playable.there place line at) in
+        let net = some_there (bit_net N line.pin.port.0 line.pin.bit) (playable.there place line at) in
         record { net = net.0; named = net.1; legal = playable.legal place line net.0 at (λ e. let no : Set ≡ Expect = sym is ∙ e in cc) net.1 }
     go Expect is = playable.there place line at
 
@@ -61,7 +57,7 @@ can_start N script ports place line same playable at = rw same (go line.act refl
   where
     go : (act : Act) → line.act ≡ act → CanStart act N.ports line
     go Start is =
-        let net = live_some (bit_net N line.pin.port.0 line.pin.bit) (playable.there place line at) in
+        let net = some_there (bit_net N line.pin.port.0 line.pin.bit) (playable.there place line at) in
         record {
           net = net.0;
           named = net.1;
@@ -110,7 +106,7 @@ net_same a b e = let make : ℕ → NetId = λ x. record { 0 = x } in ap make e
 starts_apart : (N : NetlistView) (script : List ScriptLine) (place count : ℕ) (found line : ScriptLine) (net : NetId) → IsWellFormed N → IsPlayable N script → place < count
     → slice_get script place ≡ Some found → slice_get script count ≡ Some line → found.act ≡ Start → line.act ≡ Start → net_of N.ports line.pin ≡ Some net → net_number N found.pin ≢ net.0
 starts_apart N script place count found line net formed playable below there at start start' named is =
-    let own = live_some (bit_net N found.pin.port.0 found.pin.bit) (playable.there place found there) in
+    let own = some_there (bit_net N found.pin.port.0 found.pin.bit) (playable.there place found there) in
     let nets : own.0 ≡ net = net_same own.0 net (sym (net_is N found.pin own.0 own.1) ∙ is) in
     let own_named : bit_net N found.pin.port.0 found.pin.bit ≡ Some net = own.1 ∙ ap (λ (n : NetId). Some n) nets in
     let bits = formed.bits_apart found.pin.port.0 line.pin.port.0 found.pin.bit line.pin.bit net own_named named in
@@ -184,7 +180,7 @@ events_legal N (line ∷ script) each = go line.act refl (events_legal N script 
 
 set_legal : (N : NetlistView) (script : List ScriptLine) → IsPlayable N script → (place : ℕ) (line : ScriptLine) → slice_get script place ≡ Some line → line.act ≡ Set → IsLegal N (event_of N line)
 set_legal N script playable place line at set =
-    let net = live_some (bit_net N line.pin.port.0 line.pin.bit) (playable.there place line at) in
+    let net = some_there (bit_net N line.pin.port.0 line.pin.bit) (playable.there place line at) in
     let legal = playable.legal place line net.0 at (λ e. let no : Set ≡ Expect = sym set ∙ e in cc) net.1 in
     rw (net_is N line.pin net.0 net.1) legal
 

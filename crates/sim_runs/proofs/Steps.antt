@@ -2,6 +2,8 @@
 use Rattle.std.proofs.Common.{◌≡◌, ◌≢◌, ℕ, zero, suc, ◌+◌, ◌<◌, ◌≤◌, List, [], ◌∷◌, ◌++◌, length, take, drop, refl, sym, ◌∙◌, ap, arith, add-one, append_assoc, append-nil, Option, Some, None, subst}
 use Rattle.std.specs.List.{slice_get, flat_map}
 use Rattle.std.proofs.lemmas.Option.{same_Some, slice_get_within}
+use Rattle.list_laws.proofs.Lists.{left_at, none_left}
+use Rattle.netlist_laws.proofs.Runs.{step_same}
 use Rattle.edge_io.specs.Shelf.{appended}
 use Rattle.netlist_model.specs.declared.NetId.{NetId}
 use Rattle.netlist_model.specs.Lists.{NetlistView, bit_net}
@@ -19,8 +21,7 @@ use Rattle.output_lines.proofs.Pieces.{appended-twice, appended-front}
 use Rattle.sim_runs.specs.Runs.{net_number, event_of, events_at, events_of, IsRunOf}
 use Rattle.sim_runs.specs.Outputs.{first_readings, line_text, line_misses, lines_text, misses, sets_with, done_line, run_text}
 use Rattle.sim_runs.specs.Playing.{Moves, line_event}
-use Rattle.sim_runs.proofs.Lists.{left_at, at_left, less_left, left_none, none_left}
-use Rattle.sim_runs.proofs.Same.{step_same}
+use Rattle.sim_runs.proofs.Lists.{at_left, less_left, left_none}
 use Rattle.sim_runs.proofs.Texts.{IsFront, first_same, line_same, misses_same, front_one, front_two}
 
 -- so many lines were played, with so many sets and misses among them, and this was put

@@ -1,8 +1,9 @@
 -- Each live cell is one of the core or one of the test logic, and the other way round.
 use Rattle.std.proofs.Common.{◌≡◌, inl, inr, ℕ, zero, suc, ◌+◌, ◌<◌, List, [], ◌∷◌, ◌++◌, map, length, refl, sym, ◌∙◌, ap, subst, Option, Some, None, arith}
-use Rattle.std.specs.Prelude.{slice_get, filter_map, count_by, is_some, IsSome}
+use Rattle.std.specs.Prelude.{slice_get, filter_map, count_by, is_some}
 use Rattle.std.proofs.lemmas.List.{length-map}
 use Rattle.std.proofs.lemmas.Option.{slice_get_within}
+use Rattle.list_laws.proofs.Options.{some_there}
 use Rattle.netlist_model.specs.Lists.{CellView, NetlistView, cell_at, cell_count}
 use Rattle.netlist_model.specs.Contained.{IsDense}
 use Rattle.plan_fitting.specs.declared.fitted.Fitted.{Fitted}
@@ -14,13 +15,14 @@ use Rattle.stitch_model.specs.Logic.{controller_part, instruction_part, bypass_p
 use Rattle.stitch_model.specs.Stitched.{same_place, boundary_at, first_net, live_cells, rows_part, tdo_part, test_logic_cells, stitched}
 use Rattle.stitch_laws.specs.Places.{port_of, bypass_number, ident_number, register_number, tdo_number}
 use Rattle.stitch_laws.proofs.Places.{listed_at, mapped_at, counts_live, counts_empty, live_at}
+use Rattle.stitch_laws.proofs.Parts.{length_behind}
 use Rattle.stitch_cells.specs.Cells.{IsAt, CellOf, of_core, of_controller, of_instruction, of_bypass, of_ident, of_row, of_driver, of_tdo, StitchedHasCells, StitchedStandsBy}
-use Rattle.stitch_cells.proofs.Split.{split, front, back, moved, length_behind}
+use Rattle.stitch_cells.proofs.Split.{split, front, back, moved}
 use Rattle.stitch_cells.proofs.Rows.{IsOfRow, of_rows, in_rows}
 
 -- The core.
 
-live_length : (places : List (Option CellView)) → length (filter_map same_place places) ≡ count_by is_some places
+pub live_length : (places : List (Option CellView)) → length (filter_map same_place places) ≡ count_by is_some places
 live_length [] = refl
 live_length (Some c ∷ places) = ap suc (live_length places) ∙ sym (counts_live c places)
 live_length (None ∷ places) = live_length places ∙ sym (counts_empty places)
@@ -38,16 +40,12 @@ mapped_from to [] k cell e = absurd (cc)
 mapped_from to (x ∷ xs) zero cell e = record { old = x; at = refl; is = cc }
 mapped_from to (x ∷ xs) (suc k) cell e = let rest = mapped_from to xs k cell e in record { old = rest.old; at = rest.at; is = rest.is }
 
-is_one : (o : Option CellView) → IsSome o → (cell : CellView) × (o ≡ Some cell)
-is_one None h = absurd (cc)
-is_one (Some cell) h = (cell, refl)
-
 -- the live cell with this number is the one in this place
 core_at : (N : NetlistView) → IsDense N → (k : ℕ) (old : CellView) → slice_get (live_cells N) k ≡ Some old → cell_at N k ≡ Some old
 core_at N dense k old at =
     let inside : k < length (live_cells N) = slice_get_within (live_cells N) k old at in
     let many = live_length N.cells in
-    let one = is_one (cell_at N k) (dense k (omega arith)) in
+    let one = some_there (cell_at N k) (dense k (omega arith)) in
     let there : slice_get (live_cells N) k ≡ Some one.0 = live_at N.cells dense k one.0 one.1 in
     let same : one.0 ≡ old = cc in
     one.1 ∙ ap (λ (c : CellView). Some c) same

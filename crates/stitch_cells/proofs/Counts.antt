@@ -1,7 +1,8 @@
 -- How many cells and nets the netlist with the test logic has.
-use Rattle.std.proofs.Common.{◌≡◌, ℕ, suc, ◌+◌, List, [], ◌∷◌, ◌++◌, map, length, length-append, refl, sym, ◌∙◌, ap, subst, Option, Some, arith}
-use Rattle.std.specs.Prelude.{count_by, is_some, IsSome}
+use Rattle.std.proofs.Common.{◌≡◌, ℕ, suc, ◌+◌, List, [], ◌∷◌, ◌++◌, map, length, length-append, refl, ◌∙◌, ap, Some, arith}
+use Rattle.std.specs.Prelude.{count_by, is_some}
 use Rattle.list_laws.proofs.Lists.{slice_get_there}
+use Rattle.list_laws.proofs.Options.{is_there}
 use Rattle.netlist_model.specs.Lists.{CellView, NetlistView, cell_at, cell_count}
 use Rattle.netlist_model.specs.Contained.{IsDense}
 use Rattle.gate_parts.specs.Parts.{added_nets}
@@ -13,8 +14,8 @@ use Rattle.stitch_model.specs.Sides.{core_cell}
 use Rattle.stitch_model.specs.Stitched.{boundary_at, first_net, live_cells, tap_net_views, test_logic_nets, test_logic_cells, stitched_cells, stitched}
 use Rattle.stitch_laws.specs.Places.{port_of}
 use Rattle.stitch_laws.proofs.Places.{listed_at, counts_live}
+use Rattle.stitch_laws.proofs.Parts.{length_behind}
 use Rattle.stitch_cells.specs.Sizes.{added_cells, added_net_count, StitchedHasCounts}
-use Rattle.stitch_cells.proofs.Split.{length_behind}
 use Rattle.stitch_cells.proofs.Cells.{core_length, T, CIPDR, tdo_from}
 use Rattle.stitch_cells.proofs.Sizes.{numbers}
 
@@ -25,14 +26,11 @@ all_live (c ∷ cells) = counts_live c (map Some cells) ∙ ap suc (all_live cel
 pub listed_count : (N : NetlistView) (names : TapNames) (f : Fitted) → cell_count (stitched N names f) ≡ length (stitched_cells N f)
 listed_count N names f = all_live (stitched_cells N f)
 
-some_is : (o : Option CellView) (cell : CellView) → o ≡ Some cell → IsSome o
-some_is o cell e = subst (λ (x : Option CellView). IsSome x) (sym e) refl
-
 dense : (N : NetlistView) (names : TapNames) (f : Fitted) → IsDense (stitched N names f)
 dense N names f i below =
     let many = listed_count N names f in
     let there = slice_get_there (stitched_cells N f) i (omega arith) in
-    some_is (cell_at (stitched N names f) i) there.0 (listed_at (stitched_cells N f) i ∙ there.1)
+    is_there (cell_at (stitched N names f) i) there.0 (listed_at (stitched_cells N f) i ∙ there.1)
 
 cells_are : (N : NetlistView) (names : TapNames) (f : Fitted) → cell_count (stitched N names f) ≡ cell_count N + added_cells N f
 cells_are N names f =

@@ -1,14 +1,13 @@
 -- The directions of nets in the netlist with the test logic.
 use Rattle.std.proofs.Common.{◌≡◌, ◌≢◌, inl, inr, ℕ, ◌+◌, ◌≤◌, ◌==◌, true, false, List, [], ◌∷◌, ◌++◌, length, refl, sym, ◌∙◌, arith, eq-eqb, Option, Some, None}
 use Rattle.std.proofs.lemmas.Bool.Decides.{eqb_tells}
-use Rattle.std.proofs.lemmas.Bool.{cases_Bool}
 use Rattle.netlist_model.specs.declared.Name.{Name}
 use Rattle.netlist_model.specs.declared.NetId.{NetId}
 use Rattle.netlist_model.specs.declared.Dir.{Dir}
 use Rattle.netlist_model.specs.declared.Dir.TheVariants.{Input, Output}
-use Rattle.netlist_model.specs.Lists.{PortView, NetlistView, bit_net, is_among, direction}
-use Rattle.netlist_model.specs.Formed.{IsLaidOut}
+use Rattle.netlist_model.specs.Lists.{PortView, direction}
 use Rattle.netlist_laws.specs.Ports.{DirectionHasBit}
+use Rattle.gate_parts.proofs.Ports.{dir_stays, dir_of_more, no_port_past}
 use Rattle.stitch_model.specs.declared.TapNames.{TapNames}
 use Rattle.stitch_model.specs.declared.TapPort.{TapPort}
 use Rattle.stitch_model.specs.Stitched.{scalar, tap_ports, tap_port}
@@ -17,23 +16,9 @@ use Rattle.stitch_cells.specs.Directions.{StitchedDirections}
 
 -- Ports behind others.
 
-stays : (ports more : List PortView) (net : ℕ) (dir : Dir) → direction ports net ≡ Some dir → direction (ports ++ more) net ≡ Some dir
-stays [] more net dir e = absurd (let h : None ≡ Some dir = e in cc)
-stays (p ∷ ps) more net dir e = elim (cases_Bool (is_among net p.nets)) [
-  | inl there ↦ (let h = rw there at e in rw there h)
-  | inr out ↦ (let h = rw out at e in rw out (stays ps more net dir h))
-]
-
-behind_none : (ports more : List PortView) (net : ℕ) → direction ports net ≡ None → direction (ports ++ more) net ≡ direction more net
-behind_none [] more net e = refl
-behind_none (p ∷ ps) more net e = elim (cases_Bool (is_among net p.nets)) [
-  | inl there ↦ absurd (let h : Some p.dir ≡ None = rw there at e in cc)
-  | inr out ↦ (let h = rw out at e in rw out (behind_none ps more net h))
-]
-
 same_before : (ports more : List PortView) (net : ℕ) (found : Option Dir) → direction ports net ≡ found → direction more net ≡ None → direction (ports ++ more) net ≡ direction ports net
-same_before ports more net None e none = behind_none ports more net e ∙ none ∙ sym e
-same_before ports more net (Some dir) e none = stays ports more net dir e ∙ sym e
+same_before ports more net None e none = dir_of_more ports more net e ∙ none ∙ sym e
+same_before ports more net (Some dir) e none = dir_stays ports more net dir e ∙ sym e
 
 -- A scalar port.
 
@@ -45,14 +30,6 @@ miss name dir net ports other apart = elim (eqb_tells net.0 other) [
   | inl h ↦ absurd (apart h.1)
   | inr h ↦ (let here : (net.0 == other) ≡ false = h.0 in rw here refl)
 ]
-
--- a net of no port
-outside : DirectionHasBit → (N : NetlistView) → IsLaidOut N → (net : ℕ) → length N.nets ≤ net → (found : Option Dir) → direction N.ports net ≡ found → direction N.ports net ≡ None
-outside law N laid net past None e = e
-outside law N laid net past (Some dir) e =
-    let b = law N dir (record { 0 = net }) e in
-    let at : bit_net N b.number b.bit ≡ Some (record { 0 = net }) = rw b.stands b.has in
-    let low = laid.port_nets b.number b.bit (record { 0 = net }) at in absurd (omega (arith, low, past))
 
 -- the ports behind each of the test access port
 abbrev behind_trst : List PortView
@@ -111,7 +88,7 @@ directions law N names f laid =
     let more : List PortView = tap_ports names (port_of N) in
     let tap = tap_directions n names in
     let past : (net : ℕ) → n ≤ net → direction (N.ports ++ more) net ≡ direction more net =
-    λ net low. behind_none N.ports more net (outside law N laid net low (direction N.ports net) refl) in
+    λ net low. dir_of_more N.ports more net (no_port_past law N laid net low (direction N.ports net) refl) in
     record {
       core = λ net low. same_before N.ports more net (direction N.ports net) refl
           (no_tap n names net (λ e. omega arith) (λ e. omega arith) (λ e. omega arith) (λ e. omega arith) (λ e. omega arith));

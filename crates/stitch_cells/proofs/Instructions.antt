@@ -12,6 +12,7 @@ use Rattle.test_logic.specs.declared.Codes.{Codes}
 use Rattle.test_logic.specs.declared.TapNets.{TapNets}
 use Rattle.test_logic.specs.Instructions.{opcode_of}
 use Rattle.register_bits.specs.Chains.{chain_cells}
+use Rattle.register_bits.proofs.Lengths.{chain_length}
 use Rattle.register_gates.proofs.ConstantBits.{counted, constants}
 use Rattle.instruction_gates.specs.declared.selections.TheConstants.{SELECTIONS}
 use Rattle.instruction_gates.specs.declared.stages.TheConstants.{LOADS}
@@ -23,7 +24,7 @@ use Rattle.instruction_register.proofs.Added.{stages_counted}
 use Rattle.instruction_register.proofs.Sizes.{opcode_length, opcodes_length}
 use Rattle.stitch_cells.specs.Gates.{EachCell, DriveInTurn, FeedsAre, IsLogicCell}
 use Rattle.stitch_cells.proofs.Tables.{each_append, turn_append, turn_moved, feed_cons, table_turn, plain_logic}
-use Rattle.stitch_cells.proofs.Registers.{Between, constant_feeds, SteeringAre, LatchingAre, chain_length, chain_turn, chain_logic, latches_turn, latches_logic, matches_turn, matches_logic, before_is}
+use Rattle.stitch_cells.proofs.Registers.{Between, constant_feeds, SteeringAre, LatchingAre, chain_turn, chain_logic, latches_turn, latches_logic, matches_turn, matches_logic, before_is}
 
 -- Nets in turn.
 

@@ -1,5 +1,5 @@
 -- The cells of the instruction register and of the other registers beside the boundary register.
-use Rattle.std.proofs.Common.{◌≡◌, ℕ, zero, suc, ◌+◌, ◌*◌, ◌<◌, ◌≤◌, ◌/◌, true, false, Bool, List, [], ◌∷◌, length, length-append, refl, ap, arith}
+use Rattle.std.proofs.Common.{◌≡◌, ℕ, zero, suc, ◌+◌, ◌*◌, ◌<◌, ◌≤◌, ◌/◌, true, false, Bool, List, [], ◌∷◌, length, refl, ap, arith}
 use Rattle.netlist_model.specs.declared.NetId.{NetId}
 use Rattle.netlist_model.specs.declared.Feed.{Feed}
 use Rattle.netlist_model.specs.declared.Feed.TheVariants.{Net, Const}
@@ -8,13 +8,15 @@ use Rattle.register_bits.specs.declared.Steering.{Steering}
 use Rattle.register_bits.specs.declared.TheConstants.{SHIFT_BIT}
 use Rattle.register_bits.specs.Bits.{shift_bit_given, shift_bit_cells, held_bit, held_bit_given, held_bit_cells}
 use Rattle.register_bits.specs.Chains.{chain_last, chain_cells}
+use Rattle.register_bits.proofs.Lengths.{chain_length}
 use Rattle.register_gates.specs.Constants.{constant_bits}
 use Rattle.instruction_gates.specs.declared.latches.Latching.{Latching}
 use Rattle.instruction_gates.specs.declared.latches.TheConstants.{LOADED}
 use Rattle.instruction_gates.specs.declared.matches.TheConstants.{EQUAL_BIT}
 use Rattle.instruction_gates.specs.Rows.{is_one}
 use Rattle.instruction_gates.specs.Latches.{holding_of, loaded_given, latch_cells, latches_cells}
-use Rattle.instruction_gates.specs.Matches.{match_before, equal_given, match_cells, matches_cells}
+use Rattle.instruction_gates.specs.Matches.{match_before, equal_given, matches_cells}
+use Rattle.instruction_register.proofs.Sizes.{latches_length, matches_length}
 use Rattle.stitch_cells.specs.Gates.{EachCell, DriveInTurn, FeedsAre, IsLogicCell}
 use Rattle.stitch_cells.proofs.Tables.{each_append, turn_append, turn_moved, feed_cons, feed_head, feed_tail, table_turn, table_logic, plain_logic}
 
@@ -29,16 +31,6 @@ constant_feeds P zero value = tt
 constant_feeds P (suc count) value = constant_feeds P count (value / 2)
 
 -- Bits behind one another.
-
-pub chain_length : (first number : ℕ) (by : Steering) (tdi : NetId) (captured : List Feed) → length (chain_cells first number by tdi captured) ≡ 3 * length captured
-chain_length first number by tdi [] = refl
-chain_length first number by tdi (c ∷ rest) =
-    let xs = chain_cells first number by tdi rest in
-    let ys = shift_bit_cells (first + 3 * length rest) (number + 3 * length rest) by c (chain_last first tdi rest) in
-    let three : length ys ≡ 3 = refl in
-    let both = length-append xs ys in
-    let before = chain_length first number by tdi rest in
-    omega arith
 
 pub chain_turn : (first number : ℕ) (by : Steering) (tdi : NetId) (captured : List Feed) → DriveInTurn first (chain_cells first number by tdi captured)
 chain_turn first number by tdi [] = tt
@@ -100,16 +92,6 @@ latch_turn by shift first number preset =
 latch_length : (by : Latching) (shift first number : ℕ) (preset : Feed) → length (latch_cells by shift first number preset) ≡ 3
 latch_length by shift first number preset = ap suc (held_length (first + 1) (number + 1) by (is_one preset) (Net (record { 0 = first })))
 
-latches_length : (first number : ℕ) (by : Latching) (shifts : ℕ) (presets : List Feed) → length (latches_cells first number by shifts presets) ≡ 3 * length presets
-latches_length first number by shifts [] = refl
-latches_length first number by shifts (preset ∷ rest) =
-    let xs = latches_cells first number by shifts rest in
-    let ys = latch_cells by (shifts + 3 * length rest) (first + 3 * length rest) (number + 3 * length rest) preset in
-    let both = length-append xs ys in
-    let three = latch_length by (shifts + 3 * length rest) (first + 3 * length rest) (number + 3 * length rest) preset in
-    let before = latches_length first number by shifts rest in
-    omega arith
-
 pub latches_turn : (first number : ℕ) (by : Latching) (shifts : ℕ) (presets : List Feed) → DriveInTurn first (latches_cells first number by shifts presets)
 latches_turn first number by shifts [] = tt
 latches_turn first number by shifts (preset ∷ rest) =
@@ -153,16 +135,6 @@ latches_logic P first number by shifts (preset ∷ rest) l s own =
     (λ net low high. own net (omega arith) (omega arith)))
 
 -- What tells of opcodes.
-
-matches_length : (first number latched : ℕ) (wanted : List Feed) → length (matches_cells first number latched wanted) ≡ 2 * length wanted
-matches_length first number latched [] = refl
-matches_length first number latched (item ∷ rest) =
-    let xs = matches_cells first number latched rest in
-    let ys = match_cells (match_before first (length rest)) (latched + 3 * length rest + 1) (first + 2 * length rest) (number + 2 * length rest) item in
-    let both = length-append xs ys in
-    let two : length ys ≡ 2 = refl in
-    let before = matches_length first number latched rest in
-    omega arith
 
 pub matches_turn : (first number latched : ℕ) (wanted : List Feed) → DriveInTurn first (matches_cells first number latched wanted)
 matches_turn first number latched [] = tt

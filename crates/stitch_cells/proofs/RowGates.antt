@@ -1,5 +1,5 @@
 -- The gates of a row of the boundary register: what they drive, and what they read.
-use Rattle.std.proofs.Common.{◌≡◌, ℕ, zero, suc, ◌+◌, ◌<◌, Bool, true, false, IsTrue, List, [], ◌∷◌, ◌++◌, length, refl, ap, sym, ◌∙◌, arith, Some}
+use Rattle.std.proofs.Common.{◌≡◌, ℕ, zero, suc, ◌+◌, ◌<◌, true, false, IsTrue, List, [], ◌∷◌, ◌++◌, length, refl, ap, sym, ◌∙◌, arith, Some}
 use Rattle.std.specs.Prelude.{slice_get}
 use Rattle.list_laws.proofs.Lists.{slice_get-append_left, slice_get-append_right}
 use Rattle.cell_library.specs.declared.codes.BoundaryKind.TheVariants.{Bc1, Bc2, Bc4, Bc7}
@@ -31,6 +31,7 @@ use Rattle.stitch_cells.specs.Cells.{driver_number}
 use Rattle.stitch_cells.specs.Gates.{EachCell, FeedsAre, IsLogicCell, is_logic_table}
 use Rattle.stitch_cells.specs.Logic.{into_at, RowsDrive}
 use Rattle.stitch_cells.proofs.Tables.{each_append, turn_at, feed_cons, pin_feed, table_turn, table_logic}
+use Rattle.stitch_cells.proofs.Sizes.{bidir_length}
 
 -- What they drive.
 
@@ -56,10 +57,6 @@ choice_drives gates choice given first number into j cell at is =
     let same : Some last ≡ Some cell = sym there ∙ at in
     let one : last ≡ cell = cc in
     ap (λ (c : CellView). c.output) (sym one)
-
-bidir_length : (active_high : Bool) → length (bidir_table active_high) ≡ 7
-bidir_length true = refl
-bidir_length false = refl
 
 own_by : (B : Boundary) (scan : ScanNets) (first number side : ℕ) (row : FitRow) (next : NetId) (at : Site) (j : ℕ) (cell : CellView)
     → slice_get (row_cells (handed_at B side row at) first number scan next) j ≡ Some cell → j < nets_by at row.cell → cell.output ≡ Some (record { 0 = first + j })

@@ -12,6 +12,7 @@ use Rattle.test_logic.specs.declared.TapNets.{TapNets}
 use Rattle.test_logic.specs.declared.ScanNets.{ScanNets}
 use Rattle.test_logic.specs.declared.Codes.{Codes}
 use Rattle.register_bits.specs.Chains.{chain_cells}
+use Rattle.register_bits.proofs.Lengths.{chain_length}
 use Rattle.register_gates.specs.Constants.{constant_bits}
 use Rattle.register_gates.specs.Registers.{selected_cells, selected_steering, ident_cells}
 use Rattle.register_gates.proofs.ConstantBits.{constants}
@@ -38,7 +39,6 @@ use Rattle.stitch_model.specs.Stitched.{boundary_at, first_net}
 use Rattle.stitch_laws.specs.Places.{port_of, scan_of, instruction_number, bypass_number, ident_number, register_number, register_net, rows_before, row_first, row_side, row_number, row_next, handed_at, drivers_at}
 use Rattle.stitch_cells.specs.Sizes.{choice_count, driver_count, row_size, cells_of_rows, LogicHasLengths, RowsHaveLengths, PartsHaveNumbers}
 use Rattle.stitch_cells.specs.Cells.{driver_number}
-use Rattle.stitch_cells.proofs.Registers.{chain_length}
 
 -- The registers.
 
@@ -89,7 +89,7 @@ onto_length gates choice given first number into =
     let many = length-cells_from first given number first gates in
     omega arith
 
-bidir_length : (active_high : Bool) → length (bidir_table active_high) ≡ 7
+pub bidir_length : (active_high : Bool) → length (bidir_table active_high) ≡ 7
 bidir_length true = refl
 bidir_length false = refl
 

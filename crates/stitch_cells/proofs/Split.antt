@@ -1,8 +1,7 @@
 -- Cells by their places in lists that stand behind one another.
-use Rattle.std.proofs.Common.{◌≡◌, ◌⊎◌, inl, inr, ℕ, zero, suc, ◌+◌, List, [], ◌∷◌, ◌++◌, length, length-append, subst, Some, arith}
+use Rattle.std.proofs.Common.{◌≡◌, ◌⊎◌, inl, inr, ℕ, zero, suc, ◌+◌, List, [], ◌∷◌, ◌++◌, length, subst, Some, arith}
 use Rattle.std.specs.Prelude.{slice_get}
 use Rattle.netlist_model.specs.Lists.{CellView}
-use Rattle.stitch_model.specs.Rows.{behind}
 use Rattle.stitch_cells.specs.Cells.{IsAt}
 
 -- A cell of two lists is one of the first, or one of the second.
@@ -43,7 +42,3 @@ moved part m n i cell e h = subst (λ (k : ℕ). IsAt i k (part k) cell) e h
 
 pub same_list : (i from : ℕ) (xs ys : List CellView) (cell : CellView) → xs ≡ ys → IsAt i from xs cell → IsAt i from ys cell
 same_list i from xs ys cell e h = subst (λ (zs : List CellView). IsAt i from zs cell) e h
-
-pub length_behind : (number : ℕ) (xs : List CellView) (part : ℕ → List CellView)
-    → number + length (behind number xs part) ≡ number + length xs + length (part (number + length xs))
-length_behind number xs part = let both = length-append xs (part (number + length xs)) in omega arith

@@ -1,9 +1,10 @@
 -- The cells of a table of the test logic.
-use Rattle.std.proofs.Common.{◌≡◌, ℕ, zero, suc, ◌+◌, ◌<◌, ◌≤◌, ◌&&◌, ◌||◌, not, true, false, Bool, IsTrue, List, [], ◌∷◌, ◌++◌, map, length, refl, ap, sym, subst, ◌∙◌, arith, Option, unwrap_or}
-use Rattle.std.specs.Prelude.{Some, None, slice_get, MatchOption}
+use Rattle.std.proofs.Common.{◌≡◌, ℕ, zero, suc, ◌+◌, ◌<◌, ◌&&◌, not, true, false, Bool, IsTrue, List, [], ◌∷◌, ◌++◌, map, length, refl, ap, sym, subst, ◌∙◌, arith, Option, unwrap_or}
+use Rattle.std.specs.Prelude.{Some, None, slice_get}
 use Rattle.std.specs.List.{list_all}
 use Rattle.std.proofs.lemmas.Bool.{eqb-true}
 use Rattle.std.proofs.lemmas.List.{length-map}
+use Rattle.list_laws.proofs.Tests.{both_hold, then_holds}
 use Rattle.cell_library.specs.Gates.{is_three_state, is_flop, operand_count_of, Takes}
 use Rattle.netlist_model.specs.declared.Feed.{Feed}
 use Rattle.netlist_model.specs.declared.Feed.TheVariants.{Net, Const}
@@ -11,10 +12,9 @@ use Rattle.netlist_model.specs.declared.NetId.{NetId}
 use Rattle.netlist_model.specs.Lists.{CellView}
 use Rattle.gate_parts.specs.declared.Pin.{Pin}
 use Rattle.gate_parts.specs.declared.Pin.TheVariants.{Own, Given}
-use Rattle.gate_parts.specs.declared.Pins.{Pins}
-use Rattle.gate_parts.specs.declared.Pins.TheVariants.{One, Two, Three, Four}
 use Rattle.gate_parts.specs.declared.Gate.{Gate}
 use Rattle.gate_parts.specs.Parts.{feed_of, pins_of, gate_cell, cells_from, part_cells, takes_few, is_sound_pin, is_sound_gate}
+use Rattle.gate_parts.proofs.PinCounts.{takes_by, pins_few}
 use Rattle.stitch_cells.specs.Gates.{EachCell, DriveInTurn, FeedsAre, IsLogicCell, is_given_at, is_clocked_by, is_logic_gate, is_logic_table, is_plain_gate}
 
 -- Lists of cells.
@@ -77,27 +77,9 @@ given_feed P (f ∷ fs) (suc k) are = given_feed P fs k (feed_tail P f fs are)
 
 -- One gate.
 
-pub both : (a b : Bool) → IsTrue (a && b) → IsTrue a × IsTrue b
-both true b is = (refl, is)
-both false b is = absurd (cc)
-
 not_true : (a : Bool) → IsTrue (not a) → a ≡ false
 not_true true is = absurd (cc)
 not_true false is = refl
-
-or_not : (a b : Bool) → IsTrue (not a || b) → a ≡ true → IsTrue b
-or_not true b either is = either
-or_not false b either is = absurd (cc)
-
-takes_by : (wanted : Option ℕ) (count : ℕ) → IsTrue (takes_few wanted count) → count ≤ 4 → MatchOption wanted ((1 ≤ count) × (count ≤ 256)) (λ wanted. count ≡ wanted)
-takes_by None count few small = (grind (arith, few), omega (arith, small))
-takes_by (Some wanted) count few small = grind (arith, few)
-
-pins_few : (pins : Pins) → length (pins_of pins) ≤ 4
-pins_few (One a) = omega arith
-pins_few (Two a b) = omega arith
-pins_few (Three a b c) = omega arith
-pins_few (Four a b c d) = omega arith
 
 pub pin_feed : (P : ℕ → Type 0) (first count : ℕ) (given : List Feed) (pin : Pin) → ((j : ℕ) → j < count → P (first + j)) → FeedsAre P given
     → IsTrue (is_sound_pin count (length given) pin) → FeedsAre P (feed_of first given pin ∷ [])
@@ -108,7 +90,7 @@ pins_feeds : (P : ℕ → Type 0) (first count : ℕ) (given : List Feed) (pins 
     → IsTrue (list_all (is_sound_pin count (length given)) pins) → FeedsAre P (map (feed_of first given) pins)
 pins_feeds P first count given [] own are sound = tt
 pins_feeds P first count given (pin ∷ pins) own are sound =
-    let parts = both (is_sound_pin count (length given) pin) (list_all (is_sound_pin count (length given)) pins) sound in
+    let parts = both_hold (is_sound_pin count (length given) pin) (list_all (is_sound_pin count (length given)) pins) sound in
     feed_cons P (feed_of first given pin) (map (feed_of first given) pins) (pin_feed P first count given pin own are parts.0) (pins_feeds P first count given pins own are parts.1)
 
 given_at : (first : ℕ) (given : List Feed) (place : ℕ) (net : NetId) (pin : Option Pin) → IsTrue (is_given_at place pin) → slice_get given place ≡ Some (Net net)
@@ -136,16 +118,16 @@ pub gate_is : (tck trst : NetId) (P : ℕ → Type 0) (count first number net cl
     → FeedsAre P given → ((j : ℕ) → j < count → P (first + j)) → IsLogicCell tck trst P (gate_cell first given number net gate)
 gate_is tck trst P count first number net clock reset given gate right is_clock is_reset are own =
     let pins : List Pin = pins_of gate.pins in
-    let parts = both (is_sound_gate count (length given) gate) (not (is_three_state gate.kind) && is_clocked_by clock reset gate) right in
-    let sound = both (takes_few (operand_count_of gate.kind) (length pins)) (list_all (is_sound_pin count (length given)) pins) parts.0 in
-    let rest = both (not (is_three_state gate.kind)) (is_clocked_by clock reset gate) parts.1 in
+    let parts = both_hold (is_sound_gate count (length given) gate) (not (is_three_state gate.kind) && is_clocked_by clock reset gate) right in
+    let sound = both_hold (takes_few (operand_count_of gate.kind) (length pins)) (list_all (is_sound_pin count (length given)) pins) parts.0 in
+    let rest = both_hold (not (is_three_state gate.kind)) (is_clocked_by clock reset gate) parts.1 in
     let takes : Takes gate.kind (length pins) = takes_by (operand_count_of gate.kind) (length pins) sound.0 (pins_few gate.pins) in
     record {
       takes = subst (λ (n : ℕ). Takes gate.kind n) (sym (length-map pins (feed_of first given))) takes;
       two_state = not_true (is_three_state gate.kind) rest.0;
       reads = pins_feeds P first count given pins own are sound.1;
-      clock = λ flop. steered first given clock 1 tck pins (both _ _ (or_not (is_flop gate.kind) _ rest.1 flop)).0 is_clock;
-      reset = λ flop. steered first given reset 2 trst pins (both _ _ (or_not (is_flop gate.kind) _ rest.1 flop)).1 is_reset;
+      clock = λ flop. steered first given clock 1 tck pins (both_hold _ _ (then_holds (is_flop gate.kind) _ rest.1 flop)).0 is_clock;
+      reset = λ flop. steered first given reset 2 trst pins (both_hold _ _ (then_holds (is_flop gate.kind) _ rest.1 flop)).1 is_reset;
     }
 
 -- A table.
@@ -155,7 +137,7 @@ gates_are : (tck trst : NetId) (P : ℕ → Type 0) (count first number net cloc
     → FeedsAre P given → ((j : ℕ) → j < count → P (first + j)) → EachCell (IsLogicCell tck trst P) (cells_from first given number net gates)
 gates_are tck trst P count first number net clock reset given [] right is_clock is_reset are own = tt
 gates_are tck trst P count first number net clock reset given (gate ∷ gates) right is_clock is_reset are own =
-    let parts = both (is_logic_gate count (length given) clock reset gate) (list_all (is_logic_gate count (length given) clock reset) gates) right in (
+    let parts = both_hold (is_logic_gate count (length given) clock reset gate) (list_all (is_logic_gate count (length given) clock reset) gates) right in (
       gate_is tck trst P count first number net clock reset given gate parts.0 is_clock is_reset are own,
       gates_are tck trst P count first (suc number) (suc net) clock reset given gates parts.1 is_clock is_reset are own,
     )
@@ -179,9 +161,9 @@ plain_is : (tck trst : NetId) (P : ℕ → Type 0) (count first number net : ℕ
     → FeedsAre P given → ((j : ℕ) → j < count → P (first + j)) → IsLogicCell tck trst P (gate_cell first given number net gate)
 plain_is tck trst P count first number net given gate right are own =
     let pins : List Pin = pins_of gate.pins in
-    let parts = both (is_sound_gate count (length given) gate) (not (is_three_state gate.kind) && not (is_flop gate.kind)) right in
-    let sound = both (takes_few (operand_count_of gate.kind) (length pins)) (list_all (is_sound_pin count (length given)) pins) parts.0 in
-    let rest = both (not (is_three_state gate.kind)) (not (is_flop gate.kind)) parts.1 in
+    let parts = both_hold (is_sound_gate count (length given) gate) (not (is_three_state gate.kind) && not (is_flop gate.kind)) right in
+    let sound = both_hold (takes_few (operand_count_of gate.kind) (length pins)) (list_all (is_sound_pin count (length given)) pins) parts.0 in
+    let rest = both_hold (not (is_three_state gate.kind)) (not (is_flop gate.kind)) parts.1 in
     let takes : Takes gate.kind (length pins) = takes_by (operand_count_of gate.kind) (length pins) sound.0 (pins_few gate.pins) in
     let no_flop : is_flop gate.kind ≡ false = not_true (is_flop gate.kind) rest.1 in
     record {
@@ -196,7 +178,7 @@ plain_are : (tck trst : NetId) (P : ℕ → Type 0) (count first number net : �
     → FeedsAre P given → ((j : ℕ) → j < count → P (first + j)) → EachCell (IsLogicCell tck trst P) (cells_from first given number net gates)
 plain_are tck trst P count first number net given [] right are own = tt
 plain_are tck trst P count first number net given (gate ∷ gates) right are own =
-    let parts = both (is_plain_gate count (length given) gate) (list_all (is_plain_gate count (length given)) gates) right in
+    let parts = both_hold (is_plain_gate count (length given) gate) (list_all (is_plain_gate count (length given)) gates) right in
     (plain_is tck trst P count first number net given gate parts.0 are own, plain_are tck trst P count first (suc number) (suc net) given gates parts.1 are own)
 
 pub plain_logic : (gates : List Gate) (given : List Feed) (first number : ℕ) (tck trst : NetId) (P : ℕ → Type 0) → IsTrue (list_all (is_plain_gate (length gates) (length given)) gates)

@@ -2,6 +2,7 @@
 use Rattle.std.proofs.Common.{◌≡◌, ◌⊎◌, inl, inr, ℕ, zero, suc, ◌+◌, ◌<◌, List, [], ◌∷◌, ◌++◌, length, refl, sym, ap, subst, ◌∙◌, arith, Option, Some, None}
 use Rattle.std.specs.Prelude.{slice_get}
 use Rattle.std.specs.Option.{option_and_then}
+use Rattle.list_laws.proofs.Options.{some_same}
 use Rattle.netlist_model.specs.declared.Dir.TheVariants.{Input, Output}
 use Rattle.netlist_model.specs.declared.NetId.{NetId}
 use Rattle.netlist_model.specs.Lists.{PortView, NetlistView, bit_net}
@@ -10,7 +11,7 @@ use Rattle.plan_fitting.specs.declared.fitted.Fitted.{Fitted}
 use Rattle.stitch_model.specs.declared.TapNames.{TapNames}
 use Rattle.stitch_model.specs.Stitched.{scalar, tap_ports, tap_port, stitched}
 use Rattle.stitch_laws.specs.Places.{port_of}
-use Rattle.stitch_formed.proofs.Context.{FitsWell, same_some}
+use Rattle.stitch_formed.proofs.Context.{FitsWell}
 
 -- A port with its bit.
 
@@ -44,7 +45,7 @@ pub record IsTapBit (n place j : ℕ) (net : NetId) : Type 0 where
   pub is : net.0 ≡ n + place
 
 one_bit : (at net : NetId) (j : ℕ) → slice_get (at ∷ []) j ≡ Some net → (j ≡ 0) × (at.0 ≡ net.0)
-one_bit at net zero e = (refl, ap (λ (n : NetId). n.0) (same_some at net (slice_get (at ∷ []) 0) refl e))
+one_bit at net zero e = (refl, ap (λ (n : NetId). n.0) (some_same at net (slice_get (at ∷ []) 0) refl e))
 one_bit at net (suc j) e = absurd (cc)
 
 tap_by : (n place j : ℕ) (at net : NetId) (port one : PortView) → one.nets ≡ at ∷ [] → at.0 ≡ n + place → place < 5 → Some one ≡ Some port → slice_get port.nets j ≡ Some net

@@ -2,6 +2,7 @@
 use Rattle.std.proofs.Common.{◌≡◌, inl, inr, ℕ, ◌<◌, true, false, List, length, refl, sym, ap, subst, ◌∙◌, arith, Some}
 use Rattle.std.specs.Prelude.{slice_get}
 use Rattle.std.proofs.lemmas.List.{length-map}
+use Rattle.list_laws.proofs.Options.{some_same}
 use Rattle.cell_library.specs.declared.Kind.{Kind}
 use Rattle.cell_library.specs.declared.Kind.TheVariants.{Bufif0, Bufif1}
 use Rattle.cell_library.specs.Gates.{is_three_state, Takes}
@@ -19,15 +20,16 @@ use Rattle.stitch_model.specs.declared.Site.TheVariants as site
 use Rattle.stitch_model.specs.Sites.{row_net, site_of, row_sides}
 use Rattle.stitch_model.specs.Sides.{is_moved, is_driven, drives, core_side, core_cell}
 use Rattle.stitch_model.specs.Stitched.{boundary_at, stitched}
+use Rattle.stitch_model.proofs.Moves.{moved_counts}
 use Rattle.stitch_rows.specs.Rows.{StandsAt, at_observed, at_input, at_output, at_added, at_driver, at_inout, at_control, HasGate}
 use Rattle.stitch_cells.proofs.Cells.{has_cells}
 use Rattle.stitch_cells.proofs.Counts.{counts}
 use Rattle.stitch_cells.proofs.Tables.{feeds_at}
 use Rattle.stitch_formed.proofs.Bits.{widths, port_nets}
-use Rattle.stitch_formed.proofs.Context.{FitsWell, same_some, net_number, side_of}
+use Rattle.stitch_formed.proofs.Context.{FitsWell, net_number, side_of}
 use Rattle.stitch_formed.proofs.Ranges.{net_count, side_range, row_range}
 use Rattle.stitch_formed.proofs.Outputs.{output_of}
-use Rattle.stitch_formed.proofs.Places.{DriverOf, of_pin, of_tdo_pin, of_side, of_logic, of_row_net, of_tdo_net, driver_at, moved_count}
+use Rattle.stitch_formed.proofs.Places.{DriverOf, of_pin, of_tdo_pin, of_side, of_logic, of_row_net, of_tdo_net, driver_at}
 use Rattle.stitch_formed.proofs.Operands.{IsTapInput, OperandOf, core_read, added_read, tap_read, pin_read, CoreFeeds, own_feeds, row_feeds, core_feeds, driver_site, driver_on}
 use Rattle.stitch_formed.proofs.LogicReads.{CellKind, a_core, a_gate, an_added, a_tdo, kind_of, reads_of}
 
@@ -45,7 +47,7 @@ operand_in N names f well i cell place net r = feeds_at (OperandOf N f) cell.fee
 -- Nets that are there.
 
 some_side : (N : NetlistView) (f : Fitted) (row : FitRow) → is_moved (site_of N.ports row) ≡ true → 0 < row_sides N.ports row
-some_side N f row moved = moved_count (site_of N.ports row) moved
+some_side N f row moved = moved_counts (site_of N.ports row) moved
 
 core_there : (N : NetlistView) (f : Fitted) → FitsWell N f → (o : ℕ) → o < length N.nets → core_side (boundary_at N f) o < net_count N f
 core_there N f well o low = elim (side_of N f o) [
@@ -102,7 +104,7 @@ gate_three N f well i net cell row pin operand d on driver gate =
     let same : pin.0 ≡ net = net_number pin (record { 0 = net }) (row_net N.ports row) on (driver_on N.ports net row driver) in
     let there : Drives N gate.number gate.cell net = subst (λ (n : ℕ). Drives N gate.number gate.cell n) same gate.drives in
     let one : gate.number ≡ i = well.formed.one_driver gate.number i gate.cell cell net there d in
-    let alike : gate.cell ≡ cell = same_some gate.cell cell (cell_at N i) (ap (cell_at N) (sym one) ∙ gate.drives.live) d.live in
+    let alike : gate.cell ≡ cell = some_same gate.cell cell (cell_at N i) (ap (cell_at N) (sym one) ∙ gate.drives.live) d.live in
     ap (λ (c : CellView). is_three_state c.kind) (sym alike) ∙ gate.three
 
 driver_three : (N : NetlistView) (f : Fitted) → FitsWell N f → (i net : ℕ) (cell : CellView) (k : ℕ) (row : FitRow) → Drives N i cell net → slice_get f.rows k ≡ Some row → drives N.ports net row ≡ true

@@ -5,6 +5,7 @@ use Rattle.std.specs.Option.{option_map_or}
 use Rattle.std.proofs.lemmas.Bool.{cases_lt}
 use Rattle.std.proofs.lemmas.List.Sums.{sum_by-cons}
 use Rattle.list_laws.proofs.Lists.{slice_get-append_left, slice_get-append_right}
+use Rattle.list_laws.proofs.Options.{some_same}
 use Rattle.plan_devices.proofs.Lists.{get_inside}
 use Rattle.cell_library.specs.declared.codes.BoundaryKind.{BoundaryKind}
 use Rattle.cell_library.specs.declared.codes.BoundaryKind.TheVariants.{Bc1, Bc2, Bc4, Bc7}
@@ -33,7 +34,7 @@ use Rattle.stitch_model.specs.Rows.{row_nets, nets_by, net_at, control_row, enab
 use Rattle.stitch_model.specs.Logic.{instruction_from, bypass_from, ident_from, ident_size, tap_at, instruction_at, bypass_at, ident_at, controller_part, instruction_part, bypass_part, ident_part}
 use Rattle.stitch_model.specs.Stitched.{boundary_at, first_net, boundary_last, tdo_part}
 use Rattle.stitch_laws.specs.Places.{port_of, scan_of, instruction_number, bypass_number, ident_number, tdo_number, register_net, rows_before, row_first, row_side, row_number, row_next, handed_at, boundary_row, drivers_at}
-use Rattle.stitch_rows.specs.Rows.{HasGate, HasControl, IsOperand, is_constant, is_read, StandsAt, at_observed, at_input, at_output, at_added, at_driver, at_inout, at_control}
+use Rattle.stitch_rows.specs.Rows.{HasGate, HasControl, IsOperand, StandsAt, at_observed, at_input, at_output, at_added, at_driver, at_inout, at_control}
 use Rattle.stitch_cells.specs.Cells.{IsAt, gates_of_row, driver_number, drivers_of_row, CellOf, of_core, of_controller, of_instruction, of_bypass, of_ident, of_row, of_driver, of_tdo}
 use Rattle.stitch_cells.specs.Gates.{EachCell, FeedsAre, IsLogicCell}
 use Rattle.stitch_cells.specs.Logic.{LogicNets}
@@ -42,7 +43,8 @@ use Rattle.stitch_cells.proofs.Registers.{last_is}
 use Rattle.stitch_cells.proofs.Parts.{logic_cells_are, tdo_logic}
 use Rattle.stitch_cells.proofs.RowGates.{row_logic}
 use Rattle.stitch_cells.proofs.Sums.{drop_whole}
-use Rattle.stitch_formed.proofs.Context.{FitsWell, same_some}
+use Rattle.stitch_rows.proofs.Sites.{operand_at}
+use Rattle.stitch_formed.proofs.Context.{FitsWell}
 use Rattle.stitch_formed.proofs.Ranges.{tdo_net, side_range, row_range}
 use Rattle.stitch_formed.proofs.Places.{net_at_is}
 use Rattle.stitch_formed.proofs.Operands.{OperandOf, added_read, tap_read, pin_read, level_read, feed_read, core_reads}
@@ -158,16 +160,11 @@ pin_at_read N f well row pin on (inl side) =
 pin_at_read N f well row pin on (inr side) =
     subst (λ (n : NetId). OperandOf N f n.0) (sym (net_at_is N f row pin on)) (pin_read (inr side) (well.inside pin.0 Inout side))
 
--- an operand of a cell
-operand_of : (N : NetlistView) (i : ℕ) (cell : CellView) (place : ℕ) (feed : Feed) → cell_at N i ≡ Some cell → slice_get cell.feeds place ≡ Some feed → IsOperand N feed
-operand_of N i cell place (Net net) live at = is_read i cell place net.0 (record { live = live; operand = at }) refl
-operand_of N i cell place (Const b) live at = is_constant b refl
-
 gate_datum : (N : NetlistView) (net : ℕ) (core : Option Feed) (operand : Feed) → HasGate N net core operand → (feed : Feed) × (core ≡ Some feed) × IsOperand N feed
-gate_datum N net core operand g = (g.datum, g.core_is, operand_of N g.number g.cell 0 g.datum g.drives.live (ap (λ (xs : List Feed). slice_get xs 0) g.feeds))
+gate_datum N net core operand g = (g.datum, g.core_is, operand_at N g.number g.cell 0 g.datum g.drives.live (ap (λ (xs : List Feed). slice_get xs 0) g.feeds))
 
 gate_control : (N : NetlistView) (net : ℕ) (core : Option Feed) (operand : Feed) → HasGate N net core operand → IsOperand N operand
-gate_control N net core operand g = operand_of N g.number g.cell 1 operand g.drives.live (ap (λ (xs : List Feed). slice_get xs 1) g.feeds)
+gate_control N net core operand g = operand_at N g.number g.cell 1 operand g.drives.live (ap (λ (xs : List Feed). slice_get xs 1) g.feeds)
 
 core_feed_read : (N : NetlistView) (f : Fitted) (row : FitRow) (feed : Feed) → row.core ≡ Some feed → IsOperand N feed → FeedsAre (OperandOf N f) (core_feed (boundary_at N f) row ∷ [])
 core_feed_read N f row feed e is = feed_read N f row.core feed e is
@@ -264,7 +261,7 @@ added_by B number side row site.Observed j cell e = absurd (cc)
 added_by B number side row site.Input j cell e = absurd (cc)
 added_by B number side row site.Output j cell e = absurd (cc)
 added_by B number side row site.AddedDriver zero cell e =
-    (refl, same_some (added_driver number (record { 0 = side + 1 }) (level_net B row) (net_at B row)) cell (slice_get (drivers_at B number side row site.AddedDriver) 0) refl e)
+    (refl, some_same (added_driver number (record { 0 = side + 1 }) (level_net B row) (net_at B row)) cell (slice_get (drivers_at B number side row site.AddedDriver) 0) refl e)
 added_by B number side row site.AddedDriver (suc j) cell e = absurd (cc)
 added_by B number side row site.Driver j cell e = absurd (cc)
 added_by B number side row site.Inout j cell e = absurd (cc)
@@ -359,7 +356,7 @@ tdo_cell N f i cell h =
           (sym (slice_get-append_left cells (last ∷ []) h.place (omega arith)) ∙ h.at))
       | inr past ↦
           (let there : slice_get (cells ++ last ∷ []) h.place ≡ Some last = slice_get-append_right cells (last ∷ []) h.place 0 (omega arith) in
-          inr (same_some last cell (slice_get (cells ++ last ∷ []) h.place) there h.at))
+          inr (some_same last cell (slice_get (cells ++ last ∷ []) h.place) there h.at))
     ]
 
 tdo_driver_reads : (N : NetlistView) (f : Fitted) → FeedsAre (OperandOf N f) (tdo_driver (tdo_net N f) (port_of N).tdo (tdo_number N f + 6)).feeds

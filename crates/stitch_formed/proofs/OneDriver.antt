@@ -2,6 +2,7 @@
 use Rattle.std.proofs.Common.{◌≡◌, inl, inr, ℕ, zero, suc, ◌+◌, ◌-◌, ◌<◌, ◌≤◌, true, length, refl, sym, ap, subst, ◌∙◌, arith, Some}
 use Rattle.std.specs.Prelude.{slice_get}
 use Rattle.std.proofs.lemmas.Bool.{cases_lt}
+use Rattle.list_laws.proofs.Options.{some_same}
 use Rattle.netlist_model.specs.declared.Dir.TheVariants.{Input, Output}
 use Rattle.netlist_model.specs.Lists.{CellView, NetlistView, direction, Drives}
 use Rattle.plan_fitting.specs.declared.fitted.FitRow.{FitRow}
@@ -16,7 +17,7 @@ use Rattle.stitch_model.specs.Stitched.{first_net}
 use Rattle.stitch_laws.specs.Places.{register_net, row_first, row_side, row_number}
 use Rattle.stitch_rows.specs.Rows.{StandsAt, at_observed, at_input, at_output, at_added, at_driver, at_inout, at_control}
 use Rattle.stitch_cells.specs.Cells.{driver_number}
-use Rattle.stitch_formed.proofs.Context.{FitsWell, same_some, net_number}
+use Rattle.stitch_formed.proofs.Context.{FitsWell, net_number}
 use Rattle.stitch_formed.proofs.Ranges.{tdo_net, side_range, same_side, row_range, same_row}
 use Rattle.stitch_formed.proofs.Places.{PinDriver, own_pin, cell_pin, added_pin, given_side, SideDriver, core_side_of, cell_side_of, DriverOf, of_pin, of_tdo_pin, of_side, of_logic, of_row_net, of_tdo_net}
 
@@ -97,7 +98,7 @@ other_site : (N : NetlistView) (f : Fitted) → FitsWell N f → (k k' : ℕ) (r
     → (at ≡ at' → ⊥) → ⊥
 other_site N f well k k' row row' net there there' on on' at at' here here' unlike =
     let same : k ≡ k' = well.once k k' row row' (record { 0 = net }) there there' on on' in
-    let alike : row ≡ row' = same_some row row' (slice_get f.rows k') (ap (slice_get f.rows) (sym same) ∙ there) there' in
+    let alike : row ≡ row' = some_same row row' (slice_get f.rows k') (ap (slice_get f.rows) (sym same) ∙ there) there' in
     unlike (sym here ∙ ap (λ (r : FitRow). site_of N.ports r) alike ∙ here')
 
 same_pins : (N : NetlistView) (f : Fitted) → FitsWell N f → (i j net : ℕ) (one other : CellView) → PinDriver N f i net one → PinDriver N f j net other → i ≡ j
@@ -112,11 +113,11 @@ same_pins N f well i j net one other (added_pin k row there on out here at) (own
     absurd (let no : is_moved (site_of N.ports row) ≡ true = ap is_moved here in let still = s.none k row there on in cc)
 same_pins N f well i j net one other (cell_pin k row there on out here at) (cell_pin k' row' there' on' out' here' at') =
     let same : k ≡ k' = well.once k k' row row' (record { 0 = net }) there there' on on' in
-    let alike : row ≡ row' = same_some row row' (slice_get f.rows k') (ap (slice_get f.rows) (sym same) ∙ there) there' in
+    let alike : row ≡ row' = some_same row row' (slice_get f.rows k') (ap (slice_get f.rows) (sym same) ∙ there) there' in
     at ∙ ap (λ (n : ℕ). row_number N f n + row_nets N.ports row) same ∙ ap (λ (r : FitRow). row_number N f k' + row_nets N.ports r) alike ∙ sym at'
 same_pins N f well i j net one other (added_pin k row there on out here at) (added_pin k' row' there' on' out' here' at') =
     let same : k ≡ k' = well.once k k' row row' (record { 0 = net }) there there' on on' in
-    let alike : row ≡ row' = same_some row row' (slice_get f.rows k') (ap (slice_get f.rows) (sym same) ∙ there) there' in
+    let alike : row ≡ row' = some_same row row' (slice_get f.rows k') (ap (slice_get f.rows) (sym same) ∙ there) there' in
     at ∙ ap (λ (n : ℕ). driver_number N f n row) same ∙ ap (λ (r : FitRow). driver_number N f k' r) alike ∙ sym at'
 same_pins N f well i j net one other (cell_pin k row there on out here at) (added_pin k' row' there' on' out' here' at') =
     absurd (other_site N f well k k' row row' net there there' on on' site.Output site.AddedDriver here here' (λ e. cc))
@@ -172,7 +173,7 @@ both_sides : (N : NetlistView) (f : Fitted) → FitsWell N f → (i j net : ℕ)
     → SideDriver N f i k row e one → SideDriver N f j k' row' e' other → i ≡ j
 both_sides N f well i j net one other k row e k' row' e' there there' low low' is is' d d' =
     let same : k' ≡ k = same_side N f k' k row' row e' e there' there low' low (sym is' ∙ is) in
-    let alike : row' ≡ row = same_some row' row (slice_get f.rows k) (ap (slice_get f.rows) (sym same) ∙ there') there in
+    let alike : row' ≡ row = some_same row' row (slice_get f.rows k) (ap (slice_get f.rows) (sym same) ∙ there') there in
     let start : row_side N f k' ≡ row_side N f k = ap (row_side N f) same in
     same_sides N f well i j k row e one other there d (moved_side N f j k k' row row' e e' other same alike (omega arith) d')
 

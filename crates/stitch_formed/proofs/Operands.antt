@@ -1,8 +1,10 @@
 -- What the cells of the netlist with the test logic read.
 use Rattle.std.proofs.Common.{◌≡◌, ◌⊎◌, ℕ, suc, ◌+◌, ◌<◌, ◌≤◌, true, false, Bool, List, [], ◌∷◌, map, take, length, refl, sym, ap, subst, ◌∙◌, arith, Option, Some, None}
-use Rattle.std.specs.Prelude.{slice_get, option_and_then, unwrap_or, ◌&&◌, if◌then◌else◌}
+use Rattle.std.specs.Prelude.{slice_get, option_and_then, unwrap_or, if◌then◌else◌}
 use Rattle.std.specs.Option.{option_map_or}
 use Rattle.std.proofs.lemmas.List.Sums.{sum_by-cons}
+use Rattle.list_laws.proofs.Tests.{both_true}
+use Rattle.list_laws.proofs.Options.{some_same}
 use Rattle.netlist_model.specs.declared.Dir.TheVariants.{Input, Inout}
 use Rattle.netlist_model.specs.declared.NetId.{NetId}
 use Rattle.netlist_model.specs.declared.Feed.{Feed}
@@ -12,15 +14,15 @@ use Rattle.netlist_model.specs.Settled.{is_output}
 use Rattle.netlist_images.specs.Nested.{renamed_feed}
 use Rattle.plan_fitting.specs.declared.fitted.FitRow.{FitRow}
 use Rattle.plan_fitting.specs.declared.fitted.Fitted.{Fitted}
-use Rattle.stitch_model.specs.declared.Site.TheVariants as site
 use Rattle.stitch_model.specs.Sites.{Boundary, row_net, site_of, side_count, row_sides, sides_of, side_at}
 use Rattle.stitch_model.specs.Sides.{core_side, is_driven, drives, level_net, driver_feeds, feeds_from, feeds_behind, core_cell}
 use Rattle.stitch_model.specs.Stitched.{boundary_at}
+use Rattle.stitch_model.proofs.Moves.{output_is}
 use Rattle.stitch_laws.specs.Places.{port_of, row_side}
 use Rattle.stitch_rows.specs.Rows.{HasControl, IsOperand, is_constant, is_read, StandsAt, at_observed, at_input, at_output, at_added, at_driver, at_inout, at_control}
 use Rattle.stitch_cells.specs.Gates.{FeedsAre}
 use Rattle.stitch_cells.specs.Sizes.{added_net_count}
-use Rattle.stitch_formed.proofs.Context.{FitsWell, same_some, stands_on}
+use Rattle.stitch_formed.proofs.Context.{FitsWell}
 use Rattle.stitch_formed.proofs.Ranges.{net_count, side_range}
 
 -- own: an input of the test access port
@@ -96,7 +98,7 @@ driver_of_rows N B net side (row ∷ rows) feeds e = by (drives B.ports net row)
     by true here same later =
         let zero_sides : sides_of B.ports [] ≡ 0 = refl in
         let first : side ≡ side + sides_of B.ports [] = omega arith in
-        let one : driver_feeds B side row ≡ feeds = same_some (driver_feeds B side row) feeds (Some (driver_feeds B side row)) refl same in
+        let one : driver_feeds B side row ≡ feeds = some_same (driver_feeds B side row) feeds (Some (driver_feeds B side row)) refl same in
         record { k = 0; row = row; there = refl; drives_it = here; is = sym one ∙ ap (λ (n : ℕ). driver_feeds B n row) first }
     by false here same later =
         let rest = later same in
@@ -104,17 +106,11 @@ driver_of_rows N B net side (row ∷ rows) feeds e = by (drives B.ports net row)
         let start : side + row_sides B.ports row + sides_of B.ports (take rest.k rows) ≡ side + sides_of B.ports (row ∷ take rest.k rows) = omega arith in
         record { k = suc rest.k; row = rest.row; there = rest.there; drives_it = rest.drives_it; is = rest.is ∙ ap (λ (n : ℕ). driver_feeds B n rest.row) start }
 
--- the site of such a row, and its net
-both_true : (a b : Bool) → (a && b) ≡ true → (a ≡ true) × (b ≡ true)
-both_true true true e = (refl, refl)
-both_true true false e = absurd (cc)
-both_true false b e = absurd (cc)
-
 pub driver_site : (ports : List PortView) (net : ℕ) (row : FitRow) → drives ports net row ≡ true → is_driven (site_of ports row) ≡ true
 driver_site ports net row e = (both_true (is_driven (site_of ports row)) (is_output (row_net ports row) net) e).0
 
 pub driver_on : (ports : List PortView) (net : ℕ) (row : FitRow) → drives ports net row ≡ true → row_net ports row ≡ Some (record { 0 = net })
-driver_on ports net row e = stands_on (row_net ports row) net (both_true (is_driven (site_of ports row)) (is_output (row_net ports row) net) e).1
+driver_on ports net row e = output_is (row_net ports row) net (both_true (is_driven (site_of ports row)) (is_output (row_net ports row) net) e).1
 
 pub driver_reads : (N : NetlistView) (f : Fitted) → FitsWell N f → (k : ℕ) (row : FitRow) → slice_get f.rows k ≡ Some row → is_driven (site_of N.ports row) ≡ true → StandsAt N f row
     → FeedsAre (OperandOf N f) (driver_feeds (boundary_at N f) (row_side N f k) row)

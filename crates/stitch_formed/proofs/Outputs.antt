@@ -4,6 +4,7 @@ use Rattle.std.specs.Prelude.{slice_get}
 use Rattle.std.specs.Option.{option_map}
 use Rattle.std.proofs.lemmas.Bool.{cases_lt}
 use Rattle.list_laws.proofs.Lists.{slice_get-append_left, slice_get-append_right}
+use Rattle.list_laws.proofs.Options.{some_same}
 use Rattle.plan_devices.proofs.Lists.{get_inside}
 use Rattle.netlist_model.specs.declared.NetId.{NetId}
 use Rattle.netlist_model.specs.Lists.{CellView, NetlistView, cell_at, cell_count, Drives}
@@ -28,7 +29,6 @@ use Rattle.stitch_cells.proofs.Sizes.{logic_lengths, row_lengths, numbers}
 use Rattle.stitch_cells.proofs.Tables.{turn_at}
 use Rattle.stitch_cells.proofs.Parts.{logic_turns, tdo_turn}
 use Rattle.stitch_cells.proofs.RowGates.{rows_drive}
-use Rattle.stitch_formed.proofs.Context.{same_some}
 use Rattle.stitch_formed.proofs.Ranges.{tdo_net}
 
 -- own: which cell of which part has this number and drives this net
@@ -168,7 +168,7 @@ tdo_output N f i cell net h e =
           (output_is cell net _ (turn_at (tdo_net N f) cells h.place cell turn (sym (slice_get-append_left cells (last ∷ []) h.place (omega arith)) ∙ h.at)) e)
       | inr past ↦
           (let there : slice_get (cells ++ last ∷ []) h.place ≡ Some last = slice_get-append_right cells (last ∷ []) h.place 0 (omega arith) in
-          let one : last ≡ cell = same_some last cell (slice_get (cells ++ last ∷ []) h.place) there h.at in
+          let one : last ≡ cell = some_same last cell (slice_get (cells ++ last ∷ []) h.place) there h.at in
           tdo_pin (omega arith) (output_is cell net port.tdo (ap (λ (c : CellView). c.output) (sym one)) e))
     ]
 

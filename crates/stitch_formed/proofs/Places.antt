@@ -13,6 +13,7 @@ use Rattle.stitch_model.specs.Sides.{is_moved, core_side, core_cell}
 use Rattle.stitch_model.specs.Rows.{row_nets, net_at}
 use Rattle.stitch_model.specs.Logic.{logic_size}
 use Rattle.stitch_model.specs.Stitched.{boundary_at, first_net}
+use Rattle.stitch_model.proofs.Moves.{moved_counts}
 use Rattle.stitch_laws.specs.Places.{tdo_number, row_first, row_side, row_number}
 use Rattle.stitch_rows.specs.Rows.{StandsAt, at_observed, at_input, at_output, at_added, at_driver, at_inout, at_control}
 use Rattle.stitch_cells.specs.Cells.{driver_number}
@@ -51,15 +52,6 @@ pub data DriverOf (N : NetlistView) (f : Fitted) (i net : ℕ) (cell : CellView)
 
 -- By the sites of rows.
 
-pub moved_count : (at : Site) → is_moved at ≡ true → 0 < side_count at
-moved_count site.Observed e = absurd (cc)
-moved_count site.Input e = omega arith
-moved_count site.Output e = omega arith
-moved_count site.AddedDriver e = omega arith
-moved_count site.Driver e = absurd (cc)
-moved_count site.Inout e = absurd (cc)
-moved_count site.Control e = absurd (cc)
-
 pub net_at_is : (N : NetlistView) (f : Fitted) (row : FitRow) (net : NetId) → row_net N.ports row ≡ Some net → net_at (boundary_at N f) row ≡ net
 net_at_is N f row net e = ap (λ (o : Option NetId). unwrap_or o (record { 0 = 0 })) e
 
@@ -70,7 +62,7 @@ by_core N f well i net cell old before drives is e = elim (side_of N f before) [
       let low : before < length N.nets = well.laid.outputs i old before drives in
       of_pin (subst (λ (n : ℕ). n < length N.nets) same low)
       (own_pin old (subst (λ (n : ℕ). Drives N i old n) same drives) is (subst (λ (n : ℕ). Stays N f n) same s)))
-  | inr g ↦ of_side g.k g.row 0 g.there (moved_count (site_of N.ports g.row) g.moved) (e ∙ g.is ∙ no_more (row_side N f g.k))
+  | inr g ↦ of_side g.k g.row 0 g.there (moved_counts (site_of N.ports g.row) g.moved) (e ∙ g.is ∙ no_more (row_side N f g.k))
       (core_side_of old before drives is g.on g.moved refl)
 ]
   where

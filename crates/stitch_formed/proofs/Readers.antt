@@ -14,9 +14,9 @@ use Rattle.stitch_model.specs.declared.TapNames.{TapNames}
 use Rattle.stitch_model.specs.Sites.{row_net, site_of}
 use Rattle.stitch_model.specs.Sides.{is_moved, core_side}
 use Rattle.stitch_model.specs.Stitched.{boundary_at, stitched}
+use Rattle.stitch_model.proofs.Moves.{moved_counts}
 use Rattle.stitch_formed.proofs.Context.{FitsWell, Stays, side_of}
 use Rattle.stitch_formed.proofs.Ranges.{net_count, side_range}
-use Rattle.stitch_formed.proofs.Places.{moved_count}
 use Rattle.stitch_formed.proofs.Driven.{added_driven, tdo_pin_driven, core_driven, pin_driven}
 use Rattle.stitch_formed.proofs.Operands.{IsTapInput, OperandOf, core_read, added_read, tap_read, pin_read}
 use Rattle.stitch_formed.proofs.Laid.{operand_in}
@@ -31,7 +31,7 @@ pub data CoreNet (N : NetlistView) (f : Fitted) (o net : ℕ) : Type 0 where
 core_net : (N : NetlistView) (f : Fitted) (o net : ℕ) → net ≡ core_side (boundary_at N f) o → CoreNet N f o net
 core_net N f o net e = elim (side_of N f o) [
   | inl s ↦ same_net (e ∙ s.is) s
-  | inr g ↦ (let r = side_range N f g.k g.row 0 g.there (moved_count (site_of N.ports g.row) g.moved) in
+  | inr g ↦ (let r = side_range N f g.k g.row 0 g.there (moved_counts (site_of N.ports g.row) g.moved) in
       let is = g.is in
       let from = r.low in
       let to = r.high in

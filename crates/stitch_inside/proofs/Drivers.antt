@@ -3,8 +3,7 @@ use Rattle.std.proofs.Common.{◌≡◌, inl, inr, ℕ, ◌+◌, Bool, true, fal
 use Rattle.std.specs.Prelude.{slice_get, option_and_then, unwrap_or}
 use Rattle.std.specs.Option.{option_map, option_map_or}
 use Rattle.std.proofs.lemmas.Option.{slice_get-map}
-use Rattle.cell_library.specs.declared.Kind.{Kind}
-use Rattle.cell_library.specs.declared.Kind.TheVariants.{Bufif0, Bufif1}
+use Rattle.list_laws.proofs.Options.{some_same}
 use Rattle.cell_library.specs.Gates.{is_three_state}
 use Rattle.netlist_model.specs.declared.NetId.{NetId}
 use Rattle.netlist_model.specs.declared.Feed.{Feed}
@@ -32,7 +31,7 @@ use Rattle.plan_fitting.specs.Pins.{PinSeen}
 use Rattle.plan_fitting.specs.Rows.{rows}
 use Rattle.plan_fitting.specs.Devices.{fitted_of, dev_bit, disable_by, cell_row, device_of}
 use Rattle.plan_devices.specs.Fitting.{IsFitting}
-use Rattle.plan_devices.proofs.Lists.{some_same}
+use Rattle.plan_devices.proofs.SuitsIs.{plain_level}
 use Rattle.stitch_model.specs.declared.Site.{Site}
 use Rattle.stitch_model.specs.declared.Site.TheVariants as site
 use Rattle.stitch_model.specs.declared.TapNames.{TapNames}
@@ -152,11 +151,6 @@ polarity_of {L} {p} {seen} {names} by known k row net side three there at read n
     let found = subst (λ (x : NetId). row_of (device_of L p seen) L.arena.lists x.0 ≡ Some (record { number = k; row = cell_row (fitted_of L p seen) row })) same is.found in
     (known.suits.drivers d.number net.0 d.cell (record { number = k; row = cell_row (fitted_of L p seen) row }) d.drives read found).polarity (disable_by (rows p seen) n.number)
     (ap (option_map (disable_by (rows p seen))) n.named)
-
-plain_level : (k : Kind) → is_three_state k ≡ false → inactive_level k ≡ false
-plain_level Bufif1 h = refl
-plain_level Bufif0 h = absurd (cc)
-plain_level _ h = refl
 
 -- an output for which a driver was added
 is_added : FitLaws → {L : LinkedView} {p : Plan} {seen : List PinSeen} {names : TapNames} → Stitch L p seen names → (k : ℕ) (row : FitRow) (net : NetId)

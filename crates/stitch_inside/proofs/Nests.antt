@@ -1,19 +1,23 @@
 -- The core nests in the stitched netlist, but for its drivers behind boundary cells.
-use Rattle.std.proofs.Common.{◌≡◌, ◌⊎◌, inl, inr, ℕ, suc, ◌+◌, ◌==◌, ◌<◌, ◌≤◌, ◌||◌, Bool, true, false, List, [], ◌∷◌, ◌++◌, map, length, refl, ap, sym, ◌∙◌, subst, Option, Some, None, arith, eqb-true, if◌then◌else◌}
+use Rattle.std.proofs.Common.{◌≡◌, inl, inr, ℕ, suc, ◌+◌, ◌==◌, ◌<◌, ◌≤◌, Bool, true, false, List, [], ◌∷◌, ◌++◌, map, length, refl, ap, sym, ◌∙◌, subst, Option, Some, None, arith}
 use Rattle.std.specs.Prelude.{slice_get, option_and_then, is_some}
 use Rattle.std.specs.Option.{option_map}
+use Rattle.list_laws.proofs.Tests.{neither, or_more}
+use Rattle.list_laws.proofs.Options.{some_same}
+use Rattle.list_laws.proofs.Numbers.{eqb_less, eqb_more}
 use Rattle.cell_library.specs.Gates.{is_three_state}
 use Rattle.netlist_model.specs.declared.NetId.{NetId}
 use Rattle.netlist_model.specs.declared.Feed.{Feed}
 use Rattle.netlist_model.specs.declared.Feed.TheVariants.{Net, Const}
 use Rattle.netlist_model.specs.declared.Dir.{Dir}
 use Rattle.netlist_model.specs.declared.Dir.TheVariants.{Input, Output, Inout}
-use Rattle.netlist_model.specs.Lists.{PortView, CellView, NetlistView, cell_at, is_among, direction, IsUndriven}
+use Rattle.netlist_model.specs.Lists.{PortView, CellView, NetlistView, cell_at, direction, IsUndriven}
 use Rattle.netlist_model.specs.Settled.{follows_pin, driver_of}
 use Rattle.netlist_model.specs.Formed.{IsLaidOut, IsWellFormed, IsDriven}
 use Rattle.netlist_laws.specs.Drivers.{IsDriverOf, DriverDrives, DriverIsFound}
 use Rattle.netlist_laws.specs.Ports.{BitHasDirection, DirectionHasBit}
 use Rattle.netlist_images.specs.Nested.{renamed_net, renamed_feed, IsNested}
+use Rattle.gate_parts.proofs.Ports.{dir_stays, dir_of_more}
 use Rattle.netlist_link.specs.Linked.{LinkedView}
 use Rattle.plan_texts.specs.declared.plan.Plan.{Plan}
 use Rattle.plan_fitting.specs.declared.fitted.FitRow.{FitRow}
@@ -22,15 +26,15 @@ use Rattle.plan_fitting.specs.Pins.{PinSeen}
 use Rattle.plan_fitting.specs.Laws.{ControlCellsAreThere}
 use Rattle.plan_fitting.specs.Devices.{fitted_of}
 use Rattle.plan_devices.specs.Fitting.{IsFitting}
-use Rattle.plan_devices.proofs.Lists.{some_same}
 use Rattle.stitch_model.specs.declared.TapNames.{TapNames}
-use Rattle.stitch_model.specs.Sites.{Boundary, row_net, site_of, row_sides}
-use Rattle.stitch_model.specs.Sides.{moves, side_from, core_side, is_driven, feeds_behind}
+use Rattle.stitch_model.specs.Sites.{Boundary, row_net, site_of}
+use Rattle.stitch_model.specs.Sides.{side_from, core_side, is_driven, feeds_behind}
 use Rattle.stitch_model.specs.Stitched.{tap_port, tap_ports, boundary_at, stitched}
 use Rattle.stitch_laws.specs.Laws.{StitchedHoldsTheCore}
+use Rattle.stitch_laws.proofs.Core.{side_past}
 use Rattle.stitch_inside.specs.Inner.{past_nets, is_given, inner_net}
 use Rattle.stitch_inside.specs.Laws.{StitchedNests}
-use Rattle.stitch_inside.proofs.Past.{other_number, past_undriven, past_inside}
+use Rattle.stitch_inside.proofs.Past.{past_undriven, past_inside}
 use Rattle.stitch_inside.proofs.Cases.{DrivenAs, RowCase, observed_case, input_case, plain_case, added_case, driver_case, inout_case, control_case, cases_of}
 use Rattle.stitch_inside.proofs.Moves.{feeds_kept}
 
@@ -42,15 +46,11 @@ inner_given N M B net e = rw e refl
 inner_past : (N M : NetlistView) (B : Boundary) (net : ℕ) → is_given N net ≡ false → inner_net N M B net ≡ past_nets M + net
 inner_past N M B net e = rw e refl
 
-or_true : (a b : Bool) → b ≡ true → (a || b) ≡ true
-or_true true b e = refl
-or_true false b e = e
-
 pub given_by_pin : (N : NetlistView) (net : ℕ) → follows_pin (direction N.ports net) ≡ true → is_given N net ≡ true
 given_by_pin N net e = rw e refl
 
 pub given_by_driver : (N : NetlistView) (net : ℕ) (cell : CellView) → driver_of N.cells net ≡ Some cell → is_given N net ≡ true
-given_by_driver N net cell e = or_true (follows_pin (direction N.ports net)) (is_some (driver_of N.cells net)) (ap (λ (o : Option CellView). is_some o) e)
+given_by_driver N net cell e = or_more (follows_pin (direction N.ports net)) (is_some (driver_of N.cells net)) (ap (λ (o : Option CellView). is_some o) e)
 
 pub given_driven : DriverIsFound → (N : NetlistView) → IsWellFormed N → (net : ℕ) → IsDriven N net → is_given N net ≡ true
 given_driven found N formed net d = given_by_driver N net d.cell (found N formed.one_driver d.number d.cell net d.drives)
@@ -91,31 +91,6 @@ nested_same M to side i cell feeds output nested = record {
 
 -- Directions.
 
-dir_left : (xs ys : List PortView) (net : ℕ) (d : Dir) → direction xs net ≡ Some d → direction (xs ++ ys) net ≡ Some d
-dir_left [] ys net d e = absurd (cc)
-dir_left (x ∷ xs) ys net d e = by (is_among net x.nets) e (λ h. dir_left xs ys net d h)
-  where
-    by : (b : Bool) → (if b then Some x.dir else direction xs net) ≡ Some d → (direction xs net ≡ Some d → direction (xs ++ ys) net ≡ Some d)
-        → (if b then Some x.dir else direction (xs ++ ys) net) ≡ Some d
-    by true h more = h
-    by false h more = more h
-
-dir_right : (xs ys : List PortView) (net : ℕ) → direction xs net ≡ None → direction (xs ++ ys) net ≡ direction ys net
-dir_right [] ys net e = refl
-dir_right (x ∷ xs) ys net e = by (is_among net x.nets) e (λ h. dir_right xs ys net h)
-  where
-    by : (b : Bool) → (if b then Some x.dir else direction xs net) ≡ None → (direction xs net ≡ None → direction (xs ++ ys) net ≡ direction ys net)
-        → (if b then Some x.dir else direction (xs ++ ys) net) ≡ direction ys net
-    by true h more = absurd (cc)
-    by false h more = more h
-
-other_above : (a b : ℕ) → b < a → (a == b) ≡ false
-other_above a b less = by (a == b) refl
-  where
-    by : (t : Bool) → (a == b) ≡ t → t ≡ false
-    by true e = let same : a ≡ b = eqb-true a b e in absurd (omega arith)
-    by false e = refl
-
 -- the test access port is on five nets
 no_tap : (names : TapNames) (count net : ℕ) → (count == net) ≡ false → (count + 1 == net) ≡ false → (count + 2 == net) ≡ false → (count + 3 == net) ≡ false → (count + 4 == net) ≡ false
     → direction (tap_ports names (tap_port count)) net ≡ None
@@ -123,13 +98,13 @@ no_tap names count net a b c d e = rw (a, b, c, d, e) refl
 
 no_tap_below : (names : TapNames) (count net : ℕ) → net < count → direction (tap_ports names (tap_port count)) net ≡ None
 no_tap_below names count net less =
-    no_tap names count net (other_above count net less) (other_above (count + 1) net (omega arith)) (other_above (count + 2) net (omega arith)) (other_above (count + 3) net (omega arith))
-    (other_above (count + 4) net (omega arith))
+    no_tap names count net (eqb_more count net less) (eqb_more (count + 1) net (omega arith)) (eqb_more (count + 2) net (omega arith)) (eqb_more (count + 3) net (omega arith))
+    (eqb_more (count + 4) net (omega arith))
 
 no_tap_above : (names : TapNames) (count net : ℕ) → count + 5 ≤ net → direction (tap_ports names (tap_port count)) net ≡ None
 no_tap_above names count net past =
-    no_tap names count net (other_number count net (omega arith)) (other_number (count + 1) net (omega arith)) (other_number (count + 2) net (omega arith))
-    (other_number (count + 3) net (omega arith)) (other_number (count + 4) net (omega arith))
+    no_tap names count net (eqb_less count net (omega arith)) (eqb_less (count + 1) net (omega arith)) (eqb_less (count + 2) net (omega arith))
+    (eqb_less (count + 3) net (omega arith)) (eqb_less (count + 4) net (omega arith))
 
 -- a net past those of the core is no port's
 no_port : DirectionHasBit → (N : NetlistView) → IsLaidOut N → (net : ℕ) → length N.nets ≤ net → direction N.ports net ≡ None
@@ -143,17 +118,6 @@ no_port back N laid net past = by (direction N.ports net) refl
         = laid.port_nets bit.number bit.bit (record { 0 = net }) (ap (option_and_then (λ (q : PortView). slice_get q.nets bit.bit)) bit.stands ∙ bit.has) in
         absurd (omega arith)
 
--- a net stays, or goes past those of the test access port
-side_past : (ports : List PortView) (net side : ℕ) (rs : List FitRow) → (side_from ports net side rs ≡ net) ⊎ (side ≤ side_from ports net side rs)
-side_past ports net side [] = inl refl
-side_past ports net side (row ∷ rs) = by (moves ports net row) (side_past ports net (side + row_sides ports row) rs)
-  where
-    by : (b : Bool) → (side_from ports net (side + row_sides ports row) rs ≡ net) ⊎ (side + row_sides ports row ≤ side_from ports net (side + row_sides ports row) rs)
-        → ((if b then side else side_from ports net (side + row_sides ports row) rs) ≡ net) ⊎ (side ≤ (if b then side else side_from ports net (side + row_sides ports row) rs))
-    by true more = inr (omega arith)
-    by false (inl e) = inl e
-    by false (inr e) = inr (omega arith)
-
 not_followed : (o : Option Dir) → o ≡ None → follows_pin o ≡ false
 not_followed o e = ap follows_pin e
 
@@ -165,15 +129,15 @@ inner_inside back N names rs laid net low e = elim (side_past N.ports net (lengt
   | inr past ↦ (
       let far : ℕ = side_from N.ports net (length N.nets + 5) rs in
       let none : direction N.ports far ≡ None = no_port back N laid far (omega arith) in
-      not_followed (direction (N.ports ++ taps) far) (dir_right N.ports taps far none ∙ no_tap_above names (length N.nets) far past))
+      not_followed (direction (N.ports ++ taps) far) (dir_of_more N.ports taps far none ∙ no_tap_above names (length N.nets) far past))
 ]
   where
     taps : List PortView
     taps = tap_ports names (tap_port (length N.nets))
 
     by_side : (o : Option Dir) → direction N.ports net ≡ o → follows_pin (direction (N.ports ++ taps) net) ≡ false
-    by_side None f = not_followed (direction (N.ports ++ taps) net) (dir_right N.ports taps net f ∙ no_tap_below names (length N.nets) net low)
-    by_side (Some d) f = ap follows_pin (dir_left N.ports taps net d f ∙ sym f) ∙ e
+    by_side None f = not_followed (direction (N.ports ++ taps) net) (dir_of_more N.ports taps net f ∙ no_tap_below names (length N.nets) net low)
+    by_side (Some d) f = ap follows_pin (dir_stays N.ports taps net d f ∙ sym f) ∙ e
 
 -- Drivers.
 
@@ -227,7 +191,7 @@ nests by L p seen names fits laid dense =
       inside = λ net e. by_given net e (is_given N net) refl;
       undriven = λ net e none.
           let no_driver : driver_of N.cells net ≡ None = none_found net (driver_of N.cells net) (by.drives N net) none in
-          let past : to net ≡ past_nets M + net = inner_past N M B net (both_false (follows_pin (direction N.ports net)) (is_some (driver_of N.cells net)) e (ap (λ (o : Option CellView). is_some o) no_driver)) in
+          let past : to net ≡ past_nets M + net = inner_past N M B net (neither (follows_pin (direction N.ports net)) (is_some (driver_of N.cells net)) e (ap (λ (o : Option CellView). is_some o) no_driver)) in
           subst (IsUndriven M) (sym past) (past_undriven M (past_nets M + net) (omega arith));
     }
   where
@@ -246,16 +210,13 @@ nests by L p seen names fits laid dense =
     to : ℕ → ℕ
     to = inner_net N M B
 
-    both_false : (a b : Bool) → a ≡ false → b ≡ false → (a || b) ≡ false
-    both_false a b e g = rw (e, g) refl
-
     none_found : (net : ℕ) (o : Option CellView) → IsDriverOf N net o → IsUndriven N net → o ≡ None
     none_found net None d none = refl
     none_found net (Some cell) d none = absurd (none d.0 cell d.1.live d.1.output)
 
     -- a net that something is given, and which follows no pin, is driven, so it is one of the core's
     low : (net : ℕ) (o : Option CellView) → IsDriverOf N net o → follows_pin (direction N.ports net) ≡ false → driver_of N.cells net ≡ o → is_given N net ≡ true → net < length N.nets
-    low net None d e is g = absurd (let bad : false ≡ true = sym (both_false (follows_pin (direction N.ports net)) (is_some (driver_of N.cells net)) e (ap (λ (x : Option CellView). is_some x) is)) ∙ g in cc)
+    low net None d e is g = absurd (let bad : false ≡ true = sym (neither (follows_pin (direction N.ports net)) (is_some (driver_of N.cells net)) e (ap (λ (x : Option CellView). is_some x) is)) ∙ g in cc)
     low net (Some cell) d e is g = laid.outputs d.0 cell net d.1
 
     by_given : (net : ℕ) → follows_pin (direction N.ports net) ≡ false → (b : Bool) → is_given N net ≡ b → follows_pin (direction M.ports (to net)) ≡ false

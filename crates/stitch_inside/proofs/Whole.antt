@@ -1,10 +1,11 @@
 -- The stitched netlist has the device's test logic around the core.
-use Rattle.std.proofs.Common.{◌≡◌, ℕ, suc, ◌+◌, ◌<◌, ◌||◌, Bool, true, false, not, List, [], ◌∷◌, length, drop, refl, ap, sym, ◌∙◌, subst, Option, Some, None, arith}
+use Rattle.std.proofs.Common.{◌≡◌, ℕ, suc, ◌+◌, ◌<◌, ◌||◌, Bool, true, false, List, [], ◌∷◌, length, drop, refl, ap, sym, ◌∙◌, subst, Option, Some, None, arith}
 use Rattle.std.specs.Prelude.{slice_get, option_and_then, find, is_some}
 use Rattle.std.specs.List.{list_any}
 use Rattle.std.specs.Option.{option_map}
 use Rattle.std.proofs.lemmas.Option.{slice_get-map}
 use Rattle.list_laws.proofs.Lists.{slice_get_there, slice_get-append_left, slice_get-append_right}
+use Rattle.list_laws.proofs.Options.{some_same}
 use Rattle.cell_library.specs.declared.codes.Bits.{Bits}
 use Rattle.cell_library.specs.declared.codes.Instr.{Instr}
 use Rattle.cell_library.specs.declared.codes.Instr.TheVariants as instr
@@ -12,7 +13,6 @@ use Rattle.cell_library.specs.declared.codes.Opcode.{Opcode}
 use Rattle.netlist_model.specs.declared.NetId.{NetId}
 use Rattle.netlist_model.specs.declared.Dir.{Dir}
 use Rattle.netlist_model.specs.declared.Dir.TheVariants as dir
-use Rattle.netlist_model.specs.declared.Range.{Range}
 use Rattle.netlist_model.specs.Lists.{PortView, NetlistView, bit_net, direction}
 use Rattle.netlist_model.specs.Formed.{width_of, IsWellFormed}
 use Rattle.netlist_model.specs.Contained.{HasCells}
@@ -32,6 +32,7 @@ use Rattle.instruction_register.specs.Laws.{RegistersFit}
 use Rattle.boundary_runs.specs.Rows.{BoundaryRow, row_cells}
 use Rattle.wrapped_chip.specs.Cells.{net_of_row, row_of}
 use Rattle.wrapped_chip.specs.Realises.{IsTapNet, tap_place}
+use Rattle.instruction_register.proofs.Rules.{last_there}
 use Rattle.surrounded_core.specs.Places.{Places, input_net}
 use Rattle.surrounded_core.specs.Sites.{StandsAround, HasRowAt, IsDrivenBy}
 use Rattle.surrounded_core.specs.Surrounds.{HasPorts, HasCodes, HasRows}
@@ -44,12 +45,13 @@ use Rattle.plan_fitting.specs.Laws.{CodesAreTheDevices, OpcodesKeepTheRules}
 use Rattle.plan_fitting.specs.Devices.{codes_of, fitted_of, cell_row, device_of}
 use Rattle.plan_devices.specs.Fitting.{IsFitting}
 use Rattle.plan_devices.specs.Laws.{PlansSuitNetlists}
-use Rattle.plan_devices.proofs.Lists.{some_same, get_inside}
+use Rattle.plan_devices.proofs.Lists.{get_inside}
 use Rattle.plan_devices.proofs.DeviceRows.{mapped_at}
 use Rattle.plan_devices.proofs.Facts.{facts_of}
 use Rattle.plan_devices.proofs.PlanClock.{plans_have_registers}
 use Rattle.plan_devices.proofs.PlanBits.{plans_have_bits}
 use Rattle.plan_devices.proofs.PlanCodes.{plans_have_codes}
+use Rattle.plan_devices.proofs.DeviceIs.{some_width}
 use Rattle.stitch_model.specs.declared.TapNames.{TapNames}
 use Rattle.stitch_model.specs.Sites.{pin_net, row_net}
 use Rattle.stitch_model.specs.Rows.{nets_of_rows, last_bit}
@@ -133,13 +135,6 @@ none_any test (y ∷ ys) h = by (test y) refl h (λ k. none_any test ys k)
     by true e k more = absurd (cc)
     by false e k more = rw e (more k)
 
-last_there : (e s p b : Bool) → (not e || (not s || (not p || (not b || false)))) ≡ false → b ≡ true
-last_there e s p true h = refl
-last_there true true true false h = absurd (cc)
-last_there false s p false h = absurd (cc)
-last_there true false p false h = absurd (cc)
-last_there true true false false h = absurd (cc)
-
 bypass_of : (opcodes : List Opcode) → lacks_instruction (opcode_entries opcodes) ≡ false → (bits : Bits) × (opcode_of opcodes instr.Bypass ≡ Some bits)
 bypass_of opcodes all =
     let entries = opcode_entries opcodes in
@@ -187,10 +182,6 @@ has_codes rules same fit L p seen names fits =
 some_net : (nets : List NetId) → 0 < length nets → (net : NetId) × (slice_get nets 0 ≡ Some net)
 some_net [] h = absurd (omega arith)
 some_net (n ∷ nets) h = (n, refl)
-
-some_width : (range : Option Range) → 0 < width_of range
-some_width None = omega arith
-some_width (Some r) = omega arith
 
 first_there : {A : Type 0} (xs : List A) (k : ℕ) (x : A) → slice_get xs k ≡ Some x → (first : A) × (slice_get xs 0 ≡ Some first)
 first_there [] k x at = absurd (cc)

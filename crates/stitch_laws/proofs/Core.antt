@@ -1,59 +1,28 @@
 -- The core inside the netlist with the test logic: its nets by their other numbers.
-use Rattle.std.proofs.Common.{◌≡◌, ℕ, suc, ◌+◌, ◌<◌, ◌≤◌, ◌⊎◌, inl, inr, Bool, true, false, List, [], ◌∷◌, length, refl, sym, ◌∙◌, ap, Option, Some, None, arith}
-use Rattle.std.specs.Prelude.{slice_get, option_and_then, ◌&&◌}
+use Rattle.std.proofs.Common.{◌≡◌, ℕ, ◌+◌, ◌<◌, ◌≤◌, ◌⊎◌, inl, inr, true, false, List, [], ◌∷◌, length, refl, sym, ◌∙◌, ap, Option, Some, None, arith}
+use Rattle.std.specs.Prelude.{option_and_then}
 use Rattle.std.proofs.lemmas.Bool.{eqb-true}
+use Rattle.list_laws.proofs.Tests.{true_or_false}
 use Rattle.netlist_model.specs.declared.NetId.{NetId}
 use Rattle.netlist_model.specs.Lists.{PortView, CellView, NetlistView}
 use Rattle.netlist_model.specs.Settled.{is_output}
 use Rattle.netlist_images.specs.Nested.{renamed_cell}
 use Rattle.plan_fitting.specs.declared.fitted.FitRow.{FitRow}
 use Rattle.plan_fitting.specs.declared.fitted.Fitted.{Fitted}
-use Rattle.stitch_model.specs.declared.Site.{Site}
-use Rattle.stitch_model.specs.declared.Site.TheVariants as site
-use Rattle.stitch_model.specs.Sites.{Boundary, row_net, site_of, side_count, row_sides}
-use Rattle.stitch_model.specs.Sides.{is_moved, moves, side_from, core_side, feeds_behind, core_cell}
+use Rattle.stitch_model.specs.Sites.{Boundary, row_net, row_sides}
+use Rattle.stitch_model.specs.Sides.{moves, side_from, core_side, feeds_behind, core_cell}
 use Rattle.stitch_model.specs.Stitched.{boundary_at}
+use Rattle.stitch_model.proofs.Moves.{moves_some, moved_here, moved_on, side_stays}
 use Rattle.stitch_laws.specs.Laws.{StitchedHoldsTheCore}
 use Rattle.stitch_laws.proofs.Places.{core_stands}
-
-true_or_false : (b : Bool) → (b ≡ true) ⊎ (b ≡ false)
-true_or_false true = inl refl
-true_or_false false = inr refl
-
-both_true : (a b : Bool) → (a && b) ≡ true → (a ≡ true) × (b ≡ true)
-both_true true true e = (refl, refl)
-both_true true false e = absurd (cc)
-both_true false b e = absurd (cc)
-
--- a row that moves a net has a net between
-moved_counts : (at : Site) → is_moved at ≡ true → 0 < side_count at
-moved_counts site.Observed e = absurd (cc)
-moved_counts site.Input e = omega arith
-moved_counts site.Output e = omega arith
-moved_counts site.AddedDriver e = omega arith
-moved_counts site.Driver e = absurd (cc)
-moved_counts site.Inout e = absurd (cc)
-moved_counts site.Control e = absurd (cc)
 
 -- and moves one net only
 same_output : (net : Option NetId) (a b : ℕ) → is_output net a ≡ true → is_output net b ≡ true → a ≡ b
 same_output None a b e f = absurd (cc)
 same_output (Some net) a b e f = sym (eqb-true net.0 a e) ∙ eqb-true net.0 b f
 
-moves_some : (ports : List PortView) (net : ℕ) (row : FitRow) → moves ports net row ≡ true → (0 < row_sides ports row) × (is_output (row_net ports row) net ≡ true)
-moves_some ports net row e =
-    let both = both_true (is_moved (site_of ports row)) (is_output (row_net ports row) net) e in (moved_counts (site_of ports row) both.0, both.1)
-
--- the first row decides
-moved_here : (ports : List PortView) (net side : ℕ) (row : FitRow) (rows : List FitRow) → moves ports net row ≡ true → side_from ports net side (row ∷ rows) ≡ side
-moved_here ports net side row rows e = rw e refl
-
-moved_on : (ports : List PortView) (net side : ℕ) (row : FitRow) (rows : List FitRow) → moves ports net row ≡ false
-    → side_from ports net side (row ∷ rows) ≡ side_from ports net (side + row_sides ports row) rows
-moved_on ports net side row rows e = rw e refl
-
 -- a net stays, or goes to one between
-side_past : (ports : List PortView) (net side : ℕ) (rows : List FitRow) → (side_from ports net side rows ≡ net) ⊎ (side ≤ side_from ports net side rows)
+pub side_past : (ports : List PortView) (net side : ℕ) (rows : List FitRow) → (side_from ports net side rows ≡ net) ⊎ (side ≤ side_from ports net side rows)
 side_past ports net side [] = inl refl
 side_past ports net side (row ∷ rows) = elim (true_or_false (moves ports net row)) [
   | inl e ↦ (let here = moved_here ports net side row rows e in inr (omega arith))
@@ -88,12 +57,6 @@ side_once ports a b side (row ∷ rows) low low' same = elim (true_or_false (mov
         (sym (moved_on ports a side row rows e) ∙ same ∙ moved_on ports b side row rows f)
   ]
 ]
-
-side_stays : (ports : List PortView) (net side : ℕ) (rows : List FitRow) → ((k : ℕ) (row : FitRow) → slice_get rows k ≡ Some row → moves ports net row ≡ false)
-    → side_from ports net side rows ≡ net
-side_stays ports net side [] none = refl
-side_stays ports net side (row ∷ rows) none =
-    moved_on ports net side row rows (none 0 row refl) ∙ side_stays ports net (side + row_sides ports row) rows (λ k r e. none (suc k) r e)
 
 by_other_nets : (B : Boundary) (cell : CellView) → option_and_then (feeds_behind B) cell.output ≡ None → core_cell B cell ≡ renamed_cell (core_side B) cell.name cell
 by_other_nets B cell none = rw none refl

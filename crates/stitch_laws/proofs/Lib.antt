@@ -1,3 +1,3 @@
 pub mod Places
-mod Parts
-mod Core
+pub mod Parts
+pub mod Core

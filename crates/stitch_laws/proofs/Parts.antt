@@ -2,11 +2,11 @@
 use Rattle.std.proofs.Common.{◌≡◌, ℕ, zero, suc, ◌+◌, List, [], ◌∷◌, ◌++◌, map, take, drop, length, length-append, refl, sym, ◌∙◌, ap, Some, None, arith}
 use Rattle.std.specs.Prelude.{slice_get}
 use Rattle.std.proofs.lemmas.List.{append-nil}
-use Rattle.std.proofs.lemmas.List.Sums.{sum_by-cons}
 use Rattle.netlist_model.specs.declared.NetId.{NetId}
-use Rattle.netlist_model.specs.Lists.{PortView, CellView, NetlistView, cell_at, cell_count}
+use Rattle.netlist_model.specs.Lists.{PortView, CellView, NetlistView, cell_count}
 use Rattle.netlist_model.specs.Contained.{HasCells}
 use Rattle.netlist_laws.specs.Contained.{ContainedParts}
+use Rattle.gate_parts.proofs.LawProofs.{has_from}
 use Rattle.test_logic.specs.declared.ScanNets.{ScanNets}
 use Rattle.boundary_runs.specs.Rows.{row_cells}
 use Rattle.plan_fitting.specs.declared.fitted.FitRow.{FitRow}
@@ -19,24 +19,18 @@ use Rattle.stitch_model.specs.Sides.{core_cell}
 use Rattle.stitch_model.specs.Rows.{behind, nets_of_rows, site_cells, row_cells as cells_of_row, last_bit, rows_cells}
 use Rattle.stitch_model.specs.Logic.{controller_part, instruction_part, bypass_part, ident_part}
 use Rattle.stitch_model.specs.Stitched.{boundary_at, first_net, rows_part, tdo_part, test_logic_cells, live_cells, stitched}
+use Rattle.stitch_model.proofs.Moves.{sides_cons}
 use Rattle.stitch_laws.specs.Places.{port_of, scan_of, bypass_number, ident_number, register_number, tdo_number, register_net, row_first, row_side, row_number, row_next, handed_at, boundary_row, drivers_at, added_drivers}
 use Rattle.stitch_laws.specs.Laws.{HoldsRow, StitchedHoldsParts}
 use Rattle.stitch_laws.proofs.Places.{listed_at}
 
 -- Each cell of the list is there.
 
-listed : (M : NetlistView) (start : ℕ) (cells : List CellView) → ((k : ℕ) → cell_at M (start + k) ≡ slice_get cells k) → HasCells M cells
-listed M start [] at = tt
-listed M start (cell ∷ cells) at = (
-  record { number = start + 0; name = cell.name; live = at 0 },
-  listed M (suc start) cells (λ k. let e : suc start + k ≡ start + suc k = omega arith in rw e (at (suc k))),
-)
-
 has_all : (N : NetlistView) (names : TapNames) (f : Fitted)
     → HasCells (stitched N names f) (map (core_cell (boundary_at N f)) (live_cells N) ++ test_logic_cells (boundary_at N f) (first_net N f) (cell_count N) (port_of N) f)
 has_all N names f =
     let cells : List CellView = map (core_cell (boundary_at N f)) (live_cells N) ++ test_logic_cells (boundary_at N f) (first_net N f) (cell_count N) (port_of N) f in
-    listed (stitched N names f) 0 cells (λ k. let e : 0 + k ≡ k = omega arith in rw e (listed_at cells k))
+    has_from (stitched N names f) 0 cells (λ k. let e : 0 + k ≡ k = omega arith in rw e (listed_at cells k))
 
 -- Parts behind one another.
 
@@ -46,7 +40,7 @@ front_has parts M xs ys h = ((parts M xs ys).parts h).0
 back_has : ContainedParts → (M : NetlistView) (xs ys : List CellView) → HasCells M (xs ++ ys) → HasCells M ys
 back_has parts M xs ys h = ((parts M xs ys).parts h).1
 
-length_behind : (number : ℕ) (xs : List CellView) (part : ℕ → List CellView)
+pub length_behind : (number : ℕ) (xs : List CellView) (part : ℕ → List CellView)
     → number + length (behind number xs part) ≡ number + length xs + length (part (number + length xs))
 length_behind number xs part = let both = length-append xs (part (number + length xs)) in omega arith
 
@@ -58,15 +52,11 @@ renumbered M part m n e h = rw e at h
 
 -- Rows.
 
--- the sides of rows, the first of which has its own
-sides_on : (ports : List PortView) (rows : List FitRow) (row : FitRow) → sides_of ports (row ∷ rows) ≡ row_sides ports row + sides_of ports rows
-sides_on ports rows row = sum_by-cons (row_sides ports) row rows
-
 sides_none : (ports : List PortView) → sides_of ports [] ≡ 0
 sides_none ports = refl
 
 -- the cells of a row, by the first nets between the core and it, and the row after it
-abbrev cells_there : Boundary → ScanNets → ℕ → ℕ → NetId → List FitRow → FitRow → ℕ → ℕ → List CellView
+abbrev pub cells_there : Boundary → ScanNets → ℕ → ℕ → NetId → List FitRow → FitRow → ℕ → ℕ → List CellView
 cells_there B scan first number tdi rows row here after =
     cells_of_row B scan (first + nets_of_rows B.ports rows) (number + length (rows_cells B scan first number tdi after rows)) here row (last_bit B.ports first tdi rows)
 
@@ -91,7 +81,7 @@ row_there parts M B scan first number tdi side (r ∷ rows) h zero row e =
       here = side;
       after = side + row_sides B.ports r;
       here_is = let none = sides_none B.ports in omega arith;
-      after_is = let none = sides_none B.ports in let one = sides_on B.ports [] r in omega arith;
+      after_is = let none = sides_none B.ports in let one = sides_cons B.ports r [] in omega arith;
       cells = rw (sym same) mine;
     }
 row_there parts M B scan first number tdi side (r ∷ rows) h (suc k) row e =
@@ -101,8 +91,8 @@ row_there parts M B scan first number tdi side (r ∷ rows) h (suc k) row e =
     record {
       here = there.here;
       after = there.after;
-      here_is = let one = sides_on B.ports (take k rows) r in let is = there.here_is in omega arith;
-      after_is = let one = sides_on B.ports (take (suc k) rows) r in let is = there.after_is in omega arith;
+      here_is = let one = sides_cons B.ports r (take k rows) in let is = there.here_is in omega arith;
+      after_is = let one = sides_cons B.ports r (take (suc k) rows) in let is = there.after_is in omega arith;
       cells = there.cells;
     }
 
@@ -110,7 +100,7 @@ row_moved : (M : NetlistView) (part : ℕ → ℕ → List CellView) (a b c d : 
 row_moved M part a b c d e f h = rw (e, f) at h
 
 -- a row's cells by its site are those by its kind, and the driver that is added
-by_kind : (B : Boundary) (scan : ScanNets) (first number side : ℕ) (row : FitRow) (next : NetId) (at : Site)
+pub by_kind : (B : Boundary) (scan : ScanNets) (first number side : ℕ) (row : FitRow) (next : NetId) (at : Site)
     → site_cells B scan first number side row next at ≡ row_cells (handed_at B side row at) first number scan next
     ++ drivers_at B (number + length (row_cells (handed_at B side row at) first number scan next)) side row at
 by_kind B scan first number side row next site.Observed = sym (append-nil _)

@@ -13,6 +13,7 @@ use Rattle.netlist_model.specs.Lists.{PortView, NetView, CellView, NetlistView, 
 use Rattle.netlist_link.specs.WellNamed.{IsKnown, IsShortRange, index_from, IsWireNet, IsWireName, IsWellNamed}
 use Rattle.netlist_unlink.specs.Prefixes.{IsUsed, port as used_port, net as used_net, cell as used_cell}
 use Rattle.draft_laws.specs.Names.{IsNamedCell}
+use Rattle.draft_laws.proofs.Named.{is_some_of}
 use Rattle.stitch_names.proofs.TapNames.{AreNewNames, IsLongerTable}
 
 -- What is added.
@@ -82,9 +83,6 @@ neither_cell cell number added a b = absurd (let no : Some (Original number) ≡
 
 name_is : (cell : CellView) (name : Name) (number : ℕ) → cell.name ≡ Some (Added number) → cell.name ≡ Some name → name ≡ Added number
 name_is cell name number a b = let same : Some name ≡ Some (Added number) = sym b ∙ a in cc
-
-has_name : (cell : CellView) (name : Name) → cell.name ≡ Some name → IsSome cell.name
-has_name cell name e = rw e refl
 
 same_view : (a b : Name) (range : Option Range) (bit : ℕ) → a ≡ b → range ≡ None
     → ◌≡◌ {A = Option NetView} (Some (record { name = a; index = None })) (Some (record { name = b; index = index_from range bit }))
@@ -223,7 +221,7 @@ extended_named old table N M taps well more new ext = record {
   ];
   library_named = λ i cell live library. elim (ext.cells i cell live) [
     | inl kept ↦ subst (λ (n : Option Name). IsSome n) (sym kept.name) (well.library_named i kept.was kept.live (subst (λ (k : Kind). IsSome (cell_name k)) kept.kind library))
-    | inr named ↦ has_name cell (Added named.number) named.name
+    | inr named ↦ is_some_of cell (Added named.number) named.name
   ];
   assign_unnamed = λ i cell live kind. elim (ext.cells i cell live) [
     | inl kept ↦ kept.name ∙ well.assign_unnamed i kept.was kept.live (sym kept.kind ∙ kind)

@@ -6,3 +6,4 @@ mod Added
 mod Places
 mod Views
 mod Prefix
+pub mod Limits

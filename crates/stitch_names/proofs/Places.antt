@@ -4,6 +4,7 @@ use Rattle.std.specs.Prelude.{IsSome}
 use Rattle.std.specs.Option.{option_map}
 use Rattle.std.proofs.lemmas.Bool.{cases_lt}
 use Rattle.std.proofs.lemmas.Option.{same_Some}
+use Rattle.list_laws.proofs.Options.{some_there}
 use Rattle.netlist_model.specs.declared.NetId.{NetId}
 use Rattle.netlist_model.specs.Lists.{CellView, NetlistView, cell_at, cell_count}
 use Rattle.netlist_model.specs.Contained.{IsDense}
@@ -20,10 +21,6 @@ use Rattle.stitch_cells.proofs.Cells.{core_length}
 use Rattle.stitch_names.proofs.Table.{at_append}
 use Rattle.stitch_names.proofs.Added.{logic_named}
 use Rattle.stitch_names.proofs.Extended.{IsKeptCell}
-
-some_there : {X : Type 0} (o : Option X) → IsSome o → (x : X) × (o ≡ Some x)
-some_there None some = absurd (cc)
-some_there (Some x) some = (x, refl)
 
 still_some : (to : NetId → NetId) (o : Option NetId) → IsSome o → IsSome (option_map to o)
 still_some to None some = absurd (cc)

@@ -3,15 +3,15 @@ use Rattle.std.proofs.Common.{◌≡◌, ℕ, ◌++◌, List, refl, sym, ap, ◌
 use Rattle.std.specs.Prelude.{slice_get, All}
 use Rattle.std.proofs.lemmas.Option.{same_Some}
 use Rattle.std.proofs.lemmas.List.Elements.{recursion_from_All}
-use Rattle.list_laws.proofs.Lists.{slice_get_there}
-use Rattle.netlist_model.specs.declared.Name.{Name}
-use Rattle.netlist_model.specs.declared.Name.TheVariants.{Original, Added}
+use Rattle.list_laws.proofs.Lists.{slice_get_there, all_at}
+use Rattle.netlist_model.specs.declared.Name.TheVariants.{Original}
 use Rattle.netlist_model.specs.Formed.{IsLaidOut}
 use Rattle.netlist_model.specs.Contained.{IsDense}
 use Rattle.netlist_link.specs.Linked.{LinkedView}
 use Rattle.netlist_link.specs.WellNamed.{IsWellNamed}
 use Rattle.netlist_unlink.specs.Prefixes.{IsUsed}
 use Rattle.draft_laws.specs.Sources.{PartIsNamed}
+use Rattle.draft_laws.proofs.Named.{original_same}
 use Rattle.plan_texts.specs.declared.plan.Plan.{Plan}
 use Rattle.plan_texts.specs.declared.plan.TapLine.{TapLine}
 use Rattle.plan_fitting.specs.declared.fitted.Fitted.{Fitted}
@@ -19,7 +19,6 @@ use Rattle.plan_fitting.specs.Pins.{PinSeen}
 use Rattle.plan_fitting.specs.Fits.{tap_lines}
 use Rattle.plan_fitting.specs.Devices.{fitted_of}
 use Rattle.plan_devices.specs.Laws.{HasFreePrefix, PrefixesAreFree}
-use Rattle.plan_devices.proofs.Lists.{all_at}
 use Rattle.stitch_model.specs.declared.TapNames.{TapNames}
 use Rattle.stitch_model.specs.Stitched.{stitched}
 use Rattle.stitch_laws.specs.Laws.{StitchedHoldsTheCore}
@@ -31,9 +30,6 @@ use Rattle.stitch_names.proofs.TapNames.{tap_bytes, tap_list, line_at, has_bytes
 use Rattle.stitch_names.proofs.Extended.{used_either}
 use Rattle.stitch_names.proofs.Same.{used_same}
 use Rattle.stitch_names.proofs.Views.{stitched_extends}
-
-original_same : (a b : ℕ) → Original a ≡ Original b → a ≡ b
-original_same a b e = ap (λ (n : Name). elim n [ Original k ↦ k | Added k ↦ k ]) e
 
 -- no line of the test access port has these bytes
 tap_free : (p : Plan) (prefix rest bytes : List ℕ) (place : ℕ) (line : TapLine) → All (λ (l : TapLine). (more : List ℕ) → l.name ≡ prefix ++ more → ⊥) (tap_lines p)

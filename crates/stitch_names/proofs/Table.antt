@@ -7,7 +7,7 @@ use Rattle.std.proofs.lemmas.Bool.{cases_Bool}
 use Rattle.std.proofs.lemmas.Option.{same_Some, slice_get_within}
 use Rattle.std.proofs.lemmas.Slice.Eq.{bytes_eq-Decides}
 use Rattle.list_laws.proofs.Bytes.{bytes_eq-same}
-use Rattle.list_laws.proofs.Lists.{slice_get-append_left}
+use Rattle.list_laws.proofs.Lists.{slice_get-append_left, last_push}
 use Rattle.name_table.specs.Names.{with_name, IsOnce}
 
 -- An element of a list with more behind it.
@@ -76,12 +76,8 @@ one_either name names k bytes at = elim (cases_Bool (list_any (bytes_eq name) na
 one_entered : (name : List ℕ) (names : List (List ℕ)) → (k : ℕ) × (slice_get (with_name name names) k ≡ Some name)
 one_entered name names = elim (cases_Bool (list_any (bytes_eq name) names)) [
   | inl there ↦ (let at = found_at name names there in (at.0, rw there at.1))
-  | inr new ↦ (length names, rw new (last_at names name))
+  | inr new ↦ (length names, rw new (last_push names name))
 ]
-  where
-    last_at : {X : Type 0} (xs : List X) (y : X) → slice_get (xs ++ y ∷ []) (length xs) ≡ Some y
-    last_at [] y = refl
-    last_at (x ∷ xs) y = last_at xs y
 
 one_once : (name : List ℕ) (names : List (List ℕ)) → IsOnce names → IsOnce (with_name name names)
 one_once name names once i j bytes here there = elim (one_either name names i bytes here) [

@@ -3,7 +3,7 @@ use Rattle.std.proofs.Common.{◌≡◌, ℕ, zero, suc, ◌<◌, ◌≤◌, Lis
 use Rattle.std.specs.Prelude.{slice_get}
 use Rattle.std.proofs.lemmas.Option.{same_Some, slice_get_within}
 use Rattle.std.proofs.lemmas.List.Elements.{recursion_from_All}
-use Rattle.list_laws.proofs.Lists.{slice_get_there}
+use Rattle.list_laws.proofs.Lists.{slice_get_there, all_at}
 use Rattle.verilog_tree.specs.IsTree.{IsTreeName}
 use Rattle.link_model.specs.Denoted.{name_bytes}
 use Rattle.netlist_model.specs.declared.Name.{Name}
@@ -13,6 +13,7 @@ use Rattle.name_table.specs.Names.{IsOnce}
 use Rattle.netlist_link.specs.Linked.{LinkedView}
 use Rattle.netlist_link.specs.WellNamed.{IsKnown, IsWellNamed}
 use Rattle.netlist_unlink.specs.Prefixes.{IsUsed, port as used_port, net as used_net, cell as used_cell}
+use Rattle.draft_laws.proofs.Named.{original_same}
 use Rattle.plan_texts.specs.declared.plan.Plan.{Plan}
 use Rattle.plan_texts.specs.declared.plan.TapLine.{TapLine}
 use Rattle.plan_fitting.specs.declared.fitted.Fitted.{Fitted}
@@ -20,7 +21,6 @@ use Rattle.plan_fitting.specs.Pins.{PinSeen}
 use Rattle.plan_fitting.specs.Fits.{tap_lines}
 use Rattle.plan_fitting.specs.Devices.{fitted_of}
 use Rattle.plan_devices.specs.Laws.{HasNewTapNames}
-use Rattle.plan_devices.proofs.Lists.{all_at}
 use Rattle.stitch_model.specs.declared.TapNames.{TapNames}
 use Rattle.stitch_names.specs.Prepared.{with_tap_names, AreTapNames, IsEntered}
 use Rattle.stitch_names.specs.Laws.{TapNamesAreEntered}
@@ -116,9 +116,6 @@ pub record IsNewName (N : NetlistView) (table : List (List ℕ)) (name : Name) :
 pub record AreNewNames (N : NetlistView) (table : List (List ℕ)) (taps : List Name) : Type 0 where
   pub each : (k : ℕ) (name : Name) → slice_get taps k ≡ Some name → IsNewName N table name
   pub apart : (j k : ℕ) (name : Name) → slice_get taps j ≡ Some name → slice_get taps k ≡ Some name → j ≡ k
-
-original_same : (a b : ℕ) → Original a ≡ Original b → a ≡ b
-original_same a b e = ap (λ (n : Name). elim n [ Original k ↦ k | Added k ↦ k ]) e
 
 pub taps_are_new : (L : LinkedView) (p : Plan) (seen : List PinSeen) (names : TapNames) → IsWellNamed L.names L.arena.lists → HasNewTapNames L p
     → AreTapNames (with_tap_names (fitted_of L p seen) L.names) (fitted_of L p seen) names

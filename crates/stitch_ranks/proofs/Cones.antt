@@ -1,6 +1,7 @@
 -- What clocks, clears or presets in the netlist with the test logic.
 use Rattle.std.proofs.Common.{◌≡◌, ◌⊎◌, inl, inr, ℕ, zero, suc, ◌+◌, ◌<◌, true, false, List, [], ◌∷◌, ◌++◌, map, length, refl, sym, ap, ◌∙◌, subst, Option, Some, None, option_map, arith, slice_get}
 use Rattle.std.specs.Prelude.{filter_map, option_and_then, unwrap_or}
+use Rattle.list_laws.proofs.Options.{some_same}
 use Rattle.cell_library.specs.declared.Kind.TheVariants.{Flop}
 use Rattle.cell_library.specs.declared.FlopKind.{FlopKind}
 use Rattle.cell_library.specs.Gates.{is_flop, is_three_state}
@@ -14,7 +15,6 @@ use Rattle.netlist_model.specs.Formed.{IsLaidOut, IsWellFormed}
 use Rattle.netlist_laws.proofs.Controls.{control_read, control_closed}
 use Rattle.netlist_images.specs.Nested.{renamed_net, renamed_feed}
 use Rattle.plan_fitting.specs.declared.fitted.FitRow.{FitRow}
-use Rattle.plan_devices.proofs.Lists.{some_same}
 use Rattle.stitch_model.specs.Sites.{Boundary}
 use Rattle.stitch_model.specs.Sides.{core_side, drives, feeds_behind, core_cell}
 use Rattle.stitch_model.specs.Stitched.{same_place}

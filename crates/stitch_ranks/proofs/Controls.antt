@@ -1,5 +1,6 @@
 -- The cones and the control ports of the netlist with the test logic.
 use Rattle.std.proofs.Common.{◌≡◌, ◌≢◌, ◌⊎◌, inl, inr, ℕ, ◌+◌, ◌<◌, true, List, length, refl, sym, ap, ◌∙◌, subst, Some, None, option_map, arith, slice_get}
+use Rattle.list_laws.proofs.Tests.{both_true}
 use Rattle.netlist_model.specs.declared.Dir.{Dir}
 use Rattle.netlist_model.specs.declared.Dir.TheVariants.{Input, Output, Inout}
 use Rattle.netlist_model.specs.Lists.{NetlistView, cell_count, direction, Drives}
@@ -31,9 +32,10 @@ use Rattle.stitch_model.specs.Sides.{is_moved, core_side, is_driven, core_cell}
 use Rattle.stitch_model.specs.Rows.{net_at}
 use Rattle.stitch_model.specs.Stitched.{tap_port, test_logic_cells, boundary_at, first_net, stitched_cells, stitched}
 use Rattle.stitch_laws.specs.Laws.{IsInside, StitchedHoldsParts, StitchedHoldsTheCore}
+use Rattle.stitch_laws.proofs.Places.{listed_at}
 use Rattle.stitch_cells.specs.Directions.{KeepsDirections, StitchedDirections}
 use Rattle.stitch_ranks.specs.Laws.{StitchedHasCones, StitchedHasControls}
-use Rattle.stitch_ranks.proofs.Moved.{both_true, net_at_is, moved_or_stays}
+use Rattle.stitch_ranks.proofs.Moved.{net_at_is, moved_or_stays}
 use Rattle.stitch_ranks.proofs.Placed.{IsPin, IsDriverRow, Placed}
 use Rattle.stitch_ranks.proofs.PlacedRows.{row_placed}
 use Rattle.stitch_ranks.proofs.Fits.{AllPlaced}
@@ -42,7 +44,6 @@ use Rattle.stitch_ranks.proofs.RowFacts.{driver_three, input_no_control}
 use Rattle.stitch_ranks.proofs.Kept.{IsKept, kept_tck, kept_trst, kept_core, IsNotKept, control_inside, from_apart, tdo_apart, row_apart, rows_apart}
 use Rattle.stitch_ranks.proofs.Cones.{AreDriverRows, IsStitched, control_is_kept}
 use Rattle.stitch_ranks.proofs.Stays.{control_stays, tap_steers}
-use Rattle.stitch_ranks.proofs.Ordered.{listed_at}
 use Rattle.stitch_ranks.proofs.Pins.{same_bit_net, bit_of, tap_is, tap_once}
 
 -- the laws that it stands on

@@ -1,6 +1,7 @@
 -- The numbers of the core's nets behind the boundary cells, and of the nets between.
 use Rattle.std.proofs.Common.{◌≡◌, ◌≢◌, ℕ, zero, suc, ◌+◌, ◌<◌, ◌≤◌, inl, inr, ◌==◌, Bool, true, false, List, [], ◌∷◌, ◌++◌, take, refl, sym, ap, ◌∙◌, subst, Option, Some, None, arith, eq-eqb, slice_get}
 use Rattle.std.proofs.lemmas.List.Sums.{sum_by-cons}
+use Rattle.list_laws.proofs.Tests.{both_true}
 use Rattle.netlist_model.specs.declared.Dir.{Dir}
 use Rattle.netlist_model.specs.declared.Dir.TheVariants.{Input, Output, Inout}
 use Rattle.netlist_model.specs.declared.Feed.{Feed}
@@ -18,7 +19,7 @@ use Rattle.stitch_model.specs.Rows.{net_at}
 use Rattle.stitch_ranks.proofs.Places.{StandAt, moved_at, first_at}
 use Rattle.stitch_ranks.proofs.Ranks.{net_rank, feed_rank, sides_at, sides_ranks, total, pin_by, pin_rank}
 use Rattle.stitch_ranks.proofs.RowsAbove.{sides_front, sides_behind}
-use Rattle.stitch_ranks.proofs.Moved.{both_true, net_at_is, moved_or_stays, moved_past}
+use Rattle.stitch_ranks.proofs.Moved.{net_at_is, moved_or_stays, moved_past}
 
 -- The nets between.
 

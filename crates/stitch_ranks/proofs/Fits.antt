@@ -1,7 +1,8 @@
 -- A row that stands at its site has numbers as it needs, and so has a driver of the core.
-use Rattle.std.proofs.Common.{◌≡◌, ◌≢◌, ℕ, suc, ◌+◌, ◌<◌, ◌≤◌, ◌&&◌, Bool, true, false, List, [], ◌∷◌, map, take, refl, sym, ap, ◌∙◌, subst, inl, inr, Option, Some, None, option_map, arith, slice_get}
+use Rattle.std.proofs.Common.{◌≡◌, ◌≢◌, ℕ, suc, ◌+◌, ◌<◌, ◌≤◌, true, false, List, [], ◌∷◌, map, take, refl, sym, ap, ◌∙◌, subst, inl, inr, Option, Some, None, option_map, arith, slice_get}
 use Rattle.std.specs.Prelude.{option_and_then, unwrap_or, ⊤}
 use Rattle.std.specs.Option.{option_map_or}
+use Rattle.list_laws.proofs.Tests.{both_true, and_true}
 use Rattle.cell_library.specs.Gates.{is_flop}
 use Rattle.netlist_model.specs.declared.NetId.{NetId}
 use Rattle.netlist_model.specs.declared.Dir.{Dir}
@@ -22,8 +23,8 @@ use Rattle.stitch_model.specs.Sides.{is_moved, core_side, is_driven, level_net, 
 use Rattle.stitch_model.specs.Rows.{net_at, enable_of}
 use Rattle.stitch_ranks.proofs.Places.{StandAt, first_at}
 use Rattle.stitch_ranks.proofs.Ranks.{net_rank, feed_rank, sides_at, sides_ranks, total}
-use Rattle.stitch_ranks.proofs.RowsAbove.{RowFits}
-use Rattle.stitch_ranks.proofs.Moved.{both_true, net_at_is, driven_or_not}
+use Rattle.stitch_ranks.proofs.RowsAbove.{RowFits, up_to_more}
+use Rattle.stitch_ranks.proofs.Moved.{net_at_is, driven_or_not}
 use Rattle.stitch_ranks.proofs.CoreRanks.{side_there, row_in_total, AreCoreRanks, core_up, core_high, IsCoreFeed, feed_up, pin_high}
 use Rattle.stitch_ranks.proofs.Placed.{IsUnder, IsPin, HasControl, IsDriverRow, Placed}
 
@@ -39,10 +40,6 @@ under_rank : (alone : ℕ → ℕ) (low net : ℕ) (core : Option Feed) → IsUn
 under_rank alone low net None below = omega arith
 under_rank alone low net (Some (Const b)) below = omega arith
 under_rank alone low net (Some (Net other)) below = omega arith
-
-up_more : (rank : ℕ → ℕ) (base more : ℕ) (feed : Feed) → base ≤ more → AreFeedsUpTo rank base (feed ∷ []) → AreFeedsUpTo rank more (feed ∷ [])
-up_more rank base more (Net net) less up = let low = up.0 in (omega arith, tt)
-up_more rank base more (Const b) less up = tt
 
 -- Control cells.
 
@@ -74,10 +71,6 @@ input_zero rank alone low B count are row pin = are.pins (net_at B row).0 pin.in
 inout_own : (rank alone : ℕ → ℕ) (low : ℕ) (B : Boundary) (count : ℕ) → AreCoreRanks rank alone low B count → (row : FitRow) → IsPin B count row Inout
     → rank (net_at B row).0 ≡ net_rank alone low (net_at B row).0
 inout_own rank alone low B count are row pin = are.pins (net_at B row).0 pin.inside ∙ rw pin.side_is refl
-
-and_true : (a b : Bool) → a ≡ true → b ≡ true → (a && b) ≡ true
-and_true true b e f = f
-and_true false b e f = absurd (cc)
 
 output_top : (rank alone : ℕ → ℕ) (low : ℕ) (B : Boundary) (count : ℕ) → AreCoreRanks rank alone low B count → (k : ℕ) (row : FitRow) → slice_get B.rows k ≡ Some row
     → (at : Site) → site_of B.ports row ≡ at → is_moved at ≡ true → IsPin B count row Output → rank (net_at B row).0 ≡ suc (total (sides_ranks alone low B B.rows))
@@ -118,7 +111,7 @@ row_fits rank alone low B count some are k row there site.Inout is placed =
       core = core_feed_up rank alone low B count are row.core placed.inside;
       less = omega arith;
       enable = subst (λ (f : Feed). AreFeedsUpTo rank (net_rank alone low (net_at B row).0) (f ∷ [])) (sym (enable_is B row c.control c.number c.names c.there))
-          (up_more rank (feed_rank alone low c.control.core) (net_rank alone low (net_at B row).0) (core_feed B c.control) (omega arith)
+          (up_to_more rank (feed_rank alone low c.control.core) (net_rank alone low (net_at B row).0) (core_feed B c.control) (omega arith)
           (core_feed_up rank alone low B count are c.control.core c.inside));
       pin = omega arith;
     }

@@ -1,5 +1,5 @@
 -- The instruction register.
-use Rattle.std.proofs.Common.{◌≡◌, ℕ, zero, suc, ◌+◌, ◌*◌, ◌/◌, ◌<◌, ◌≤◌, Bool, true, false, List, [], ◌∷◌, ◌++◌, length, length-append, refl, sym, ap, ◌∙◌, subst, Option, Some, None, arith}
+use Rattle.std.proofs.Common.{◌≡◌, ℕ, zero, suc, ◌+◌, ◌*◌, ◌<◌, ◌≤◌, Bool, true, false, List, [], ◌∷◌, ◌++◌, length, length-append, refl, sym, ◌∙◌, subst, Option, Some, None, arith}
 use Rattle.cell_library.specs.declared.codes.Bits.{Bits}
 use Rattle.cell_library.specs.declared.codes.Instr.{Instr}
 use Rattle.cell_library.specs.declared.codes.Instr.TheVariants.{Extest, Sample, Preload, Idcode, Highz, Clamp}
@@ -13,7 +13,7 @@ use Rattle.test_logic.specs.declared.ScanNets.{ScanNets}
 use Rattle.test_logic.specs.Instructions.{opcode_of}
 use Rattle.register_bits.specs.Bits.{held_bit}
 use Rattle.register_bits.specs.Chains.{chain_last}
-use Rattle.register_gates.specs.Constants.{constant_bits}
+use Rattle.register_gates.proofs.ConstantBits.{counted}
 use Rattle.instruction_gates.specs.declared.latches.TheConstants.{LOADED}
 use Rattle.instruction_gates.specs.declared.stages.TheConstants.{LOADS}
 use Rattle.instruction_gates.specs.declared.matches.TheConstants.{EQUAL_BIT}
@@ -37,11 +37,6 @@ latch_length k = refl
 
 match_length : (k : ℕ) → length (match_block k) ≡ 2
 match_length k = refl
-
-pub length_constants : (count value : ℕ) → length (constant_bits count value) ≡ count
-unfolding constant_bits
-length_constants zero value = refl
-length_constants (suc count) value = ap suc (length_constants count (value / 2))
 
 length_stages : (count : ℕ) → length (stages_ranks count) ≡ 1 + 6 * count
 length_stages count =
@@ -137,7 +132,7 @@ opcode_above : MatchesStandAbove → (rank : ℕ → ℕ) (first number latches 
 opcode_above law rank first number latches codes None at low = tt
 opcode_above law rank first number latches codes (Some opcode) at low =
     let wanted : List Feed = pattern_bits codes opcode in
-    let many : length wanted ≡ codes.length = length_constants codes.length opcode.value in
+    let many : length wanted ≡ codes.length = counted codes.length opcode.value in
     law rank first number 0 latches wanted (λ k less. matches_ranked rank first codes.length at k (omega arith))
     (λ k less. (let e = latch_low rank latches codes.length low k (omega arith) in omega arith, tt))
 
@@ -213,7 +208,7 @@ instruction_above stages matches selections joined rank first number tap tdi cod
     let presets : List Feed = pattern_bits codes codes.reset in
     let at = stages_there rank first codes.length there.stages in
     joined rank (stages_cells first number tap tdi captured presets) _
-    (stages_above stages rank first number codes.length tap tdi captured presets (length_constants codes.length codes.capture.value) (length_constants codes.length codes.reset.value) at low a
+    (stages_above stages rank first number codes.length tap tdi captured presets (counted codes.length codes.capture.value) (counted codes.length codes.reset.value) at low a
     (up_constants rank 0 codes.length codes.capture.value))
     (joined rank (opcodes_cells (opcodes_from first codes) (opcodes_from number codes) (latches_from first codes) codes matched_instructions) _
     (opcodes_above matches joined rank (opcodes_from first codes) (opcodes_from number codes) (latches_from first codes) codes matched_instructions there.opcodes at.latches)
@@ -266,7 +261,7 @@ pub instruction_nets_up : (rank : ℕ → ℕ) (first : ℕ) (tap : TapNets) (td
     → AreInstrNetsUpTo rank (control_top codes) (instruction_nets first tap tdi codes)
 instruction_nets_up rank first tap tdi codes there low a =
     let captured : List Feed = pattern_bits codes codes.capture in
-    let many : length captured ≡ codes.length = length_constants codes.length codes.capture.value in
+    let many : length captured ≡ codes.length = counted codes.length codes.capture.value in
     let bits : StandAt rank (first + 1) (blocks (shift_block 0) (length captured)) =
     subst (λ (n : ℕ). StandAt rank (first + 1) (blocks (shift_block 0) n)) (sym many) (stages_there rank first codes.length there.stages).bits in
     selection_nets_up rank (selections_from first codes) (2 * codes.length) tap (chain_last (first + 1) tdi captured) there.selections low (last_low rank (first + 1) 0 tdi captured bits a)

@@ -1,8 +1,10 @@
 -- The nets that may clock, clear or preset in the netlist with the test logic: TCK, TRST, and the core's behind the boundary cells.
 -- No cell of the test logic drives one of these.
-use Rattle.std.proofs.Common.{◌≡◌, ℕ, zero, suc, ◌+◌, ◌<◌, ◌≤◌, inl, inr, ◌&&◌, Bool, true, false, List, [], ◌∷◌, take, length, refl, sym, ap, ◌∙◌, subst, Some, arith, slice_get}
+use Rattle.std.proofs.Common.{◌≡◌, ℕ, zero, suc, ◌+◌, ◌<◌, ◌≤◌, inl, inr, true, false, List, [], ◌∷◌, take, length, refl, sym, ap, ◌∙◌, subst, Some, arith, slice_get}
 use Rattle.std.proofs.lemmas.Bool.{cases_lt}
 use Rattle.std.proofs.lemmas.List.Sums.{sum_by-cons}
+use Rattle.list_laws.proofs.Tests.{both_true, and_true}
+use Rattle.list_laws.proofs.Options.{some_same}
 use Rattle.netlist_model.specs.declared.Dir.TheVariants.{Output}
 use Rattle.netlist_model.specs.Lists.{PortView, NetlistView, direction}
 use Rattle.netlist_model.specs.Settled.{is_output}
@@ -10,13 +12,13 @@ use Rattle.netlist_model.specs.Cones.{IsControlNet, IsControlPort}
 use Rattle.netlist_model.specs.Formed.{IsLaidOut}
 use Rattle.netlist_laws.proofs.Controls.{control_read}
 use Rattle.plan_fitting.specs.declared.fitted.FitRow.{FitRow}
-use Rattle.plan_devices.proofs.Lists.{some_same}
 use Rattle.stitch_model.specs.declared.Site.{Site}
 use Rattle.stitch_model.specs.declared.Site.TheVariants as site
 use Rattle.stitch_model.specs.Sites.{Boundary, row_net, site_of, side_count, row_sides, sides_of}
 use Rattle.stitch_model.specs.Sides.{is_moved, moves, core_side}
 use Rattle.stitch_model.specs.Rows.{net_at}
-use Rattle.stitch_ranks.proofs.Moved.{both_true, net_at_is, sides_next, sides_zero, MovedBy, moved_or_stays}
+use Rattle.stitch_model.proofs.Moves.{moved_counts, sides_within}
+use Rattle.stitch_ranks.proofs.Moved.{net_at_is, sides_next, sides_zero, MovedBy, moved_or_stays}
 use Rattle.stitch_ranks.proofs.Placed.{IsPin, Placed}
 use Rattle.stitch_ranks.proofs.Steered.{IsFrom}
 use Rattle.stitch_ranks.proofs.PartsSteered.{RowDrives, RowsDrive}
@@ -33,17 +35,6 @@ IsNotKept N B count net = IsKept N B count net → ⊥
 pub control_inside : (N : NetlistView) → IsLaidOut N → (x : ℕ) → IsControlNet N x → x < length N.nets
 control_inside N laid x c = let read = control_read N x c in laid.operands read.number read.cell read.place x read.reads
 
--- Sides.
-
-moved_counts : (at : Site) → is_moved at ≡ true → 0 < side_count at
-moved_counts site.Observed e = absurd (cc)
-moved_counts site.Input e = omega arith
-moved_counts site.Output e = omega arith
-moved_counts site.AddedDriver e = omega arith
-moved_counts site.Driver e = absurd (cc)
-moved_counts site.Inout e = absurd (cc)
-moved_counts site.Control e = absurd (cc)
-
 sides_before : (ports : List PortView) (rows : List FitRow) (j k : ℕ) (row : FitRow) → slice_get rows j ≡ Some row → j < k
     → sides_of ports (take j rows) + row_sides ports row ≤ sides_of ports (take k rows)
 sides_before ports [] j k row there less = absurd (cc)
@@ -59,21 +50,6 @@ sides_before ports (r ∷ rows) (suc j) (suc k) row there less =
     let rest = sides_before ports rows j k row there (omega arith) in
     let a = sum_by-cons (row_sides ports) r (take j rows) in
     let b = sum_by-cons (row_sides ports) r (take k rows) in
-    omega arith
-
-sides_within : (ports : List PortView) (rows : List FitRow) (k : ℕ) (row : FitRow) → slice_get rows k ≡ Some row
-    → sides_of ports (take k rows) + row_sides ports row ≤ sides_of ports rows
-sides_within ports [] k row there = absurd (cc)
-sides_within ports (r ∷ rows) zero row there =
-    let same : r ≡ row = cc in
-    let one : row_sides ports r ≡ row_sides ports row = ap (row_sides ports) same in
-    let none : sides_of ports (take 0 (r ∷ rows)) ≡ 0 = refl in
-    let more = sum_by-cons (row_sides ports) r rows in
-    omega arith
-sides_within ports (r ∷ rows) (suc k) row there =
-    let rest = sides_within ports rows k row there in
-    let a = sum_by-cons (row_sides ports) r (take k rows) in
-    let b = sum_by-cons (row_sides ports) r rows in
     omega arith
 
 -- A kept net that is one between the core and a cell is a net of the core that the cell's row moves there.
@@ -153,10 +129,6 @@ tdo_apart N B count laid many begins (kept_core x c e) =
     ]
 
 -- Rows.
-
-and_true : (a b : Bool) → a ≡ true → b ≡ true → (a && b) ≡ true
-and_true true b e f = f
-and_true false b e f = absurd (cc)
 
 row_moves : (B : Boundary) (count : ℕ) (row : FitRow) (at : Site) → site_of B.ports row ≡ at → is_moved at ≡ true → IsPin B count row Output → moves B.ports (net_at B row).0 row ≡ true
 row_moves B count row at is moved pin = and_true (is_moved (site_of B.ports row)) (is_output (row_net B.ports row) (net_at B row).0) (ap is_moved is ∙ moved) pin.own

@@ -9,6 +9,7 @@ use Rattle.tap_gates.specs.Laws.{tap_levels}
 use Rattle.register_gates.specs.Constants.{constant_bits}
 use Rattle.register_gates.specs.Registers.{ident_cells, ident_last}
 use Rattle.register_gates.specs.Tdo.{ident_feed}
+use Rattle.register_gates.proofs.ConstantBits.{counted}
 use Rattle.part_levels.specs.Above.{AreAbove, PartsStandAbove}
 use Rattle.part_levels.specs.Registers.{TapStandsAbove, selected_levels, BypassStandsAbove, IdentStandsAbove, SelectionsStandAbove}
 use Rattle.part_levels.specs.Instructions.{StagesStandAbove, MatchesStandAbove}
@@ -19,7 +20,7 @@ use Rattle.stitch_model.specs.Logic.{instruction_from, bypass_from, ident_from, 
 use Rattle.stitch_ranks.proofs.Places.{StandAt, front_at, behind_at, levels_at, blocks, length_triples}
 use Rattle.stitch_ranks.proofs.Ranks.{shift_block, instruction_ranks, control_top, bypass_ranks, ident_ranks, logic_ranks}
 use Rattle.stitch_ranks.proofs.Logic.{shift_length, tap_above, AreTapNetsLow, tap_nets_low, bypass_above, bypass_low, ident_above}
-use Rattle.stitch_ranks.proofs.Instruction.{length_constants, length_instruction, last_low, IsInstructionThere, instruction_there, instruction_above, AreInstrNetsUpTo, instruction_nets_up}
+use Rattle.stitch_ranks.proofs.Instruction.{length_instruction, last_low, IsInstructionThere, instruction_there, instruction_above, AreInstrNetsUpTo, instruction_nets_up}
 
 -- the laws of the parts
 pub record PartLaws : Type 0 where
@@ -106,7 +107,7 @@ ident_low : (rank : ℕ → ℕ) (first top : ℕ) (tdi : NetId) (o : Option ℕ
 ident_low rank first top tdi None at a = tt
 ident_low rank first top tdi (Some code) at a =
     let bits = behind_at rank first 2 (levels_at top selected_levels) (blocks (shift_block (top + 1)) 32) refl at in
-    let many : length (constant_bits 32 code) ≡ 32 = length_constants 32 code in
+    let many : length (constant_bits 32 code) ≡ 32 = counted 32 code in
     let zeroth = last_low rank (first + 2) (top + 1) tdi (constant_bits 32 code) (subst (λ (n : ℕ). StandAt rank (first + 2) (blocks (shift_block (top + 1)) n)) (sym many) bits) a in
     (omega arith, tt)
 

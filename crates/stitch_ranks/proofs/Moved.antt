@@ -1,7 +1,8 @@
 -- What the rows of the boundary register make of the core's nets and drivers: nothing, or what the first row says that is of the net.
-use Rattle.std.proofs.Common.{◌≡◌, ℕ, zero, suc, ◌+◌, ◌≤◌, ◌⊎◌, inl, inr, ◌&&◌, Bool, true, false, List, [], ◌∷◌, take, refl, sym, ap, ◌∙◌, Option, Some, None, arith, eqb-true, slice_get}
+use Rattle.std.proofs.Common.{◌≡◌, ℕ, zero, suc, ◌+◌, ◌≤◌, ◌⊎◌, inl, inr, true, false, List, [], ◌∷◌, take, refl, sym, ap, ◌∙◌, Option, Some, None, arith, eqb-true, slice_get}
 use Rattle.std.specs.Prelude.{unwrap_or}
 use Rattle.std.proofs.lemmas.List.Sums.{sum_by-cons}
+use Rattle.list_laws.proofs.Tests.{true_or_false}
 use Rattle.netlist_model.specs.declared.NetId.{NetId}
 use Rattle.netlist_model.specs.Lists.{PortView}
 use Rattle.netlist_model.specs.Settled.{is_output}
@@ -9,15 +10,7 @@ use Rattle.plan_fitting.specs.declared.fitted.FitRow.{FitRow}
 use Rattle.stitch_model.specs.Sites.{Boundary, row_net, row_sides, sides_of}
 use Rattle.stitch_model.specs.Sides.{moves, side_from, drives, driver_feeds, feeds_from}
 use Rattle.stitch_model.specs.Rows.{net_at}
-
-pub true_or_false : (b : Bool) → (b ≡ true) ⊎ (b ≡ false)
-true_or_false true = inl refl
-true_or_false false = inr refl
-
-pub both_true : (a b : Bool) → (a && b) ≡ true → (a ≡ true) × (b ≡ true)
-both_true true true e = (refl, refl)
-both_true true false e = absurd (cc)
-both_true false b e = absurd (cc)
+use Rattle.stitch_model.proofs.Moves.{moved_here, moved_on, fed_here, fed_on}
 
 output_is : (o : Option NetId) (other : NetId) (net : ℕ) → is_output o net ≡ true → (unwrap_or o other).0 ≡ net
 output_is None other net e = absurd (cc)
@@ -47,13 +40,6 @@ pub record MovedBy (ports : List PortView) (net side : ℕ) (rows : List FitRow)
   pub there : slice_get rows k ≡ Some row
   pub moved : moves ports net row ≡ true
   pub is : side_from ports net side rows ≡ side + sides_of ports (take k rows)
-
-moved_here : (ports : List PortView) (net side : ℕ) (row : FitRow) (rows : List FitRow) → moves ports net row ≡ true → side_from ports net side (row ∷ rows) ≡ side
-moved_here ports net side row rows e = rw e refl
-
-moved_on : (ports : List PortView) (net side : ℕ) (row : FitRow) (rows : List FitRow) → moves ports net row ≡ false
-    → side_from ports net side (row ∷ rows) ≡ side_from ports net (side + row_sides ports row) rows
-moved_on ports net side row rows e = rw e refl
 
 none_of : (ports : List PortView) (net : ℕ) (row : FitRow) (rows : List FitRow) → moves ports net row ≡ false
     → ((k : ℕ) (r : FitRow) → slice_get rows k ≡ Some r → moves ports net r ≡ false) → (k : ℕ) (r : FitRow) → slice_get (row ∷ rows) k ≡ Some r → moves ports net r ≡ false
@@ -87,13 +73,6 @@ pub record DrivenBy (B : Boundary) (net side : ℕ) (rows : List FitRow) : Type 
   pub drives : drives B.ports net row ≡ true
   pub is : feeds_from B net side rows ≡ Some (driver_feeds B (side + sides_of B.ports (take k rows)) row)
 
-drives_here : (B : Boundary) (net side : ℕ) (row : FitRow) (rows : List FitRow) → drives B.ports net row ≡ true → feeds_from B net side (row ∷ rows) ≡ Some (driver_feeds B side row)
-drives_here B net side row rows e = rw e refl
-
-drives_on : (B : Boundary) (net side : ℕ) (row : FitRow) (rows : List FitRow) → drives B.ports net row ≡ false
-    → feeds_from B net side (row ∷ rows) ≡ feeds_from B net (side + row_sides B.ports row) rows
-drives_on B net side row rows e = rw e refl
-
 pub driven_or_not : (B : Boundary) (net side : ℕ) (rows : List FitRow) → (feeds_from B net side rows ≡ None) ⊎ DrivenBy B net side rows
 driven_or_not B net side [] = inl refl
 driven_or_not B net side (row ∷ rows) = elim (true_or_false (drives B.ports net row)) [
@@ -102,9 +81,9 @@ driven_or_not B net side (row ∷ rows) = elim (true_or_false (drives B.ports ne
     row = row;
     there = refl;
     drives = e;
-    is = drives_here B net side row rows e ∙ ap (λ (s : ℕ). Some (driver_feeds B s row)) (sides_zero B.ports side (row ∷ rows));
+    is = fed_here B net side row rows e ∙ ap (λ (s : ℕ). Some (driver_feeds B s row)) (sides_zero B.ports side (row ∷ rows));
   })
-  | inr e ↦ (let on = drives_on B net side row rows e in elim (driven_or_not B net (side + row_sides B.ports row) rows) [
+  | inr e ↦ (let on = fed_on B net side row rows e in elim (driven_or_not B net (side + row_sides B.ports row) rows) [
     | inl none ↦ inl (on ∙ none)
     | inr by ↦ inr (record {
       k = suc by.k;

@@ -27,6 +27,7 @@ use Rattle.stitch_model.specs.Sides.{core_cell}
 use Rattle.stitch_model.specs.Rows.{nets_of_rows, behind}
 use Rattle.stitch_model.specs.Logic.{logic_size, tap_at, instruction_at, bypass_at, ident_at, logic_cells}
 use Rattle.stitch_model.specs.Stitched.{tap_port, rows_part, boundary_last, tdo_part, test_logic_cells, same_place, live_cells, boundary_at, first_net, stitched_cells}
+use Rattle.stitch_laws.proofs.Places.{listed_at}
 use Rattle.stitch_ranks.specs.Laws.{StitchedIsOrdered}
 use Rattle.stitch_ranks.proofs.Places.{StandAt, front_at, behind_at, moved_at, first_at, levels_at}
 use Rattle.stitch_ranks.proofs.Ranks.{control_top, logic_ranks, core_low, sides_at, sides_ranks, rows_ranks, tap_ranks, added_ranks, pin_rank, rank_by, stitched_rank}
@@ -170,11 +171,6 @@ cells_above laws has found drives law L p seen fits laid alone numbered =
     (live_above rank B N.cells (λ i cell e. core_above rank alone low B count are placed cell (core_gate N fits.formed laid alone numbered B refl i cell e)))
     (added_above laws rank alone B f count (first_net N f) (cell_count N) refl there
     (λ k row e. row_fits rank alone low B count (omega arith) are k row e (site_of B.ports row) refl (placed k row e)))
-
-pub listed_at : (cells : List CellView) (k : ℕ) → live_cell (slice_get (map Some cells) k) ≡ slice_get cells k
-listed_at [] k = refl
-listed_at (cell ∷ cells) zero = refl
-listed_at (cell ∷ cells) (suc k) = listed_at cells k
 
 pub ordered : RankLaws → BitHasDirection → DriverIsFound → DriverDrives → ControlCellsAreThere → StitchedIsOrdered
 ordered laws has found drives law L p seen names fits laid dense =

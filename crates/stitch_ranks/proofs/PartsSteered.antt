@@ -3,6 +3,7 @@ use Rattle.std.proofs.Common.{◌≡◌, ℕ, ◌+◌, ◌*◌, Bool, true, fals
 use Rattle.std.specs.Prelude.{⊤}
 use Rattle.std.specs.List.{list_all}
 use Rattle.std.specs.Option.{option_map_or}
+use Rattle.list_laws.proofs.Options.{some_same}
 use Rattle.cell_library.specs.declared.codes.Bits.{Bits}
 use Rattle.cell_library.specs.declared.codes.Instr.{Instr}
 use Rattle.cell_library.specs.declared.codes.BoundaryKind.{BoundaryKind}
@@ -36,7 +37,6 @@ use Rattle.boundary_cells.specs.Cells.{steering_of, stage_table, cell_given, out
 use Rattle.boundary_cells.specs.ThreeState.{control_table, control_choice, control_given, bidir_table, bidir_given}
 use Rattle.plan_fitting.specs.declared.fitted.FitRow.{FitRow}
 use Rattle.plan_fitting.specs.declared.fitted.Fitted.{Fitted}
-use Rattle.plan_devices.proofs.Lists.{some_same}
 use Rattle.stitch_model.specs.declared.TapPort.{TapPort}
 use Rattle.stitch_model.specs.declared.Site.{Site}
 use Rattle.stitch_model.specs.declared.Site.TheVariants as site
@@ -45,7 +45,8 @@ use Rattle.stitch_model.specs.Sides.{level_net, core_feed}
 use Rattle.stitch_model.specs.Rows.{nets_of_rows, net_at, enable_of, is_active_high, added_driver, site_cells, row_cells, last_bit, rows_cells, behind}
 use Rattle.stitch_model.specs.Logic.{instruction_from, bypass_from, ident_from, logic_size, tap_at, instruction_at, bypass_at, ident_at, controller_part, instruction_part, bypass_part, ident_part, logic_cells}
 use Rattle.stitch_model.specs.Stitched.{rows_part, boundary_last, tdo_part, test_logic_cells}
-use Rattle.stitch_ranks.proofs.Steered.{AreSteered, steered_joined, IsFrom, is_clocked, table_steered, gates_steered, from_more, choice_steered, shift_steered, chain_steered, latches_steered, matches_steered}
+use Rattle.stitch_cells.specs.Gates.{is_clocked_by}
+use Rattle.stitch_ranks.proofs.Steered.{AreSteered, steered_joined, IsFrom, table_steered, gates_steered, from_more, choice_steered, shift_steered, chain_steered, latches_steered, matches_steered}
 
 -- The instruction register.
 
@@ -125,19 +126,19 @@ RowDrives Q B side row site.Output = Q (net_at B row).0
 RowDrives Q B side row site.AddedDriver = Q (side + 1) × Q (net_at B row).0
 RowDrives Q B side row _ = Q side
 
-stage_clocked : (cell : BoundaryKind) → IsTrue (list_all (is_clocked 0 1) (stage_table cell))
+stage_clocked : (cell : BoundaryKind) → IsTrue (list_all (is_clocked_by 0 1) (stage_table cell))
 stage_clocked Bc1 = refl
 stage_clocked Bc2 = refl
 stage_clocked Bc4 = refl
 stage_clocked Bc7 = refl
 
-control_clocked : (cell : BoundaryKind) → IsTrue (list_all (is_clocked 0 1) (control_table cell))
+control_clocked : (cell : BoundaryKind) → IsTrue (list_all (is_clocked_by 0 1) (control_table cell))
 control_clocked Bc1 = refl
 control_clocked Bc2 = refl
 control_clocked Bc4 = refl
 control_clocked Bc7 = refl
 
-bidir_clocked : (high : Bool) → IsTrue (list_all (is_clocked 0 1) (bidir_table high))
+bidir_clocked : (high : Bool) → IsTrue (list_all (is_clocked_by 0 1) (bidir_table high))
 bidir_clocked true = refl
 bidir_clocked false = refl
 

@@ -2,6 +2,7 @@
 use Rattle.std.proofs.Common.{◌≡◌, ℕ, zero, suc, ◌+◌, ◌-◌, ◌<◌, nat_lt, Bool, true, false, List, length, refl, ap, ◌∙◌, Option, Some, None, if◌then◌else◌, arith, slice_get}
 use Rattle.std.specs.Prelude.{option_and_then}
 use Rattle.list_laws.proofs.Lists.{slice_get-append_left, slice_get-append_right}
+use Rattle.list_laws.proofs.Options.{some_same}
 use Rattle.netlist_model.specs.declared.NetId.{NetId}
 use Rattle.netlist_model.specs.declared.Dir.{Dir}
 use Rattle.netlist_model.specs.Lists.{PortView, NetlistView, bit_net, direction}
@@ -13,7 +14,7 @@ use Rattle.test_logic.specs.declared.TapInput.TheVariants.{Tck, Tms, Tdi, Trst}
 use Rattle.wrapped_chip.specs.Realises.{SameBit, tap_place, IsTapNet}
 use Rattle.wrapped_chip.specs.Beside.{PinOf, of_bit, of_tap, of_none}
 use Rattle.plan_fitting.specs.declared.fitted.Fitted.{Fitted}
-use Rattle.plan_devices.proofs.Lists.{get_inside, some_same}
+use Rattle.plan_devices.proofs.Lists.{get_inside}
 use Rattle.stitch_model.specs.declared.TapNames.{TapNames}
 use Rattle.stitch_model.specs.Stitched.{tap_port, tap_ports, stitched}
 use Rattle.stitch_ranks.specs.Laws.{StitchedHasPins}

@@ -2,9 +2,7 @@
 use Rattle.std.proofs.Common.{◌≡◌, ℕ, ◌<◌, ◌⊎◌, inl, inr, ◌&&◌, Bool, true, false, List, [], ◌∷◌, length, refl, ap, ◌∙◌, subst, Option, Some, None, eqb-true, slice_get}
 use Rattle.std.specs.Option.{option_map_or}
 use Rattle.list_laws.proofs.Tests.{and_left, and_right}
-use Rattle.cell_library.specs.declared.Kind.{Kind}
-use Rattle.cell_library.specs.declared.Kind.TheVariants.{Bufif0, Bufif1}
-use Rattle.cell_library.specs.Gates.{is_flop}
+use Rattle.list_laws.proofs.Options.{some_same}
 use Rattle.cell_library.specs.declared.codes.Function.{Function}
 use Rattle.cell_library.specs.declared.codes.Function.TheVariants as function
 use Rattle.netlist_model.specs.declared.NetId.{NetId}
@@ -19,8 +17,9 @@ use Rattle.netlist_laws.specs.Drivers.{IsDriverOf}
 use Rattle.bsdl_device.specs.RowRules.{is_function}
 use Rattle.first_faults.specs.First.{or_else}
 use Rattle.plan_fitting.specs.declared.fitted.FitRow.{FitRow}
-use Rattle.plan_fitting.specs.Rows.{Driver, gate_driver, three_state, added_driver, same_bool, same_feed}
-use Rattle.plan_devices.proofs.Lists.{some_same}
+use Rattle.plan_fitting.specs.Rows.{Driver, three_state, added_driver, same_bool, same_feed}
+use Rattle.plan_fitting.proofs.Controls.{control_is}
+use Rattle.plan_fitting.proofs.Drivers.{gate_is}
 use Rattle.plan_devices.proofs.Rows.{IsControlled}
 use Rattle.stitch_model.specs.declared.Site.{Site}
 use Rattle.stitch_model.specs.declared.Site.TheVariants as site
@@ -69,25 +68,6 @@ Placed alone B count row site.Control = IsCoreFeed count row.core
 
 -- The driver of a bit.
 
-record IsGate (kind : Kind) (feeds : List Feed) (d : Driver) : Type 0 where
-  gate : is_flop kind ≡ false
-  feeds_are : feeds ≡ d.core ∷ d.operand ∷ []
-
-gate_is : (kind : Kind) (feeds : List Feed) (d : Driver) → gate_driver kind feeds ≡ Some d → IsGate kind feeds d
-gate_is Bufif1 [] d h = absurd (cc)
-gate_is Bufif1 (a ∷ []) d h = absurd (cc)
-gate_is Bufif1 (a ∷ b ∷ []) d h =
-    let one : Driver = record { core = a; operand = b; active_high = true } in
-    subst (IsGate Bufif1 (a ∷ b ∷ [])) (some_same one d (gate_driver Bufif1 (a ∷ b ∷ [])) refl h) (record { gate = refl; feeds_are = refl })
-gate_is Bufif1 (a ∷ b ∷ c ∷ feeds) d h = absurd (cc)
-gate_is Bufif0 [] d h = absurd (cc)
-gate_is Bufif0 (a ∷ []) d h = absurd (cc)
-gate_is Bufif0 (a ∷ b ∷ []) d h =
-    let one : Driver = record { core = a; operand = b; active_high = false } in
-    subst (IsGate Bufif0 (a ∷ b ∷ [])) (some_same one d (gate_driver Bufif0 (a ∷ b ∷ [])) refl h) (record { gate = refl; feeds_are = refl })
-gate_is Bufif0 (a ∷ b ∷ c ∷ feeds) d h = absurd (cc)
-gate_is _ feeds d h = absurd (cc)
-
 under_first : (alone : ℕ → ℕ) (bound : ℕ) (feed : Feed) (rest : List Feed) → FeedsBelow alone (feed ∷ rest) bound → IsUnder alone (Some feed) bound × FeedsBelow alone rest bound
 under_first alone bound (Net net) rest below = (below.0, below.1)
 under_first alone bound (Const b) rest below = (tt, below)
@@ -115,14 +95,14 @@ three_is N alone laid numbered net None drives d h = absurd (cc)
 three_is N alone laid numbered net (Some cell) drives d h =
     let is = gate_is cell.kind cell.feeds d h in
     let below : FeedsBelow alone cell.feeds (alone net.0) = numbered.gates drives.0 cell net.0 drives.1 is.gate in
-    let both : FeedsBelow alone (d.core ∷ d.operand ∷ []) (alone net.0) = subst (λ (feeds : List Feed). FeedsBelow alone feeds (alone net.0)) is.feeds_are below in
+    let both : FeedsBelow alone (d.core ∷ d.operand ∷ []) (alone net.0) = subst (λ (feeds : List Feed). FeedsBelow alone feeds (alone net.0)) is.are below in
     let one = under_first alone (alone net.0) d.core (d.operand ∷ []) both in
     let two = under_first alone (alone net.0) d.operand [] one.1 in
     record {
       at = record {
-        core_inside = read_inside N laid drives.0 cell net.0 0 d.core drives.1 (ap (λ (feeds : List Feed). slice_get feeds 0) is.feeds_are);
+        core_inside = read_inside N laid drives.0 cell net.0 0 d.core drives.1 (ap (λ (feeds : List Feed). slice_get feeds 0) is.are);
         core_below = inl one.0;
-        operand_inside = read_inside N laid drives.0 cell net.0 1 d.operand drives.1 (ap (λ (feeds : List Feed). slice_get feeds 1) is.feeds_are);
+        operand_inside = read_inside N laid drives.0 cell net.0 1 d.operand drives.1 (ap (λ (feeds : List Feed). slice_get feeds 1) is.are);
         operand_below = two.0;
       };
       below = one.0;
@@ -155,21 +135,13 @@ same_is alone count bound (Net a) (Some (Const b)) h inside below = absurd (cc)
 same_is alone count bound (Const a) (Some (Net b)) h inside below = absurd (cc)
 same_is alone count bound (Const a) (Some (Const b)) h inside below = (tt, tt)
 
-is_control : (f : Function) → is_function function.Control f ≡ true → f ≡ function.Control
-is_control function.Input h = absurd (cc)
-is_control function.Clock h = absurd (cc)
-is_control function.Output2 h = absurd (cc)
-is_control function.Output3 h = absurd (cc)
-is_control function.Control h = refl
-is_control function.Bidir h = absurd (cc)
-
 pub control_site : (B : Boundary) (row : FitRow) → row.function ≡ function.Control → site_of B.ports row ≡ site.Control
 control_site B row e = ap (λ (f : Function). site_by f row.cell (is_own_net (row_net B.ports row) row.core)) e
 
 -- the control cell of a driver
-pub control_is : (alone : ℕ → ℕ) (B : Boundary) (count : ℕ) (net : NetId) (row : FitRow) (d : Driver) → IsDriverAt alone count net d → IsControlled B.rows d row.control
+pub row_controls : (alone : ℕ → ℕ) (B : Boundary) (count : ℕ) (net : NetId) (row : FitRow) (d : Driver) → IsDriverAt alone count net d → IsControlled B.rows d row.control
     → HasControl alone B count row (alone net.0)
-control_is alone B count net row d at c =
+row_controls alone B count net row d at c =
     let does : Bool = is_function function.Control c.row.function in
     let level : Bool = same_bool c.row.active_high d.active_high in
     let fed : Bool = option_map_or (same_feed d.operand) c.row.core false in
@@ -180,7 +152,7 @@ control_is alone B count net row d at c =
       control = c.row;
       names = c.is;
       there = c.there;
-      at = control_site B c.row (is_control c.row.function (and_left does level first));
+      at = control_site B c.row (control_is c.row.function (and_left does level first));
       inside = same.0;
       below = same.1;
     }

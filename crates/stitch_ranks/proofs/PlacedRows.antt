@@ -5,7 +5,8 @@ use Rattle.std.specs.Option.{option_map_or}
 use Rattle.std.proofs.lemmas.Option.{slice_get-map}
 use Rattle.list_laws.proofs.Tests.{and_right}
 use Rattle.list_laws.proofs.Numbers.{eqb_same}
-use Rattle.list_laws.proofs.Lists.{all_from_list_all}
+use Rattle.list_laws.proofs.Lists.{all_from_list_all, all_at}
+use Rattle.list_laws.proofs.Options.{some_same}
 use Rattle.cell_library.specs.declared.codes.BoundaryKind.{BoundaryKind}
 use Rattle.cell_library.specs.declared.codes.BoundaryKind.TheVariants.{Bc1, Bc2, Bc4, Bc7}
 use Rattle.cell_library.specs.declared.codes.Function.{Function}
@@ -33,7 +34,6 @@ use Rattle.plan_fitting.specs.Rows.{Driver, three_state, added_driver, same_bool
 use Rattle.plan_fitting.specs.Devices.{fitted_of, disable_by, cell_row, device_of}
 use Rattle.plan_fitting.specs.Laws.{ControlCellsAreThere}
 use Rattle.plan_devices.specs.Fitting.{IsFitting}
-use Rattle.plan_devices.proofs.Lists.{some_same, all_at}
 use Rattle.plan_devices.proofs.Rows.{side_driver, data_function, data_core, Controlled, IsDataRow}
 use Rattle.plan_devices.proofs.Lined.{IsLined}
 use Rattle.plan_devices.proofs.Drivers.{seen_direction, makes_rows}
@@ -44,7 +44,7 @@ use Rattle.stitch_model.specs.Sites.{Boundary, pin_net, row_net, is_own_net, inp
 use Rattle.stitch_model.specs.Rows.{net_at}
 use Rattle.stitch_model.specs.Stitched.{boundary_at}
 use Rattle.stitch_ranks.proofs.CoreRanks.{IsCoreFeed}
-use Rattle.stitch_ranks.proofs.Placed.{IsUnder, IsPin, IsDriverRow, Placed, IsDriverAt, IsThreeState, three_is, output_is, same_is, control_site, control_is}
+use Rattle.stitch_ranks.proofs.Placed.{IsUnder, IsPin, IsDriverRow, Placed, IsDriverAt, IsThreeState, three_is, output_is, same_is, control_site, row_controls}
 
 -- The driver of a data cell's bit.
 
@@ -82,7 +82,7 @@ driver_row : (alone : ℕ → ℕ) (B : Boundary) (count : ℕ) (row : FitRow) (
     → IsUnder alone (Some d.core) (alone (net_at B row).0) → Controlled B.rows (Some d) row.control → IsDriverRow alone B count row side
 driver_row alone B count row side d pin core at below c = record {
   pin = pin;
-  control = control_is alone B count (net_at B row) row d at c;
+  control = row_controls alone B count (net_at B row) row d at c;
   inside = subst (IsCoreFeed count) (sym core) at.core_inside;
   below = subst (λ (o : Option Feed). IsUnder alone o (alone (net_at B row).0)) (sym core) below;
 }
@@ -93,7 +93,7 @@ own_net net o core e f = ap (λ (x : Option NetId). is_own_net x core) e ∙ ap 
 output_placed : (alone : ℕ → ℕ) (B : Boundary) (count : ℕ) (row : FitRow) (d : Driver) → IsPin B count row dir.Output → row_net B.ports row ≡ Some (net_at B row) → row.core ≡ Some d.core
     → IsDriverAt alone count (net_at B row) d → Controlled B.rows (Some d) row.control → (own : Bool) → is_own_net (row_net B.ports row) row.core ≡ own
     → Placed alone B count row (output_site own)
-output_placed alone B count row d pin net core at c true e = (pin, control_is alone B count (net_at B row) row d at c)
+output_placed alone B count row d pin net core at c true e = (pin, row_controls alone B count (net_at B row) row d at c)
 output_placed alone B count row d pin net core at c false e = elim at.core_below [
   | inl below ↦ driver_row alone B count row dir.Output d pin core at below c
   | inr own ↦ absurd (let t = own_net (net_at B row) (row_net B.ports row) row.core net (core ∙ ap (λ (f : Feed). Some f) own) in cc)

@@ -3,6 +3,7 @@ use Rattle.std.proofs.Common.{◌≡◌, ℕ, zero, suc, ◌+◌, ◌*◌, ◌<�
 use Rattle.std.specs.List.{slice_index}
 use Rattle.std.proofs.lemmas.Bool.{cases_lt}
 use Rattle.list_laws.proofs.Lists.{slice_get-append_left, slice_get-append_right}
+use Rattle.list_laws.proofs.Tests.{both_hold, other_holds}
 use Rattle.cell_library.specs.Gates.{is_flop}
 use Rattle.gate_parts.specs.declared.Gate.{Gate}
 use Rattle.part_levels.specs.Above.{AreRanked}
@@ -52,14 +53,6 @@ are_high [] [] = true
 are_high (level ∷ levels) (gate ∷ gates) = (is_flop gate.kind || nat_lt 0 level) && are_high levels gates
 are_high levels gates = false
 
-both : (a b : Bool) → IsTrue (a && b) → IsTrue a × IsTrue b
-both true b is = (refl, is)
-both false b is = absurd (cc)
-
-or_false : (a b : Bool) → IsTrue (a || b) → a ≡ false → IsTrue b
-or_false true b either is = absurd (cc)
-or_false false b either is = either
-
 level_up : (base level : ℕ) → level_rank base level ≤ base + level
 level_up base zero = omega arith
 level_up base (suc level) = omega arith
@@ -74,7 +67,7 @@ level_there base [] [] high j low = absurd (omega arith)
 level_there base (level ∷ levels) [] high j low = absurd (omega arith)
 level_there base [] (gate ∷ gates) high j low = absurd (cc)
 level_there base (level ∷ levels) (gate ∷ gates) high zero low = refl
-level_there base (level ∷ levels) (gate ∷ gates) high (suc j) low = level_there base levels gates (both (is_flop gate.kind || nat_lt 0 level) (are_high levels gates) high).1 j (omega arith)
+level_there base (level ∷ levels) (gate ∷ gates) high (suc j) low = level_there base levels gates (both_hold (is_flop gate.kind || nat_lt 0 level) (are_high levels gates) high).1 j (omega arith)
 
 level_high : (levels : List ℕ) (gates : List Gate) → IsTrue (are_high levels gates) → (k : ℕ) (gate : Gate) → slice_get gates k ≡ Some gate → is_flop gate.kind ≡ false
     → 0 < slice_index levels k
@@ -82,10 +75,10 @@ level_high levels [] high k gate at is = absurd (cc)
 level_high [] (g ∷ gates) high k gate at is = absurd (cc)
 level_high (level ∷ levels) (g ∷ gates) high zero gate at is =
     let same : g ≡ gate = cc in
-    let parts = both (is_flop g.kind || nat_lt 0 level) (are_high levels gates) high in
-    let above : IsTrue (nat_lt 0 level) = or_false (is_flop g.kind) (nat_lt 0 level) parts.0 (ap (λ (x : Gate). is_flop x.kind) same ∙ is) in
+    let parts = both_hold (is_flop g.kind || nat_lt 0 level) (are_high levels gates) high in
+    let above : IsTrue (nat_lt 0 level) = other_holds (is_flop g.kind) (nat_lt 0 level) parts.0 (ap (λ (x : Gate). is_flop x.kind) same ∙ is) in
     grind (arith, above)
-level_high (level ∷ levels) (g ∷ gates) high (suc k) gate at is = level_high levels gates (both (is_flop g.kind || nat_lt 0 level) (are_high levels gates) high).1 k gate at is
+level_high (level ∷ levels) (g ∷ gates) high (suc k) gate at is = level_high levels gates (both_hold (is_flop g.kind || nat_lt 0 level) (are_high levels gates) high).1 k gate at is
 
 -- the nets of a table that stand so are numbered by its levels
 pub ranked : (rank : ℕ → ℕ) (first base : ℕ) (levels : List ℕ) (gates : List Gate) → IsTrue (are_high levels gates) → StandAt rank first (levels_at base levels)

@@ -2,6 +2,7 @@
 use Rattle.std.proofs.Common.{◌≡◌, ℕ, ◌==◌, Bool, true, false, List, refl, sym, ap, ◌∙◌, subst, Option, Some, None, if◌then◌else◌, eqb-true, slice_get}
 use Rattle.std.specs.Prelude.{option_and_then}
 use Rattle.list_laws.proofs.Numbers.{eqb_same}
+use Rattle.list_laws.proofs.Options.{some_same}
 use Rattle.signal_values.specs.declared.Sig.{Sig}
 use Rattle.signal_values.specs.declared.Sig.TheVariants.{Zero, One, Unknown}
 use Rattle.cell_library.specs.Gates.{is_three_state, operand}
@@ -26,9 +27,9 @@ use Rattle.plan_fitting.specs.Rows.{rows}
 use Rattle.plan_fitting.specs.Devices.{fitted_of, cell_row, device_of}
 use Rattle.plan_devices.specs.Fitting.{IsFitting}
 use Rattle.plan_devices.specs.Laws.{fed, PlansSuitNetlists, RowsStandAtBits, RowsTakeTheCore}
-use Rattle.plan_devices.proofs.Lists.{some_same}
 use Rattle.stitch_model.specs.declared.Site.TheVariants as site
 use Rattle.stitch_model.specs.Sites.{pin_net, row_net, is_own_net, input_site, output_site, site_by, site_of}
+use Rattle.stitch_model.proofs.Moves.{output_is}
 
 -- The bit of a row.
 
@@ -37,16 +38,12 @@ record HasBit (ports : List PortView) (row : FitRow) (net : ℕ) : Type 0 where
   is : row.pin ≡ Some pin
   at : pin_net ports pin ≡ Some (record { 0 = net })
 
-net_is : (o : Option NetId) (net : ℕ) → is_output o net ≡ true → o ≡ Some (record { 0 = net })
-net_is None net h = absurd (cc)
-net_is (Some id) net h = let same : id.0 ≡ net = eqb-true id.0 net h in ap (λ (n : ℕ). let one : NetId = record { 0 = n } in Some one) same
-
 has_bit : (ports : List PortView) (row : FitRow) (net : ℕ) → is_output (row_net ports row) net ≡ true → HasBit ports row net
 has_bit ports row net h = by row.pin refl h
   where
     by : (o : Option PinBit) → row.pin ≡ o → is_output (option_and_then (pin_net ports) o) net ≡ true → HasBit ports row net
     by None e k = absurd (cc)
-    by (Some pin) e k = record { pin = pin; is = e; at = net_is (pin_net ports pin) net k }
+    by (Some pin) e k = record { pin = pin; is = e; at = output_is (pin_net ports pin) net k }
 
 -- An operand that gives what its net gives is that net.
 
@@ -101,7 +98,7 @@ driver_three found law L p seen fits number row there at net is i cell drives = 
         let core : row.core ≡ Some (Net (record { 0 = net })) = core_is row.core net
         (λ value. law L p seen fits number row bit.pin (record { 0 = net }) there bit.is bit.at value
         ∙ ap (λ (o : Option CellView). core_datum o value net) driver ∙ ap (λ (b : Bool). if b then operand (feed_values value cell.feeds) 0 else value net) e) in
-        let own : is_own_net (row_net N.ports row) row.core ≡ true = own_is net (row_net N.ports row) row.core (net_is (row_net N.ports row) net is) core in
+        let own : is_own_net (row_net N.ports row) row.core ≡ true = own_is net (row_net N.ports row) row.core (output_is (row_net N.ports row) net is) core in
         absurd (own_no_driver row.function row.cell (ap (λ (b : Bool). site_by row.function row.cell b) (sym own) ∙ at))
 
 -- An input's row.

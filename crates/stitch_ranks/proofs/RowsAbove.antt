@@ -54,7 +54,7 @@ feed_low alone low None = omega arith
 feed_low alone low (Some (Const b)) = omega arith
 feed_low alone low (Some (Net net)) = omega arith
 
-up_to_more : (rank : ℕ → ℕ) (base more : ℕ) (feed : Feed) → base ≤ more → AreFeedsUpTo rank base (feed ∷ []) → AreFeedsUpTo rank more (feed ∷ [])
+pub up_to_more : (rank : ℕ → ℕ) (base more : ℕ) (feed : Feed) → base ≤ more → AreFeedsUpTo rank base (feed ∷ []) → AreFeedsUpTo rank more (feed ∷ [])
 up_to_more rank base more (Net net) less up = let low = up.0 in (omega arith, tt)
 up_to_more rank base more (Const b) less up = tt
 

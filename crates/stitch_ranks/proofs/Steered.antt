@@ -1,8 +1,10 @@
 -- The flip-flops of the test logic are clocked by TCK and cleared or preset by TRST; and what its cells drive.
-use Rattle.std.proofs.Common.{◌≡◌, ℕ, zero, suc, ◌+◌, ◌*◌, ◌≤◌, ◌&&◌, ◌||◌, ◌==◌, not, Bool, true, false, IsTrue, List, [], ◌∷◌, ◌++◌, map, length, refl, ap, ◌∙◌, subst, Option, Some, None, option_map, arith, eqb-true, slice_get}
+use Rattle.std.proofs.Common.{◌≡◌, ℕ, zero, suc, ◌+◌, ◌*◌, ◌≤◌, ◌&&◌, ◌||◌, not, Bool, true, false, IsTrue, List, [], ◌∷◌, ◌++◌, map, length, refl, ap, ◌∙◌, subst, Option, Some, None, option_map, arith, eqb-true, slice_get}
 use Rattle.std.specs.Prelude.{⊤, unwrap_or}
 use Rattle.std.specs.List.{list_all}
 use Rattle.std.proofs.lemmas.Option.{slice_get-map}
+use Rattle.list_laws.proofs.Tests.{both_hold, then_holds}
+use Rattle.list_laws.proofs.Options.{some_same}
 use Rattle.cell_library.specs.Gates.{is_flop}
 use Rattle.netlist_model.specs.declared.NetId.{NetId}
 use Rattle.netlist_model.specs.declared.Feed.{Feed}
@@ -24,7 +26,7 @@ use Rattle.instruction_gates.specs.Latches.{holding_of, loaded_given, latch_cell
 use Rattle.instruction_gates.specs.Matches.{match_before, equal_given, matches_cells}
 use Rattle.boundary_cells.specs.declared.tables.Choice.{Choice}
 use Rattle.boundary_cells.specs.Cells.{choice_cell, cells_onto}
-use Rattle.plan_devices.proofs.Lists.{some_same}
+use Rattle.stitch_cells.specs.Gates.{is_given_at, is_clocked_by}
 
 -- A flip-flop that TCK clocks and TRST clears or presets, or a gate; and each net that it drives is one of these.
 
@@ -52,23 +54,7 @@ IsFrom Q first = (net : ℕ) → first ≤ net → Q net
 
 -- Tables.
 
-abbrev pub takes_at : ℕ → Option Pin → Bool
-takes_at place None = false
-takes_at place (Some (Own k)) = false
-takes_at place (Some (Given k)) = k == place
-
-abbrev pub is_clocked : ℕ → ℕ → Gate → Bool
-is_clocked clock reset gate = not (is_flop gate.kind) || (takes_at clock (slice_get (pins_of gate.pins) 1) && takes_at reset (slice_get (pins_of gate.pins) 2))
-
-both : (a b : Bool) → IsTrue (a && b) → IsTrue a × IsTrue b
-both true b is = (refl, is)
-both false b is = absurd (cc)
-
-where_true : (a b : Bool) → IsTrue (not a || b) → a ≡ true → IsTrue b
-where_true true b either is = either
-where_true false b either is = absurd (cc)
-
-takes_given : (place : ℕ) (pin : Option Pin) → IsTrue (takes_at place pin) → pin ≡ Some (Given place)
+takes_given : (place : ℕ) (pin : Option Pin) → IsTrue (is_given_at place pin) → pin ≡ Some (Given place)
 takes_given place None is = absurd (cc)
 takes_given place (Some (Own k)) is = absurd (cc)
 takes_given place (Some (Given k)) is = ap (λ (n : ℕ). Some (Given n)) (eqb-true k place is)
@@ -78,30 +64,30 @@ given_feed : (first : ℕ) (given : List Feed) (pins : List Pin) (at place : ℕ
 given_feed first given pins at place feed e there =
     slice_get-map (feed_of first given) pins at ∙ ap (option_map (feed_of first given)) e ∙ ap (λ (o : Option Feed). Some (unwrap_or o (Const false))) there
 
-gate_steered : (first : ℕ) (given : List Feed) (number net clock reset : ℕ) (gate : Gate) (tck trst : NetId) (Q : ℕ → Type 0) → IsTrue (is_clocked clock reset gate)
+gate_steered : (first : ℕ) (given : List Feed) (number net clock reset : ℕ) (gate : Gate) (tck trst : NetId) (Q : ℕ → Type 0) → IsTrue (is_clocked_by clock reset gate)
     → slice_get given clock ≡ Some (Net tck) → slice_get given reset ≡ Some (Net trst) → Q net → IsSteered tck trst Q (gate_cell first given number net gate)
 gate_steered first given number net clock reset gate tck trst Q is a b q =
-    let c : Bool = takes_at clock (slice_get (pins_of gate.pins) 1) in
-    let r : Bool = takes_at reset (slice_get (pins_of gate.pins) 2) in
+    let c : Bool = is_given_at clock (slice_get (pins_of gate.pins) 1) in
+    let r : Bool = is_given_at reset (slice_get (pins_of gate.pins) 2) in
     record {
       clock = λ flop. given_feed first given (pins_of gate.pins) 1 clock (Net tck)
-          (takes_given clock (slice_get (pins_of gate.pins) 1) (both c r (where_true (is_flop gate.kind) (c && r) is flop)).0) a;
+          (takes_given clock (slice_get (pins_of gate.pins) 1) (both_hold c r (then_holds (is_flop gate.kind) (c && r) is flop)).0) a;
       reset = λ flop. given_feed first given (pins_of gate.pins) 2 reset (Net trst)
-          (takes_given reset (slice_get (pins_of gate.pins) 2) (both c r (where_true (is_flop gate.kind) (c && r) is flop)).1) b;
+          (takes_given reset (slice_get (pins_of gate.pins) 2) (both_hold c r (then_holds (is_flop gate.kind) (c && r) is flop)).1) b;
       drives = λ other e. let same : net ≡ other = ap (λ (n : NetId). n.0) (some_same (let one : NetId = record { 0 = net } in one) (let two : NetId = record { 0 = other } in two) (Some (record { 0 = net })) refl e) in
           subst Q same q;
     }
 
-cells_steered : (first : ℕ) (given : List Feed) (number net clock reset : ℕ) (gates : List Gate) (tck trst : NetId) (Q : ℕ → Type 0) → IsTrue (list_all (is_clocked clock reset) gates)
+cells_steered : (first : ℕ) (given : List Feed) (number net clock reset : ℕ) (gates : List Gate) (tck trst : NetId) (Q : ℕ → Type 0) → IsTrue (list_all (is_clocked_by clock reset) gates)
     → slice_get given clock ≡ Some (Net tck) → slice_get given reset ≡ Some (Net trst) → IsFrom Q net → AreSteered tck trst Q (cells_from first given number net gates)
 cells_steered first given number net clock reset [] tck trst Q is a b q = tt
 cells_steered first given number net clock reset (gate ∷ gates) tck trst Q is a b q =
-    let parts = both (is_clocked clock reset gate) (list_all (is_clocked clock reset) gates) is in (
+    let parts = both_hold (is_clocked_by clock reset gate) (list_all (is_clocked_by clock reset) gates) is in (
       gate_steered first given number net clock reset gate tck trst Q parts.0 a b (q net (omega arith)),
       cells_steered first given (suc number) (suc net) clock reset gates tck trst Q parts.1 a b (λ other less. q other (omega arith)),
     )
 
-pub table_steered : (gates : List Gate) (given : List Feed) (first number clock reset : ℕ) (tck trst : NetId) (Q : ℕ → Type 0) → IsTrue (list_all (is_clocked clock reset) gates)
+pub table_steered : (gates : List Gate) (given : List Feed) (first number clock reset : ℕ) (tck trst : NetId) (Q : ℕ → Type 0) → IsTrue (list_all (is_clocked_by clock reset) gates)
     → slice_get given clock ≡ Some (Net tck) → slice_get given reset ≡ Some (Net trst) → IsFrom Q first → AreSteered tck trst Q (part_cells gates given first number)
 table_steered gates given first number clock reset tck trst Q is a b q = cells_steered first given number first clock reset gates tck trst Q is a b q
 
@@ -126,7 +112,7 @@ gates_steered_from : (first : ℕ) (given : List Feed) (number net : ℕ) (gates
     → AreSteered tck trst Q (cells_from first given number net gates)
 gates_steered_from first given number net [] tck trst Q is q = tt
 gates_steered_from first given number net (gate ∷ gates) tck trst Q is q =
-    let parts = both (is_gate gate) (list_all is_gate gates) is in (
+    let parts = both_hold (is_gate gate) (list_all is_gate gates) is in (
       plain_steered first given number net gate tck trst Q parts.0 (q net (omega arith)),
       gates_steered_from first given (suc number) (suc net) gates tck trst Q parts.1 (λ other less. q other (omega arith)),
     )
@@ -139,7 +125,7 @@ pub from_more : (Q : ℕ → Type 0) (first next : ℕ) → first ≤ next → I
 from_more Q first next less q = λ net more. q net (omega arith)
 
 -- a multiplexer onto a net
-pub choice_steered : (gates : List Gate) (choice : Choice) (given : List Feed) (first number : ℕ) (into tck trst : NetId) (Q : ℕ → Type 0) → IsTrue (list_all (is_clocked 0 1) gates)
+pub choice_steered : (gates : List Gate) (choice : Choice) (given : List Feed) (first number : ℕ) (into tck trst : NetId) (Q : ℕ → Type 0) → IsTrue (list_all (is_clocked_by 0 1) gates)
     → slice_get given 0 ≡ Some (Net tck) → slice_get given 1 ≡ Some (Net trst) → IsFrom Q first → Q into.0 → AreSteered tck trst Q (cells_onto gates choice given first number into)
 choice_steered gates choice given first number into tck trst Q is a b q i =
     steered_joined tck trst Q (part_cells gates given first number) (choice_cell first given (number + length gates) into choice ∷ [])

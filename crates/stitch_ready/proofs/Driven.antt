@@ -1,5 +1,5 @@
 -- What drives the nets of the bits of a plan that fits.
-use Rattle.std.proofs.Common.{◌≡◌, ◌≢◌, ℕ, Bool, true, false, List, [], ◌∷◌, length, Option, Some, None, refl, sym, ap, ◌∙◌, eq-eqb}
+use Rattle.std.proofs.Common.{◌≡◌, ◌≢◌, ℕ, Bool, true, false, List, [], length, Option, Some, None, refl, sym, ap, ◌∙◌, eq-eqb}
 use Rattle.cell_library.specs.declared.Kind.{Kind}
 use Rattle.cell_library.specs.declared.Kind.TheVariants.{Bufif0, Bufif1}
 use Rattle.cell_library.specs.Gates.{is_three_state, Takes}
@@ -15,23 +15,13 @@ use Rattle.netlist_model.specs.Formed.{IsDriven, IsWellFormed}
 use Rattle.first_faults.specs.First.{or_else}
 use Rattle.plan_fitting.specs.Pins.{PinSeen}
 use Rattle.plan_fitting.specs.Rows.{Driver, gate_driver, three_state, added_driver, output_driver}
+use Rattle.plan_fitting.proofs.Drivers.{gate_is}
 use Rattle.plan_devices.proofs.Rows.{side_driver, data_function, data_core}
 use Rattle.stitch_model.specs.Sites.{is_own_net, output_site, site_by}
+use Rattle.stitch_model.specs.Stitched.{with_nets}
 use Rattle.core_moves.specs.Ready.{HasDriver, IsDrivenAt}
-use Rattle.stitch_ready.specs.Laws.{with_nets}
 
 -- A three-state gate has two operands.
-
-gate_operands : (kind : Kind) (feeds : List Feed) (d : Driver) → gate_driver kind feeds ≡ Some d → length feeds ≡ 2
-gate_operands Bufif1 [] d h = absurd (cc)
-gate_operands Bufif1 (a ∷ []) d h = absurd (cc)
-gate_operands Bufif1 (a ∷ b ∷ []) d h = refl
-gate_operands Bufif1 (a ∷ b ∷ c ∷ feeds) d h = absurd (cc)
-gate_operands Bufif0 [] d h = absurd (cc)
-gate_operands Bufif0 (a ∷ []) d h = absurd (cc)
-gate_operands Bufif0 (a ∷ b ∷ []) d h = refl
-gate_operands Bufif0 (a ∷ b ∷ c ∷ feeds) d h = absurd (cc)
-gate_operands _ feeds d h = absurd (cc)
 
 three_takes : (kind : Kind) (count : ℕ) → is_three_state kind ≡ true → Takes kind count → count ≡ 2
 three_takes Bufif1 count three takes = takes
@@ -93,7 +83,7 @@ output_driven N more highz one driven seen is kind (Some d) e = by (is_own_net (
     by false own =
         let gate = own_or_gate highz one.net (three_state one.driver) d e own in
         let found : gate_driver driven.cell.kind driven.cell.feeds ≡ Some gate.0 = ap three_state (sym seen) ∙ gate.1 in
-        driver_still N more one.net.0 dir.Output driven (gate_operands driven.cell.kind driven.cell.feeds gate.0 found) is (λ h. absurd (cc))
+        driver_still N more one.net.0 dir.Output driven (ap (λ (feeds : List Feed). length feeds) (gate_is driven.cell.kind driven.cell.feeds gate.0 found).are) is (λ h. absurd (cc))
 
 -- Each side.
 

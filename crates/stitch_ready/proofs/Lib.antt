@@ -1,4 +1,4 @@
 mod Few
 mod Driven
-mod Rows
+pub mod Rows
 mod Ready

@@ -2,6 +2,7 @@
 use Rattle.std.proofs.Common.{◌≡◌, ℕ, List, slice_get, Option, Some, sym, subst, inl, inr, arith}
 use Rattle.std.proofs.lemmas.List.{length-append}
 use Rattle.std.proofs.lemmas.List.Elements.{All-from_recursion}
+use Rattle.list_laws.proofs.Options.{some_same}
 use Rattle.cell_library.specs.declared.codes.Function.{Function}
 use Rattle.netlist_model.specs.declared.NetId.{NetId}
 use Rattle.netlist_model.specs.declared.Feed.{Feed}
@@ -14,15 +15,16 @@ use Rattle.plan_fitting.specs.declared.fitted.FitRow.{FitRow}
 use Rattle.plan_fitting.specs.Pins.{PinSeen}
 use Rattle.plan_fitting.specs.Rows.{rows, has_highz}
 use Rattle.plan_devices.specs.Fitting.{IsFitting}
-use Rattle.plan_devices.proofs.Lists.{all_from_places, some_same, none_there}
+use Rattle.plan_devices.proofs.Lists.{all_from_places, none_there}
 use Rattle.plan_devices.proofs.Lined.{IsLined}
 use Rattle.plan_devices.proofs.Rows.{IsDataRow, side_driver, data_function}
 use Rattle.plan_devices.proofs.Drivers.{seen_direction, seen_driver}
 use Rattle.plan_devices.proofs.Facts.{Facts, facts_of}
 use Rattle.stitch_model.specs.Sites.{row_net, site_of, site_by, is_own_net}
+use Rattle.stitch_model.specs.Stitched.{with_nets}
 use Rattle.scan_sides.specs.Pins.{IsPinThere}
 use Rattle.core_moves.specs.Ready.{IsDrivenAt, HasControl}
-use Rattle.stitch_ready.specs.Laws.{with_nets, FittedCanStandBehind}
+use Rattle.stitch_ready.specs.Laws.{FittedCanStandBehind}
 use Rattle.stitch_ready.proofs.Driven.{side_driven}
 use Rattle.stitch_ready.proofs.Rows.{row_bit, one_row_a_net, net_of_data_row, pin_is_there, control_is_there}
 

@@ -4,11 +4,10 @@ use Rattle.std.specs.Prelude.{option_and_then}
 use Rattle.std.specs.Option.{IsSome, MatchOption, option_map_or}
 use Rattle.std.specs.List.{list_all}
 use Rattle.list_laws.proofs.Tests.{and_left, and_right}
-use Rattle.cell_library.specs.declared.codes.Function.{Function}
+use Rattle.list_laws.proofs.Options.{some_same}
 use Rattle.cell_library.specs.declared.codes.Function.TheVariants as function
 use Rattle.bsdl_device.specs.declared.values.CellRow.{CellRow}
 use Rattle.bsdl_device.specs.declared.values.Disable.{Disable}
-use Rattle.bsdl_device.specs.RowRules.{is_function}
 use Rattle.bsdl_device.specs.IsDevice.{is_disabled, is_control_at, disable_right}
 use Rattle.netlist_model.specs.declared.NetId.{NetId}
 use Rattle.netlist_model.specs.declared.PinBit.{PinBit}
@@ -23,9 +22,8 @@ use Rattle.plan_fitting.specs.declared.fitted.Fitted.{Fitted}
 use Rattle.plan_fitting.specs.Pins.{PinSeen}
 use Rattle.plan_fitting.specs.Rows.{rows, has_highz}
 use Rattle.plan_fitting.specs.Devices.{fitted_of, cell_row, disable_by, device_of}
-use Rattle.plan_fitting.proofs.Controls.{control_cells_are_there}
+use Rattle.plan_fitting.proofs.Controls.{control_cells_are_there, control_is}
 use Rattle.plan_devices.specs.Fitting.{IsFitting}
-use Rattle.plan_devices.proofs.Lists.{some_same}
 use Rattle.plan_devices.proofs.Lined.{IsLined}
 use Rattle.plan_devices.proofs.Rows.{IsDataRow}
 use Rattle.plan_devices.proofs.RowPlaces.{rows_stand_at_bits, net_of_line}
@@ -78,20 +76,12 @@ pin_is_there L p seen facts k row at = elim (facts.each k row at) [
 
 -- Control cells.
 
-all_at : (test : CellRow → Bool) (f : Fitted) (rs : List FitRow) (k : ℕ) (row : FitRow) → list_all test (map (cell_row f) rs) ≡ true → slice_get rs k ≡ Some row → test (cell_row f row) ≡ true
+pub all_at : (test : CellRow → Bool) (f : Fitted) (rs : List FitRow) (k : ℕ) (row : FitRow) → list_all test (map (cell_row f) rs) ≡ true → slice_get rs k ≡ Some row → test (cell_row f row) ≡ true
 all_at test f [] k row all at = absurd (cc)
 all_at test f (r ∷ rs) zero row all at =
     let same : r ≡ row = cc in
     ap (λ (x : FitRow). test (cell_row f x)) (sym same) ∙ and_left (test (cell_row f r)) (list_all test (map (cell_row f) rs)) all
 all_at test f (r ∷ rs) (suc k) row all at = all_at test f rs k row (and_right (test (cell_row f r)) (list_all test (map (cell_row f) rs)) all) at
-
-control_is : (does : Function) → is_function function.Control does ≡ true → does ≡ function.Control
-control_is function.Control e = refl
-control_is function.Input e = absurd (cc)
-control_is function.Clock e = absurd (cc)
-control_is function.Output2 e = absurd (cc)
-control_is function.Output3 e = absurd (cc)
-control_is function.Bidir e = absurd (cc)
 
 control_among : (f : Fitted) (rs : List FitRow) (number : ℕ) → is_control_at (map (cell_row f) rs) number ≡ true → IsControlAt rs number
 control_among f [] number e = absurd (cc)

@@ -1,7 +1,7 @@
 -- A netlist that a plan fits is ready for its test logic.
 -- IEEE Std 1149.1-2001: boundary-scan register; the limits are own.
-use Rattle.std.specs.Prelude.{◌+◌, ◌*◌, ◌^◌, ◌<◌, ◌≤◌, List, ◌++◌, length}
-use Rattle.netlist_model.specs.Lists.{NetView, NetlistView}
+use Rattle.std.specs.Prelude.{◌+◌, ◌*◌, ◌^◌, ◌<◌, ◌≤◌, List, length}
+use Rattle.netlist_model.specs.Lists.{NetView}
 use Rattle.netlist_model.specs.Formed.{IsLaidOut}
 use Rattle.netlist_arena.specs.Arena.{bit_count}
 use Rattle.netlist_link.specs.Linked.{LinkedView}
@@ -10,16 +10,13 @@ use Rattle.plan_fitting.specs.Pins.{PinSeen}
 use Rattle.plan_fitting.specs.Rows.{rows}
 use Rattle.plan_devices.specs.Fitting.{IsFitting}
 use Rattle.stitch_model.specs.Sites.{sides_of}
+use Rattle.stitch_model.specs.Stitched.{with_nets}
 use Rattle.scan_sides.specs.Pins.{AreFew}
 use Rattle.core_moves.specs.Ready.{CanStandBehind}
 
 -- a data cell for each bit at most, and a control cell for each of these
 abbrev pub FittedAreFew : Type 0
 FittedAreFew = (L : LinkedView) (p : Plan) (seen : List PinSeen) → IsFitting L p seen → bit_count L.arena.lists.ports ≤ 4096 → AreFew (rows p seen)
-
--- own: the netlist with these nets behind its own
-abbrev pub with_nets : List NetView → NetlistView → NetlistView
-with_nets more N = record N { nets = N.nets ++ more }
 
 -- with the five nets of the test access port and those between the core and its boundary cells, its core can stand behind these cells,
 -- if there are few and the nets can be counted

@@ -1,65 +1,32 @@
 -- What is added fits into the room that is taken for it.
-use Rattle.std.proofs.Common.{ℕ, ◌+◌, ◌*◌, ◌≤◌, List, [], ◌∷◌, length, arith, Option, Some, None}
+use Rattle.std.proofs.Common.{◌+◌, ◌*◌, ◌≤◌, List, [], ◌∷◌, length, arith}
 use Rattle.std.proofs.lemmas.List.Sums.{sum_by-cons}
-use Rattle.cell_library.specs.declared.codes.Bits.{Bits}
-use Rattle.cell_library.specs.declared.codes.BoundaryKind.{BoundaryKind}
-use Rattle.cell_library.specs.declared.codes.BoundaryKind.TheVariants.{Bc1, Bc2, Bc4, Bc7}
 use Rattle.cell_library.specs.declared.codes.Instr.TheVariants.{Extest, Sample, Preload, Idcode, Highz, Clamp}
 use Rattle.netlist_model.specs.Lists.{PortView}
-use Rattle.test_logic.specs.declared.Codes.{Codes}
 use Rattle.test_logic.specs.Instructions.{opcode_of}
-use Rattle.instruction_register.specs.Register.{size_with}
 use Rattle.plan_fitting.specs.declared.fitted.FitRow.{FitRow}
 use Rattle.plan_fitting.specs.declared.fitted.Fitted.{Fitted}
 use Rattle.stitch_model.specs.declared.Site.{Site}
 use Rattle.stitch_model.specs.declared.Site.TheVariants as site
 use Rattle.stitch_model.specs.Sites.{site_of, side_count, row_sides, sides_of}
-use Rattle.stitch_model.specs.Rows.{nets_by, row_nets, nets_of_rows}
-use Rattle.stitch_model.specs.Logic.{ident_size, logic_size}
+use Rattle.stitch_model.specs.Rows.{row_nets, nets_of_rows}
+use Rattle.stitch_model.specs.Logic.{logic_size}
+use Rattle.stitch_model.proofs.Few.{size_few, ident_few, nets_by_few}
 use Rattle.stitch_cells.specs.Sizes.{choice_count, driver_count, row_size, cells_of_rows}
 use Rattle.stitch_cells.proofs.Counts.{counts}
 use Rattle.stitch_room.specs.Taken.{StitchedFitsRoom}
 
-opcode_few : (codes : Codes) (opcode : Option Bits) → size_with codes opcode ≤ 2 * codes.length
-opcode_few codes None = omega arith
-opcode_few codes (Some opcode) = omega arith
-
-ident_few : (code : Option ℕ) → ident_size code ≤ 98
-ident_few None = omega arith
-ident_few (Some code) = omega arith
-
 logic_few : (f : Fitted) → logic_size f ≤ 157 + 18 * f.codes.length
 logic_few f =
     let codes = f.codes in
-    let a = opcode_few codes (opcode_of codes.opcodes Extest) in
-    let b = opcode_few codes (opcode_of codes.opcodes Sample) in
-    let c = opcode_few codes (opcode_of codes.opcodes Preload) in
-    let d = opcode_few codes (opcode_of codes.opcodes Idcode) in
-    let e = opcode_few codes (opcode_of codes.opcodes Highz) in
-    let g = opcode_few codes (opcode_of codes.opcodes Clamp) in
+    let a = size_few codes (opcode_of codes.opcodes Extest) in
+    let b = size_few codes (opcode_of codes.opcodes Sample) in
+    let c = size_few codes (opcode_of codes.opcodes Preload) in
+    let d = size_few codes (opcode_of codes.opcodes Idcode) in
+    let e = size_few codes (opcode_of codes.opcodes Highz) in
+    let g = size_few codes (opcode_of codes.opcodes Clamp) in
     let i = ident_few f.idcode in
     omega arith
-
-stage_few : (at : Site) (cell : BoundaryKind) → nets_by at cell ≤ 7
-stage_few site.Observed cell = omega arith
-stage_few site.Input cell = omega arith
-stage_few site.Inout cell = omega arith
-stage_few site.Control Bc1 = omega arith
-stage_few site.Control Bc2 = omega arith
-stage_few site.Control Bc4 = omega arith
-stage_few site.Control Bc7 = omega arith
-stage_few site.Output Bc1 = omega arith
-stage_few site.Output Bc2 = omega arith
-stage_few site.Output Bc4 = omega arith
-stage_few site.Output Bc7 = omega arith
-stage_few site.AddedDriver Bc1 = omega arith
-stage_few site.AddedDriver Bc2 = omega arith
-stage_few site.AddedDriver Bc4 = omega arith
-stage_few site.AddedDriver Bc7 = omega arith
-stage_few site.Driver Bc1 = omega arith
-stage_few site.Driver Bc2 = omega arith
-stage_few site.Driver Bc4 = omega arith
-stage_few site.Driver Bc7 = omega arith
 
 record FewAt (at : Site) : Type 0 where
   choices : choice_count at ≤ 1
@@ -87,7 +54,7 @@ few_rows ports (row ∷ rows) =
     let a = at.choices in
     let b = at.drivers in
     let c = at.sides in
-    let stage = stage_few (site_of ports row) row.cell in
+    let stage = nets_by_few (site_of ports row) row.cell in
     let one = sum_by-cons (row_size ports) row rows in
     let two = sum_by-cons (row_nets ports) row rows in
     let three = sum_by-cons (row_sides ports) row rows in

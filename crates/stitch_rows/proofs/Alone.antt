@@ -1,7 +1,7 @@
 -- A row at no bit names no control cell.
 use Rattle.std.proofs.Common.{◌≡◌, ℕ, Bool, List, [], ◌∷◌, ◌++◌, slice_get, position, Option, Some, None, refl}
 use Rattle.std.specs.List.{AllByRecursion}
-use Rattle.list_laws.proofs.Lists.{all_append}
+use Rattle.list_laws.proofs.Lists.{all_append, all_at}
 use Rattle.cell_library.specs.declared.codes.BoundaryKind.{BoundaryKind}
 use Rattle.cell_library.specs.declared.codes.Function.{Function}
 use Rattle.cell_library.specs.declared.codes.Function.TheVariants as function
@@ -12,7 +12,6 @@ use Rattle.plan_texts.specs.declared.plan.PinLine.{PinLine}
 use Rattle.plan_fitting.specs.declared.fitted.FitRow.{FitRow}
 use Rattle.plan_fitting.specs.Pins.{PinSeen}
 use Rattle.plan_fitting.specs.Rows.{Driver, controls, controlled_by, output_rows, inout_rows, rows_at, rows_after, rows, output_driver, three_state, has_highz}
-use Rattle.plan_devices.proofs.Lists.{all_at}
 
 abbrev pub NamesNone : FitRow → Type 0
 NamesNone row = row.pin ≡ None → row.control ≡ None

@@ -1,6 +1,7 @@
 -- Rows by the nets of their bits.
 use Rattle.std.proofs.Common.{◌≡◌, ℕ, List, slice_get, Option, Some, None, refl, sym, ap, ◌∙◌}
 use Rattle.std.specs.Prelude.{option_and_then}
+use Rattle.list_laws.proofs.Options.{some_same}
 use Rattle.netlist_model.specs.declared.NetId.{NetId}
 use Rattle.netlist_model.specs.declared.PinBit.{PinBit}
 use Rattle.netlist_model.specs.Lists.{PortView, bit_net}
@@ -14,7 +15,6 @@ use Rattle.plan_fitting.specs.Rows.{rows}
 use Rattle.plan_fitting.specs.Devices.{fitted_of, cell_row, device_of}
 use Rattle.plan_devices.specs.Fitting.{IsFitting}
 use Rattle.plan_devices.specs.Laws.{RowsStandAtBits, BitsHaveRows}
-use Rattle.plan_devices.proofs.Lists.{some_same}
 use Rattle.stitch_model.specs.Sites.{pin_net, row_net}
 use Rattle.stitch_rows.specs.Rows.{RowsStandOnce, NetsHaveRows}
 

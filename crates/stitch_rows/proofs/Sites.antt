@@ -1,18 +1,14 @@
 -- Each row by its site.
-use Rattle.std.proofs.Common.{◌≡◌, ℕ, ◌&&◌, Bool, true, false, List, [], ◌∷◌, slice_get, if◌then◌else◌, Option, Some, None, refl, sym, ap, ◌∙◌, subst, inl, inr, eqb-true, eq-eqb}
+use Rattle.std.proofs.Common.{◌≡◌, ℕ, ◌&&◌, Bool, true, false, List, [], slice_get, if◌then◌else◌, Option, Some, None, refl, sym, ap, ◌∙◌, subst, inl, inr, eqb-true, eq-eqb}
 use Rattle.std.specs.Prelude.{is_some, option_and_then}
 use Rattle.std.specs.Option.{option_map_or}
 use Rattle.std.proofs.lemmas.Bool.Decides.{eqb_tells}
 use Rattle.list_laws.proofs.Tests.{and_left, and_right}
-use Rattle.cell_library.specs.declared.Kind.{Kind}
-use Rattle.cell_library.specs.declared.Kind.TheVariants.{Bufif0, Bufif1}
+use Rattle.list_laws.proofs.Options.{some_same}
 use Rattle.cell_library.specs.Gates.{is_three_state}
 use Rattle.cell_library.specs.declared.codes.BoundaryKind.{BoundaryKind}
-use Rattle.cell_library.specs.declared.codes.BoundaryKind.TheVariants as kind
 use Rattle.cell_library.specs.declared.codes.Function.{Function}
-use Rattle.cell_library.specs.declared.codes.Function.TheVariants as function
 use Rattle.netlist_model.specs.declared.Dir.{Dir}
-use Rattle.netlist_model.specs.declared.Dir.TheVariants as dir
 use Rattle.netlist_model.specs.declared.Feed.{Feed}
 use Rattle.netlist_model.specs.declared.Feed.TheVariants.{Net, Const}
 use Rattle.netlist_model.specs.declared.NetId.{NetId}
@@ -30,46 +26,23 @@ use Rattle.plan_fitting.specs.declared.fitted.Fitted.{Fitted}
 use Rattle.plan_fitting.specs.Pins.{PinSeen}
 use Rattle.plan_fitting.specs.Rows.{Driver, gate_driver, three_state, added_driver, same_bool, same_feed, controls, rows, has_highz}
 use Rattle.plan_fitting.specs.Devices.{fitted_of}
+use Rattle.plan_fitting.proofs.Drivers.{not_three, same_bool_is, gate_is}
+use Rattle.plan_fitting.proofs.Controls.{control_is}
 use Rattle.plan_devices.specs.Fitting.{IsFitting}
-use Rattle.plan_devices.proofs.Lists.{some_same}
 use Rattle.plan_devices.proofs.Rows.{side_driver, data_function, data_core, Controlled, IsDataRow, IsControlRow}
 use Rattle.plan_devices.proofs.Drivers.{seen_direction, gate_has_driver}
 use Rattle.plan_devices.proofs.Lined.{IsLined}
 use Rattle.plan_devices.proofs.Facts.{Facts, facts_of}
 use Rattle.plan_devices.proofs.RowPlaces.{net_of_line}
-use Rattle.stitch_model.specs.declared.Site.TheVariants as site
 use Rattle.stitch_model.specs.Sites.{pin_net, row_net, is_own_net, input_site, site_by, site_of}
 use Rattle.stitch_rows.specs.Rows.{IsTwoState, HasGate, HasControl, IsOperand, is_constant, is_read, StandsAt, at_observed, at_input, at_output, at_added, at_driver, at_inout, at_control, RowsStandSomewhere}
 use Rattle.stitch_rows.proofs.Alone.{names_none}
+use Rattle.cell_library.specs.declared.codes.BoundaryKind.TheVariants as kind
+use Rattle.cell_library.specs.declared.codes.Function.TheVariants as function
+use Rattle.netlist_model.specs.declared.Dir.TheVariants as dir
+use Rattle.stitch_model.specs.declared.Site.TheVariants as site
 
 -- Drivers.
-
--- the two operands of a three-state gate
-record IsGate (k : Kind) (feeds : List Feed) (d : Driver) : Type 0 where
-  three : is_three_state k ≡ true
-  are : feeds ≡ d.core ∷ d.operand ∷ []
-
-gate_is : (k : Kind) (feeds : List Feed) (d : Driver) → gate_driver k feeds ≡ Some d → IsGate k feeds d
-gate_is Bufif1 [] d h = absurd (cc)
-gate_is Bufif1 (a ∷ []) d h = absurd (cc)
-gate_is Bufif1 (a ∷ b ∷ []) d h =
-    let one : Driver = record { core = a; operand = b; active_high = true } in
-    subst (IsGate Bufif1 (a ∷ b ∷ [])) (some_same one d (gate_driver Bufif1 (a ∷ b ∷ [])) refl h) (record { three = refl; are = refl })
-gate_is Bufif1 (a ∷ b ∷ c ∷ feeds) d h = absurd (cc)
-gate_is Bufif0 [] d h = absurd (cc)
-gate_is Bufif0 (a ∷ []) d h = absurd (cc)
-gate_is Bufif0 (a ∷ b ∷ []) d h =
-    let one : Driver = record { core = a; operand = b; active_high = false } in
-    subst (IsGate Bufif0 (a ∷ b ∷ [])) (some_same one d (gate_driver Bufif0 (a ∷ b ∷ [])) refl h) (record { three = refl; are = refl })
-gate_is Bufif0 (a ∷ b ∷ c ∷ feeds) d h = absurd (cc)
-gate_is _ feeds d h = absurd (cc)
-
-not_three : (k : Kind) (gate : Option Driver) → gate ≡ None → (is_three_state k ≡ true → is_some gate ≡ true) → is_three_state k ≡ false
-not_three k gate none some = by (is_three_state k) some
-  where
-    by : (b : Bool) → (b ≡ true → is_some gate ≡ true) → b ≡ false
-    by true h = absurd (let yes = h refl in let no : is_some gate ≡ false = ap (λ (o : Option Driver). is_some o) none in cc)
-    by false h = refl
 
 -- what drives a bit
 record DrivenAt (N : NetlistView) (one : PinSeen) : Type 0 where
@@ -102,24 +75,11 @@ gate_at N one by d core h is =
     record { number = by.number; cell = by.cell; drives = by.drives; three = g.three; datum = d.core; feeds = g.are; core_is = is }
 
 -- the operand is a net of a cell or a constant
-operand_at : (N : NetlistView) (i : ℕ) (cell : CellView) (place : ℕ) (feed : Feed) → cell_at N i ≡ Some cell → slice_get cell.feeds place ≡ Some feed → IsOperand N feed
+pub operand_at : (N : NetlistView) (i : ℕ) (cell : CellView) (place : ℕ) (feed : Feed) → cell_at N i ≡ Some cell → slice_get cell.feeds place ≡ Some feed → IsOperand N feed
 operand_at N i cell place (Net net) live at = is_read i cell place net.0 (record { live = live; operand = at }) refl
 operand_at N i cell place (Const b) live at = is_constant b refl
 
 -- Control cells.
-
-does_control : (f : Function) → is_function function.Control f ≡ true → f ≡ function.Control
-does_control function.Input h = absurd (cc)
-does_control function.Output2 h = absurd (cc)
-does_control function.Output3 h = absurd (cc)
-does_control function.Control h = refl
-does_control function.Bidir h = absurd (cc)
-does_control function.Clock h = absurd (cc)
-
-same_bool_is : (a b : Bool) → same_bool a b ≡ true → a ≡ b
-same_bool_is true b h = sym h
-same_bool_is false true h = absurd (cc)
-same_bool_is false false h = refl
 
 same_feed_is : (a b : Feed) → same_feed a b ≡ true → b ≡ a
 same_feed_is (Net a) (Net b) h = let wrap : ℕ → Feed = λ n. Net (record { 0 = n }) in ap wrap (sym (eqb-true a.0 b.0 h))
@@ -139,7 +99,7 @@ control_facts : (d : Driver) (row : FitRow) → controls d row ≡ true → Cont
 control_facts d row right =
     let front : Bool = is_function function.Control row.function && same_bool row.active_high d.active_high in
     record {
-      does = does_control row.function (and_left (is_function function.Control row.function) (same_bool row.active_high d.active_high) (and_left front (option_map_or (same_feed d.operand) row.core false) right));
+      does = control_is row.function (and_left (is_function function.Control row.function) (same_bool row.active_high d.active_high) (and_left front (option_map_or (same_feed d.operand) row.core false) right));
       core = control_core d row.core (and_right front (option_map_or (same_feed d.operand) row.core false) right);
     }
 

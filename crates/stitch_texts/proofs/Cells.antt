@@ -1,8 +1,9 @@
 -- The written netlist has the cells of the netlist without the test logic, under their numbers and names.
 use Rattle.std.proofs.Common.{◌≡◌, ℕ, zero, suc, ◌+◌, List, [], ◌∷◌, refl, sym, ◌∙◌, ap, subst, Option, Some, None, arith}
-use Rattle.std.specs.Prelude.{slice_get, IsSome, unwrap_or}
+use Rattle.std.specs.Prelude.{slice_get, unwrap_or}
 use Rattle.std.specs.Option.{option_map}
 use Rattle.std.proofs.lemmas.Option.{same_Some}
+use Rattle.list_laws.proofs.Options.{is_there}
 use Rattle.cell_library.specs.declared.Kind.{Kind}
 use Rattle.link_model.specs.Cells.{NamedCell}
 use Rattle.link_model.specs.Denoted.{IsName, IsLive, AreCells}
@@ -40,9 +41,6 @@ cell_there law naming order N dense i cell live =
     let place : new_place N.cells i ≡ i = law N dense i (is_there (cell_at N i) cell live) in
     let zero_more : 0 + i ≡ i = omega arith in
     ap (slice_get (cells_from naming order 0 N.cells)) (sym place) ∙ new_there naming order 0 N.cells i cell live ∙ ap (λ (n : ℕ). Some (new_cell naming order n cell)) zero_more
-  where
-    is_there : (o : Option CellView) (cell : CellView) → o ≡ Some cell → IsSome o
-    is_there o cell e = rw e refl
 
 -- Names.
 

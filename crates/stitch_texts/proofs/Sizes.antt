@@ -1,56 +1,25 @@
 -- The test logic has no more cells and nets than preparing makes room for.
-use Rattle.std.proofs.Common.{◌≡◌, ℕ, ◌+◌, ◌*◌, ◌≤◌, List, length, refl, Option, Some, None, arith}
-use Rattle.cell_library.specs.declared.codes.Bits.{Bits}
+use Rattle.std.proofs.Common.{◌≡◌, ℕ, ◌+◌, ◌*◌, ◌≤◌, List, length, refl, arith}
 use Rattle.cell_library.specs.declared.codes.Instr.{Instr}
 use Rattle.cell_library.specs.declared.codes.Instr.TheVariants.{Extest, Sample, Preload, Idcode, Highz, Clamp}
-use Rattle.cell_library.specs.declared.codes.BoundaryKind.{BoundaryKind}
-use Rattle.cell_library.specs.declared.codes.BoundaryKind.TheVariants.{Bc1, Bc2, Bc4, Bc7}
 use Rattle.netlist_model.specs.Lists.{PortView, NetlistView}
 use Rattle.test_logic.specs.declared.Codes.{Codes}
 use Rattle.test_logic.specs.Instructions.{opcode_of}
-use Rattle.instruction_register.specs.Register.{size_with, opcode_size, opcodes_size, matched_instructions, instruction_size}
+use Rattle.instruction_register.specs.Register.{opcode_size, opcodes_size, matched_instructions, instruction_size}
 use Rattle.plan_fitting.specs.declared.fitted.FitRow.{FitRow}
 use Rattle.plan_fitting.specs.declared.fitted.Fitted.{Fitted}
 use Rattle.stitch_model.specs.declared.Site.{Site}
 use Rattle.stitch_model.specs.declared.Site.TheVariants as site
-use Rattle.stitch_model.specs.Sites.{site_of, side_count, row_sides, sides_of}
-use Rattle.stitch_model.specs.Rows.{nets_by, row_nets, nets_of_rows}
+use Rattle.stitch_model.specs.Sites.{site_of, row_sides, sides_of}
+use Rattle.stitch_model.specs.Rows.{row_nets, nets_of_rows}
 use Rattle.stitch_model.specs.Logic.{ident_size, logic_size}
+use Rattle.stitch_model.proofs.Moves.{count_few}
+use Rattle.stitch_model.proofs.Few.{size_few, ident_few, nets_by_few}
 use Rattle.stitch_cells.specs.Sizes.{choice_count, driver_count, row_size, cells_of_rows, added_cells, added_net_count}
 use Rattle.stitch_names.specs.Prepared.{room_of}
 use Rattle.stitch_texts.proofs.Lists.{sum_few}
 
 -- A row.
-
-few_nets : (at : Site) (cell : BoundaryKind) → nets_by at cell ≤ 22
-few_nets site.Observed cell = omega arith
-few_nets site.Input cell = omega arith
-few_nets site.Inout cell = omega arith
-few_nets site.Control Bc1 = omega arith
-few_nets site.Control Bc2 = omega arith
-few_nets site.Control Bc4 = omega arith
-few_nets site.Control Bc7 = omega arith
-few_nets site.Output Bc1 = omega arith
-few_nets site.Output Bc2 = omega arith
-few_nets site.Output Bc4 = omega arith
-few_nets site.Output Bc7 = omega arith
-few_nets site.AddedDriver Bc1 = omega arith
-few_nets site.AddedDriver Bc2 = omega arith
-few_nets site.AddedDriver Bc4 = omega arith
-few_nets site.AddedDriver Bc7 = omega arith
-few_nets site.Driver Bc1 = omega arith
-few_nets site.Driver Bc2 = omega arith
-few_nets site.Driver Bc4 = omega arith
-few_nets site.Driver Bc7 = omega arith
-
-few_sides : (at : Site) → side_count at ≤ 2
-few_sides site.Observed = omega arith
-few_sides site.Input = omega arith
-few_sides site.Output = omega arith
-few_sides site.AddedDriver = omega arith
-few_sides site.Driver = omega arith
-few_sides site.Inout = omega arith
-few_sides site.Control = omega arith
 
 few_more : (at : Site) → choice_count at + driver_count at ≤ 2
 few_more site.Observed = omega arith
@@ -62,13 +31,9 @@ few_more site.Inout = omega arith
 few_more site.Control = omega arith
 
 row_few : (ports : List PortView) (row : FitRow) → row_size ports row ≤ 24
-row_few ports row = let a = few_nets (site_of ports row) row.cell in let b = few_more (site_of ports row) in omega arith
+row_few ports row = let a = nets_by_few (site_of ports row) row.cell in let b = few_more (site_of ports row) in omega arith
 
 -- The registers.
-
-size_few : (codes : Codes) (found : Option Bits) → size_with codes found ≤ 2 * codes.length
-size_few codes None = omega arith
-size_few codes (Some opcode) = omega arith
 
 opcode_few : (codes : Codes) (i : Instr) → opcode_size codes i ≤ 2 * codes.length
 opcode_few codes i = size_few codes (opcode_of codes.opcodes i)
@@ -80,10 +45,6 @@ opcodes_few codes =
   where
     six : (most a b c d e f : ℕ) → a ≤ most → b ≤ most → c ≤ most → d ≤ most → e ≤ most → f ≤ most → (all : ℕ) → 6 * most ≤ all → a + (b + (c + (d + (e + (f + 0))))) ≤ all
     six most a b c d e f p q r s t u all h = omega arith
-
-ident_few : (code : Option ℕ) → ident_size code ≤ 98
-ident_few None = omega arith
-ident_few (Some code) = omega arith
 
 logic_few : (f : Fitted) → logic_size f ≤ 160 + 18 * f.codes.length
 logic_few f =
@@ -106,8 +67,8 @@ cells_few N f =
 pub nets_few : (N : NetlistView) (f : Fitted) → added_net_count N f ≤ room_of f
 nets_few N f =
     let a = logic_few f in
-    let b : sides_of N.ports f.rows ≤ 2 * length f.rows = sum_few (row_sides N.ports) 2 (λ row. few_sides (site_of N.ports row)) f.rows in
-    let c : nets_of_rows N.ports f.rows ≤ 22 * length f.rows = sum_few (row_nets N.ports) 22 (λ row. few_nets (site_of N.ports row) row.cell) f.rows in
+    let b : sides_of N.ports f.rows ≤ 2 * length f.rows = sum_few (row_sides N.ports) 2 (λ row. count_few (site_of N.ports row)) f.rows in
+    let c : nets_of_rows N.ports f.rows ≤ 7 * length f.rows = sum_few (row_nets N.ports) 7 (λ row. nets_by_few (site_of N.ports row) row.cell) f.rows in
     let whole : added_net_count N f ≡ 5 + sides_of N.ports f.rows + logic_size f + nets_of_rows N.ports f.rows + 6 = refl in
     let room : room_of f ≡ 410 + 64 * f.codes.length + 24 * length f.rows = refl in
     omega arith

@@ -1,7 +1,8 @@
 -- The module that the netlist with the test logic is written as.
-use Rattle.std.proofs.Common.{◌≡◌, ℕ, ◌<◌, List, map, refl, sym, ◌∙◌, ap, subst, Option, Some}
+use Rattle.std.proofs.Common.{◌≡◌, ℕ, ◌<◌, List, map, sym, ◌∙◌, ap, subst, Option, Some}
 use Rattle.std.specs.Prelude.{slice_get, IsSome}
 use Rattle.list_laws.proofs.Lists.{slice_get_there}
+use Rattle.list_laws.proofs.Options.{is_there}
 use Rattle.verilog_tree.specs.declared.tree.Module.{Module}
 use Rattle.verilog_tree.specs.IsTree.{IsTree}
 use Rattle.verilog_tree.specs.Canonical.{canonical}
@@ -44,9 +45,6 @@ can_be_written fitting free m L p f after c =
 
 -- What stands there.
 
-some_there : (o : Option CellView) (cell : CellView) → o ≡ Some cell → IsSome o
-some_there o cell e = subst (λ (x : Option CellView). IsSome x) (sym e) refl
-
 pub dense_after : StitchedHasCounts → (L after : LinkedView) (f : Fitted) → IsStitchedOf L f after → IsDense after.arena.lists
 dense_after counts L after f is i low =
     let S : NetlistView = stitched L.arena.lists is.names f in
@@ -60,7 +58,7 @@ record IsToldName (table : List (List ℕ)) (cell : CellView) : Type 0 where
 
 told_name : (table : List (List ℕ)) (N : NetlistView) (cells : List NamedCell) → AreCells table N cells → (i : ℕ) (cell : CellView) → cell_at N i ≡ Some cell → IsToldName table cell
 told_name table N cells are i cell live =
-    let there = slice_get_there cells i (are.only i (some_there (cell_at N i) cell live)) in
+    let there = slice_get_there cells i (are.only i (is_there (cell_at N i) cell live)) in
     let is : IsLive table (Some cell) there.0 = subst (λ (o : Option CellView). IsLive table o there.0) live (are.each i there.0 there.1) in
     record { named = there.0.name; is = is.name }
 

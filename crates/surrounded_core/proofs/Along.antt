@@ -1,13 +1,12 @@
 -- Each run of a surrounded core reads as the chip beside it.
-use Rattle.std.proofs.Common.{◌≡◌, ℕ, zero, suc, ◌≤◌, List, [], ◌∷◌, length, refl, ap, sym, ◌∙◌, Some, arith, inl, inr}
+use Rattle.std.proofs.Common.{◌≡◌, ℕ, zero, suc, ◌≤◌, List, [], ◌∷◌, length, refl, ap, sym, ◌∙◌, Some, arith}
 use Rattle.std.specs.Prelude.{slice_get}
 use Rattle.std.proofs.Math.Path.{fun_ext}
+use Rattle.list_laws.proofs.Lists.{slice_get_there}
 use Rattle.signal_values.specs.declared.Sig.{Sig}
 use Rattle.signal_values.specs.declared.PinSig.{PinSig}
 use Rattle.netlist_model.specs.declared.NetId.{NetId}
-use Rattle.netlist_model.specs.declared.Dir.{Dir}
-use Rattle.netlist_model.specs.declared.Dir.TheVariants.{Output, Inout}
-use Rattle.netlist_model.specs.Lists.{NetlistView, direction}
+use Rattle.netlist_model.specs.Lists.{NetlistView}
 use Rattle.bsdl_device.specs.Instructions.{selected_register}
 use Rattle.bsdl_device.specs.declared.entries.Register.{Register}
 use Rattle.bsdl_device.specs.declared.entries.Register.TheVariants as register
@@ -24,9 +23,9 @@ use Rattle.wrapped_chip.specs.Realises.{ReadsBit, ReadsTdo}
 use Rattle.wrapped_chip.specs.Beside.{RunBesideExists}
 use Rattle.surrounded_core.specs.Places.{controller_nets, selection_nets, bypass_bit, ident_bit}
 use Rattle.surrounded_core.specs.Laws.{SurroundedReads, SurroundedRealises}
-use Rattle.surrounded_core.proofs.Outside.{event_at}
 use Rattle.surrounded_core.proofs.Parts.{RunLaws, Scene, logic, levels_at, core_at, machine_at, caught_at, history, upto, back_to, carried, state_shown, instruction_followed, selected, bypass_held, ident_nearest}
 use Rattle.surrounded_core.proofs.Held.{held_always, stands_then, bit_kept}
+use Rattle.surrounded_core.proofs.Stands.{read_direction}
 
 -- The moments of M, seen as a run of the chip.
 
@@ -76,14 +75,10 @@ reading_same : (B : Device) (N : NetlistView) (m m' : Machine) (pins : ℕ → P
     → chip_reading B N m pins v net ≡ chip_reading B N m' pins v' net
 reading_same B N m m' pins v v' net e f = ap (λ x. chip_reading B N x pins v net) e ∙ ap (λ (x : ℕ → Sig). chip_reading B N m' pins x net) (fun_ext f)
 
-reads_direction : (N : NetlistView) (net : ℕ) → IsRead N net → (dir : Dir) × (direction N.ports net ≡ Some dir)
-reads_direction N net (inl e) = (Output, e)
-reads_direction N net (inr e) = (Inout, e)
-
 reads_bit : RunLaws → (r : Scene) (t : ℕ) → t ≤ length r.events → (net : ℕ) → IsRead r.inner net
     → ReadsBit r.outer r.inner (r.moment t) net (chip_reading r.device r.inner (r.chip t).machine (r.chip t).pins (r.chip t).value net)
 reads_bit by r t below net read =
-    let d = reads_direction r.inner net read in
+    let d = read_direction r.inner net read in
     let same = same_then by r t below in record {
       there = net;
       same = bit_kept by r net d.0 d.1;
@@ -99,7 +94,7 @@ first_is (b ∷ bits) = refl
 
 boundary_nearest : RunLaws → (r : Scene) (t : ℕ) → t ≤ length r.events → (r.moment t).value r.places.nearest.0 ≡ first_bit (machine_at r t).boundary
 boundary_nearest by r t below =
-    let row = event_at r.device.cells 0 r.around.rows.some in
+    let row = slice_get_there r.device.cells 0 r.around.rows.some in
     ap (λ (n : NetId). (r.moment t).value n.0) r.around.rows.nearest ∙ (held_always by r t below 0 row.0 row.1).shift ∙ sym (first_is (machine_at r t).boundary)
 
 nearest_by : RunLaws → (r : Scene) (t : ℕ) → t ≤ length r.events → (of : Register) → selected_register (in_effect (logic r) (machine_at r t)) ≡ of

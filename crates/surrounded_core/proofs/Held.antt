@@ -1,7 +1,7 @@
 -- The rows of the boundary register hold what the test logic has in their places, at every moment: all rows in one induction, since what
 -- a row captures comes from the core, and what the core has from the rows.
 use Rattle.std.proofs.Common.{◌≡◌, ℕ, zero, suc, ◌<◌, ◌≤◌, List, [], ◌∷◌, length, refl, ap, sym, ◌∙◌, Option, Some, None, arith}
-use Rattle.std.specs.Prelude.{slice_get, map, true, false, option_and_then}
+use Rattle.std.specs.Prelude.{slice_get, true, false, option_and_then}
 use Rattle.signal_values.specs.Values.{bit}
 use Rattle.netlist_model.specs.declared.NetId.{NetId}
 use Rattle.netlist_model.specs.declared.Dir.{Dir}
@@ -14,6 +14,7 @@ use Rattle.test_logic.specs.Machine.{in_effect}
 use Rattle.boundary_cells.specs.Laws.{CarriesMode}
 use Rattle.boundary_cells.specs.MachineRows.{bit_at}
 use Rattle.boundary_runs.specs.Rows.{IsRowOf, IsSteered, HoldsRow}
+use Rattle.boundary_runs.proofs.ChipRows.{kinds_long}
 use Rattle.surrounded_core.specs.Places.{selection_nets}
 use Rattle.surrounded_core.specs.Laws.{StandsAsChip, cell_of}
 use Rattle.surrounded_core.proofs.Parts.{RunLaws, Scene, logic, levels_at, core_at, machine_at, caught_at, lists_long, outside, back_to, levelled, carried, selected}
@@ -35,10 +36,6 @@ ends_there [] place x at none = absurd (cc)
 ends_there (y ∷ []) zero x at none = refl
 ends_there (y ∷ z ∷ ys) zero x at none = absurd (let bad : Some z ≡ None = none in cc)
 ends_there (y ∷ ys) (suc place) x at none = ap (λ (n : ℕ). suc n) (ends_there ys place x at none)
-
-kinds_long : (rows : List CellRow) → length (map (λ (row : CellRow). row.cell) rows) ≡ length rows
-kinds_long [] = refl
-kinds_long (row ∷ rows) = ap (λ (n : ℕ). suc n) (kinds_long rows)
 
 boundary_long : RunLaws → (r : Scene) (t : ℕ) → length (machine_at r t).boundary ≡ length r.device.cells
 boundary_long by r t = (lists_long by r t).boundary ∙ kinds_long r.device.cells

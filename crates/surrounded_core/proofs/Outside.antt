@@ -1,6 +1,6 @@
 -- The pins of a run beside a chip's have what is outside the chip's at every moment.
-use Rattle.std.proofs.Common.{◌≡◌, ℕ, zero, suc, ◌==◌, ◌<◌, ◌≤◌, ◌⊎◌, inl, inr, Bool, true, false, List, [], ◌∷◌, length, refl, ap, sym, ◌∙◌, Some, arith, eqb-true, eq-eqb}
-use Rattle.std.specs.Prelude.{slice_get}
+use Rattle.std.proofs.Common.{◌≡◌, ℕ, zero, suc, ◌==◌, ◌≤◌, ◌⊎◌, inl, inr, Bool, true, false, List, length, refl, ap, sym, ◌∙◌, Some, arith, eqb-true, eq-eqb}
+use Rattle.list_laws.proofs.Lists.{slice_get_there}
 use Rattle.signal_values.specs.declared.Sig.{Sig}
 use Rattle.signal_values.specs.declared.PinSig.{PinSig}
 use Rattle.signal_values.specs.Values.{bit, pin_of, see}
@@ -18,12 +18,6 @@ use Rattle.wrapped_chip.specs.Realises.{SameOutside, IsSameEvent, IsRunBeside}
 use Rattle.wrapped_chip.specs.Beside.{HasPins, of_bit, of_tap}
 use Rattle.surrounded_core.specs.Places.{Places, input_net}
 use Rattle.surrounded_core.specs.Surrounds.{Surrounds}
-
--- the event at a place of a list
-pub event_at : {A : Type 0} (events : List A) (t : ℕ) → t < length events → (event : A) × (slice_get events t ≡ Some event)
-event_at [] t h = absurd (omega arith)
-event_at (e ∷ es) zero h = (e, refl)
-event_at (e ∷ es) (suc t) h = event_at es t (omega arith)
 
 -- two tests for equal numbers
 same_numbers : (a b : ℕ) → (a ≡ b) ⊎ ((a == b) ≡ false)
@@ -146,7 +140,7 @@ pub outside_always : RunHasMoments → (M N : NetlistView) (B : Device) → HasP
 outside_always moments M N B has given events chip moment run beside zero below = beside.same_pins
 outside_always moments M N B has given events chip moment run beside (suc t) below =
     let count : length beside.there ≡ length events = beside.same_events.count in
-    let event = event_at events t (omega arith) in
+    let event = slice_get_there events t (omega arith) in
     let now = moments M beside.start beside.there moment beside.run t (omega arith) in
     let other = now.step (omega arith) in
     let step = run.steps t event.0 event.1 in

@@ -24,14 +24,14 @@ use Rattle.bsdl_device.specs.declared.values.CellRow.{CellRow}
 use Rattle.bsdl_device.specs.declared.values.Device.{Device}
 use Rattle.test_logic.specs.declared.Mode.{Mode}
 use Rattle.test_logic.specs.Instructions.{mode_of}
-use Rattle.test_logic.specs.Machine.{Machine, in_effect, test_logic_of}
+use Rattle.test_logic.specs.Machine.{Machine, in_effect, test_logic_of, update_of}
 use Rattle.test_logic.specs.Rows.{ControlAt, CellAt, datum, level, enable_of, driven, own}
 use Rattle.boundary_cells.specs.MachineRows.{bit_at}
 use Rattle.boundary_cells.specs.ThreeState.{BidirCellsFollow}
 use Rattle.boundary_runs.specs.Rows.{BoundaryRow, observe_row, input_row, output_row, control_row, bidir_row, row_cells, HoldsUpdate, control_of}
 use Rattle.boundary_runs.specs.Laws.{RowsFollow}
 use Rattle.boundary_runs.specs.ChipRows.{ChipRows, chip_cell}
-use Rattle.wrapped_chip.specs.Cells.{net_of_row, names_control, core_datum, core_control, update_of, control_at, bit_cell_at, control_cell_at, cell_at_net}
+use Rattle.wrapped_chip.specs.Cells.{net_of_row, names_control, core_datum, core_control, control_at, bit_cell_at, control_cell_at, cell_at_net}
 use Rattle.wrapped_chip.specs.Suits.{IsRead, inactive_level}
 use Rattle.surrounded_core.specs.Places.{Places, selection_nets}
 use Rattle.surrounded_core.specs.Sites.{GivesAs, StandsAround, IsControlRow, IsDataNet, IsPlain, IsControlled}

@@ -200,7 +200,7 @@ read_by_row by M N B S machine pins m now place r net there at (bidir_row core e
     joined ∙ ap (λ x. join x (m.pins net.0)) (own_driven by M N B S machine pins m now place r net there at read)
     ∙ ap (join (own (mode_at B machine) c)) outside ∙ sym (ap (λ f. row_reading f (mode_at B machine) c) stands.does)
 
-read_direction : (N : NetlistView) (net : ℕ) → IsRead N net → (dir : Dir) × (direction N.ports net ≡ Some dir)
+pub read_direction : (N : NetlistView) (net : ℕ) → IsRead N net → (dir : Dir) × (direction N.ports net ≡ Some dir)
 read_direction N net (inl e) = (Output, e)
 read_direction N net (inr e) = (Inout, e)
 

@@ -1,8 +1,8 @@
 -- The whole test logic: what it holds, and what edges of TCK and TRST do.
 -- IEEE Std 1149.1-2001: test logic architecture, TAP controller.
-use Rattle.std.specs.Prelude.{◌≡◌, ℕ, suc, ◌<◌, Bool, true, false, List, [], map, Option, Some, None}
+use Rattle.std.specs.Prelude.{◌≡◌, ℕ, suc, ◌<◌, Bool, true, false, List, [], map, slice_index_or, Option, Some, None}
 use Rattle.signal_values.specs.declared.Sig.{Sig}
-use Rattle.signal_values.specs.declared.Sig.TheVariants.{Zero}
+use Rattle.signal_values.specs.declared.Sig.TheVariants.{Zero, Unknown}
 use Rattle.signal_values.specs.declared.PinSig.{PinSig}
 use Rattle.signal_values.specs.declared.PinSig.TheVariants.{HighZ}
 use Rattle.signal_values.specs.Values.{bit}
@@ -57,6 +57,10 @@ pub record Machine : Type 0 where
   pub boundary : List Sig
   pub update : List Sig
   pub tdo : PinSig
+
+-- the bit that the update stage of the boundary register holds for a cell
+abbrev pub update_of : Machine → ℕ → Sig
+update_of m number = slice_index_or m.update number Unknown
 
 abbrev pub zeros : {A : Type 0} → List A → List Sig
 zeros like = map (λ x. Zero) like

@@ -15,6 +15,7 @@ IsProgramWritten input output shelf = IsWritten IsProgramText input output shelf
 abbrev pub StandsInVectors : List ℕ → List ℕ → ShelfSeen → Fault → Type 0
 StandsInVectors input output shelf f = StandsInMaking IsProgramText StandsInText input output shelf f
 
--- A refusal with this status, where the text is accepted and no count of both names rises, is want of memory.
+-- A refusal with this status, where the text is accepted and neither the count of reads of the input nor that of writes of the output
+-- rises, is want of memory.
 abbrev pub CompletesVectors : List ℕ → List ℕ → ShelfSeen → Status → Type 0
 CompletesVectors input output shelf end = CompletesMaking IsAccepted input output shelf end

@@ -4,7 +4,7 @@ use Rattle.std.specs.Prelude.{not, find, IfSome, unwrap_or}
 use Rattle.std.specs.Bool.{IsFalse}
 use Rattle.std.specs.List.{flat_map, list_all, AllByRecursion}
 use Rattle.list_laws.proofs.Tests.{and_left, and_right}
-use Rattle.list_laws.proofs.Lists.{all_append, all_front, all_back, all_from_list_all}
+use Rattle.list_laws.proofs.Lists.{all_append, all_front, all_back, all_from_list_all, all_mapped}
 use Rattle.verilog_lexicon.specs.declared.word.Word.{Word}
 use Rattle.verilog_lexicon.specs.declared.word.Word.TheVariants as word
 use Rattle.verilog_lexicon.specs.declared.reserved.Reserved.TheVariants as key
@@ -25,10 +25,6 @@ use Rattle.verilog_tree.specs.Texts.{SpellsText}
 use Rattle.verilog_conditions.proofs.SpelledWords.{IsSpelled, AreSpelled, all_more, words_are_spelled}
 
 -- Lists.
-
-all_map : {A B : Type 0} (P : B → Type 0) (f : A → B) (xs : List A) → AllByRecursion (λ x. P (f x)) xs → AllByRecursion P (map f xs)
-all_map P f [] all = tt
-all_map P f (x ∷ xs) all = (all.0, all_map P f xs all.1)
 
 all_flat_map : {A B : Type 0} (P : B → Type 0) (f : A → List B) (xs : List A) → AllByRecursion (λ x. AllByRecursion P (f x)) xs → AllByRecursion P (flat_map f xs)
 all_flat_map P f [] all = tt
@@ -136,7 +132,7 @@ header_ports_are (ansi head first more) declared spelled all =
     )
 header_ports_are (names first more) declared spelled all =
     let listed = all_front IsSpelled (word.Symbol LeftParenthesis ∷ word.Name first ∷ each_after_comma name_words more) (word.Symbol RightParenthesis ∷ []) spelled in
-    all_map IsTreePort (declared_port declared) (first ∷ more)
+    all_mapped IsTreePort (declared_port declared) (first ∷ more)
     (all_more IsTreeName (λ name. IsTreePort (declared_port declared name)) (declared_port_is declared all) (first ∷ more) (listed.1.0, each_is IsTreeName name_words name_is more listed.1.1))
 
 -- Items.
@@ -214,7 +210,7 @@ before_names before first more spelled =
 
 item_gives : (i : ItemSource) → AreSpelled (item_words i) → item_fits i ≡ true → Gives i
 item_gives (directions head first more) spelled fits = record {
-  ports = all_map IsTreePort (port_of head) (first ∷ more) (all_more IsTreeName (λ name. IsTreePort (port_of head name)) (port_is head (head_is head (before_names (head_words head) first more spelled))) (first ∷ more) (names_are (head_words head) first more spelled));
+  ports = all_mapped IsTreePort (port_of head) (first ∷ more) (all_more IsTreeName (λ name. IsTreePort (port_of head name)) (port_is head (head_is head (before_names (head_words head) first more spelled))) (first ∷ more) (names_are (head_words head) first more spelled));
   nets = tt;
   items = tt;
 }
@@ -223,13 +219,13 @@ item_gives (wires range first more) spelled fits =
     let is : IfSome range IsTreeRange = ranged_is range (before_names before first more spelled).1 in
     record {
       ports = tt;
-      nets = all_map IsTreeWire (wire_of range) (first ∷ more) (all_more IsTreeName (λ name. IsTreeWire (wire_of range name)) (λ name named. record { name = named; range = is }) (first ∷ more) (names_are before first more spelled));
+      nets = all_mapped IsTreeWire (wire_of range) (first ∷ more) (all_more IsTreeName (λ name. IsTreeWire (wire_of range name)) (λ name named. record { name = named; range = is }) (first ∷ more) (names_are before first more spelled));
       items = tt;
     }
 item_gives (assigns first more) spelled fits = record {
   ports = tt;
   nets = tt;
-  items = all_map IsTreeItem assign_of (first ∷ more) (listed_are (λ a. IsTreeItem (assign_of a)) assign_words assign_is (word.Reserved key.Assign ∷ []) first more (word.Symbol Semicolon ∷ []) spelled);
+  items = all_mapped IsTreeItem assign_of (first ∷ more) (listed_are (λ a. IsTreeItem (assign_of a)) assign_words assign_is (word.Reserved key.Assign ∷ []) first more (word.Symbol Semicolon ∷ []) spelled);
 }
 item_gives (gates kind first more) spelled fits = record {
   ports = tt;
@@ -243,7 +239,7 @@ item_gives (instances cell first more) spelled fits =
     record {
       ports = tt;
       nets = tt;
-      items = all_map IsTreeItem (instance_of cell) (first ∷ more) (listed_are (λ i. IsTreeItem (instance_of cell i)) instance_words (instance_is cell named) (word.Name cell ∷ []) first more (word.Symbol Semicolon ∷ []) spelled);
+      items = all_mapped IsTreeItem (instance_of cell) (first ∷ more) (listed_are (λ i. IsTreeItem (instance_of cell i)) instance_words (instance_is cell named) (word.Name cell ∷ []) first more (word.Symbol Semicolon ∷ []) spelled);
     }
 
 items_give : (is : List ItemSource) → AreSpelled (flat_map item_words is) → list_all item_fits is ≡ true → AllByRecursion Gives is

@@ -12,7 +12,7 @@ use Rattle.verilog_lexicon.specs.declared.word.Word.TheVariants as word
 use Rattle.verilog_lexicon.specs.declared.reserved.Reserved.{Reserved}
 use Rattle.verilog_lexicon.specs.declared.reserved.Reserved.TheVariants as key
 use Rattle.verilog_lexicon.specs.Bytes.{clings, is_letter, is_digit, is_name_byte, is_escaped_byte, is_simple_name}
-use Rattle.verilog_lexicon.specs.Keywords.{spelling_of, reserved_of, name_word, from_a_to_b, from_e, from_i_to_l, from_m_to_o, from_u_to_x}
+use Rattle.verilog_lexicon.specs.Keywords.{spelling_of, reserved_of, name_word}
 use Rattle.verilog_lexicon.specs.Pieces.{simple_name, escaped_name, number, IsName, NotFirst, value_from}
 use Rattle.verilog_tree.specs.declared.tree.Dir.{Dir}
 use Rattle.verilog_tree.specs.declared.tree.Dir.TheVariants as dir
@@ -134,7 +134,7 @@ pub record IsKey (r : Reserved) : Type 0 where
   pub word_is : name_word (spelling_of r) ≡ word.Reserved r
 
 pub is_key_gate : (kind : GateKind) → IsKey (key_of_gate kind)
-unfolding spelling_of name_word reserved_of from_a_to_b from_m_to_o from_u_to_x
+unfolding spelling_of name_word reserved_of
 is_key_gate gate.And = record { simple = refl; short = lit≤ tt; word_is = refl }
 is_key_gate gate.Or = record { simple = refl; short = lit≤ tt; word_is = refl }
 is_key_gate gate.Nand = record { simple = refl; short = lit≤ tt; word_is = refl }
@@ -147,7 +147,7 @@ is_key_gate gate.Bufif0 = record { simple = refl; short = lit≤ tt; word_is = r
 is_key_gate gate.Bufif1 = record { simple = refl; short = lit≤ tt; word_is = refl }
 
 pub is_key_dir : (d : Dir) → IsKey (key_of_dir d)
-unfolding spelling_of name_word reserved_of from_i_to_l from_m_to_o
+unfolding spelling_of name_word reserved_of
 is_key_dir dir.Input = record { simple = refl; short = lit≤ tt; word_is = refl }
 is_key_dir dir.Output = record { simple = refl; short = lit≤ tt; word_is = refl }
 is_key_dir dir.Inout = record { simple = refl; short = lit≤ tt; word_is = refl }
@@ -159,17 +159,17 @@ key_cut r is = with_words (word.Reserved r ∷ [])
 
 -- the reserved words that stand in the text as they are
 pub module_key : Cut Apart (codes "module") (word.Reserved key.Module ∷ [])
-unfolding spelling_of name_word reserved_of from_m_to_o
+unfolding spelling_of name_word reserved_of
 module_key = key_cut key.Module (record { simple = refl; short = lit≤ tt; word_is = refl })
 
 pub endmodule_key : Cut Apart (codes "endmodule") (word.Reserved key.Endmodule ∷ [])
-unfolding spelling_of name_word reserved_of from_e
+unfolding spelling_of name_word reserved_of
 endmodule_key = key_cut key.Endmodule (record { simple = refl; short = lit≤ tt; word_is = refl })
 
 pub wire_key : Cut Apart (codes "wire") (word.Reserved key.Wire ∷ [])
-unfolding spelling_of name_word reserved_of from_u_to_x
+unfolding spelling_of name_word reserved_of
 wire_key = key_cut key.Wire (record { simple = refl; short = lit≤ tt; word_is = refl })
 
 pub assign_key : Cut Apart (codes "assign") (word.Reserved key.Assign ∷ [])
-unfolding spelling_of name_word reserved_of from_a_to_b
+unfolding spelling_of name_word reserved_of
 assign_key = key_cut key.Assign (record { simple = refl; short = lit≤ tt; word_is = refl })

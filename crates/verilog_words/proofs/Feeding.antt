@@ -1,10 +1,11 @@
-use Rattle.std.proofs.Common.{◌≡◌, ℕ, ◌+◌, List, [], ◌∷◌, ◌++◌, length, drop, slice_get, Option, Some, Bool, true, suc, zero, refl, sym, ap, subst, ◌∙◌, arith, length-append, length-drop, ◌==◌, false}
-use Rattle.std.specs.Prelude.{option_and_then, nat_lt, codes, ◌&&◌}
+use Rattle.std.proofs.Common.{◌≡◌, ℕ, ◌+◌, List, [], ◌∷◌, ◌++◌, length, drop, slice_get, Option, Some, None, true, suc, zero, refl, sym, ap, subst, ◌∙◌, arith, length-append, length-drop, ◌==◌, false}
+use Rattle.std.specs.Prelude.{option_and_then, nat_lt, codes}
 use Rattle.std.specs.List.{list_all}
-use Rattle.std.specs.Option.{option_map_or}
-use Rattle.std.proofs.lemmas.Bool.{lt-ltb, le-leb}
+use Rattle.std.specs.Option.{option_map, option_map_or}
+use Rattle.std.proofs.lemmas.Bool.{lt-ltb, le-leb, cond-true}
 use Rattle.std.proofs.lemmas.Option.{none-some, same_Some}
-use Rattle.std.proofs.lemmas.Bool.Decides.{nat_tests}
+use Rattle.list_laws.proofs.Numbers.{eqb_same}
+use Rattle.list_laws.proofs.Lists.{all_at, all_from_list_all}
 use Rattle.verilog_lexicon.specs.declared.word.Spanned.{Spanned}
 use Rattle.verilog_lexicon.specs.Bytes.{is_name_byte}
 use Rattle.verilog_lexicon.specs.Pieces.{words_of, Begins, IsPlace}
@@ -19,12 +20,12 @@ use Rattle.word_cutter.specs.declared.fault.CutFault.{CutFault}
 use Rattle.word_cutter.specs.declared.fault.CutFault.TheVariants as cut
 use Rattle.word_cutter.specs.Run.{run, IsRefusal, IsStepFault}
 use Rattle.word_cutter.specs.Language.{Place, Cuts}
+use Rattle.word_cutter.proofs.Cases.{map_none}
 use Rattle.word_cutter.proofs.Language.{runs_begins, ends_words, words_unique, stops_place, ends_place}
 use Rattle.verilog_words.specs.Machine.{State, state, start, step, end, text_at, closer, directive_name, is_whole, goes_on}
 use Rattle.verilog_words.specs.Kinds.{word_fault}
 use Rattle.verilog_words.specs.Fed.{IsFault, IsEndFault}
-use Rattle.verilog_words.proofs.Text.{text_parts, text_none}
-use Rattle.verilog_words.proofs.Outcome.{outcome, cond_is_true}
+use Rattle.verilog_words.proofs.Outcome.{outcome}
 use Rattle.verilog_words.proofs.Complete.{complete}
 use Rattle.verilog_words.proofs.Sound.{sound}
 
@@ -54,35 +55,21 @@ drop_get [] (suc n) b left h = cc
 drop_get (x ∷ xs) zero b left h = (ap Some cc, cc)
 drop_get (x ∷ xs) (suc n) b left h = drop_get xs n b left h
 
-all_at : (test : ℕ → Bool) (xs : List ℕ) (n b : ℕ) → list_all test xs ≡ true → slice_get xs n ≡ Some b → test b ≡ true
-all_at test [] n b all h = absurd (none-some b h)
-all_at test (x ∷ xs) zero b all h = ap test (sym (same_Some x b h)) ∙ both (test x) (list_all test xs) all where
-  both : (v w : Bool) → (v && w) ≡ true → v ≡ true
-  both true w e = refl
-  both false w e = cc
-all_at test (x ∷ xs) (suc n) b all h = all_at test xs n b (both (test x) (list_all test xs) all) h where
-  both : (v w : Bool) → (v && w) ≡ true → w ≡ true
-  both true w e = e
-  both false w e = cc
-
 directive_bytes : (d : Directive) → list_all is_name_byte (directive_name d) ≡ true
 directive_bytes Timescale = refl
 directive_bytes DefaultNettype = refl
 directive_bytes Celldefine = refl
 directive_bytes Endcelldefine = refl
 
-same_byte : (b : ℕ) → (b == b) ≡ true
-same_byte b = grind (arith, nat_tests)
-
 directive_closes : (d : Directive) (left p : List ℕ) (at from : ℕ) (words : List Spanned) → left ≡ drop (length p) (directive_name d) → outcome at (state words (in_.Directive d) from p) left ≡ Some words
 directive_closes d [] p at from words is =
-    cond_is_true (is_whole d p) _ _ (le-leb (length (directive_name d)) (length p) (omega (arith, ap length is, length-drop (length p) (directive_name d))))
+    cond-true (is_whole d p) _ _ (le-leb (length (directive_name d)) (length p) (omega (arith, ap length is, length-drop (length p) (directive_name d))))
 directive_closes d (b ∷ left) p at from words is =
     let got = drop_get (directive_name d) (length p) b left is in
     let longer : suc (length p) ≡ length (p ++ b ∷ []) = omega (arith, length-append p (b ∷ [])) in
     ap (option_and_then (λ t. outcome (at + 1) t left))
-    (cond_is_true (is_name_byte b) _ _ (all_at is_name_byte (directive_name d) (length p) b (directive_bytes d) got.0)
-    ∙ cond_is_true (goes_on d p b) _ _ (ap (λ (o : Option ℕ). option_map_or (λ c. c == b) o false) got.0 ∙ same_byte b))
+    (cond-true (is_name_byte b) _ _ (all_at _ (directive_name d) (length p) b (all_from_list_all is_name_byte (directive_name d) (directive_bytes d)) got.0)
+    ∙ cond-true (goes_on d p b) _ _ (ap (λ (o : Option ℕ). option_map_or (λ c. c == b) o false) got.0 ∙ eqb_same b))
     ∙ directive_closes d left (p ++ b ∷ []) (at + 1) 0 words (got.1 ∙ ap (λ (n : ℕ). drop n (directive_name d)) longer)
 
 enclosure_closes : (e : Enclosure) (at : ℕ) (words : List Spanned) (from : ℕ) (p : List ℕ) → outcome at (state words (in_.Enclosed e) from p) (42 ∷ closer e ∷ []) ≡ Some words
@@ -104,7 +91,7 @@ closes in_.Backquote at words from p = (_, refl)
 closes (in_.Directive d) at words from p = (words, directive_closes d (drop (length p) (directive_name d)) p at from words refl)
 closes in_.Name at words from p = (_, refl)
 closes in_.Escaped at words from [] = (_, refl)
-closes in_.Escaped at words from (x ∷ p) = (_, ap (option_and_then end) (cond_is_true (nat_lt 0 (length (x ∷ p))) _ _ (lt-ltb 0 (length (x ∷ p)) (omega arith))))
+closes in_.Escaped at words from (x ∷ p) = (_, ap (option_and_then end) (cond-true (nat_lt 0 (length (x ∷ p))) _ _ (lt-ltb 0 (length (x ∷ p)) (omega arith))))
 closes in_.Number at words from p = (_, refl)
 closes in_.Quote at words from p = (_, refl)
 closes in_.Base at words from p = (_, refl)
@@ -153,6 +140,15 @@ end_fault bytes s (cut.BadByte place) ran is =
 
 -- the words of a text and its length
 
+abbrev with_end : ℕ → List Spanned → WordText
+with_end at words = record { list = words; end = at }
+
+text_parts : (at : ℕ) (o : Option (List Spanned)) (w : WordText) → option_map (with_end at) o ≡ Some w → (o ≡ Some w.list) × (w.end ≡ at)
+text_parts at None w h = absurd (none-some w h)
+text_parts at (Some words) w h =
+    let same : with_end at words ≡ w = same_Some (with_end at words) w h in
+    (ap (λ (t : WordText). Some t.list) same, ap (λ (t : WordText). t.end) (sym same))
+
 pub text_ends : (bytes : List ℕ) (at : ℕ) (s : State) (w : WordText) → run step 0 start bytes ≡ Some s → text_at at s ≡ Some w → words_of bytes w.list
 text_ends bytes at s w ran is = ends bytes s w.list ran (text_parts at (end s) w is).0
 
@@ -161,4 +157,4 @@ text_end at s w is = (text_parts at (end s) w is).1
 
 pub text_fault : (bytes : List ℕ) (at : ℕ) (s : State) (e : CutFault) → run step 0 start bytes ≡ Some s → at ≡ length bytes → IsStepFault e at (text_at at s) → IsEndFault (word_fault e) bytes
 text_fault bytes at s cut.OutOfMemory ran there is = tt
-text_fault bytes at s (cut.BadByte place) ran there is = end_fault bytes s (cut.BadByte place) ran (is.0 ∙ there, text_none at (end s) is.1)
+text_fault bytes at s (cut.BadByte place) ran there is = end_fault bytes s (cut.BadByte place) ran (is.0 ∙ there, map_none _ (end s) is.1)

@@ -1,39 +1,31 @@
-use Rattle.std.proofs.Common.{◌≡◌, ℕ, ◌+◌, ◌<◌, ◌≤◌, List, [], ◌∷◌, ◌++◌, length, take, get_or, Some, None, Bool, true, false, not, cond, suc, zero, refl, ap, ◌∙◌, ◌==◌, arith}
+use Rattle.std.proofs.Common.{◌≡◌, ℕ, ◌+◌, ◌<◌, ◌≤◌, List, [], ◌∷◌, ◌++◌, length, take, get_or, Some, None, true, false, not, suc, zero, ap, ◌∙◌, ◌==◌, arith}
 use Rattle.std.specs.Prelude.{option_and_then, nat_lt}
 use Rattle.std.specs.List.{prefix_len}
-use Rattle.std.proofs.lemmas.Bool.{lt-ltb}
-use Rattle.std.proofs.lemmas.Bool.Decides.{nat_tests}
+use Rattle.std.proofs.lemmas.Bool.{lt-ltb, cond-true, cond-false, not-true, le-ltb}
 use Rattle.std.proofs.lemmas.List.{length-take-le}
 use Rattle.std.proofs.lemmas.List.Sums.{prefix_len-le-length, prefix_len_passes, prefix_len_stops}
 use Rattle.verilog_lexicon.specs.declared.word.Spanned.{Spanned}
 use Rattle.verilog_lexicon.specs.Bytes.{is_blank, is_letter, is_digit, is_name_byte, clings, is_escaped_byte}
 use Rattle.word_cutter.specs.Run.{run, Stops}
 use Rattle.word_cutter.proofs.Runs.{run_byte}
-use Rattle.word_cutter.proofs.Keeping.{keeps, stays, too_long}
+use Rattle.word_cutter.proofs.Keeping.{one_more, keeps, stays, too_long}
 use Rattle.verilog_words.specs.declared.mode.Mode.TheVariants as in_
 use Rattle.verilog_words.specs.declared.mode.Enclosure.{Enclosure}
 use Rattle.verilog_words.specs.Machine.{State, state, between, begin, step, with_name, with_number}
-use Rattle.verilog_words.proofs.Outcome.{cond_is_true, cond_is_false}
+use Rattle.verilog_words.proofs.Bytes.{letter_not_blank, digit_not_blank, digit_not_letter, not_clings, no_quote}
 
 -- Runs of bytes of one kind.
 
-not_less : (m n : ℕ) → n ≤ m → nat_lt m n ≡ false
-not_less m n h = grind (arith, nat_tests)
-
-not_true : (b : Bool) → not b ≡ true → b ≡ false
-not_true true h = cc
-not_true false h = refl
-
 -- a name
 
-abbrev named : List Spanned → ℕ → List ℕ → State
+abbrev pub named : List Spanned → ℕ → List ℕ → State
 named words from p = state words in_.Name from p
 
-name_one : (words : List Spanned) (from at : ℕ) (p : List ℕ) (b : ℕ) → is_name_byte b ≡ true → length p < 255 → step at (named words from p) b ≡ Some (named words from (p ++ b ∷ []))
-name_one words from at p b is short = cond_is_true (is_name_byte b) _ _ is ∙ cond_is_true (nat_lt (length p) 255) _ _ (lt-ltb (length p) 255 short)
+pub name_one : (words : List Spanned) (from at : ℕ) (p : List ℕ) (b : ℕ) → is_name_byte b ≡ true → length p < 255 → step at (named words from p) b ≡ Some (named words from (p ++ b ∷ []))
+name_one words from at p b is short = cond-true (is_name_byte b) _ _ is ∙ cond-true (nat_lt (length p) 255) _ _ (lt-ltb (length p) 255 short)
 
 name_none : (words : List Spanned) (from at : ℕ) (p : List ℕ) (b : ℕ) → is_name_byte b ≡ true → 255 ≤ length p → step at (named words from p) b ≡ None
-name_none words from at p b is long = cond_is_true (is_name_byte b) _ _ is ∙ cond_is_false (nat_lt (length p) 255) _ _ (not_less (length p) 255 long)
+name_none words from at p b is long = cond-true (is_name_byte b) _ _ is ∙ cond-false (nat_lt (length p) 255) _ _ (le-ltb (length p) 255 long)
 
 pub name_keeps : (words : List Spanned) (from : ℕ) (bytes p : List ℕ) (n at : ℕ) → n ≤ prefix_len is_name_byte bytes → length p + n ≤ 255 → run step at (named words from p) (take n bytes) ≡ Some (named words from (p ++ take n bytes))
 name_keeps words from = keeps step is_name_byte 255 (named words from) (name_one words from)
@@ -43,14 +35,14 @@ name_too_long words from = too_long step is_name_byte 255 (named words from) (na
 
 -- an escaped name
 
-abbrev escaped : List Spanned → ℕ → List ℕ → State
+abbrev pub escaped : List Spanned → ℕ → List ℕ → State
 escaped words from p = state words in_.Escaped from p
 
-escaped_one : (words : List Spanned) (from at : ℕ) (p : List ℕ) (b : ℕ) → is_escaped_byte b ≡ true → length p < 255 → step at (escaped words from p) b ≡ Some (escaped words from (p ++ b ∷ []))
-escaped_one words from at p b is short = cond_is_true (is_escaped_byte b) _ _ is ∙ cond_is_true (nat_lt (length p) 255) _ _ (lt-ltb (length p) 255 short)
+pub escaped_one : (words : List Spanned) (from at : ℕ) (p : List ℕ) (b : ℕ) → is_escaped_byte b ≡ true → length p < 255 → step at (escaped words from p) b ≡ Some (escaped words from (p ++ b ∷ []))
+escaped_one words from at p b is short = cond-true (is_escaped_byte b) _ _ is ∙ cond-true (nat_lt (length p) 255) _ _ (lt-ltb (length p) 255 short)
 
 escaped_none : (words : List Spanned) (from at : ℕ) (p : List ℕ) (b : ℕ) → is_escaped_byte b ≡ true → 255 ≤ length p → step at (escaped words from p) b ≡ None
-escaped_none words from at p b is long = cond_is_true (is_escaped_byte b) _ _ is ∙ cond_is_false (nat_lt (length p) 255) _ _ (not_less (length p) 255 long)
+escaped_none words from at p b is long = cond-true (is_escaped_byte b) _ _ is ∙ cond-false (nat_lt (length p) 255) _ _ (le-ltb (length p) 255 long)
 
 pub escaped_keeps : (words : List Spanned) (from : ℕ) (bytes p : List ℕ) (n at : ℕ) → n ≤ prefix_len is_escaped_byte bytes → length p + n ≤ 255 → run step at (escaped words from p) (take n bytes) ≡ Some (escaped words from (p ++ take n bytes))
 escaped_keeps words from = keeps step is_escaped_byte 255 (escaped words from) (escaped_one words from)
@@ -61,25 +53,18 @@ escaped_too_long words from = too_long step is_escaped_byte 255 (escaped words f
 -- blanks, the rest of a line, what is enclosed
 
 pub blanks_stay : (words : List Spanned) (bytes : List ℕ) (n at : ℕ) → n ≤ prefix_len is_blank bytes → run step at (between words) (take n bytes) ≡ Some (between words)
-blanks_stay words = stays step is_blank (between words) (λ at b is. cond_is_true (is_blank b) _ _ is)
+blanks_stay words = stays step is_blank (between words) (λ at b is. cond-true (is_blank b) _ _ is)
 
 pub line_stays : (words : List Spanned) (bytes : List ℕ) (n at : ℕ) → n ≤ prefix_len (λ b. not (b == 10)) bytes → run step at (state words in_.Line 0 []) (take n bytes) ≡ Some (state words in_.Line 0 [])
-line_stays words = stays step (λ b. not (b == 10)) (state words in_.Line 0 []) (λ at b is. cond_is_false (b == 10) _ _ (not_true (b == 10) is))
+line_stays words = stays step (λ b. not (b == 10)) (state words in_.Line 0 []) (λ at b is. cond-false (b == 10) _ _ (not-true (b == 10) is))
 
 pub enclosed_stays : (e : Enclosure) (words : List Spanned) (bytes : List ℕ) (n at : ℕ) → n ≤ prefix_len (λ b. not (b == 42)) bytes → run step at (state words (in_.Enclosed e) 0 []) (take n bytes) ≡ Some (state words (in_.Enclosed e) 0 [])
-enclosed_stays e words = stays step (λ b. not (b == 42)) (state words (in_.Enclosed e) 0 []) (λ at b is. cond_is_false (b == 42) _ _ (not_true (b == 42) is))
+enclosed_stays e words = stays step (λ b. not (b == 42)) (state words (in_.Enclosed e) 0 []) (λ at b is. cond-false (b == 42) _ _ (not-true (b == 42) is))
 
 -- a name from its first byte
 
-letter_names : (b : ℕ) → is_letter b ≡ true → is_blank b ≡ false
-letter_names b h = grind (arith, nat_tests)
-
-one_more : (v : Bool) (m n : ℕ) → suc n ≤ cond v (1 + m) 0 → (v ≡ true) × (n ≤ m)
-one_more true m n h = (refl, omega arith)
-one_more false m n h = absurd (omega arith)
-
 first_named : (words : List Spanned) (b at : ℕ) → is_letter b ≡ true → step at (between words) b ≡ Some (named words at (b ∷ []))
-first_named words b at is = cond_is_false (is_blank b) _ _ (letter_names b is) ∙ cond_is_true (is_letter b) _ _ is
+first_named words b at is = cond-false (is_blank b) _ _ (letter_not_blank b is) ∙ cond-true (is_letter b) _ _ is
 
 pub name_taken : (words : List Spanned) (piece : List ℕ) (n at : ℕ) → is_letter (get_or piece 0 0) ≡ true → 0 < n → n ≤ prefix_len is_name_byte piece → n ≤ 255 → run step at (between words) (take n piece) ≡ Some (named words at (take n piece))
 name_taken words [] n at is some all short = absurd (omega arith)
@@ -100,24 +85,18 @@ name_begun_too_long words piece at is long = record {
 pub name_ended : (words : List Spanned) (piece : List ℕ) (n at : ℕ) → is_letter (get_or piece 0 0) ≡ true → 0 < n → n ≡ prefix_len is_name_byte piece → n < length piece → n ≤ 255 → run step at (between words) (take (n + 1) piece) ≡ begin (at + n) (with_name words at (take n piece)) (get_or piece n 0)
 name_ended words piece n at is some all within short =
     run_byte step piece n at (between words) (named words at (take n piece)) within (name_taken words piece n at is some (omega (arith, all)) short)
-    ∙ cond_is_false (is_name_byte (get_or piece n 0)) _ _ (ap (λ (k : ℕ). is_name_byte (get_or piece k 0)) all ∙ prefix_len_stops is_name_byte piece 0 (omega (arith, all, within)))
+    ∙ cond-false (is_name_byte (get_or piece n 0)) _ _ (ap (λ (k : ℕ). is_name_byte (get_or piece k 0)) all ∙ prefix_len_stops is_name_byte piece 0 (omega (arith, all, within)))
 
 -- a number
 
-abbrev numbered : List Spanned → ℕ → List ℕ → State
+abbrev pub numbered : List Spanned → ℕ → List ℕ → State
 numbered words from p = state words in_.Number from p
 
-number_one : (words : List Spanned) (from at : ℕ) (p : List ℕ) (b : ℕ) → is_digit b ≡ true → length p < 9 → step at (numbered words from p) b ≡ Some (numbered words from (p ++ b ∷ []))
-number_one words from at p b is short = cond_is_true (is_digit b) _ _ is ∙ cond_is_true (nat_lt (length p) 9) _ _ (lt-ltb (length p) 9 short)
-
-digit_no_blank : (b : ℕ) → is_digit b ≡ true → is_blank b ≡ false
-digit_no_blank b h = grind (arith, nat_tests)
-
-digit_no_letter : (b : ℕ) → is_digit b ≡ true → is_letter b ≡ false
-digit_no_letter b h = grind (arith, nat_tests)
+pub number_one : (words : List Spanned) (from at : ℕ) (p : List ℕ) (b : ℕ) → is_digit b ≡ true → length p < 9 → step at (numbered words from p) b ≡ Some (numbered words from (p ++ b ∷ []))
+number_one words from at p b is short = cond-true (is_digit b) _ _ is ∙ cond-true (nat_lt (length p) 9) _ _ (lt-ltb (length p) 9 short)
 
 first_numbered : (words : List Spanned) (b at : ℕ) → is_digit b ≡ true → step at (between words) b ≡ Some (numbered words at (b ∷ []))
-first_numbered words b at is = cond_is_false (is_blank b) _ _ (digit_no_blank b is) ∙ cond_is_false (is_letter b) _ _ (digit_no_letter b is) ∙ cond_is_true (is_digit b) _ _ is
+first_numbered words b at is = cond-false (is_blank b) _ _ (digit_not_blank b is) ∙ cond-false (is_letter b) _ _ (digit_not_letter b is) ∙ cond-true (is_digit b) _ _ is
 
 pub number_taken : (words : List Spanned) (piece : List ℕ) (n at : ℕ) → 0 < n → n ≤ prefix_len is_digit piece → n ≤ 9 → run step at (between words) (take n piece) ≡ Some (numbered words at (take n piece))
 number_taken words [] n at some all few = absurd (omega arith)
@@ -127,15 +106,9 @@ number_taken words (b ∷ bytes) (suc n) at some all few =
     ap (option_and_then (λ t. run step (at + 1) t (take n bytes))) (first_numbered words b at is.0)
     ∙ keeps step is_digit 9 (numbered words at) (number_one words at) bytes (b ∷ []) n (at + 1) is.1 (omega (arith, few))
 
-free_no_digit : (b : ℕ) → clings b ≡ false → is_digit b ≡ false
-free_no_digit b h = grind (arith, nat_tests)
-
-free_no_quote : (b : ℕ) → clings b ≡ false → (b == 39) ≡ false
-free_no_quote b h = grind (arith, nat_tests)
-
 -- the byte that ends a number
 pub number_over : (words : List Spanned) (from at : ℕ) (p : List ℕ) (b : ℕ) → clings b ≡ false → step at (numbered words from p) b ≡ begin at (with_number words from p) b
-number_over words from at p b free = cond_is_false (is_digit b) _ _ (free_no_digit b free) ∙ cond_is_false (b == 39) _ _ (free_no_quote b free) ∙ cond_is_false (clings b) _ _ free
+number_over words from at p b free = cond-false (is_digit b) _ _ (not_clings b free) ∙ cond-false (b == 39) _ _ (no_quote b free) ∙ cond-false (clings b) _ _ free
 
 -- a number and the byte that ends it
 pub number_ended : (words : List Spanned) (piece : List ℕ) (n at : ℕ) → 0 < n → n ≤ prefix_len is_digit piece → n < length piece → n ≤ 9 → clings (get_or piece n 0) ≡ false → run step at (between words) (take (n + 1) piece) ≡ begin (at + n) (with_number words at (take n piece)) (get_or piece n 0)

@@ -1,5 +1,5 @@
-use Rattle.std.proofs.Common.{◌≡◌, ℕ, ◌+◌, ◌<◌, ◌≤◌, List, [], ◌∷◌, ◌++◌, length, slice_get, Option, Some, None, Bool, true, false, cond, refl, sym, ap, subst, ◌∙◌, arith, append_assoc, length-append, IsTrue, not, ◌==◌, inl, inr}
-use Rattle.std.specs.Prelude.{nat_lt, option_and_then, codes, if◌then◌else◌, ◌⊎◌}
+use Rattle.std.proofs.Common.{◌≡◌, ℕ, ◌+◌, ◌<◌, ◌≤◌, List, [], ◌∷◌, ◌++◌, length, slice_get, Option, Some, Bool, true, false, refl, sym, ap, subst, ◌∙◌, arith, append_assoc, length-append, IsTrue, not, ◌==◌, inl, inr}
+use Rattle.std.specs.Prelude.{nat_lt, option_and_then, codes, if◌then◌else◌}
 use Rattle.std.specs.Option.{option_map_or}
 use Rattle.std.specs.List.{AllByRecursion}
 use Rattle.std.specs.Str.{bytes_eq}
@@ -7,7 +7,10 @@ use Rattle.std.proofs.lemmas.Slice.Eq.{bytes_eq-Decides}
 use Rattle.std.proofs.lemmas.Bool.{ltb-true, leb-true}
 use Rattle.std.proofs.lemmas.Bool.Decides.{nat_tests}
 use borrow.Author.Tests.{eqb-true}
-use Rattle.std.proofs.lemmas.Option.{same_Some, none-some}
+use Rattle.std.proofs.lemmas.Option.{same_Some, none-some, cond_some}
+use Rattle.std.proofs.lemmas.List.{append-nil}
+use Rattle.list_laws.proofs.Lists.{all_append}
+use Rattle.list_laws.proofs.Tests.{true_or_false}
 use Rattle.verilog_lexicon.specs.declared.word.Spanned.{Spanned}
 use Rattle.verilog_lexicon.specs.declared.word.Word.TheVariants as word
 use Rattle.verilog_lexicon.specs.declared.symbol.Symbol.{Symbol}
@@ -22,7 +25,9 @@ use Rattle.verilog_words.specs.declared.mode.Enclosure.TheVariants.{BlockComment
 use Rattle.verilog_words.specs.declared.mode.Directive.{Directive}
 use Rattle.verilog_words.specs.declared.mode.Directive.TheVariants.{Timescale, DefaultNettype, Celldefine, Endcelldefine}
 use Rattle.verilog_words.specs.Machine.{State, state, between, closer, directive_name, takes_line, is_whole, goes_on, after_directive, in_line, symbol_with, directive_with, with_name, with_escaped, with_number, with_constant, with_parenthesis}
-use Rattle.verilog_words.proofs.Outcome.{outcome, and_then_cond, and_then_map, bytes_nil, words_nil}
+use Rattle.word_cutter.proofs.Cases.{and_then_cond, and_then_map}
+use Rattle.word_cutter.proofs.Keeping.{byte_more}
+use Rattle.verilog_words.proofs.Outcome.{outcome}
 
 -- What the bytes of the piece that was begun are.
 
@@ -92,16 +97,12 @@ Later bytes = (m : Mode) (at now from : ℕ) (words : List Spanned) (p begun : L
 
 -- One byte more.
 
-all_push : (P : ℕ → Type 0) (xs : List ℕ) (y : ℕ) → AllByRecursion P xs → P y → AllByRecursion P (xs ++ y ∷ [])
-all_push P [] y h k = (k, tt)
-all_push P (x ∷ xs) y h k = (h.0, all_push P xs y h.1 k)
-
 name_push : (p : List ℕ) (b : ℕ) → IsName p → is_name_byte b ≡ true → length p < 255 → IsName (p ++ b ∷ [])
 name_push [] b is more short = absurd is
-name_push (x ∷ p) b is more short = (is.0, all_push _ p b is.1 more, omega (arith, length-append p (b ∷ [])))
+name_push (x ∷ p) b is more short = (is.0, all_append _ p (b ∷ []) is.1 (more, tt), omega (arith, length-append p (b ∷ [])))
 
 number_push : (p : List ℕ) (b : ℕ) → IsNumber p → is_digit b ≡ true → length p < 9 → IsNumber (p ++ b ∷ [])
-number_push p b is more short = (omega (arith, length-append p (b ∷ [])), omega (arith, length-append p (b ∷ [])), all_push _ p b is.2 more)
+number_push p b is more short = (omega (arith, length-append p (b ∷ [])), omega (arith, length-append p (b ∷ [])), all_append _ p (b ∷ []) is.2 (more, tt))
 
 lined_push : (k : Lined) (text : List ℕ) (b : ℕ) → spelling (lined k text) ++ b ∷ [] ≡ spelling (lined k (text ++ b ∷ []))
 lined_push comment text b = refl
@@ -133,7 +134,7 @@ loose_push last text b loose other = record {
 
 loose_star : (last : ℕ) (text : List ℕ) → IsLoose last text → IsStarred last text
 loose_star last text loose = record {
-  whole = subst (λ (l : List ℕ). HoldsNoStarBefore last l) (bytes_nil text) (loose.follows [] tt);
+  whole = subst (λ (l : List ℕ). HoldsNoStarBefore last l) (append-nil text) (loose.follows [] tt);
   follows = λ more first holds. loose.follows (42 ∷ more) (λ _. first, holds);
 }
 
@@ -176,11 +177,11 @@ done q at now begun rest words all spelled here is ends goes =
 done_silent : (q : Piece) (at now : ℕ) (begun rest : List ℕ) (words all : List Spanned) → word_at at q ≡ [] → begun ≡ spelling q → now ≡ at + length begun → IsPiece q → Ends q rest → Goes now rest words all → Goes at (begun ++ rest) words all
 done_silent q at now begun rest words all silent spelled here is ends goes =
     done q at now begun rest words all spelled here is ends
-    (subst (λ (l : List Spanned). Goes now rest l all) (sym (ap (λ (l : List Spanned). words ++ l) silent ∙ words_nil words)) goes)
+    (subst (λ (l : List Spanned). Goes now rest l all) (sym (ap (λ (l : List Spanned). words ++ l) silent ∙ append-nil words)) goes)
 
 -- nothing follows
 goes_end : (now : ℕ) (words all : List Spanned) → Some words ≡ Some all → Goes now [] words all
-goes_end now words all h = record { more = []; all_are = sym (same_Some words all h) ∙ sym (words_nil words); cut = no_pieces now }
+goes_end now words all h = record { more = []; all_are = sym (same_Some words all h) ∙ sym (append-nil words); cut = no_pieces now }
 
 -- between two pieces
 goes_between : (bytes : List ℕ) → Later bytes → (now : ℕ) (words all : List Spanned) → outcome now (between words) bytes ≡ Some all → Goes now bytes words all
@@ -200,7 +201,7 @@ shut b bytes later q at now begun words all spelled here is ends h =
     moved at begun bytes b words all (done q at (now + 1) (begun ++ b ∷ []) bytes words all spelled (omega (arith, here, length-append begun (b ∷ []))) is ends (goes_between bytes later (now + 1) (words ++ word_at at q) all h))
 
 silent_words : (q : Piece) (at now : ℕ) (bytes : List ℕ) (words all : List Spanned) → word_at at q ≡ [] → outcome now (between words) bytes ≡ Some all → outcome now (between (words ++ word_at at q)) bytes ≡ Some all
-silent_words q at now bytes words all silent h = ap (λ (l : List Spanned). outcome now (between l) bytes) (ap (λ (l : List Spanned). words ++ l) silent ∙ words_nil words) ∙ h
+silent_words q at now bytes words all silent h = ap (λ (l : List Spanned). outcome now (between l) bytes) (ap (λ (l : List Spanned). words ++ l) silent ∙ append-nil words) ∙ h
 
 -- the end of a line, which is white space
 line_end : (b : ℕ) (bytes : List ℕ) → Later bytes → (now : ℕ) (words all : List Spanned) → (b == 10) ≡ true → outcome (now + 1) (between words) bytes ≡ Some all → Goes now (b ∷ bytes) words all
@@ -358,18 +359,10 @@ front_push d p b (more, is) h =
 front_whole : (d : Directive) (p : List ℕ) → IsFront p (directive_name d) → is_whole d p ≡ true → p ≡ directive_name d
 front_whole d p (more, is) h =
     let long : length (directive_name d) ≤ length p = leb-true (length (directive_name d)) (length p) h in
-    sym (bytes_nil p) ∙ ap (λ (l : List ℕ). p ++ l) (sym (empty more (omega (arith, long, ap length is, length-append p more)))) ∙ sym is where
+    sym (append-nil p) ∙ ap (λ (l : List ℕ). p ++ l) (sym (empty more (omega (arith, long, ap length is, length-append p more)))) ∙ sym is where
       empty : (l : List ℕ) → length l ≤ 0 → l ≡ []
       empty [] h = refl
       empty (x ∷ l) h = absurd (omega arith)
-
-truth : (b : Bool) → (b ≡ true) ⊎ (b ≡ false)
-truth true = inl refl
-truth false = inr refl
-
-cond_some : {A : Type 0} (c : Bool) (x z : A) → cond c (Some x) None ≡ Some z → (c ≡ true) × (Some x ≡ Some z)
-cond_some true x z h = (refl, h)
-cond_some false x z h = cc
 
 -- The text ends here.
 
@@ -388,7 +381,7 @@ later_end (in_.EnclosedStar e) at now from words p begun all here is h = absurd 
 later_end in_.Backquote at now from words p begun all here is h = absurd (none-some all h)
 later_end (in_.Directive d) at now from words p begun all here is h =
     let whole = cond_some (is_whole d p) words all h in
-    done_silent (bare_piece d) at now begun [] words all (bare_silent d at) (is.0 ∙ ap (λ (l : List ℕ). 96 ∷ l) (front_whole d p is.1 whole.0) ∙ bare_spelled d) here (bare_is d) (bare_last d) (goes_end now words all whole.1)
+    done_silent (bare_piece d) at now begun [] words all (bare_silent d at) (is.0 ∙ ap (λ (l : List ℕ). 96 ∷ l) (front_whole d p is.1 whole.0) ∙ bare_spelled d) here (bare_is d) (bare_last d) (goes_end now words all (ap Some whole.1))
 later_end in_.Name at now from words p begun all here is h =
     done (simple_name p) at now begun [] words all is.0 here is.1 tt (goes_end now (with_name words at p) all (ap (λ (x : ℕ). Some (with_name words x p)) (sym is.2) ∙ h))
 later_end in_.Escaped at now from words p begun all here is h = absurd (none-some all h)
@@ -404,10 +397,6 @@ later_end (in_.Constant value) at now from words p begun all here is h =
 -- what is to be shown of a byte and these bytes, from a state of this mode
 abbrev Further : ℕ → List ℕ → Mode → Type 0
 Further b bytes m = (at now from : ℕ) (words : List Spanned) (p begun : List ℕ) (all : List Spanned) → now ≡ at + length begun → IsOpen m at from p begun → outcome now (state words m from p) (b ∷ bytes) ≡ Some all → Goes at (begun ++ b ∷ bytes) words all
-
--- the equation of what was begun with the byte
-byte_more : (begun front : List ℕ) (b c : ℕ) → begun ≡ front → b ≡ c → begun ++ b ∷ [] ≡ front ++ c ∷ []
-byte_more begun front b c is same = ap (λ (l : List ℕ). l ++ b ∷ []) is ∙ ap (λ (x : ℕ). front ++ x ∷ []) same
 
 between_further : (b : ℕ) (bytes : List ℕ) → Later bytes → Further b bytes in_.Between
 between_further b bytes later at now from words p begun all here is h =
@@ -430,7 +419,7 @@ line_further b bytes later at now from words p begun all here is h =
     let f : State → Option (List Spanned) = λ t. outcome (now + 1) t bytes in
     elim (and_then_cond f (b == 10) _ _ _ h) [
       | inl w ↦ done_silent (lined is.0 is.1) at now begun (b ∷ bytes) words all (lined_silent is.0 is.1 at) is.2 here (lined_is is.0 is.1 is.3 is.4) (lined_ends is.0 is.1 (b ∷ bytes) (ap not w.0)) (line_end b bytes later now words all w.0 w.1)
-      | inr w ↦ on b bytes later in_.Line at now 0 words [] begun all here (is.0, is.1 ++ b ∷ [], ap (λ (l : List ℕ). l ++ b ∷ []) is.2 ∙ lined_push is.0 is.1 b, is.3, all_push _ is.1 b is.4 w.0) w.1
+      | inr w ↦ on b bytes later in_.Line at now 0 words [] begun all here (is.0, is.1 ++ b ∷ [], ap (λ (l : List ℕ). l ++ b ∷ []) is.2 ∙ lined_push is.0 is.1 b, is.3, all_append _ is.1 (b ∷ []) is.4 (w.0, tt)) w.1
     ]
 
 open_further : (b : ℕ) (bytes : List ℕ) → Later bytes → Further b bytes in_.Open
@@ -489,7 +478,7 @@ directive_further d b bytes later at now from words p begun all here is h =
       ]
 
       after : is_name_byte b ≡ false → begun ≡ 96 ∷ directive_name d → option_and_then (λ t. outcome (now + 1) t bytes) (after_directive (takes_line d) now words b) ≡ Some all → Goes at (begun ++ b ∷ bytes) words all
-      after other spelled goes = elim (truth (takes_line d)) [
+      after other spelled goes = elim (true_or_false (takes_line d)) [
         | inl takes ↦ line takes other spelled (ap (λ (v : Bool). option_and_then (λ t. outcome (now + 1) t bytes) (after_directive v now words b)) (sym takes) ∙ goes)
         | inr alone ↦ done_silent (bare_piece d) at now begun (b ∷ bytes) words all (bare_silent d at) (spelled ∙ bare_spelled d) here (bare_is d) (bare_ends d b bytes (λ takes. absurd (not_both (takes_line d) takes alone)) other) (begin_goes b bytes now words all later (ap (λ (v : Bool). option_and_then (λ t. outcome (now + 1) t bytes) (after_directive v now words b)) (sym alone) ∙ goes))
       ]
@@ -510,7 +499,7 @@ escaped_further b bytes later at now from words p begun all here is h =
     let f : State → Option (List Spanned) = λ t. outcome (now + 1) t bytes in
     elim (and_then_cond f (is_escaped_byte b) _ _ _ h) [
       | inl w ↦ elim (and_then_cond f (nat_lt (length p) 255) _ _ _ w.1) [
-        | inl v ↦ on b bytes later in_.Escaped at now from words (p ++ b ∷ []) begun all here (byte_more begun (92 ∷ p) b b is.0 refl, omega (arith, length-append p (b ∷ []), ltb-true (length p) 255 v.0), all_push _ p b is.2 w.0, is.3) v.1
+        | inl v ↦ on b bytes later in_.Escaped at now from words (p ++ b ∷ []) begun all here (byte_more begun (92 ∷ p) b b is.0 refl, omega (arith, length-append p (b ∷ []), ltb-true (length p) 255 v.0), all_append _ p (b ∷ []) is.2 (w.0, tt), is.3) v.1
         | inr v ↦ absurd (none-some all v.1)
       ]
       | inr w ↦ elim (and_then_cond f (is_blank b) _ _ _ w.1) [

@@ -1,9 +1,9 @@
 use Rattle.std.proofs.Common.{◌≡◌, ℕ, ◌+◌, ◌-◌, ◌<◌, ◌≤◌, List, [], ◌∷◌, ◌++◌, length, take, get_or, Some, true, false, not, ◌==◌, sym, ap, subst, ◌∙◌, arith}
-use Rattle.std.specs.Prelude.{Result, Ok, Err, IfOk, IfErr}
+use Rattle.std.specs.Prelude.{Result, Ok, Err}
 use Rattle.std.specs.List.{prefix_len}
-use Rattle.std.proofs.lemmas.Bool.Decides.{nat_tests}
 use Rattle.std.proofs.lemmas.List.{length-take-le}
 use Rattle.std.proofs.lemmas.List.Sums.{prefix_len_stops}
+use Rattle.std.proofs.lemmas.Bool.{cond-false}
 use Rattle.verilog_lexicon.specs.declared.word.Word.TheVariants as word
 use Rattle.verilog_lexicon.specs.declared.word.Spanned.{Spanned}
 use Rattle.verilog_lexicon.specs.Words.{spanned}
@@ -19,7 +19,6 @@ use Rattle.verilog_words.specs.declared.mode.Enclosure.{Enclosure}
 use Rattle.verilog_words.specs.declared.machine.WordMachine.{WordMachine}
 use Rattle.verilog_words.specs.Machine.{State, state, between, begin, step, with_name, with_number, with_parenthesis}
 use Rattle.verilog_words.specs.Steps.{state_of, from_in, pending_in, IsTooLong, Takes}
-use Rattle.verilog_words.proofs.Outcome.{cond_is_false}
 use Rattle.verilog_words.proofs.Runs.{name_keeps, name_too_long, escaped_keeps, escaped_too_long, name_taken, name_begun_too_long, name_ended, number_taken, number_over, number_ended, blanks_stay, line_stays, enclosed_stays}
 
 -- What the code takes in a run.
@@ -65,7 +64,7 @@ name_end_refused words piece n at e is some all within short stops =
     let named : State = state words in_.Name at (take n piece) in
     let other : is_name_byte (get_or piece n 0) ≡ false = ap (λ (k : ℕ). is_name_byte (get_or piece k 0)) all ∙ prefix_len_stops is_name_byte piece 0 (omega (arith, all, within)) in
     refusal_at step piece n at (between words) named e within (name_taken words piece n at is some (omega (arith, all)) short)
-    (subst (IsStepFault e (at + n)) (sym (cond_is_false (is_name_byte (get_or piece n 0)) _ _ other)) stops)
+    (subst (IsStepFault e (at + n)) (sym (cond-false (is_name_byte (get_or piece n 0)) _ _ other)) stops)
 
 -- where the state stays
 
@@ -121,32 +120,15 @@ number_end_refused m piece n at e is some all within few free stops =
     (refusal_at step piece n at (between m.words.list) (state m.words.list in_.Number at (take n piece)) e within (number_taken m.words.list piece n at some all few)
     (subst (IsStepFault e (at + n)) (sym (number_over m.words.list at (at + n) (take n piece) (get_or piece n 0) free)) stops))
 
--- what the contracts of a machine ask
-
-pub takes_count : (new : WordMachine) (s : State) (at : ℕ) (piece : List ℕ) (r : Result ℕ CutFault) → Takes new s at piece r → IfOk r (λ n. (0 < n) × (n ≤ length piece))
-takes_count new s at piece (Ok n) is = (is.0, is.1)
-takes_count new s at piece (Err e) is = tt
-
-pub takes_run : (new : WordMachine) (s : State) (at : ℕ) (piece : List ℕ) (r : Result ℕ CutFault) → Takes new s at piece r → IfOk r (λ n. run step at s (take n piece) ≡ Some (state_of new))
-takes_run new s at piece (Ok n) is = is.2
-takes_run new s at piece (Err e) is = tt
-
-pub takes_fault : (new : WordMachine) (s : State) (at : ℕ) (piece : List ℕ) (r : Result ℕ CutFault) → Takes new s at piece r → IfErr r (IsRefusal step at s piece)
-takes_fault new s at piece (Ok n) is = tt
-takes_fault new s at piece (Err e) is = is
-
 -- two states that go on alike
 pub takes_alike : (new : WordMachine) (s t : State) (at : ℕ) (piece : List ℕ) (r : Result ℕ CutFault) → step at s (get_or piece 0 0) ≡ step at t (get_or piece 0 0) → Takes new t at piece r → Takes new s at piece r
 takes_alike new s t at piece (Ok n) same is = (is.0, is.1, run_alike step piece n at s t is.0 is.1 same ∙ is.2)
 takes_alike new s t at piece (Err e) same is = refusal_alike step piece at s t e same is
 
-pub not_equal : (b c : ℕ) → (b ≡ c → ⊥) → (b == c) ≡ false
-not_equal b c other = grind (arith, nat_tests)
-
 -- after a parenthesis, any byte but a star begins another piece
 pub open_alike : (old mid : WordMachine) (at b : ℕ) → old.mode ≡ in_.Open → mid.mode ≡ in_.Between → mid.words.list ≡ with_parenthesis old.words.list old.from → (b == 42) ≡ false → step at (state_of old) b ≡ step at (state_of mid) b
 open_alike old mid at b opened is words other =
     ap (λ (s : State). step at s b) (as_state old in_.Open opened)
-    ∙ cond_is_false (b == 42) _ _ other
+    ∙ cond-false (b == 42) _ _ other
     ∙ ap (λ (w : List Spanned). begin at w b) (sym words)
     ∙ ap (λ (s : State). step at s b) (sym (as_state mid in_.Between is))

@@ -1,8 +1,9 @@
-use Rattle.std.specs.Prelude.{◌≡◌, ℕ, ◌+◌, ◌<◌, ◌≤◌, List, [], length, take, Option, Some, Result, Ok, Err}
+use Rattle.std.specs.Prelude.{◌≡◌, ℕ, ◌+◌, ◌<◌, List, [], Option, Some, Result, Ok, Err}
 use Rattle.verilog_lexicon.specs.declared.word.Spanned.{Spanned}
 use Rattle.word_cutter.specs.declared.fault.CutFault.{CutFault}
 use Rattle.word_cutter.specs.declared.fault.CutFault.TheVariants.{BadByte, OutOfMemory}
-use Rattle.word_cutter.specs.Run.{run, IsRefusal, IsStepFault}
+use Rattle.word_cutter.specs.Run.{IsStepFault}
+use Rattle.word_cutter.specs.Run as taken
 use Rattle.verilog_words.specs.declared.machine.WordMachine.{WordMachine}
 use Rattle.verilog_words.specs.declared.mode.Mode.{Mode}
 use Rattle.verilog_words.specs.declared.mode.Mode.TheVariants as in_
@@ -64,8 +65,7 @@ EndsAs new at words (Err e) = IsStepFault e at words
 
 -- some bytes at the front of a piece
 abbrev pub Takes : WordMachine → State → ℕ → List ℕ → Result ℕ CutFault → Type 0
-Takes new s at piece (Ok count) = (0 < count) × (count ≤ length piece) × (run step at s (take count piece) ≡ Some (state_of new))
-Takes new s at piece (Err e) = IsRefusal step at s piece e
+Takes new s at piece r = taken.Takes step at s piece (state_of new) r
 
 -- so many bytes more, of which those up to 255 in all are kept
 abbrev pub IsTooLong : ℕ → ℕ → ℕ → CutFault → Type 0

@@ -102,9 +102,6 @@ pub struct EscapedBytes;
 /// Blanks.
 pub struct BlankBytes;
 
-/// Bytes that don't end a line.
-pub struct LineBytes;
-
 /// Bytes that are no star.
 pub struct StarlessBytes;
 
@@ -129,14 +126,6 @@ impl ByteClass for BlankBytes {
 
     fn holds(byte: u8) -> bool {
         is_blank(byte)
-    }
-}
-
-impl ByteClass for LineBytes {
-    ghost holds = { λ b. not (b == 10) };
-
-    fn holds(byte: u8) -> bool {
-        byte != b'\n'
     }
 }
 

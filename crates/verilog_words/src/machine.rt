@@ -1,4 +1,4 @@
-ghost use Rattle.std.specs.Prelude.{◌≡◌, ℕ, ◌+◌, ◌*◌, ◌-◌, ◌^◌, ◌<◌, ◌≤◌, [], ◌∷◌, ◌++◌, length, take, Some, OnOk, IfErr, IfOk, IsTrue, slice_index};
+ghost use Rattle.std.specs.Prelude.{◌≡◌, ℕ, ◌+◌, ◌^◌, ◌<◌, ◌≤◌, [], ◌∷◌, ◌++◌, length, take, Some, OnOk, IfErr, IsTrue, slice_index};
 ghost use Rattle.std.specs.List.{prefix_len};
 ghost use Rattle.verilog_lexicon.specs.Bytes.{is_digit, is_letter, is_name_byte, is_escaped_byte, clings};
 ghost use Rattle.std.specs.Bool.{IsFalse};
@@ -7,15 +7,15 @@ ghost use Rattle.verilog_lexicon.specs.Pieces.{value_from};
 ghost use Rattle.verilog_words.specs.declared.mode.Mode.{Mode};
 
 use crate::classes::{
-    BlankBytes, EscapedBytes, LineBytes, NameBytes, StarlessBytes, clings, directive_with, goes_on,
-    is_base, is_blank, is_digit, is_escaped_byte, is_whole, symbol_with,
+    BlankBytes, EscapedBytes, NameBytes, StarlessBytes, clings, directive_with, goes_on, is_base,
+    is_blank, is_digit, is_escaped_byte, is_whole, symbol_with,
 };
 use crate::mode::{Directive, Enclosure, Mode};
 use edge_io::Text;
 use std::alloc::Global;
 use verilog_lexicon::keywords::{is_letter, is_name_byte};
 use verilog_lexicon::{Symbol, Words};
-use word_cutter::{CutFault, Machine, run_len};
+use word_cutter::{CutFault, LineBytes, Machine, run_len, with_digit};
 
 /// Takes a text byte by byte, and keeps its words.
 #[derive(Drop)]
@@ -28,17 +28,6 @@ pub struct WordMachine {
     ghost short: { length pending ≤ 255 },
     ghost number: { mode ≡ Mode.Number
         → (value ≡ value_from 0 pending) × (value < 10 ^ length pending) × (length pending ≤ 9) },
-}
-
-// The value with one digit more.
-fn with_digit(value: u32, count: usize, digit: u8) -> u32
-    requires small { value < 10 ^ count }
-    requires few { count < 9 }
-    requires digit { IsTrue (is_digit digit) }
-    ensures value { result ≡ 10 * value + (digit - 48) }
-    ensures fits { result < 10 ^ (count + 1) }
-{
-    10 * value + (digit - 48) as u32
 }
 
 // How many digits stand at the front of a piece, of which up to nine are counted, and their value.
@@ -57,7 +46,7 @@ fn digits_of(piece: &[u8]) -> (usize, u32)
 }
 
 impl WordMachine {
-    ghost use Rattle.verilog_words.specs.Machine.{State, state, start, begin, in_line, enclosed, step, end, with_name, with_escaped, with_number, with_constant, with_parenthesis};
+    ghost use Rattle.verilog_words.specs.Machine.{State, state, start, begin, in_line, enclosed, step, end, with_name, with_number, with_constant, with_parenthesis};
     ghost use Rattle.verilog_words.specs.Steps.{state_of, Steps, Closes, EndsAs, Takes, IsTooLong};
 
     /// A machine before its first byte, with room for so many words, where memory is given.
@@ -650,7 +639,8 @@ impl WordMachine {
         requires room { length piece.now < 2 ^ 64 }
         ensures least { count ≤ result }
         ensures most { result ≤ length piece.now }
-        ensures stays { (s : State) (at : ℕ) → run step at s (take count piece.now) ≡ Some (state_of self.now)
+        ensures stays { (s : State) (at : ℕ)
+            → run step at s (take count piece.now) ≡ Some (state_of self.now)
             → run step at s (take result piece.now) ≡ Some (state_of self.now) }
     {
         let Mode::Between = self.mode else {

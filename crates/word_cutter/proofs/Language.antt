@@ -1,7 +1,7 @@
 use Rattle.std.proofs.Common.{◌≡◌, ℕ, ◌+◌, ◌<◌, List, [], ◌∷◌, ◌++◌, length, take, drop, get_or, Option, Some, None, suc, zero, refl, sym, ap, subst, ◌∙◌, arith, append_assoc}
 use Rattle.std.specs.Prelude.{option_and_then}
 use Rattle.std.proofs.lemmas.Option.{none-some}
-use Rattle.std.proofs.lemmas.List.{take-append-drop, drop_more, length-take-le}
+use Rattle.std.proofs.lemmas.List.{append-nil, take-append-drop, drop_more, length-take-le}
 use Rattle.std.proofs.Math.Seq.{take-length}
 use Rattle.word_cutter.specs.Run.{run, Stops}
 use Rattle.word_cutter.specs.Language.{Begun, Place, Cuts, outcome}
@@ -17,12 +17,8 @@ outcome_append step end (x ∷ xs) ys at s =
 outcome_on : {S W : Type 0} (step : ℕ → S → ℕ → Option S) (end : S → Option W) (start s : S) (bytes more : List ℕ) → run step 0 start bytes ≡ Some s → outcome step end 0 start (bytes ++ more) ≡ outcome step end (length bytes) s more
 outcome_on step end start s bytes more ran = outcome_append step end bytes more 0 start ∙ ap (option_and_then (λ t. outcome step end (0 + length bytes) t more)) ran ∙ ap (λ (k : ℕ). outcome step end k s more) (omega arith)
 
-bytes_nil : (xs : List ℕ) → xs ++ [] ≡ xs
-bytes_nil [] = refl
-bytes_nil (x ∷ xs) = ap (λ (t : List ℕ). x ∷ t) (bytes_nil xs)
-
 outcome_end : {S W : Type 0} (step : ℕ → S → ℕ → Option S) (end : S → Option W) (start s : S) (bytes : List ℕ) → run step 0 start bytes ≡ Some s → outcome step end 0 start bytes ≡ end s
-outcome_end step end start s bytes ran = ap (outcome step end 0 start) (sym (bytes_nil bytes)) ∙ outcome_on step end start s bytes [] ran
+outcome_end step end start s bytes ran = ap (outcome step end 0 start) (sym (append-nil bytes)) ∙ outcome_on step end start s bytes [] ran
 
 -- where the machine still runs, some text begins so
 pub runs_begins : {S W : Type 0} (step : ℕ → S → ℕ → Option S) (end : S → Option (List W)) (start s : S) (WordsOf : List ℕ → List W → Type 0) (bytes : List ℕ) → Cuts step end start WordsOf → run step 0 start bytes ≡ Some s → Begun WordsOf bytes

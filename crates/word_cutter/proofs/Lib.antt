@@ -1,3 +1,4 @@
 pub mod Runs
 pub mod Language
 pub mod Keeping
+pub mod Cases

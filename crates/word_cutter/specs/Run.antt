@@ -1,4 +1,4 @@
-use Rattle.std.specs.Prelude.{◌≡◌, ℕ, ◌+◌, ◌<◌, List, [], ◌∷◌, length, take, slice_index, Option, Some, None, option_and_then}
+use Rattle.std.specs.Prelude.{◌≡◌, ℕ, ◌+◌, ◌<◌, ◌≤◌, List, [], ◌∷◌, length, take, slice_index, Option, Some, None, option_and_then, Result, Ok, Err}
 use Rattle.word_cutter.specs.declared.fault.CutFault.{CutFault}
 use Rattle.word_cutter.specs.declared.fault.CutFault.TheVariants.{BadByte, OutOfMemory}
 
@@ -25,6 +25,11 @@ IsStepFault (BadByte place) at s = (place ≡ at) × (s ≡ None)
 abbrev pub IsRefusal : {S : Type 0} → (ℕ → S → ℕ → Option S) → ℕ → S → List ℕ → CutFault → Type 0
 IsRefusal step at s bytes OutOfMemory = Unit {0}
 IsRefusal step at s bytes (BadByte place) = (count : ℕ) × (place ≡ at + count) × Stops step at s bytes count
+
+-- some bytes at the front of these, the first of them at this place, are taken, and this is the state after them
+abbrev pub Takes : {S : Type 0} → (ℕ → S → ℕ → Option S) → ℕ → S → List ℕ → S → Result ℕ CutFault → Type 0
+Takes step at s bytes after (Ok count) = (0 < count) × (count ≤ length bytes) × (run step at s (take count bytes) ≡ Some after)
+Takes step at s bytes after (Err e) = IsRefusal step at s bytes e
 
 -- no fault has come, and the machine was fed these bytes
 pub record FedAs {S : Type 0} (step : ℕ → S → ℕ → Option S) (start : S) (fault : Option CutFault) (at : ℕ) (s : S) (bytes : List ℕ) : Type 0 where

@@ -1,4 +1,4 @@
-ghost use Rattle.std.specs.Prelude.{◌≡◌, ℕ, Bool};
+ghost use Rattle.std.specs.Prelude.{◌≡◌, ◌==◌, ℕ, Bool, not};
 ghost use Rattle.std.specs.List.{prefix_len};
 
 /// A class of bytes.
@@ -7,6 +7,17 @@ pub trait ByteClass {
 
     fn holds(byte: u8) -> bool
         ensures { result ≡ holds byte };
+}
+
+/// Bytes that don't end a line.
+pub struct LineBytes;
+
+impl ByteClass for LineBytes {
+    ghost holds = { λ b. not (b == 10) };
+
+    fn holds(byte: u8) -> bool {
+        byte != b'\n'
+    }
 }
 
 /// How many bytes at the front of the piece are of the class.

@@ -5,10 +5,12 @@
 
 mod class;
 mod cutter;
+mod digits;
 mod fault;
 mod machine;
 
-pub use class::{ByteClass, run_len};
+pub use class::{ByteClass, LineBytes, run_len};
 pub use cutter::Cutter;
+pub use digits::with_digit;
 pub use fault::CutFault;
 pub use machine::Machine;

@@ -1,5 +1,5 @@
-ghost use Rattle.std.specs.Prelude.{◌≡◌, ℕ, ◌+◌, ◌<◌, ◌≤◌, ◌^◌, take, length, Option, Some, IfErr, IfOk};
-ghost use Rattle.word_cutter.specs.Run.{run, IsRefusal, IsStepFault};
+ghost use Rattle.std.specs.Prelude.{◌≡◌, ℕ, ◌+◌, ◌<◌, ◌^◌, length, Option, Some, IfErr, IfOk};
+ghost use Rattle.word_cutter.specs.Run.{IsStepFault, Takes};
 
 use crate::fault::CutFault;
 
@@ -22,10 +22,7 @@ pub trait Machine {
     fn take_run(&mut self, at: u64, piece: &[u8]) -> Result<usize, CutFault>
         requires some { 0 < length piece.now }
         requires room { at + length piece.now < 2 ^ 64 }
-        ensures count { IfOk result (λ n. (0 < n) × (n ≤ length piece.now)) }
-        ensures ran { IfOk result (λ n. run step at (state self.old) (take n piece.now)
-            ≡ Some (state self.new)) }
-        ensures fault { IfErr result (IsRefusal step at (state self.old) piece.now) };
+        ensures { Takes step at (state self.old) piece.now (state self.new) result };
 
     /// The words of the text, which ends at this place.
     fn end(self, at: u64) -> Result<Self::Words, CutFault>

@@ -12,12 +12,12 @@ use Rattle.netlist_model.specs.Formed.{IsNumbered, IsWellFormed}
 use Rattle.netlist_laws.proofs.Search.{Found, output_or_not}
 use Rattle.netlist_laws.proofs.Once.{feeds_below_at, feed_values_same}
 use Rattle.netlist_laws.proofs.Pins.{pin_kinds, three_state_gate}
-use Rattle.test_logic.specs.Machine.{Machine, in_effect, test_logic_of}
+use Rattle.test_logic.specs.Machine.{Machine, in_effect, test_logic_of, update_of}
 use Rattle.test_logic.specs.Instructions.{mode_of}
 use Rattle.test_logic.specs.Rows.{CellAt, ControlAt, into_core}
 use Rattle.bsdl_device.specs.declared.values.Disable.{Disable}
 use Rattle.bsdl_device.specs.declared.values.Device.{Device}
-use Rattle.wrapped_chip.specs.Cells.{core_datum, core_control, control_at, update_of, Numbered, into_by, row_of, chip_rule}
+use Rattle.wrapped_chip.specs.Cells.{core_datum, core_control, control_at, Numbered, into_by, row_of, chip_rule}
 use Rattle.wrapped_chip.specs.Laws.{ChipIsCausal}
 
 -- the first cell that drives the net, or none is found

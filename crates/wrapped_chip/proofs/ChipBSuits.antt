@@ -2,13 +2,13 @@
 use Rattle.std.proofs.Common.{◌≡◌, ◌⊎◌, ℕ, zero, suc, false, Option, [], ◌∷◌, refl, ap, sym, ◌∙◌, subst, inl, inr, arith}
 use Rattle.std.proofs.lemmas.Bool.Decides.{eqb_tells}
 use Rattle.std.specs.Prelude.{Some, None}
+use Rattle.netlist_laws.proofs.Example.{output_net}
 use Rattle.cell_library.specs.declared.Kind.{Kind}
 use Rattle.cell_library.specs.declared.Kind.TheVariants.{Buf, Bufif1, Flop}
 use Rattle.cell_library.specs.declared.FlopKind.{FlopKind}
 use Rattle.cell_library.specs.declared.codes.BoundaryKind.TheVariants.{Bc1, Bc7}
 use Rattle.cell_library.specs.declared.codes.Function.TheVariants.{Output3, Bidir}
 use Rattle.netlist_model.specs.declared.Dir.TheVariants.{Input, Output, Inout}
-use Rattle.netlist_model.specs.declared.NetId.{NetId}
 use Rattle.netlist_model.specs.Lists.{CellView, cell_at, direction}
 use Rattle.netlist_model.specs.Cones.{IsControlNet}
 use Rattle.bsdl_device.specs.declared.values.Disable.{Disable}
@@ -21,14 +21,6 @@ bufif_cell = record { kind = Bufif1; name = None; feeds = of_net 0 ∷ of_net 1 
 
 abbrev buf_cell : CellView
 buf_cell = record { kind = Buf; name = None; feeds = of_net 2 ∷ []; output = Some (record { 0 = 3 }) }
-
-output_net : (a b : ℕ) → (let wrap : ℕ → Option NetId = λ n. Some (record { 0 = n }) in wrap a ≡ wrap b) → a ≡ b
-output_net a b e =
-    let x : NetId = record { 0 = a } in
-    let y : NetId = record { 0 = b } in
-    let same : x ≡ y = cc in
-    let number : NetId → ℕ = λ n. n.0 in
-    ap number same
 
 at_input : (net : ℕ) → direction netlist_b.ports net ≡ Some Input → (net ≡ 0) ⊎ (net ≡ 1)
 at_input net e = grind (arith, eqb_tells 0 net, eqb_tells 1 net, eqb_tells 2 net, eqb_tells 3 net)

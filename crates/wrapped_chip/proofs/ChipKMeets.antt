@@ -1,26 +1,18 @@
 -- The values of chip K are its one valuation, whatever its machine and pins.
-use Rattle.std.proofs.Common.{arith, ◌<◌, ◌≡◌, [], ◌∷◌, Option, ℕ, zero, suc, true, false, refl, ap, sym, ◌∙◌}
+use Rattle.std.proofs.Common.{arith, ◌<◌, ◌≡◌, [], ◌∷◌, ℕ, zero, suc, true, false, refl, ap, sym, ◌∙◌}
 use Rattle.std.proofs.lemmas.Bool.Decides.{eqb_tells}
 use Rattle.std.specs.Prelude.{Some, None}
+use Rattle.netlist_laws.proofs.Example.{output_net}
 use Rattle.signal_values.specs.declared.Sig.TheVariants.{Unknown}
 use Rattle.signal_values.specs.declared.PinSig.{PinSig}
 use Rattle.cell_library.specs.declared.Kind.TheVariants.{And, Not}
 use Rattle.cell_library.specs.declared.codes.BoundaryKind.{BoundaryKind}
-use Rattle.netlist_model.specs.declared.NetId.{NetId}
 use Rattle.netlist_model.specs.Lists.{CellView, cell_at, direction, IsUndriven}
 use Rattle.netlist_model.specs.Settled.{feed_values, cell_value, follows_pin, Meets}
 use Rattle.test_logic.specs.Machine.{Machine}
 use Rattle.wrapped_chip.specs.Cells.{chip_rule}
 use Rattle.wrapped_chip.proofs.ExampleChips.{netlist_k, chip_k, value_k, of_net}
 use Rattle.wrapped_chip.specs.Cells.{row_of}
-
-output_net : (a b : ℕ) → (let wrap : ℕ → Option NetId = λ n. Some (record { 0 = n }) in wrap a ≡ wrap b) → a ≡ b
-output_net a b e =
-    let x : NetId = record { 0 = a } in
-    let y : NetId = record { 0 = b } in
-    let same : x ≡ y = cc in
-    let number : NetId → ℕ = λ n. n.0 in
-    ap number same
 
 abbrev pub and_cell : CellView
 and_cell = record { kind = And; name = None; feeds = of_net 0 ∷ of_net 1 ∷ []; output = Some (record { 0 = 2 }) }

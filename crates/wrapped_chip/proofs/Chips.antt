@@ -5,7 +5,6 @@ use Rattle.std.specs.Prelude.{Some, None, slice_get}
 use Rattle.std.proofs.lemmas.List.Elements.{All-head, All-tail}
 use Rattle.signal_values.specs.declared.Sig.{Sig}
 use Rattle.signal_values.specs.declared.PinSig.{PinSig}
-use Rattle.cell_library.specs.declared.Kind.{Kind}
 use Rattle.cell_library.specs.declared.Kind.TheVariants.{Flop}
 use Rattle.cell_library.specs.declared.FlopKind.{FlopKind}
 use Rattle.cell_library.specs.Flops.{flop_next, flop_start}
@@ -15,7 +14,7 @@ use Rattle.netlist_model.specs.Cones.{IsControlPort}
 use Rattle.netlist_model.specs.Formed.{IsWellFormed}
 use Rattle.netlist_model.specs.Runs.{IsKnownPin}
 use Rattle.netlist_laws.specs.Settle.{SameFlops}
-use Rattle.netlist_laws.specs.Runs.{SameControlNets}
+use Rattle.netlist_laws.specs.Runs.{SameControlNets, cell_start, cell_next}
 use Rattle.netlist_laws.proofs.Once.{agree_inside}
 use Rattle.netlist_laws.proofs.Exists.{meets_exists}
 use Rattle.netlist_laws.proofs.Controls.{controls_once}
@@ -43,23 +42,6 @@ chip_controls_same : (B : Device) (N : NetlistView) (m : Machine) (pins : ℕ �
     → Meets N (chip_rule B N m pins) state v → Meets N (chip_rule B N m pins) state' v' → SameControlNets N v v'
 chip_controls_same B N m pins state state' v v' formed a b net control =
     controls_once N (chip_rule B N m pins) (chip_rule B N m pins) state state' v v' formed a b (λ port is. input_rule_same B N m pins pins v v' port formed is.0 refl) net control
-
--- what a cell holds at a start, and after a step
-abbrev kind_start : Kind → List Sig → Sig → Sig
-kind_start (Flop kind) inputs given = flop_start kind inputs given
-kind_start kind inputs given = given
-
-abbrev cell_start : Option CellView → (ℕ → Sig) → Sig → Sig
-cell_start None value given = given
-cell_start (Some cell) value given = kind_start cell.kind (feed_values value cell.feeds) given
-
-abbrev kind_next : Kind → List Sig → List Sig → Sig → Sig
-kind_next (Flop kind) before after kept = flop_next kind before after kept
-kind_next kind before after kept = kept
-
-abbrev cell_next : Option CellView → (ℕ → Sig) → (ℕ → Sig) → Sig → Sig
-cell_next None before after kept = kept
-cell_next (Some cell) before after kept = kind_next cell.kind (feed_values before cell.feeds) (feed_values after cell.feeds) kept
 
 start_flop : (place : Option CellView) (value : ℕ → Sig) (given : Sig) (cell : CellView) (kind : FlopKind) → place ≡ Some cell → cell.kind ≡ Flop kind
     → cell_start place value given ≡ flop_start kind (feed_values value cell.feeds) given

@@ -1,15 +1,15 @@
 -- In a run of the wrapped chip an event that repeats what is there changes nothing.
 use Rattle.std.proofs.Common.{◌≡◌, ℕ, zero, suc, ◌≤◌, ◌<◌, Bool, true, false, List, [], ◌∷◌, length, refl, ap, sym, ◌∙◌, inl, inr, arith}
 use Rattle.std.specs.Prelude.{Some, slice_get}
+use Rattle.netlist_laws.proofs.Repeats.{rest_of}
 use Rattle.signal_values.specs.declared.Sig.{Sig}
 use Rattle.cell_library.specs.declared.Kind.TheVariants.{Flop}
 use Rattle.cell_library.specs.declared.FlopKind.{FlopKind}
-use Rattle.cell_library.specs.declared.ResetTo.{ResetTo}
-use Rattle.cell_library.specs.Flops.{reset_or, flop_start}
+use Rattle.cell_library.specs.Flops.{flop_start}
 use Rattle.netlist_model.specs.Lists.{CellView, NetlistView, cell_at}
 use Rattle.netlist_model.specs.Settled.{feed_values}
 use Rattle.netlist_model.specs.Formed.{IsWellFormed}
-use Rattle.netlist_laws.proofs.Flops.{clock_same, reset_same, reset_or-twice, flop_next-same}
+use Rattle.netlist_laws.proofs.Flops.{clock_same, reset_same, flop_next-same}
 use Rattle.netlist_laws.proofs.Moments.{pins_after-cases}
 use Rattle.bsdl_device.specs.declared.values.Device.{Device}
 use Rattle.test_logic.specs.declared.Levels.{Levels}
@@ -34,9 +34,6 @@ run_reset B N given events chip run (suc t) h low =
 abbrev pub FlopsRest : NetlistView → ChipMoment → Type 0
 FlopsRest N w = (i : ℕ) (cell : CellView) (kind : FlopKind) → cell_at N i ≡ Some cell → cell.kind ≡ Flop kind
     → w.state i ≡ flop_start kind (feed_values w.value cell.feeds) (w.state i)
-
-rest_of : (reset : ResetTo) (control other now : Sig) → now ≡ reset_or reset control other → now ≡ reset_or reset control now
-rest_of reset control other now e = e ∙ sym (ap (reset_or reset control) e ∙ reset_or-twice reset control other)
 
 pub run_rests : (B : Device) (N : NetlistView) (given : ℕ → Sig) (events : List ChipEvent) (chip : ℕ → ChipMoment) → IsChipRun B N given events chip
     → (t : ℕ) → t ≤ length events → FlopsRest N (chip t)

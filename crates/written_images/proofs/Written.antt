@@ -2,6 +2,7 @@
 use Rattle.std.proofs.Common.{◌≡◌, ℕ, suc, ◌<◌, List, [], ◌∷◌, length, map, refl, ap, sym, ◌∙◌, Option, Some, None}
 use Rattle.std.specs.Prelude.{slice_get, IsSome}
 use Rattle.std.specs.Option.{option_map}
+use Rattle.list_laws.proofs.Lists.{map_same}
 use Rattle.cell_library.specs.declared.Kind.{Kind}
 use Rattle.netlist_model.specs.declared.NetId.{NetId}
 use Rattle.netlist_model.specs.declared.Feed.{Feed}
@@ -17,11 +18,6 @@ use Rattle.netlist_images.specs.RenumberedLaws.{CopyIsRenumbering}
 use Rattle.written_images.specs.Laws.{new_number, new_place, DenotedIsRenumbered, WrittenIsRenumbered}
 use Rattle.written_images.proofs.Places.{number_of, place_back, IsNewOf, HasNew, new_at, HasOld, old_at}
 use Rattle.written_images.proofs.Orders.{old_number, new_number-below, old_of_new, new_of_old}
-
--- functions that give the same at each element of a list
-map_same : {X Y : Type 0} (f g : X → Y) (xs : List X) → ((k : ℕ) (x : X) → slice_get xs k ≡ Some x → f x ≡ g x) → map f xs ≡ map g xs
-map_same f g [] each = refl
-map_same f g (x ∷ xs) each = ap (λ y. y ∷ map f xs) (each 0 x refl) ∙ ap (λ rest. g x ∷ rest) (map_same f g xs (λ k y at. each (suc k) y at))
 
 same_net : (N : NetlistView) (net : NetId) → net.0 < length N.nets → new_net (net_order N) net ≡ renamed_net (new_number N) net
 same_net N net less = let wrap : ℕ → NetId = λ n. record { 0 = n } in ap wrap (sym (new_number-below N net.0 less))

@@ -1,6 +1,6 @@
 -- What the stitched netlist owes goes through the new numbers of the written one.
-use Rattle.std.proofs.Common.{◌≡◌, Option, Some, refl, sym, subst}
-use Rattle.std.specs.Prelude.{IsSome}
+use Rattle.std.proofs.Common.{sym, subst}
+use Rattle.list_laws.proofs.Options.{is_there}
 use Rattle.verilog_tree.specs.declared.tree.Module.{Module}
 use Rattle.netlist_model.specs.Lists.{CellView, NetlistView, cell_at}
 use Rattle.netlist_model.specs.Formed.{IsLaidOut, IsWellFormed}
@@ -30,9 +30,6 @@ record Steps (L : LinkedView) (p : Plan) (f : Fitted) (names : TapNames) (M : Ne
   anew : IsNumberedAnew (stitched L.arena.lists names f) M
   stay : KeepsNumbers L.arena.lists anew.at
 
-some_there : {X : Type 0} (o : Option X) (x : X) → o ≡ Some x → IsSome o
-some_there {X} o x e = subst (λ (q : Option X). IsSome q) (sym e) refl
-
 steps : FittedIsFitting → StitchedIsFormed → StitchedIsRenumbered → StitchedKeeps → (m : Module) (L : LinkedView) (p : Plan) (f : Fitted) (after : LinkedView) (s : IsStitching m L p f after) → IsLaidOut after.arena.lists
     → (tree : Module) → IsWrittenAs after p.prefix tree → (written : LinkedView) → IsLinkOf tree written → Steps L p f s.is.names written.arena.lists
 steps fitting formed renumbered keeps m L p f after s laid tree writes written link =
@@ -43,7 +40,7 @@ steps fitting formed renumbered keeps m L p f after s laid tree writes written l
     record {
       formed = subst (λ (g : Fitted). IsWellFormed (stitched L.arena.lists names g)) (sym s.fits.is) (formed L p s.fits.seen names fits s.laid s.linked.dense);
       anew = anew;
-      stay = λ i cell live. let k = kept.cells i cell live in anew.stay i (some_there (cell_at (stitched L.arena.lists names f) i) k.found k.there);
+      stay = λ i cell live. let k = kept.cells i cell live in anew.stay i (is_there (cell_at (stitched L.arena.lists names f) i) k.found k.there);
     }
 
 pub written_realises : FittedIsFitting → StitchedIsFormed → StitchedIsRenumbered → StitchedKeeps → FittingPlansRealise → RenumberedRealises → WrittenRealises

@@ -1,6 +1,6 @@
 use Rattle.std.proofs.Common.{◌≡◌, map, take}
+use Rattle.bsdl_lexicon.specs.NameKeys.{names_in}
 use Rattle.bsdl_device.specs.declared.entries.OpcodeEntry.{OpcodeEntry}
-use Rattle.bsdl_checks.specs.NameTables.{names_in}
 use Rattle.bsdl_checks.proofs.instructions.gather_names.Given as goal
 
 abbrev pub invariant-loop-opcode : goal.invariant-loop-opcode

@@ -1,5 +1,5 @@
 use Rattle.std.proofs.Common.{◌≡◌, ◌++◌, take}
-use Rattle.bsdl_checks.specs.NameTables.{names_in}
+use Rattle.bsdl_lexicon.specs.NameKeys.{names_in}
 use Rattle.bsdl_checks.proofs.names.extend_keys.Given as goal
 
 abbrev pub invariant-loop-name : goal.invariant-loop-name

@@ -1,6 +1,6 @@
 use Rattle.std.proofs.Common.{◌≡◌, map, take}
+use Rattle.bsdl_lexicon.specs.NameKeys.{names_in}
 use Rattle.bsdl_device.specs.declared.entries.PinEntry.{PinEntry}
-use Rattle.bsdl_checks.specs.NameTables.{names_in}
 use Rattle.bsdl_checks.proofs.pin_map.mapped_ports.Given as goal
 
 abbrev pub invariant-loop-entry : goal.invariant-loop-entry

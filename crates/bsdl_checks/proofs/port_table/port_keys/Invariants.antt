@@ -1,6 +1,6 @@
 use Rattle.std.proofs.Common.{◌≡◌, take}
+use Rattle.bsdl_lexicon.specs.NameKeys.{names_in}
 use Rattle.bsdl_device.specs.Ports.{port_names}
-use Rattle.bsdl_checks.specs.NameTables.{names_in}
 use Rattle.bsdl_checks.proofs.port_table.port_keys.Given as goal
 
 abbrev pub invariant-loop-port : goal.invariant-loop-port

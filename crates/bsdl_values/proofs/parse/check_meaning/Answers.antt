@@ -1,5 +1,5 @@
 use Rattle.std.proofs.Common.{ℕ, ◌<◌, ◌^◌, subst}
-use Rattle.bsdl_values.proofs.ContentsWords.{all_words_are}
+use Rattle.bsdl_checks.proofs.Ordered.{all_words_are}
 use Rattle.bsdl_values.proofs.Faults.{rule_refused}
 use Rattle.bsdl_values.proofs.parse.check_meaning.Goals as goal
 

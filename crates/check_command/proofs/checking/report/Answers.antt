@@ -1,7 +1,8 @@
 use Rattle.std.proofs.Common.{Some}
+use Rattle.list_laws.proofs.Options.{err_is}
 use Rattle.command_edges.specs.Seen.{SinkSeen, sink_seen}
 use Rattle.check_command.specs.CheckFaults.{StandsInTexts}
-use Rattle.check_command.proofs.Made.{all_stands, put_stands, put_gave, err_is}
+use Rattle.check_command.proofs.Made.{all_stands, put_stands, put_gave}
 use Rattle.check_command.proofs.checking.report.Goals as goal
 
 pub returns-in_err-checked-clause-fault : goal.returns-in_err-checked-clause-fault

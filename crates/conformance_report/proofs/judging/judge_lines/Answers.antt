@@ -7,7 +7,9 @@ use Rattle.scan_vectors.specs.declared.lines.Act.TheVariants.{Start}
 use Rattle.event_scripts.specs.declared.script.ScriptLine.{ScriptLine}
 use Rattle.netlist_meaning.specs.Sims.{moment_of}
 use Rattle.sim_runs.specs.Outputs.{sets_with}
-use Rattle.conformance_report.proofs.Played.{all_judged, can_play, line_judged, met_most, none_judged, sets_most}
+use Rattle.sim_runs.proofs.Starts.{can_play}
+use Rattle.sim_runs.proofs.Texts.{sets_more}
+use Rattle.conformance_report.proofs.Played.{all_judged, line_judged, met_most, none_judged}
 use Rattle.conformance_report.proofs.judging.judge_lines.Goals as goal
 
 abbrev none : ScriptLine
@@ -42,7 +44,7 @@ loop-line-preserved c =
       linked = c.take_line.ensures.linked ∙ c.loop-line.invariant.linked;
       started = c.take_line.ensures.started;
       judged = line_judged N script index before after c.loop-line.verdict c.take_line.new.verdict line at moves c.in_ok-take_line.ensures.sets judges c.loop-line.invariant.judged;
-      sets_few = (let few = c.loop-line.invariant.sets_few in let is = c.in_ok-take_line.ensures.sets in let most = sets_most line.act c.loop-line.verdict.sets in omega (arith, few, is, most));
+      sets_few = (let few = c.loop-line.invariant.sets_few in let is = c.in_ok-take_line.ensures.sets in let most = sets_more line.act c.loop-line.verdict.sets in omega (arith, few, is, most));
       met_few = (let few = c.loop-line.invariant.met_few in let is = judges.met in let most = met_most N line before line.act in omega (arith, few, is, most));
     }
 

@@ -1,8 +1,9 @@
 use Rattle.std.proofs.Common.{List, ℕ, Option, inl, inr, refl, subst, ◌∙◌}
+use Rattle.list_laws.proofs.Options.{err_is}
 use Rattle.edge_io.specs.Shelf.{Access, WhereTold, SameTold}
 use Rattle.command_edges.specs.Seen.{ShelfSeen, SinkSeen, shelf_seen, sink_seen}
 use Rattle.command_edges.proofs.Told.{IsTold, rose_earlier, AreRead, are_short}
-use Rattle.command_edges.proofs.Written.{Longer, err_is}
+use Rattle.command_edges.proofs.Written.{Longer}
 use Rattle.insert_command.specs.Runs.{StandsInInsert}
 use Rattle.insert_command.proofs.Made.{are_inserted, inputs_told, insert_done, insert_fault, unwritten, out_longer, writings_longer}
 use Rattle.insert_command.proofs.inserting.insert_files.Goals as goal

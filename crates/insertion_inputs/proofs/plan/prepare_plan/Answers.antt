@@ -1,7 +1,8 @@
 use Rattle.std.proofs.Common.{refl}
+use Rattle.list_laws.proofs.Options.{err_is}
 use Rattle.insertion_inputs.specs.Reserves.{reserve_fault}
 use Rattle.insertion_inputs.specs.Faults.{StandsInFit}
-use Rattle.insertion_inputs.proofs.Ready.{prepared_is, room_there, room_fault, err_is}
+use Rattle.insertion_inputs.proofs.Ready.{prepared_is, room_there, room_fault}
 use Rattle.insertion_inputs.proofs.plan.prepare_plan.Goals as goal
 
 pub returns-in_err-prepare-clause-fault : goal.returns-in_err-prepare-clause-fault

@@ -1,9 +1,9 @@
 use Rattle.std.proofs.Common.{subst}
+use Rattle.list_laws.proofs.Options.{err_is}
 use Rattle.netlist_model.specs.Formed.{IsLaidOut}
 use Rattle.netlist_arena.specs.Arena.{ArenaView}
 use Rattle.insertion_inputs.specs.declared.fault.InsertFault.TheVariants as fault
 use Rattle.insertion_inputs.specs.Faults.{StandsInTexts}
-use Rattle.insertion_inputs.proofs.Ready.{err_is}
 use Rattle.insertions.proofs.Made.{plan_stands, linked_tree}
 use Rattle.insertions.proofs.inserting.insert_into.Goals as goal
 

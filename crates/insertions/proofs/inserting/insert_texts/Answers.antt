@@ -1,5 +1,5 @@
+use Rattle.list_laws.proofs.Options.{err_is}
 use Rattle.insertion_inputs.specs.Faults.{StandsInTexts}
-use Rattle.insertion_inputs.proofs.Ready.{err_is}
 use Rattle.insertions.proofs.Made.{netlist_stands}
 use Rattle.insertions.proofs.inserting.insert_texts.Goals as goal
 

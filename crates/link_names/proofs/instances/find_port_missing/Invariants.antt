@@ -1,5 +1,5 @@
 use Rattle.std.proofs.Common.{◌≡◌, drop}
-use Rattle.link_names.specs.Views.{texts}
+use Rattle.first_faults.specs.Repeated.{texts}
 use Rattle.link_names.specs.Tests.{missing_port}
 use Rattle.link_names.proofs.instances.find_port_missing.Given as goal
 

@@ -1,7 +1,7 @@
 use Rattle.std.proofs.Common.{◌≡◌, ◌++◌, take, drop}
 use Rattle.first_faults.specs.Repeated.{texts}
+use Rattle.bsdl_lexicon.specs.NameKeys.{names_in}
 use Rattle.plan_fitting.specs.Fits.{barred_after}
-use Rattle.pin_plan.specs.Keys.{names_in}
 use Rattle.pin_plan.proofs.names.find_barred.Given as goal
 
 abbrev pub invariant-loop-name : goal.invariant-loop-name

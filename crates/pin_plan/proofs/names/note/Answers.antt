@@ -1,13 +1,10 @@
-use Rattle.std.proofs.Common.{◌≡◌, ◌∙◌, Bool, true, false, not, ap, sym, refl}
+use Rattle.std.proofs.Common.{◌∙◌, not, ap, sym}
 use Rattle.std.specs.List.{list_any}
+use Rattle.list_laws.proofs.Tests.{not_true}
 use Rattle.bsdl_lexicon.specs.Names.{is_same_name}
-use Rattle.pin_plan.specs.Keys.{names_in}
+use Rattle.bsdl_lexicon.specs.NameKeys.{names_in}
 use Rattle.pin_plan.proofs.Barred.{list_any-keys, new_key}
 use Rattle.pin_plan.proofs.names.note.Goals as goal
-
-is_not : (b : Bool) → not b ≡ true → b ≡ false
-is_not true e = absurd (cc)
-is_not false e = refl
 
 pub returns-clause-fresh : goal.returns-clause-fresh
 returns-clause-fresh c = c.in_ok-insert.ensures.added ∙ ap not (list_any-keys c.args.name.now c.args.before.now.keys)
@@ -15,4 +12,4 @@ returns-clause-fresh c = c.in_ok-insert.ensures.added ∙ ap not (list_any-keys 
 pub returns-clause-added : goal.returns-clause-added
 returns-clause-added c = λ fresh.
     new_key c.args.before.now.keys c.insert.new.self.keys (record { 0 = c.args.name })
-    (is_not (list_any (is_same_name c.args.name.now) (names_in c.args.before.now.keys)) (sym (returns-clause-fresh c) ∙ fresh)) c.in_ok-insert.ensures.keys
+    (not_true (list_any (is_same_name c.args.name.now) (names_in c.args.before.now.keys)) (sym (returns-clause-fresh c) ∙ fresh)) c.in_ok-insert.ensures.keys

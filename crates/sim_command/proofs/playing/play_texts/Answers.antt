@@ -1,9 +1,9 @@
 use Rattle.std.proofs.Common.{Some, Err, inr, refl, ap}
+use Rattle.list_laws.proofs.Options.{err_is}
 use Rattle.command_faults.specs.declared.fault.Fault.TheVariants as fault
 use Rattle.sim_command.specs.Faults.{StandsInPlay}
 use Rattle.sim_command.specs.Simulations.{IsSimulation}
 use Rattle.command_edges.specs.Seen.{SinkSeen, sink_seen}
-use Rattle.command_edges.proofs.Written.{err_is}
 use Rattle.sim_command.proofs.Simulated.{simulation_made, linkable_of, events_of, front_made, played_made, script_fault_made}
 use Rattle.sim_command.proofs.playing.play_texts.Goals as goal
 

@@ -1,10 +1,11 @@
 use Rattle.std.proofs.Common.{refl}
+use Rattle.list_laws.proofs.Options.{err_is}
 use Rattle.command_faults.specs.Statuses.{status_of}
 use Rattle.command_faults.specs.declared.fault.Fault.{Fault}
 use Rattle.edge_io.specs.Shelf.{Access}
 use Rattle.command_edges.specs.Seen.{ShelfSeen, shelf_seen}
 use Rattle.command_edges.proofs.Told.{rose_earlier}
-use Rattle.command_edges.proofs.Written.{Longer, err_is}
+use Rattle.command_edges.proofs.Written.{Longer}
 use Rattle.command_edges.proofs.OneText.{made_told, refused, making_done, making_fault, making_memory, making_completes}
 use Rattle.vectors_command.specs.Programs.{IsProgramText, IsAccepted}
 use Rattle.vectors_command.specs.Faults.{StandsInText}

@@ -9,9 +9,9 @@ loop-done-preserved g c =
     let at = c.loop-done.invariant in
     let M = g.M.Machine in
     let piece = c.args.piece.now in record {
-      within = omega (arith, c.in-Ok.ensures.count.1, ap length (take_rest piece c.loop-done.done), length-drop c.loop-done.done piece, at.within);
+      within = omega (arith, c.in-Ok.ensures.1, ap length (take_rest piece c.loop-done.done), length-drop c.loop-done.done piece, at.within);
       at = omega (arith, at.at);
-      ran = loop_goes M.step piece c.loop-done.done c.in-Ok.count c.args.self.now.at c.loop-done.self.at (M.state c.args.self.now.machine) (M.state c.loop-done.self.machine) (M.state c.take_run.new.self) at.within at.at at.ran c.in-Ok.ensures.ran;
+      ran = loop_goes M.step piece c.loop-done.done c.in-Ok.count c.args.self.now.at c.loop-done.self.at (M.state c.args.self.now.machine) (M.state c.loop-done.self.machine) (M.state c.take_run.new.self) at.within at.at at.ran c.in-Ok.ensures.2;
       fault = at.fault;
     }
 
@@ -21,7 +21,7 @@ returns-in-Err-clause-fault g c = λ bytes fed.
     let M = g.M.Machine in
     let piece = c.args.piece.now in
     refusal_on M.step M.start (M.state c.args.self.now.machine) c.args.self.now.fault c.args.self.now.at bytes piece c.in-Err.e fed
-    (loop_stops M.step piece c.loop-done.done c.args.self.now.at c.loop-done.self.at (M.state c.args.self.now.machine) (M.state c.loop-done.self.machine) c.in-Err.e at.within at.at at.ran c.in-Err.ensures.fault)
+    (loop_stops M.step piece c.loop-done.done c.args.self.now.at c.loop-done.self.at (M.state c.args.self.now.machine) (M.state c.loop-done.self.machine) c.in-Err.e at.within at.at at.ran c.in-Err.ensures)
 
 pub returns-clause-fed : goal.returns-clause-fed
 returns-clause-fed g c = λ bytes fed.

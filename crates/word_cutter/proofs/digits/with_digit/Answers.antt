@@ -1,6 +1,6 @@
 use Rattle.std.proofs.Common.{arith}
 use Rattle.list_laws.proofs.Numbers.{few_digits}
-use Rattle.bsdl_runs.proofs.numbers.with_digit.Goals as goal
+use Rattle.word_cutter.proofs.digits.with_digit.Goals as goal
 
 pub overflow_mul-result : goal.overflow_mul-result
 overflow_mul-result c = omega (arith, few_digits c.args.count c.requires.few)
