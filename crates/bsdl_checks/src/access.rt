@@ -11,8 +11,8 @@ use crate::names::{extend_keys, is_repeated};
 use bsdl_device::{AccessEntry, Contents, OpcodeEntry, Register, selected_register};
 use bsdl_lexicon::NameKey;
 use bsdl_lexicon::names::same_name;
-use edge_io::OutOfMemory;
 use std::alloc::Global;
+use texts::OutOfMemory;
 
 fn gather_instructions<'a>(
     alloc: Global,

@@ -8,13 +8,13 @@ ghost use Rattle.bsdl_checks.specs.Bits.{bit_of_key, bits_in};
 use crate::keys::{Uses, comes_once, uses_of};
 use bsdl_device::{PortBit, RowEntry};
 use bsdl_lexicon::NameKey;
-use edge_io::OutOfMemory;
 use indexmap::IndexMap;
 use std::alloc::Global;
 use std::marker::Model;
+use texts::OutOfMemory;
 
 /// A bit of a port as a key.
-#[derive(Clone, Copy, Debug, PartialEq, Eq, Hash)]
+#[derive(Clone, Copy, PartialEq, Eq, Hash)]
 pub struct BitKey<'a> {
     pub port: NameKey<'a>,
     pub index: Option<u32>,

@@ -7,9 +7,9 @@ ghost use Rattle.bsdl_device.specs.Checks as rule;
 use crate::keys::comes_twice;
 use crate::numbers::{has_number, number_set};
 use bsdl_device::{Contents, File, RowEntry};
-use edge_io::OutOfMemory;
 use indexmap::IndexSet;
 use std::alloc::Global;
+use texts::OutOfMemory;
 
 /// The numbers of rows.
 pub fn row_numbers(alloc: Global, rows: &[RowEntry]) -> Result<Vec<u32>, OutOfMemory>

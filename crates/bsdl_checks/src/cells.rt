@@ -8,8 +8,8 @@ ghost use Rattle.bsdl_device.specs.Denoted as denoted;
 use crate::port_table::PortTable;
 use crate::row_table::RowTable;
 use bsdl_device::{CellRow, DevBit, PortBit, RowEntry};
-use edge_io::{OutOfMemory, Row};
 use std::alloc::Global;
+use texts::{OutOfMemory, Row};
 
 /// The place of a port, and 0 where no port has the name.
 pub fn place_of(ports: &PortTable, name: &[u8]) -> u32

@@ -8,9 +8,9 @@ ghost use Rattle.bsdl_checks.specs.Controls as known;
 use crate::numbers::{has_number, number_set};
 use crate::row_cells::is_control;
 use bsdl_device::RowEntry;
-use edge_io::OutOfMemory;
 use indexmap::IndexSet;
 use std::alloc::Global;
+use texts::OutOfMemory;
 
 /// Rows, the numbers that they name as control cells, and the numbers of their control cells.
 #[derive(Drop)]

@@ -15,8 +15,8 @@ use bsdl_device::{
     Contents, DeclaredPort, DevPort, Device, File, MappedPins, OpcodeEntry, PinEntry,
 };
 use cell_library::Opcode;
-use edge_io::{OutOfMemory, Row, Text};
 use std::alloc::Global;
+use texts::{OutOfMemory, Row, Text};
 
 // Adds copies of an entry's pins at the end.
 fn extend_pins(alloc: Global, pins: &mut Row<Text>, further: &MappedPins) -> Result<(), OutOfMemory>

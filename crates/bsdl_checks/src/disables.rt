@@ -7,9 +7,9 @@ ghost use Rattle.bsdl_checks.specs.Controls as known;
 
 use crate::numbers::{has_number, number_set};
 use bsdl_device::RowEntry;
-use edge_io::OutOfMemory;
 use indexmap::IndexSet;
 use std::alloc::Global;
+use texts::OutOfMemory;
 
 fn control_by(value: bool, row: &RowEntry) -> Option<u32>
     ensures { result ≡ known.control_by value row.now }

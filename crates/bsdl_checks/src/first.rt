@@ -17,11 +17,11 @@ use crate::rows::row_fails;
 use crate::sections;
 use crate::tap::tap_fails;
 use bsdl_device::{Contents, File, MeaningKind};
-use edge_io::OutOfMemory;
 use std::alloc::Global;
+use texts::OutOfMemory;
 
 /// A rule that is broken, and the number of the first word of its section.
-#[derive(Clone, Copy, Debug, Drop)]
+#[derive(Clone, Copy, Drop)]
 pub struct BrokenRule {
     pub kind: MeaningKind,
     pub word: u64,

@@ -12,8 +12,8 @@ use bsdl_runs::opcodes::{
     bypass_is_not_ones, clash, code_is_barred, has_instruction, has_other_length, names_instruction,
 };
 use cell_library::Instr;
-use edge_io::OutOfMemory;
 use std::alloc::Global;
+use texts::OutOfMemory;
 
 /// The instruction of a name.
 pub fn instruction_named(name: &[u8]) -> Option<Instr>

@@ -4,13 +4,13 @@ ghost use Rattle.indexmap.specs.IndexMap.{get};
 ghost use Rattle.bsdl_device.specs.Checks.{any_pair};
 ghost use Rattle.bsdl_checks.specs.Keys.{is_once, once_more, uses_for};
 
-use edge_io::OutOfMemory;
 use indexmap::{IndexMap, IndexSet};
 use std::alloc::Global;
 use std::hash::Hash;
+use texts::OutOfMemory;
 
 /// How often a key comes that comes at all.
-#[derive(Clone, Copy, Debug, Drop)]
+#[derive(Clone, Copy, Drop)]
 pub enum Uses {
     Once,
     Several,

@@ -5,8 +5,8 @@ ghost use Rattle.bsdl_lexicon.specs.NameKeys.{names_in};
 
 use crate::keys::comes_twice;
 use bsdl_lexicon::NameKey;
-use edge_io::{OutOfMemory, Text};
 use std::alloc::Global;
+use texts::{OutOfMemory, Text};
 
 /// Whether a name comes twice.
 #[tactic(auto, using(crate::proofs::Repeats::repeated_by_keys))]

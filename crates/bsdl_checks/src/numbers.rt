@@ -2,9 +2,9 @@
 ghost use Rattle.std.specs.Prelude.{◌≡◌, ℕ, IfOk, nat_eq};
 ghost use Rattle.std.specs.List.{list_any};
 
-use edge_io::OutOfMemory;
 use indexmap::IndexSet;
 use std::alloc::Global;
+use texts::OutOfMemory;
 
 /// The numbers of a list, as a set.
 pub fn number_set(alloc: Global, numbers: &[u32]) -> Result<IndexSet<u32>, OutOfMemory>

@@ -13,9 +13,9 @@ use crate::port_table::PortTable;
 use crate::ports::width;
 use bsdl_device::{Contents, DeclaredPort, File, MappedPins, PinEntry, PortRange};
 use bsdl_lexicon::NameKey;
-use edge_io::OutOfMemory;
 use indexmap::IndexMap;
 use std::alloc::Global;
+use texts::OutOfMemory;
 
 /// The ports that the entries map.
 pub fn mapped_ports<'a>(

@@ -6,11 +6,11 @@ ghost use Rattle.bsdl_lexicon.specs.Names.{is_same_name};
 use crate::pin_map::mapped_ports;
 use bsdl_device::PinEntry;
 use bsdl_lexicon::NameKey;
-use edge_io::OutOfMemory;
 use first_faults::first_places;
 use indexmap::IndexMap;
 use std::alloc::Global;
 use std::marker::Model;
+use texts::OutOfMemory;
 
 /// The entries of a pin map. Of entries of one port the first is found.
 #[derive(Drop)]

@@ -10,8 +10,8 @@ use crate::names::is_repeated;
 use crate::port_table::port_keys;
 use bsdl_device::{DeclaredPort, File, PortDeclaration, PortRange, WrittenRange};
 use bsdl_lexicon::names::same_name;
-use edge_io::{OutOfMemory, Text};
 use std::alloc::Global;
+use texts::{OutOfMemory, Text};
 
 const BIT_LIMIT: u64 = 4_096;
 

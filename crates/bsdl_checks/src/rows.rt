@@ -15,8 +15,8 @@ use crate::tap::is_mode;
 use bsdl_device::{Contents, File, PortMode, RowEntry, TapNames};
 use bsdl_runs::opcodes::has_instruction;
 use cell_library::{BoundaryKind, Function, Instr};
-use edge_io::OutOfMemory;
 use std::alloc::Global;
+use texts::OutOfMemory;
 
 fn control_fails(controls: &Controls, row: &RowEntry) -> bool
     requires { known.KnowsControls controls.now.rows.now controls.now.named.keys

@@ -4,7 +4,7 @@ ghost use Rattle.bsdl_device.specs.Shape.{declaration_words};
 ghost use Rattle.bsdl_checks.specs.Counts as count;
 
 use bsdl_device::{File, PortDeclaration, StringAttribute};
-use edge_io::Text;
+use texts::Text;
 
 // Parts of one word, with a mark between them.
 fn strings_count(strings: &[Text]) -> u64

@@ -8,8 +8,8 @@ use crate::names::is_repeated;
 use crate::port_table::PortTable;
 use bsdl_device::{File, PortMode, TapNames};
 use bsdl_lexicon::NameKey;
-use edge_io::OutOfMemory;
 use std::alloc::Global;
+use texts::OutOfMemory;
 
 /// Whether the modes are one.
 pub fn is_mode(wanted: PortMode, mode: PortMode) -> bool

@@ -1,11 +1,11 @@
 ghost use Rattle.std.specs.Prelude.{◌≡◌};
 ghost use Rattle.bsdl_contents.specs.declared.fault.PartFault.TheVariants.{OutOfMemory as OutOfMemoryFault};
 
-use edge_io::OutOfMemory;
+use texts::OutOfMemory;
 use thiserror::Error;
 
 /// Why a part of a section's contents isn't read.
-#[derive(Clone, Copy, Debug, Drop)]
+#[derive(Clone, Copy, Drop)]
 pub enum PartFault {
     Wrong,
     OutOfMemory,

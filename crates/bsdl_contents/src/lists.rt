@@ -6,8 +6,8 @@ use crate::fault::PartFault;
 use crate::parts::{access, opcode, pin_entry, row};
 use crate::reader::ContentReader;
 use bsdl_device::{AccessEntry, OpcodeEntry, PinEntry, RowEntry};
-use edge_io::{Row, Text};
 use std::alloc::Global;
+use texts::{Row, Text};
 
 // Each list has an entry at least, and commas between its entries.
 

@@ -8,8 +8,8 @@ use crate::reader::ContentReader;
 use bsdl_device::values::Disable;
 use bsdl_device::{AccessEntry, MappedPins, OpcodeEntry, PinEntry, PortBit, RowEntry, Safe};
 use cell_library::{BoundaryKind, Function};
-use edge_io::{Row, Text};
 use std::alloc::Global;
+use texts::{Row, Text};
 
 // Pins, and the parenthesis behind them.
 #[tactic(auto, unfolding(crate::specs::Reading::several_at))]

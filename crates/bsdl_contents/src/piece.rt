@@ -9,7 +9,7 @@ use bsdl_runs::runs::{is_identifier, is_integer, is_pattern, is_pin};
 use cell_library::{Bits, BoundaryKind, Function};
 
 /// A word of contents: a run of letters, digits and `_`, or one other byte that is no blank.
-#[derive(Clone, Copy, Debug, Drop)]
+#[derive(Clone, Copy, Drop)]
 pub enum Piece<'a> {
     Run(&'a [u8]),
     Other(u8),

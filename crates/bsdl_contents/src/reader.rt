@@ -11,9 +11,9 @@ use crate::fault::PartFault;
 use crate::piece::Piece;
 use bsdl_device::{Register, Safe};
 use cell_library::{Bits, BoundaryKind, Function};
-use edge_io::Text;
 use std::alloc::Global;
 use std::marker::Model;
+use texts::Text;
 
 /// Reads the words of joined strings from their front. Contracts see the words that are left.
 #[derive(Drop)]

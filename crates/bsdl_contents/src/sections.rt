@@ -8,8 +8,8 @@ use crate::lists;
 use crate::reader::ContentReader;
 use bsdl_device::{AccessEntry, OpcodeEntry, PinEntry, RowEntry, StringAttribute};
 use cell_library::Bits;
-use edge_io::{OutOfMemory, Row, Text};
 use std::alloc::Global;
+use texts::{OutOfMemory, Row, Text};
 
 // The strings' bytes without anything between.
 #[tactic(auto, using(crate::proofs::JoinedStrings::joined_more, crate::proofs::JoinedStrings::joined_past))]

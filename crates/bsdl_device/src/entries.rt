@@ -1,16 +1,16 @@
 use crate::values::{Disable, Safe};
 use cell_library::{Bits, BoundaryKind, Function};
-use edge_io::{Row, Text};
+use texts::{Row, Text};
 
 /// The pins of a port as a pin map has them: one, or some in parentheses.
-#[derive(Debug, Drop)]
+#[derive(Drop)]
 pub enum MappedPins {
     One(Text),
     Several(Row<Text>),
 }
 
 /// `port:pin` or `port:(pin,pin)`
-#[derive(Debug, Drop)]
+#[derive(Drop)]
 pub struct PinEntry {
     pub port: Text,
     pub pins: MappedPins,
@@ -24,7 +24,7 @@ pub struct OpcodeEntry {
 }
 
 /// A test data register of the profile.
-#[derive(Clone, Copy, Debug, Drop, PartialEq, Eq)]
+#[derive(Clone, Copy, Drop, PartialEq, Eq)]
 pub enum Register {
     Boundary,
     Bypass,
@@ -32,14 +32,14 @@ pub enum Register {
 }
 
 /// `REGISTER (INSTRUCTION, INSTRUCTION)`
-#[derive(Debug, Drop)]
+#[derive(Drop)]
 pub struct AccessEntry {
     pub register: Register,
     pub instructions: Row<Text>,
 }
 
 /// `port` or `port(index)`
-#[derive(Debug, Drop)]
+#[derive(Drop)]
 pub struct PortBit {
     pub port: Text,
     pub index: Option<u32>,
@@ -47,7 +47,7 @@ pub struct PortBit {
 
 /// `number (cell, port, function, safe)`, where `*` stands for no port; a driver's has its control cell, the disabling
 /// value and `Z` besides.
-#[derive(Debug, Drop)]
+#[derive(Drop)]
 pub struct RowEntry {
     pub number: u32,
     pub cell: BoundaryKind,
@@ -58,7 +58,7 @@ pub struct RowEntry {
 }
 
 /// What the strings of a file's sections hold.
-#[derive(Debug, Drop)]
+#[derive(Drop)]
 pub struct Contents {
     pub pin_map: Row<PinEntry>,
     pub opcodes: Row<OpcodeEntry>,

@@ -1,8 +1,8 @@
 use cell_library::{Bits, BoundaryKind, Function, Opcode};
-use edge_io::{Row, Text};
+use texts::{Row, Text};
 
 /// What a port is to the device.
-#[derive(Clone, Copy, Debug, Drop, PartialEq, Eq)]
+#[derive(Clone, Copy, Drop, PartialEq, Eq)]
 pub enum PortMode {
     Input,
     Output,
@@ -12,14 +12,14 @@ pub enum PortMode {
 }
 
 /// The range of a vector, in either direction; each bound is below 10^9.
-#[derive(Clone, Copy, Debug, Drop, PartialEq, Eq)]
+#[derive(Clone, Copy, Drop, PartialEq, Eq)]
 pub struct PortRange {
     pub left: u32,
     pub right: u32,
 }
 
 /// A port and its physical pins: one for a scalar, and one for each bit of a vector, from the left.
-#[derive(Debug, Drop)]
+#[derive(Drop)]
 pub struct DevPort {
     pub name: Text,
     pub mode: PortMode,
@@ -28,28 +28,28 @@ pub struct DevPort {
 }
 
 /// The levels at which TCK may stop.
-#[derive(Clone, Copy, Debug, Drop, PartialEq, Eq)]
+#[derive(Clone, Copy, Drop, PartialEq, Eq)]
 pub enum Stop {
     Low,
     Both,
 }
 
 /// A bit of a port by the port's place; a scalar has no index.
-#[derive(Clone, Copy, Debug, Drop, PartialEq, Eq)]
+#[derive(Clone, Copy, Drop, PartialEq, Eq)]
 pub struct DevBit {
     pub port: u32,
     pub index: Option<u32>,
 }
 
 /// The control cell of a driver, by its number, and the value there that disables the driver.
-#[derive(Clone, Copy, Debug, Drop, PartialEq, Eq)]
+#[derive(Clone, Copy, Drop, PartialEq, Eq)]
 pub struct Disable {
     pub control: u32,
     pub value: bool,
 }
 
 /// The value that a cell is to hold where nothing else is wanted.
-#[derive(Clone, Copy, Debug, Drop, PartialEq, Eq)]
+#[derive(Clone, Copy, Drop, PartialEq, Eq)]
 pub enum Safe {
     Zero,
     One,
@@ -57,7 +57,7 @@ pub enum Safe {
 }
 
 /// A cell of the boundary register; a control cell has no port.
-#[derive(Clone, Copy, Debug, Drop, PartialEq, Eq)]
+#[derive(Clone, Copy, Drop, PartialEq, Eq)]
 pub struct CellRow {
     pub cell: BoundaryKind,
     pub pin: Option<DevBit>,
@@ -67,7 +67,7 @@ pub struct CellRow {
 }
 
 /// A device with test logic. The pins of the test logic are places in `ports`, and a cell's number is its place in `cells`.
-#[derive(Debug, Drop)]
+#[derive(Drop)]
 pub struct Device {
     pub entity: Text,
     pub package: Text,

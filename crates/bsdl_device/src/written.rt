@@ -1,15 +1,15 @@
 use crate::values::{PortMode, PortRange, Stop};
-use edge_io::{Row, Text};
+use texts::{Row, Text};
 
 /// The direction of a range: to greater or to lesser indices.
-#[derive(Clone, Copy, Debug, Drop, PartialEq, Eq)]
+#[derive(Clone, Copy, Drop, PartialEq, Eq)]
 pub enum Direction {
     To,
     Downto,
 }
 
 /// `left to right` or `left downto right`
-#[derive(Clone, Copy, Debug, Drop, PartialEq, Eq)]
+#[derive(Clone, Copy, Drop, PartialEq, Eq)]
 pub struct WrittenRange {
     pub left: u32,
     pub direction: Direction,
@@ -17,7 +17,7 @@ pub struct WrittenRange {
 }
 
 /// `name, name : mode type`; without a range the type is `bit`.
-#[derive(Debug, Drop)]
+#[derive(Drop)]
 pub struct PortDeclaration {
     pub names: Row<Text>,
     pub mode: PortMode,
@@ -25,7 +25,7 @@ pub struct PortDeclaration {
 }
 
 /// One name of a declaration, with its mode and its range.
-#[derive(Debug, Drop)]
+#[derive(Drop)]
 pub struct DeclaredPort {
     pub name: Text,
     pub mode: PortMode,
@@ -33,7 +33,7 @@ pub struct DeclaredPort {
 }
 
 /// The ports that the attributes of the scan port name.
-#[derive(Debug, Drop)]
+#[derive(Drop)]
 pub struct TapNames {
     pub tdi: Text,
     pub tms: Text,
@@ -43,21 +43,21 @@ pub struct TapNames {
 }
 
 /// An attribute whose value is an integer, and the entity that it is of.
-#[derive(Debug, Drop)]
+#[derive(Drop)]
 pub struct IntegerAttribute {
     pub entity: Text,
     pub value: u32,
 }
 
 /// An attribute whose value is strings joined by `&`, and the entity that it is of.
-#[derive(Debug, Drop)]
+#[derive(Drop)]
 pub struct StringAttribute {
     pub entity: Text,
     pub strings: Row<Text>,
 }
 
 /// A BSDL file as it is written: its sections in their order, names as they are spelled.
-#[derive(Debug, Drop)]
+#[derive(Drop)]
 pub struct File {
     pub entity: Text,
     /// The string of the generic `PHYSICAL_PIN_MAP`.

@@ -8,8 +8,8 @@ use crate::marks::{Mark, marks};
 use crate::parts::{closed_strings, integer, name_between};
 use bsdl_device::{IntegerAttribute, StringAttribute};
 use bsdl_lexicon::{BsdlReader, BsdlSymbol};
-use edge_io::Text;
 use std::alloc::Global;
+use texts::Text;
 
 // The entity that an attribute is of, behind these marks.
 fn entity(alloc: Global, reader: &mut BsdlReader, before: &[Mark]) -> Result<Text, ParseFault>

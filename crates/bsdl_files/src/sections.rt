@@ -9,8 +9,8 @@ use crate::ports::port_section;
 use crate::scan::{clock_port, frequency, scan_port, stop};
 use bsdl_device::{File, IntegerAttribute, Stop, StringAttribute, TapNames};
 use bsdl_lexicon::{BsdlReader, BsdlSymbol};
-use edge_io::{Row, Text};
 use std::alloc::Global;
+use texts::{Row, Text};
 
 /// The map from ports to pins, and what stands before it.
 #[derive(Drop)]

@@ -11,7 +11,7 @@ use crate::names::{lower, same_name};
 use std::hash::{Hash, Hasher};
 
 /// A name: two that differ only in the case of letters are one key.
-#[derive(Clone, Copy, Debug)]
+#[derive(Clone, Copy)]
 pub struct NameKey<'a>(pub &'a [u8]);
 
 impl<'a> PartialEq for NameKey<'a> {

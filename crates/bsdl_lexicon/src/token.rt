@@ -4,10 +4,10 @@ ghost use Rattle.std.specs.Option.{is_some, option_copied};
 use crate::names::same_name;
 use crate::reserved::is_reserved;
 use crate::symbol::BsdlSymbol;
-use edge_io::Text;
+use texts::Text;
 
 /// A word of a BSDL text.
-#[derive(Debug, Drop)]
+#[derive(Drop)]
 pub enum BsdlToken {
     /// An identifier as it is spelled, reserved or not.
     Name(Text),
@@ -23,7 +23,7 @@ pub enum BsdlToken {
 }
 
 /// A word with its place in the text and its length, in bytes; a string's has the quotes.
-#[derive(Debug, Drop)]
+#[derive(Drop)]
 pub struct BsdlSpanned {
     pub word: BsdlToken,
     pub at: u64,

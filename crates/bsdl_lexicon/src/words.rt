@@ -1,10 +1,10 @@
 ghost use Rattle.std.specs.Prelude.{◌≡◌, length, slice_get};
 
 use crate::token::BsdlSpanned;
-use edge_io::Row;
+use texts::Row;
 
 /// The words of a text in order, with their places, and the text's length.
-#[derive(Debug, Drop)]
+#[derive(Drop)]
 pub struct BsdlWords {
     pub list: Row<BsdlSpanned>,
     pub end: u64,

@@ -9,7 +9,7 @@ use crate::text::{put_all, put_attribute};
 use bsdl_device::{CellRow, DevBit, DevPort, Device, Disable, Safe};
 use bsdl_runs::written::{cell_word, put_number};
 use cell_library::Function;
-use edge_io::{OutOfMemory, Text};
+use texts::{OutOfMemory, Text};
 
 fn function_word(function: Function) -> &'static [u8]
     ensures { result.now ≡ words.function_word function }

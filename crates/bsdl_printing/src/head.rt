@@ -6,7 +6,7 @@ ghost use Rattle.bsdl_device.specs.Canonical as text_of;
 use crate::text::put_all;
 use bsdl_device::{DevPort, Device, PortMode, PortRange, Stop};
 use bsdl_runs::written::put_number;
-use edge_io::{OutOfMemory, Text};
+use texts::{OutOfMemory, Text};
 
 fn mode_word(mode: PortMode) -> &'static [u8]
     ensures { result.now ≡ words.mode_word mode }

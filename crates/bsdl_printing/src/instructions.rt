@@ -7,7 +7,7 @@ use crate::text::{put_all, put_attribute};
 use bsdl_device::{Device, instruction_word, is_instruction};
 use bsdl_runs::written::{put_bits, put_number, put_pattern};
 use cell_library::{Instr, Opcode};
-use edge_io::{OutOfMemory, Text};
+use texts::{OutOfMemory, Text};
 
 #[tactic(auto, unfolding(bsdl_device::specs::Canonical::opcode_text))]
 fn put_opcode(text: &mut Text, opcode: &Opcode) -> Result<(), OutOfMemory>

@@ -9,8 +9,8 @@ use crate::instructions::put_registers;
 use crate::text::put_all;
 use bsdl_device::Device;
 use bsdl_round_trip::{canonical_texts_spell_their_devices, spelled_devices_keep_the_conditions};
-use edge_io::{OutOfMemory, Text};
 use std::alloc::Global;
+use texts::{OutOfMemory, Text};
 
 #[tactic(auto, unfolding(bsdl_device::specs::Canonical::canonical_device))]
 fn put_device(text: &mut Text, device: &Device) -> Result<(), OutOfMemory>

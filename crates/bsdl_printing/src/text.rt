@@ -3,7 +3,7 @@ ghost use Rattle.std.specs.Prelude.{◌≡◌, ◌++◌, map, OnOk};
 ghost use Rattle.std.specs.List.{flat_map};
 ghost use Rattle.bsdl_device.specs.Canonical as text_of;
 
-use edge_io::{OutOfMemory, Text};
+use texts::{OutOfMemory, Text};
 
 // Adds each of the pieces.
 fn put_each(text: &mut Text, pieces: &[&[u8]]) -> Result<(), OutOfMemory>

@@ -5,7 +5,7 @@ ghost use Rattle.bsdl_device.specs.Grammar as words;
 ghost use Rattle.bsdl_device.specs.Canonical as text_of;
 
 use cell_library::{Bits, BoundaryKind};
-use edge_io::{OutOfMemory, Text};
+use texts::{OutOfMemory, Text};
 
 /// Adds a number in decimal, without leading zeros.
 #[tactic(auto, using(std::proofs::lemmas::Fmt::decimal_step, std::proofs::lemmas::Fmt::decimal_digit, std::proofs::lemmas::List::append_assoc))]

@@ -11,8 +11,8 @@ use bsdl_lexicon::BsdlWords;
 use bsdl_reading::spells_one_file;
 use bsdl_round_trip::{canonical_reads_back, spelled_devices_keep_the_conditions};
 use bsdl_words::{BsdlWordFault, texts_are_one_list_of_words};
-use edge_io::Text;
 use std::alloc::Global;
+use texts::Text;
 
 // A fault of the bytes as one of the text.
 fn word_fault(fault: BsdlWordFault) -> DeviceTextFault

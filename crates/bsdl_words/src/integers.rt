@@ -3,7 +3,7 @@ ghost use Rattle.std.specs.List.{list_all};
 ghost use Rattle.bsdl_lexicon.specs.Bytes.{is_digit};
 ghost use Rattle.bsdl_lexicon.specs.Pieces.{value_from};
 
-use edge_io::OutOfMemory;
+use texts::OutOfMemory;
 use word_cutter::with_digit;
 
 /// The value of decimal digits.

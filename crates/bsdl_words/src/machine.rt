@@ -10,8 +10,8 @@ use crate::classes::{
 use crate::integers::{value_of, word_len};
 use crate::mode::Mode;
 use bsdl_lexicon::{BsdlSpanned, BsdlSymbol, BsdlToken, BsdlWords};
-use edge_io::{Row, Text};
 use std::alloc::Global;
+use texts::{Row, Text};
 use word_cutter::{CutFault, LineBytes, Machine, run_len};
 
 /// Takes a BSDL text byte by byte, and keeps its words.

@@ -1,5 +1,5 @@
 /// What was begun of the next piece of a text.
-#[derive(Clone, Copy, Debug, Drop)]
+#[derive(Clone, Copy, Drop)]
 pub enum Mode {
     Between,
     /// After `-`.

@@ -7,8 +7,8 @@ ghost use Rattle.check_command.specs.Parts.{AreRead};
 
 use command_edges::read_text;
 use command_faults::Fault;
+use edge_io::Text;
 use edge_io::shelf::Shelf;
-use edge_io::text::Text;
 use std::alloc::Global;
 
 /// The texts of a netlist, of a device and of events.

@@ -10,7 +10,7 @@ use bsdl_values::read_device;
 use check_runs::{Checked, check_lines};
 use command_faults::Fault;
 use conformance_report::ports_agree;
-use edge_io::text::Text;
+use edge_io::Text;
 use netlist_link::{Linked, link};
 use scan_vectors::read_events;
 use std::alloc::Global;

@@ -8,14 +8,14 @@ use crate::legal::resolve_both;
 use crate::printing::verdict_text;
 use bsdl_device::Device;
 use conformance_report::judge;
-use edge_io::Text;
 use event_scripts::ScriptFault;
 use netlist_link::Linked;
 use scan_vectors::Lines;
 use std::alloc::Global;
+use texts::Text;
 
 /// The text of a check, and how many expectations aren't met.
-#[derive(Debug, Drop)]
+#[derive(Drop)]
 pub struct Checked {
     pub text: Text,
     pub missed: usize,

@@ -8,13 +8,13 @@ ghost use Rattle.check_runs.specs.Checks.{check_text, miss_text};
 ghost use Rattle.check_runs.specs.Merges.{AreWithin, misses_behind, text_at};
 
 use conformance_report::{Missed, Verdict};
-use edge_io::{OutOfMemory, Text};
 use event_scripts::parts_of;
 use itoa::Buffer;
 use output_lines::add_line;
 use scan_vectors::{Line, Lines};
 use signal_values::show;
 use std::alloc::Global;
+use texts::{OutOfMemory, Text};
 
 // The line of an expectation that isn't met.
 fn put_miss(text: &mut Text, miss: &Missed, line: &Line) -> Result<(), OutOfMemory>

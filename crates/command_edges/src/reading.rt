@@ -5,8 +5,8 @@ ghost use Rattle.command_edges.specs.EdgeFaults.{StandsInReading};
 ghost use Rattle.command_edges.specs.Seen.{shelf_seen};
 
 use command_faults::Fault;
+use edge_io::Text;
 use edge_io::shelf::Shelf;
-use edge_io::text::Text;
 use edge_io::whole::{ReadIssue, read_whole};
 use std::alloc::Global;
 

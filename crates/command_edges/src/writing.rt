@@ -4,9 +4,9 @@ ghost use Rattle.command_edges.specs.EdgeFaults.{StandsInPutting, StandsInWritin
 ghost use Rattle.command_edges.specs.Seen.{shelf_seen, sink_seen};
 
 use command_faults::Fault;
+use edge_io::Text;
 use edge_io::shelf::Shelf;
 use edge_io::sink::Sink;
-use edge_io::text::Text;
 use edge_io::whole::{put_whole, write_whole};
 
 /// Writes a text under a name, in place of what was written there.

@@ -7,7 +7,6 @@ ghost use Rattle.sim_runs.specs.Playing.{CanPlay, IsFirst, Moves};
 ghost use Rattle.conformance_report.specs.Verdicts.{IsVerdict, Judges, expectation, expected_by};
 
 use crate::verdict::{Missed, Verdict};
-use edge_io::{OutOfMemory, Row};
 use event_scripts::{Script, ScriptLine};
 use netlist_link::Linked;
 use netlist_meaning::{Event, Sim};
@@ -15,6 +14,7 @@ use scan_vectors::Act;
 use signal_values::{PinSig, show};
 use sim_runs::begin;
 use std::alloc::Global;
+use texts::{OutOfMemory, Row};
 
 /// Plays a script on a linked netlist, in which every flip-flop begins unknown, and tells which of its expectations are met.
 pub fn judge(alloc: Global, linked: &Linked, script: &Script) -> Result<Verdict, OutOfMemory>

@@ -1,8 +1,8 @@
-use edge_io::Row;
 use signal_values::PinSig;
+use texts::Row;
 
 /// An expectation that isn't met: the number of its line, what it wants, and what is read.
-#[derive(Clone, Copy, Debug, Drop)]
+#[derive(Clone, Copy, Drop)]
 pub struct Missed {
     pub line: u64,
     pub want: PinSig,
@@ -10,7 +10,7 @@ pub struct Missed {
 }
 
 /// What a run of a script shows: how many sets it has, how many expectations are met, and the others in their order.
-#[derive(Debug, Drop)]
+#[derive(Drop)]
 pub struct Verdict {
     pub sets: u64,
     pub met: u64,

@@ -10,7 +10,7 @@ use bsdl_device::DeviceTextFault;
 use bsdl_printing::print_device;
 use bsdl_values::read_device;
 use command_faults::Fault;
-use edge_io::text::Text;
+use edge_io::Text;
 use std::alloc::Global;
 use verilog_printing::print_module;
 use verilog_texts::{TextFault, bytes_spell_one_tree, read_module};

@@ -5,9 +5,9 @@ ghost use Rattle.std.specs.Fmt.{decimal};
 ghost use Rattle.demo_chips.specs.Netlists as model;
 ghost use Rattle.demo_chips.specs.Plans as plans;
 
-use edge_io::{OutOfMemory, Text};
 use itoa::Buffer;
 use std::alloc::Global;
+use texts::{OutOfMemory, Text};
 use verilog_tree::Bit;
 
 /// Adds a number's decimal digits.

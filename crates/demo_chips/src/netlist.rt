@@ -6,8 +6,8 @@ ghost use Rattle.demo_chips.specs.Netlists as model;
 
 use crate::draws::Draws;
 use crate::names::{bit, numbered, scalar};
-use edge_io::{OutOfMemory, Row, Text};
 use std::alloc::Global;
+use texts::{OutOfMemory, Row, Text};
 use verilog_tree::{
     Bit, Dir, Gate, GateKind, Instance, Item, Link, Module, Operand, Port, Range, Wire,
 };

@@ -6,9 +6,9 @@ ghost use Rattle.demo_chips.specs.Plans as model;
 
 use crate::names::{bit_word, number_word};
 use cell_library::{Bits, BoundaryKind, Instr, Opcode};
-use edge_io::{OutOfMemory, Row, Text};
 use plan_texts::{PinLine, Plan, TapLine};
 use std::alloc::Global;
+use texts::{OutOfMemory, Row, Text};
 
 fn tap_line(alloc: Global, name: &[u8], pin: &[u8]) -> Result<TapLine, OutOfMemory>
     ensures { IfOk result (λ line. line ≡ model.tap_line name.now pin.now) }

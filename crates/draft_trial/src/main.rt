@@ -15,10 +15,10 @@ mod written;
 use crate::trial::{add_to_draft, close_unchanged};
 use crate::written::{compare, module_of_text, rewritten};
 use anyhow::Result;
-use edge_io::Text;
 use netlist_link::{Linked, link};
 use std::time::Instant;
 use std::{env, fs};
+use texts::Text;
 use verilog_tree::Module;
 
 /// What is done with the files after a word.

@@ -11,11 +11,11 @@ ghost use Rattle.draft_trial.specs.Stages.{CanGrow, HasDraftRoom, IsFreeName, Is
 use crate::adding::add_output;
 use anyhow::Result;
 use draft_laws::entered_is_unused;
-use edge_io::OutOfMemory;
 use netlist_arena::Netlist;
 use netlist_laws::direction_of_a_bit;
 use netlist_link::Linked;
 use netlist_model::{Dir, Name, NetId, PinBit, PortId};
+use texts::OutOfMemory;
 
 /// The name of the output.
 const OUTPUT: &[u8] = b"added";

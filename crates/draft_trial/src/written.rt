@@ -3,12 +3,12 @@
 ghost use Rattle.std.specs.Prelude.{◌<◌, IfSome, length};
 ghost use Rattle.verilog_tree.specs.IsTree.{IsTree};
 
-use edge_io::{OutOfMemory, Text};
 use netlist_link::{Linked, link};
 use netlist_model::{CellId, PortId};
 use netlist_unlink::{is_free_prefix, unlink};
 use std::alloc::Global;
 use std::fmt;
+use texts::{OutOfMemory, Text};
 use verilog_printing::print_module;
 use verilog_texts::read_module;
 use verilog_tree::Module;

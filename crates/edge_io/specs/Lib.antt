@@ -1,5 +1,4 @@
 pub mod Shelf
-pub mod Places
 pub mod Calls
 pub mod Reserved
 pub mod Entries

@@ -3,9 +3,9 @@ ghost use Rattle.edge_io.specs.Calls.{CallCount, IsListed, call_made};
 ghost use Rattle.edge_io.specs.Shelf.{Rose, raised};
 
 use crate::shelf::Failed;
-use crate::text::OutOfMemory;
 use std::alloc::Global;
 use std::marker::Model;
+use texts::OutOfMemory;
 
 /// Counts the calls of a shelf or sink in memory, and fails those that are listed.
 #[derive(Drop)]

@@ -4,8 +4,8 @@ ghost use Rattle.std.specs.Str.{bytes_eq};
 ghost use Rattle.edge_io.specs.Entries.{value_of};
 ghost use Rattle.edge_io.specs.Shelf.{ChangesOne};
 
-use crate::text::{OutOfMemory, Text};
 use std::alloc::Global;
+use texts::{OutOfMemory, Text};
 
 /// A name and what it stands for.
 #[derive(Drop)]

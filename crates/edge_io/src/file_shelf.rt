@@ -3,11 +3,11 @@ ghost use Rattle.edge_io.specs.Shelf.{raised};
 
 use crate::calls::one_more;
 use crate::shelf::{Failed, Shelf};
-use crate::text::Text;
 use std::alloc::Global;
 use std::fs;
 use std::io::{Read, Seek, SeekFrom, Write};
 use std::rt::Files;
+use texts::Text;
 
 /// The files of the machine, each under its path. It tells no content, and counts the faults of all names together.
 ///

@@ -1,4 +1,4 @@
-// The tool's edge: texts, shelves of named texts, and sinks.
+// The tool's edge: shelves of named texts, and sinks. It hands on the texts and lists of `texts`.
 // Contracts cite specs/Shelf.antt: what a shelf holds and took to write, and when its count of faults rose.
 // Own: no chapter of a standard speaks of it.
 #![tactic(auto)]
@@ -12,11 +12,8 @@ pub mod never_fails;
 pub mod out_sink;
 mod outputs;
 mod reserved;
-pub mod row;
 pub mod shelf;
-mod short_text;
 pub mod sink;
-pub mod text;
 pub mod whole;
 
 pub use file_shelf::FileShelf;
@@ -24,8 +21,7 @@ pub use mem_shelf::MemShelf;
 pub use mem_sink::MemSink;
 pub use never_fails::NeverFails;
 pub use out_sink::OutSink;
-pub use row::Row;
 pub use shelf::{Failed, Shelf};
 pub use sink::Sink;
-pub use text::{OutOfMemory, Text};
+pub use texts::{OutOfMemory, Row, Text};
 pub use whole::{ReadIssue, WriteFault, put_whole, read_whole, write_whole};

@@ -8,9 +8,9 @@ use crate::calls::Calls;
 use crate::entries::{Entry, set_value, value_in};
 use crate::outputs::{Output, add_to_output, make_room_for, start_output};
 use crate::shelf::{Failed, Shelf};
-use crate::text::{OutOfMemory, Text};
 use std::alloc::Global;
 use std::marker::Model;
+use texts::{OutOfMemory, Text};
 
 /// A shelf in memory, whose faults its owner chooses. Its calls as a [`Shelf`] take no memory, and the faults of all names
 /// are counted together.

@@ -7,9 +7,9 @@ use crate::calls::Calls;
 use crate::reserved::Reserved;
 use crate::shelf::Failed;
 use crate::sink::Sink;
-use crate::text::OutOfMemory;
 use std::alloc::Global;
 use std::marker::Model;
+use texts::OutOfMemory;
 
 /// A sink in memory, whose faults its owner chooses. Its calls as a [`Sink`] take no memory.
 ///

@@ -7,9 +7,9 @@ use crate::entries::{Entry, set_value, value_in};
 use crate::mem_shelf::copy_at;
 use crate::shelf::{Failed, Shelf};
 use crate::sink::Sink;
-use crate::text::{OutOfMemory, Text};
 use std::alloc::Global;
 use std::marker::Model;
+use texts::{OutOfMemory, Text};
 
 /// A shelf and a sink whose calls never fail: their count of faults is 0 for ever. A name under which nothing
 /// was placed reads as empty.

@@ -5,8 +5,8 @@ ghost use Rattle.edge_io.specs.Outputs.{bytes_if_started, room_in, spare_in, wri
 
 use crate::entries::{Entry, place_of, set_value};
 use crate::reserved::Reserved;
-use crate::text::OutOfMemory;
 use std::alloc::Global;
+use texts::OutOfMemory;
 
 /// What is written under a name that has room.
 #[derive(Drop)]

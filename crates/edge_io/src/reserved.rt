@@ -1,9 +1,9 @@
 ghost use Rattle.std.specs.Prelude.{◌≡◌, ◌↔◌, ◌+◌, ◌-◌, ◌≤◌, ℕ, List, [], ◌++◌, length, IsTrue, max, min, take, OnErr, OnOk, vec_len, vec_capacity};
 ghost use Rattle.edge_io.specs.Reserved.{RoomedBytes};
 
-use crate::text::OutOfMemory;
 use std::alloc::Global;
 use std::marker::Model;
+use texts::OutOfMemory;
 
 /// Bytes that take no memory as they grow up to their room.
 #[derive(Drop)]

@@ -3,8 +3,8 @@ ghost use Rattle.edge_io.specs.Shelf.{Access, NoneFell, Rose, RoseAt, SameTold, 
 
 use crate::shelf::Shelf;
 use crate::sink::Sink;
-use crate::text::{OutOfMemory, Text};
 use std::alloc::Global;
+use texts::{OutOfMemory, Text};
 use thiserror::Error;
 
 /// How many bytes one read asks for.

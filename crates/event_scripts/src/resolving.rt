@@ -9,10 +9,10 @@ use crate::fault::ScriptFault;
 use crate::parts::parts_of;
 use crate::script::{Script, ScriptLine};
 use crate::starts::Starts;
-use edge_io::Row;
 use netlist_link::Linked;
 use scan_vectors::{Line, Lines};
 use std::alloc::Global;
+use texts::Row;
 
 /// The script of event lines for a linked netlist, or the first line that is illegal. Time is linear in lines and nets.
 pub fn resolve(alloc: Global, lines: &Lines, linked: &Linked) -> Result<Script, ScriptFault>

@@ -1,10 +1,10 @@
-use edge_io::Row;
 use netlist_model::PinBit;
 use scan_vectors::Act;
 use signal_values::PinSig;
+use texts::Row;
 
 /// An event line whose pin was found; the number is that of its line in the text.
-#[derive(Clone, Copy, Debug, PartialEq, Eq)]
+#[derive(Clone, Copy, PartialEq, Eq)]
 pub struct ScriptLine {
     pub act: Act,
     pub pin: PinBit,
@@ -13,7 +13,7 @@ pub struct ScriptLine {
 }
 
 /// The event lines of a text in order, with their pins found.
-#[derive(Debug, Drop)]
+#[derive(Drop)]
 pub struct Script {
     pub list: Row<ScriptLine>,
 }

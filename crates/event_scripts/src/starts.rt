@@ -2,12 +2,12 @@ ghost use Rattle.std.specs.Prelude.{◌≡◌, ◌<◌, false, [], length, slice
 ghost use Rattle.event_scripts.specs.Starts.{HasDone, HasStarted, IsAfter, IsComplete, IsWaiting};
 
 use crate::tables::taken_nets;
-use edge_io::OutOfMemory;
 use netlist_link::Linked;
 use netlist_model::NetId;
 use scan_vectors::Act;
 use std::alloc::Global;
 use std::marker::Model;
+use texts::OutOfMemory;
 
 /// Which input and inout bits still want a start. A set or an expect comes only where none does, so a start after one
 /// finds that its bit had its own.

@@ -4,10 +4,10 @@ ghost use Rattle.netlist_model.specs.Settled.{follows_pin};
 ghost use Rattle.event_scripts.specs.Pins.{side_at};
 ghost use Rattle.event_scripts.specs.Starts.{AreMarked, IsPortBefore};
 
-use edge_io::OutOfMemory;
 use netlist_link::Linked;
 use netlist_model::{Dir, PinBit, PortId, width_of};
 use std::alloc::Global;
+use texts::OutOfMemory;
 
 /// Of each net, whether it is that of an input or inout bit.
 pub fn taken_nets(alloc: Global, linked: &Linked) -> Result<Vec<bool>, OutOfMemory>

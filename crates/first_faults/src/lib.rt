@@ -8,10 +8,10 @@ mod places;
 ghost use Rattle.std.specs.Prelude.{◌≡◌, ◌++◌, ◌∷◌, [], IfOk, not, if◌then◌else◌};
 ghost use Rattle.first_faults.specs.Repeated.{has_name, repeated, bytes_of, seen, texts};
 
-use edge_io::OutOfMemory;
 use indexmap::IndexSet;
 pub use places::first_places;
 use std::alloc::Global;
+use texts::OutOfMemory;
 
 // Notes a name, and says whether it is new.
 fn note<'a>(table: &mut IndexSet<&'a [u8]>, name: &'a [u8]) -> Result<bool, OutOfMemory>

@@ -2,10 +2,10 @@
 ghost use Rattle.std.specs.Prelude.{◌≡◌, IfOk, position};
 ghost use Rattle.indexmap.specs.IndexMap.{get};
 
-use edge_io::OutOfMemory;
 use indexmap::IndexMap;
 use std::alloc::Global;
 use std::hash::Hash;
+use texts::OutOfMemory;
 
 /// The place where each key first stands.
 pub fn first_places<K: Eq + Hash + Copy + Drop>(

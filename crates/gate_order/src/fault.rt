@@ -1,4 +1,4 @@
-use edge_io::{OutOfMemory, Row};
+use texts::{OutOfMemory, Row};
 use thiserror::Error;
 
 /// Why a graph gets no order.

@@ -2,12 +2,12 @@ ghost use Rattle.std.specs.Prelude.{◌≡◌, ◌↔◌, ℕ, ◌<◌, List, []
 ghost use Rattle.gate_order.specs.Graph.{AllBelow, IsGraph, reads_of};
 ghost use Rattle.gate_order.specs.Rows.{rows, EndsAt};
 
-use edge_io::OutOfMemory;
 use std::alloc::Global;
 use std::marker::Model;
+use texts::OutOfMemory;
 
 /// A graph: contracts see the list of what each vertex reads. It takes 8 bytes a vertex and 4 bytes a read.
-#[derive(Debug, Drop)]
+#[derive(Drop)]
 pub struct Graph {
     items: Vec<u32>,
     ends: Vec<usize>,

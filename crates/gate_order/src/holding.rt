@@ -4,8 +4,8 @@ ghost use Rattle.gate_order.specs.Cone.{ConeHolds, Marked};
 ghost use Rattle.gate_order.specs.Marks.{SomeMarked};
 
 use crate::Graph;
-use edge_io::{OutOfMemory, Row};
 use std::alloc::Global;
+use texts::{OutOfMemory, Row};
 
 /// Of each vertex, whether its cone holds a marked one: a forward pass over an order of the graph, linear in
 /// vertices and reads.

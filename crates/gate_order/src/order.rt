@@ -7,8 +7,8 @@ ghost use Rattle.gate_order.specs.Walk.{KeepsSeen, Walks};
 use crate::fault::OrderFault;
 use crate::graph::Graph;
 use crate::walk::{State, Walk, path_back, state_at};
-use edge_io::{OutOfMemory, Row};
 use std::alloc::Global;
+use texts::{OutOfMemory, Row};
 
 /// An order of the vertices in which each stands after those that it reads, or a cycle. `Cycle` comes exactly
 /// where the graph has one, unless memory is refused first. The time is linear in vertices and reads.

@@ -4,8 +4,8 @@ ghost use Rattle.gate_order.specs.Cone.{InConeOf, Marked};
 ghost use Rattle.gate_order.specs.Marks.{mark_all};
 
 use crate::{Graph, reads_stand_earlier};
-use edge_io::{OutOfMemory, Row};
 use std::alloc::Global;
+use texts::{OutOfMemory, Row};
 
 /// Of each vertex, whether it stands in the cone of a marked root: a backward pass over an order of the graph,
 /// linear in vertices and reads.

@@ -3,8 +3,8 @@ ghost use Rattle.gate_order.specs.Graph.{reads_of, IsGraph};
 ghost use Rattle.gate_order.specs.State.{state};
 
 use crate::graph::Graph;
-use edge_io::{OutOfMemory, Row};
 use std::alloc::Global;
+use texts::{OutOfMemory, Row};
 
 /// What the search knows of a vertex.
 #[derive(Clone, Copy)]

@@ -40,7 +40,7 @@ pub enum Pins {
 }
 
 /// A gate of a table. It drives the net of its own place.
-#[derive(Clone, Copy, Debug)]
+#[derive(Clone, Copy)]
 pub struct Gate {
     pub kind: Kind,
     pub pins: Pins,

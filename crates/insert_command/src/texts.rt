@@ -4,7 +4,7 @@ ghost use Rattle.insertions.specs.Insertions.{IsInsertionText};
 ghost use Rattle.insert_command.specs.Faults.{fault_of, StandsInInputs};
 
 use command_faults::Fault;
-use edge_io::text::Text;
+use edge_io::Text;
 use insertions::{InsertFault, Inserted, insert_texts};
 use std::alloc::Global;
 

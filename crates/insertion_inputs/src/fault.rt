@@ -1,9 +1,9 @@
-use edge_io::OutOfMemory;
 use link_model::LinkFault;
 use netlist_arena::ReserveFault;
 use netlist_model::What;
 use plan_fitting::FitFault;
 use plan_texts::PlanFault;
+use texts::OutOfMemory;
 use thiserror::Error;
 use verilog_texts::TextFault;
 

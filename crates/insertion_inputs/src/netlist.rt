@@ -4,9 +4,9 @@ ghost use Rattle.insertion_inputs.specs.Inputs.{IsNetlistOf};
 ghost use Rattle.insertion_inputs.specs.Faults.{StandsInNetlist};
 
 use crate::fault::InsertFault;
-use edge_io::Text;
 use netlist_link::{Linked, link};
 use std::alloc::Global;
+use texts::Text;
 use verilog_texts::read_module;
 
 /// The netlist of the module that a text spells.

@@ -16,7 +16,7 @@ use scan_stitch::{device_of_fit, fitted_bits_are_there, prepare};
 use std::alloc::Global;
 
 /// A plan, what it comes to for a netlist, and the device that it makes of it.
-#[derive(Debug, Drop)]
+#[derive(Drop)]
 pub struct Fitting {
     pub plan: Plan,
     pub fitted: Fitted,

@@ -7,10 +7,10 @@ ghost use Rattle.insertion_report.specs.Reports.{ident_words, name_of, register_
 
 use bsdl_device::{Device, instruction_word};
 use cell_library::Opcode;
-use edge_io::{OutOfMemory, Text};
 use itoa::Buffer;
 use output_lines::{add_line, add_word, add_words};
 use std::alloc::Global;
+use texts::{OutOfMemory, Text};
 
 // A line of a word and a number.
 fn put_count(text: &mut Text, first: &[u8], count: u32) -> Result<(), OutOfMemory>

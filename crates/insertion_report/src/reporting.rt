@@ -5,10 +5,10 @@ ghost use Rattle.insertion_report.specs.Reports.{report_of};
 
 use crate::lines::report_text;
 use bsdl_device::Device;
-use edge_io::{OutOfMemory, Text};
 use netlist_link::Linked;
 use plan_fitting::Fitted;
 use std::alloc::Global;
+use texts::{OutOfMemory, Text};
 
 /// The report on a device, the netlist of which has its test logic, and the plan that it was made by.
 pub fn report(

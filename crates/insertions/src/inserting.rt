@@ -7,12 +7,12 @@ ghost use Rattle.insertion_inputs.specs.Inputs.{IsNetlistOf, IsFittingAs};
 ghost use Rattle.insertions.specs.Insertions.{IsInsertionText, IsReadied};
 
 use crate::texts::{Inserted, write_texts};
-use edge_io::{OutOfMemory, Text};
 use insertion_inputs::{Fitting, InsertFault, fit_text, link_text, stitch};
 use netlist_link::Linked;
 use plan_devices::fitted_is_fitting;
 use plan_texts::texts_of_plans_are_spelled_or_at_fault;
 use std::alloc::Global;
+use texts::{OutOfMemory, Text};
 use written_runs::{
     stitched_can_be_written, stitched_is_written, written_has_controls, written_is_alone,
     written_realises,

@@ -9,16 +9,16 @@ ghost use Rattle.insertions.specs.Insertions.{IsDeviceText, IsNetlistText};
 use bsdl_device::Device;
 use bsdl_printing::print_device;
 use bsdl_values::devices_are_read_back;
-use edge_io::{OutOfMemory, Text};
 use insertion_inputs::Fitting;
 use insertion_report::report;
 use netlist_link::Linked;
 use netlist_unlink::unlink;
 use std::alloc::Global;
+use texts::{OutOfMemory, Text};
 use verilog_printing::print_module;
 
 /// What an insertion gives: the netlist's text, the device's, and the report.
-#[derive(Debug, Drop)]
+#[derive(Drop)]
 pub struct Inserted {
     pub verilog: Text,
     pub bsdl: Text,

@@ -17,7 +17,7 @@ use register_gates::added_in_turn;
 
 /// What steers the latched bits: TCK, TRST, a net that is 1 exactly in Update-IR and Test-Logic-Reset, and one that is so in
 /// Test-Logic-Reset.
-#[derive(Clone, Copy, Debug)]
+#[derive(Clone, Copy)]
 pub struct Latching {
     pub tck: NetId,
     pub trst: NetId,

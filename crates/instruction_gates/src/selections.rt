@@ -15,7 +15,7 @@ use test_logic::{InstrNets, ScanNets, TapNets};
 
 /// What tells of each instruction whether its opcode is latched; 0 of one that has none. BYPASS isn't asked for: it is in effect where
 /// no other is.
-#[derive(Clone, Copy, Debug)]
+#[derive(Clone, Copy)]
 pub struct Matched {
     pub extest: Feed,
     pub sample: Feed,

@@ -19,7 +19,7 @@ use register_gates::added_in_turn;
 use test_logic::TapNets;
 
 /// The bit of the shift stage nearest TDO, and the first of the nets of the latched bits, as `add_match` takes it.
-#[derive(Clone, Copy, Debug)]
+#[derive(Clone, Copy)]
 pub struct Stages {
     pub last: NetId,
     pub latches: NetId,

@@ -2,7 +2,7 @@ ghost use Rattle.std.specs.Prelude.{◌≡◌, ◌++◌, ◌∷◌, [], ℕ, Lis
 ghost use Rattle.line_texts.specs.Rows.{behind_blank, row_text, bytes_of_words};
 ghost use Rattle.std.specs.List.{flat_map};
 
-use edge_io::{OutOfMemory, Text};
+use texts::{OutOfMemory, Text};
 
 fn put_behind_blanks(text: &mut Text, words: &[&[u8]]) -> Result<(), OutOfMemory>
     ensures { OnOk result (text.new ≡ text.old ++ flat_map behind_blank (bytes_of_words words.now)) }

@@ -7,11 +7,11 @@ ghost use Rattle.link_model.specs.Denoted.{AreCells, IsName};
 ghost use Rattle.link_arena.specs.Named.{IsEntered, AreCellsEntered, DriveApart};
 
 use crate::names::original;
-use edge_io::OutOfMemory;
 use link_model::ItemCell;
 use name_table::NameTable;
 use netlist_arena::Netlist;
 use netlist_model::Name;
+use texts::OutOfMemory;
 
 /// Adds the cells, in order, to a netlist that has none.
 pub fn add_cells(

@@ -22,12 +22,12 @@ use crate::names::names_of_module;
 use crate::nets::add_nets;
 use crate::ports::add_ports;
 use crate::room::netlist_with_room;
-use edge_io::OutOfMemory;
 use link_drivers::nets_have_their_drivers;
 use link_model::{ItemCell, NetBit};
 use name_table::NameTable;
 use netlist_arena::Netlist;
 use std::alloc::Global;
+use texts::OutOfMemory;
 use verilog_tree::Module;
 
 /// A netlist, and the table that has its original names.

@@ -5,11 +5,11 @@ ghost use Rattle.link_arena.specs.Named.{ArePortsEntered};
 
 use crate::names::original;
 use crate::room::width;
-use edge_io::OutOfMemory;
 use name_table::NameTable;
 use netlist_arena::Netlist;
 use netlist_model::{Dir, NetId, Range};
 use std::alloc::Global;
+use texts::OutOfMemory;
 use verilog_tree::Port;
 
 /// Adds the ports, in order; their bits are the first nets.

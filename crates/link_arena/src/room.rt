@@ -3,9 +3,9 @@ ghost use Rattle.link_model.specs.Nets.{bits_in, width as width_in, port_nets};
 ghost use Rattle.link_model.specs.Faults.{text_fault, too_many_in};
 ghost use Rattle.link_arena.specs.Room.{HasRoomFor};
 
-use edge_io::OutOfMemory;
 use netlist_arena::{Netlist, ReserveFault};
 use std::alloc::Global;
+use texts::OutOfMemory;
 use verilog_tree::{Module, Port, Range};
 
 /// An empty netlist with room for the module's.

@@ -13,10 +13,10 @@ mod uses;
 
 use crate::rule::first_broken;
 use crate::uses::uses_of_nets;
-use edge_io::OutOfMemory;
 pub use laws::nets_have_their_drivers;
 use link_model::{ItemCell, LinkFault, NetBit};
 use std::alloc::Global;
+use texts::OutOfMemory;
 
 /// The first fault of drivers, in time linear in nets, cells and operands.
 pub fn find_driver_fault(

@@ -5,13 +5,13 @@ ghost use Rattle.link_model.specs.Fits.{FitCells, FitsCell};
 ghost use Rattle.link_drivers.specs.Uses.{uses_at, uses_among, driven, with_output, with_feeds};
 
 use cell_library::Kind;
-use edge_io::OutOfMemory;
 use link_model::ItemCell;
 use netlist_model::{Feed, NetId};
 use std::alloc::Global;
+use texts::OutOfMemory;
 
 /// How the cells use a net.
-#[derive(Clone, Copy, Debug)]
+#[derive(Clone, Copy)]
 pub struct NetUses {
     /// How many cells drive it.
     pub drivers: usize,

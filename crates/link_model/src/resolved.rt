@@ -4,11 +4,11 @@ ghost use Rattle.link_model.specs.Cells.{bytes_of};
 
 use crate::fault::BitName;
 use cell_library::Kind;
-use edge_io::{OutOfMemory, Text};
 use netlist_model::{Dir, Feed, NetId};
 use smallvec::SmallVec;
 use std::alloc::Global;
 use std::marker::Model;
+use texts::{OutOfMemory, Text};
 
 /// A net of a module: the name of its declaration, its index there, and the direction of its port. The index is none
 /// for a scalar, the direction for a wire.

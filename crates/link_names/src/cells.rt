@@ -12,12 +12,12 @@ use crate::declarations::{Declaration, find};
 use crate::names::gate_name;
 use crate::ports::{operand_ports, output_port};
 use cell_library::{Kind, kind_of};
-use edge_io::OutOfMemory;
 use indexmap::IndexMap;
 use link_model::ItemCell;
 use netlist_model::{Feed, NetId};
 use smallvec::SmallVec;
 use std::alloc::Global;
+use texts::OutOfMemory;
 use verilog_tree::{Bit, Gate, GateKind, Instance, Item, Link, Operand};
 
 fn kind_of_gate(kind: GateKind) -> Kind

@@ -11,9 +11,9 @@ ghost use Rattle.link_names.specs.Tests.{unknown_port, missing_port, port_linked
 
 use crate::ports::operand_ports;
 use cell_library::{Kind, kind_of, port_of};
-use edge_io::{OutOfMemory, Text};
 use link_model::LinkFault;
 use std::alloc::Global;
+use texts::{OutOfMemory, Text};
 use verilog_tree::{Instance, Item, Link};
 
 /// A test of an instance and its kind.

@@ -16,10 +16,10 @@ use crate::names::find_name_twice;
 use crate::net_bits::nets_of;
 use crate::nets::{Net, gather_nets};
 use crate::widths::find_width;
-use edge_io::OutOfMemory;
 use indexmap::IndexMap;
 use link_model::{ItemCell, LinkFault, NetBit};
 use std::alloc::Global;
+use texts::OutOfMemory;
 use verilog_tree::{Item, Module};
 
 /// The nets and the cells of a module, each at the place of its number. They borrow the module's names.

@@ -7,10 +7,10 @@ ghost use Rattle.link_names.specs.Views.{entries_of};
 use crate::bits::{BitTest, check_bit, check_item};
 use crate::declarations::Declaration;
 use cell_library::{Kind, PortPlace, kind_of, port_of};
-use edge_io::{OutOfMemory, Text};
 use indexmap::IndexMap;
 use link_model::LinkFault;
 use std::alloc::Global;
+use texts::{OutOfMemory, Text};
 use verilog_tree::{Instance, Item, Link, Operand};
 
 fn check_link(

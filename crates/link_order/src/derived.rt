@@ -14,10 +14,10 @@ ghost use Rattle.link_order.specs.Links.{control_net, found_link, found_net, is_
 use crate::drivers::operand_net;
 use crate::order::CellOrder;
 use cell_library::{PortPlace, is_flop, port_of};
-use edge_io::{OutOfMemory, Row, Text};
 use gate_order::cones_holding;
 use link_model::{ItemCell, LinkFault, NetBit, is_inout};
 use std::alloc::Global;
+use texts::{OutOfMemory, Row, Text};
 use verilog_tree::{Item, Link, Module};
 
 /// The first clock, clear or preset in the text that has a flip-flop or an inout in its cone.

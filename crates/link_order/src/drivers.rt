@@ -6,11 +6,11 @@ ghost use Rattle.link_order.specs.Drivers.{cell_reads, feed_driver, IsDriverTabl
 ghost use Rattle.link_order.specs.Links.{operand_net};
 
 use cell_library::is_flop;
-use edge_io::{OutOfMemory, Row};
 use gate_order::Graph;
 use link_model::{ItemCell, NetBit};
 use netlist_model::Feed;
 use std::alloc::Global;
+use texts::{OutOfMemory, Row};
 
 /// The cell that drives each net, by its number.
 pub fn driver_table(

@@ -7,15 +7,15 @@ ghost use Rattle.link_order.specs.Drivers.{AreOrdered};
 ghost use Rattle.link_order.specs.Faults.{IsOrderFault, NamesLoop};
 
 use crate::drivers::{cell_graph, driver_table};
-use edge_io::{OutOfMemory, Row};
 use gate_order::{Graph, OrderFault, order_of};
 use link_model::{ItemCell, LinkFault, NetBit};
 use netlist_model::CellId;
 use std::alloc::Global;
 use std::marker::Model;
+use texts::{OutOfMemory, Row};
 
 /// The cells of a module in order, with the drivers of its nets and what each cell reads.
-#[derive(Debug, Drop)]
+#[derive(Drop)]
 pub struct CellOrder {
     drivers: Row<Option<u32>>,
     reads: Graph,

@@ -6,12 +6,12 @@ ghost use Rattle.std.specs.Cmp.Lexicographic.{bytes_decides, nat_list_eq_equiv};
 ghost use Rattle.std.specs.Hash as fed;
 ghost use Rattle.std.specs.Str.{bytes_eq};
 
-use edge_io::OutOfMemory;
 use indexmap::Equivalent;
 use smallvec::SmallVec;
 use std::alloc::Global;
 use std::hash::{Hash, Hasher};
 use std::marker::Model;
+use texts::OutOfMemory;
 
 /// A name in bytes. One of up to 16 bytes takes no memory of its own.
 #[derive(Drop)]

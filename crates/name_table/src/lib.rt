@@ -9,10 +9,10 @@ ghost use Rattle.name_table.specs.Names.{IsOnce, number_of, with_name};
 mod key;
 
 use crate::key::Key;
-use edge_io::OutOfMemory;
 use indexmap::IndexSet;
 use std::alloc::Global;
 use std::marker::Model;
+use texts::OutOfMemory;
 
 /// Names under the numbers 0, 1, 2 and so on.
 #[derive(Drop)]

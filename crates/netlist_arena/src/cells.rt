@@ -9,9 +9,9 @@ ghost use Rattle.netlist_arena.specs.Looks.{IsLive, feed_at};
 use crate::room::push_reserved;
 use crate::{Cell, Netlist};
 use cell_library::Kind;
-use edge_io::OutOfMemory;
 use netlist_model::{CellId, Feed, Name, NetId};
 use smallvec::SmallVec;
+use texts::OutOfMemory;
 
 impl Netlist {
     /// Adds a cell of at most four operands, which takes one spare cell.

@@ -10,13 +10,13 @@ ghost use Rattle.netlist_link.specs.WellNamed.{IsWellNamed};
 use crate::linked::Linked;
 use crate::port_names::ports_by_name;
 use cell_order::WorkArea;
-use edge_io::{OutOfMemory, Text};
 use link_arena::Built;
 use link_drivers::nets_have_their_drivers;
 use link_order::controls_are_links;
 use name_table::NameTable;
 use netlist_arena::Netlist;
 use std::alloc::Global;
+use texts::{OutOfMemory, Text};
 use verilog_tree::Module;
 
 /// A linked netlist from what was built of a module, where no fault stands.

@@ -18,9 +18,9 @@ ghost use Rattle.netlist_link.specs.WellNamed.{IsWellNamed};
 use crate::linked::Linked;
 use crate::port_names::list_ports;
 use cell_order::WorkArea;
-use edge_io::OutOfMemory;
 use netlist_arena::{Netlist, ReserveFault};
 use netlist_model::{Name, PortId};
+use texts::OutOfMemory;
 
 /// A linked netlist that is being rewritten. It may be anything until it is closed.
 #[derive(Drop)]

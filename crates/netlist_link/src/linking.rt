@@ -8,13 +8,13 @@ ghost use Rattle.netlist_link.specs.Steps.{AreInOrder, AreNetsAndCells};
 
 use crate::assemble::assemble;
 use crate::linked::Linked;
-use edge_io::OutOfMemory;
 use link_arena::build;
 use link_drivers::{find_driver_fault, nets_have_their_drivers};
 use link_model::LinkFault;
 use link_names::{Resolved, resolve};
 use link_order::{CellOrder, find_derived, order_cells};
 use std::alloc::Global;
+use texts::OutOfMemory;
 use verilog_tree::Module;
 
 /// The netlist that a module denotes, or the first fault of the module. Time and memory are linear in nets, cells and

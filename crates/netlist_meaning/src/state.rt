@@ -7,13 +7,13 @@ ghost use Rattle.cell_order.specs.Tables.{is_live_flop};
 ghost use Rattle.netlist_meaning.specs.States.{IsStateOf, SetsFlop, cell_bound, flops_of, held};
 
 use cell_library::Kind;
-use edge_io::OutOfMemory;
 use netlist_arena::Netlist;
 use netlist_link::Linked;
 use netlist_model::CellId;
 use signal_values::Sig;
 use std::alloc::Global;
 use std::marker::Model;
+use texts::OutOfMemory;
 
 /// A value for each flip-flop of a netlist.
 #[derive(Drop)]

@@ -10,10 +10,10 @@ use crate::kinds::{gate_kind, library_name};
 use crate::links::cell_links;
 use crate::parts::{cell_inputs, cell_name, driven_bit, first_input, instance_name};
 use cell_library::Kind;
-use edge_io::{OutOfMemory, Row, Text};
 use netlist_link::Linked;
 use netlist_model::CellId;
 use std::alloc::Global;
+use texts::{OutOfMemory, Row, Text};
 use verilog_tree::{Gate, GateKind, Instance, Item};
 
 /// The items of the cells, by rising number.

@@ -9,10 +9,10 @@ ghost use Rattle.netlist_unlink.specs.Trees.{naming_of, operand_links, output_li
 use crate::kinds::{operand_port, output_port};
 use crate::names::{bit, operand};
 use cell_library::Kind;
-use edge_io::{OutOfMemory, Row, Text};
 use netlist_link::Linked;
 use netlist_model::CellId;
 use std::alloc::Global;
+use texts::{OutOfMemory, Row, Text};
 use verilog_tree::{Link, Operand};
 
 /// The links of a library cell in the order of its operands, and then that of its output if it is connected.

@@ -4,11 +4,11 @@ ghost use Rattle.netlist_model.specs.Below.{IsFeedBelow};
 ghost use Rattle.netlist_link.specs.WellNamed.{IsKnown};
 ghost use Rattle.netlist_unlink.specs.Trees.{added, bit_of, naming_of, operand_of, spelled};
 
-use edge_io::{OutOfMemory, Text};
 use itoa::Buffer;
 use netlist_link::Linked;
 use netlist_model::{Feed, Name, NetId};
 use std::alloc::Global;
+use texts::{OutOfMemory, Text};
 use verilog_tree::{Bit, Operand};
 
 /// The name of an added net or cell.

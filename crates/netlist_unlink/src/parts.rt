@@ -6,10 +6,10 @@ ghost use Rattle.netlist_unlink.specs.Parts.{feeds_of, name_of, output_of};
 ghost use Rattle.netlist_unlink.specs.Trees.{cell_text, first_operand, naming_of, operand_of, output_bit};
 
 use crate::names::{bit, operand, spell};
-use edge_io::{OutOfMemory, Row, Text};
 use netlist_link::Linked;
 use netlist_model::CellId;
 use std::alloc::Global;
+use texts::{OutOfMemory, Row, Text};
 use verilog_tree::{Bit, Operand};
 
 /// The name of a cell, if it has one.

@@ -2,10 +2,10 @@
 ghost use Rattle.std.specs.Prelude.{◌≡◌, ◌<◌, map, length, slice_get, option_map, Some, IfOk};
 ghost use Rattle.netlist_unlink.specs.Trees.{dir_of, port_of, range_of};
 
-use edge_io::{OutOfMemory, Row, Text};
 use netlist_link::Linked;
 use netlist_model::PortId;
 use std::alloc::Global;
+use texts::{OutOfMemory, Row, Text};
 use verilog_tree::{Dir, Port, Range};
 
 /// The ports, in order.

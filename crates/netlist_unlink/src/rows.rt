@@ -3,14 +3,14 @@ ghost use Rattle.std.specs.Prelude.{◌≡◌, ◌+◌, ◌<◌, ◌++◌, List,
 ghost use Rattle.netlist_unlink.specs.Rows.{before, joined_range, row_of, rows as rows_of, with_row};
 ghost use Rattle.netlist_unlink.specs.Flags.{ArePortFlags};
 
-use edge_io::OutOfMemory;
 use netlist_link::Linked;
 use netlist_model::{Name, NetId, PortId};
 use std::alloc::Global;
+use texts::OutOfMemory;
 use verilog_tree::Range;
 
 /// Nets that follow one another under one original name, by its number, with the range of their indexes.
-#[derive(Clone, Copy, Debug, PartialEq, Eq)]
+#[derive(Clone, Copy, PartialEq, Eq)]
 pub struct NetRow {
     pub name: u32,
     pub range: Option<Range>,

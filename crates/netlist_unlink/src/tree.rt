@@ -13,9 +13,9 @@ ghost use Rattle.netlist_unlink.specs.Trees.{naming_of, tree_of};
 use crate::cells::tree_items;
 use crate::ports::tree_ports;
 use crate::wires::tree_wires;
-use edge_io::{OutOfMemory, Text};
 use netlist_link::Linked;
 use std::alloc::Global;
+use texts::{OutOfMemory, Text};
 use verilog_tree::Module;
 
 /// The module that a netlist is written as: added nets are called `<prefix>n<number>` and added cells `<prefix>c<number>`,

@@ -6,10 +6,10 @@ ghost use Rattle.netlist_unlink.specs.Trees.{added_from, added_wire, wire_of};
 
 use crate::names::added_name;
 use crate::rows::{NetRow, wire_rows};
-use edge_io::{OutOfMemory, Row, Text};
 use netlist_link::Linked;
 use netlist_model::{Name, NetId};
 use std::alloc::Global;
+use texts::{OutOfMemory, Row, Text};
 use verilog_tree::Wire;
 
 /// The original wires in the order of their first nets, and then the added nets.

@@ -2,7 +2,7 @@ ghost use Rattle.std.specs.Prelude.{◌≡◌};
 ghost use Rattle.output_lines.specs.Lines.{field_text, bit_text};
 
 /// A word of a line.
-#[derive(Clone, Copy, Debug)]
+#[derive(Clone, Copy)]
 pub enum Field<'a> {
     /// These bytes.
     Word(&'a [u8]),

@@ -4,11 +4,11 @@ ghost use Rattle.plan_fitting.specs.Fits as fits;
 
 use crate::pins::PinAt;
 use cell_library::BoundaryKind;
-use edge_io::{OutOfMemory, Text};
 use netlist_model::Dir;
 use plan_fitting::FitFault;
 use plan_texts::PinLine;
 use std::alloc::Global;
+use texts::{OutOfMemory, Text};
 
 // Whether the cell is for such a port.
 fn suits_port(cell: BoundaryKind, side: Dir, control: bool) -> bool

@@ -5,11 +5,11 @@ ghost use Rattle.plan_fitting.specs.Rows as boundary;
 
 use bsdl_device::is_instruction;
 use cell_library::{Bits, Instr, Opcode};
-use edge_io::OutOfMemory;
 use plan_fitting::copies::opcodes_copy;
 use plan_texts::Plan;
 use std::alloc::Global;
 use test_logic::{Codes, opcode_of};
+use texts::OutOfMemory;
 
 /// Whether the plan has HIGHZ.
 pub fn has_highz(opcodes: &[Opcode]) -> bool

@@ -1,10 +1,10 @@
 // Copies of what a plan gives the device as it stands.
 ghost use Rattle.std.specs.Prelude.{◌≡◌, IfOk};
 
-use edge_io::{OutOfMemory, Row, Text};
 use plan_fitting::copies::text_copy;
 use plan_texts::{Plan, TapLine};
 use std::alloc::Global;
+use texts::{OutOfMemory, Row, Text};
 
 /// The entity, the pin map and the frequency of TCK.
 #[derive(Drop)]

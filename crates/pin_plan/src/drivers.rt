@@ -7,11 +7,11 @@ ghost use Rattle.pin_plan.specs.Tables as tables;
 ghost use Rattle.pin_plan.specs.Tables.{AreDrivers, AreDriversAmong, with_driver};
 
 use cell_library::Kind;
-use edge_io::OutOfMemory;
 use netlist_arena::Netlist;
 use netlist_model::{CellId, Feed};
 use std::alloc::Global;
 use std::marker::Model;
+use texts::OutOfMemory;
 
 /// The driver of a pin: its data operand, its control operand, and whether 1 enables it.
 #[derive(Clone, Copy, Drop)]

@@ -16,12 +16,12 @@ use crate::ports::fit_ports;
 use crate::prefix::find_prefix_fault;
 use crate::rows::boundary_rows;
 use crate::twice::find_twice;
-use edge_io::{OutOfMemory, Row};
 use netlist_link::Linked;
 use plan_fitting::{FitFault, FitPort, FitRow, Fitted};
 use plan_texts::{Plan, TapLine};
 use std::alloc::Global;
 use test_logic::Codes;
+use texts::{OutOfMemory, Row};
 
 // The first fault of names.
 #[tactic(auto, using(crate::proofs::Barred::names_told, crate::proofs::Barred::prefixes_told))]

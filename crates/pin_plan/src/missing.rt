@@ -9,11 +9,11 @@ ghost use Rattle.pin_plan.specs.Bits.{word_at, missing_among, missing_at};
 use crate::bits::BitTable;
 use crate::netlist_names::{port_width, text_of_port};
 use bsdl_runs::written::put_number;
-use edge_io::{OutOfMemory, Text};
 use netlist_link::Linked;
 use netlist_model::{PinBit, PortId, Range};
 use plan_fitting::FitFault;
 use std::alloc::Global;
+use texts::{OutOfMemory, Text};
 
 // The index of a bit, counted from the left of a range.
 fn index_at(range: Range, bit: u32) -> u32

@@ -9,11 +9,11 @@ ghost use Rattle.pin_plan.specs.Names.{name_fault_among};
 
 use bsdl_lexicon::{NameKey, is_reserved};
 use bsdl_runs::runs::is_identifier;
-use edge_io::{OutOfMemory, Text};
 use indexmap::IndexSet;
 use plan_fitting::FitFault;
 use plan_texts::{Plan, TapLine};
 use std::alloc::Global;
+use texts::{OutOfMemory, Text};
 
 fn has_name(names: &[&[u8]], name: &[u8]) -> bool
     ensures { result ≡ has_name (texts names.now) name.now }

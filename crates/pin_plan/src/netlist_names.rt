@@ -8,11 +8,11 @@ ghost use Rattle.link_model.specs.Denoted.{name_bytes};
 ghost use Rattle.first_faults.specs.Repeated.{bytes_of, texts};
 ghost use Rattle.plan_fitting.specs.Names as fitting;
 
-use edge_io::OutOfMemory;
 use netlist_arena::Netlist;
 use netlist_link::Linked;
 use netlist_model::{CellId, Name, NetId, PortId, width_of};
 use std::alloc::Global;
+use texts::OutOfMemory;
 
 /// How many bits a port has.
 pub fn port_width(netlist: &Netlist, port: PortId) -> u32

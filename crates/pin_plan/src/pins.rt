@@ -5,13 +5,13 @@ ghost use Rattle.pin_plan.specs.Tables.{AreDrivers};
 ghost use Rattle.pin_plan.specs.Seen.{ArePinsOf, IsLineFault, IsPinOf, IsPinOfLine, IsPortFault};
 
 use crate::drivers::{Driver, drivers_of};
-use edge_io::{OutOfMemory, Text};
 use netlist_link::Linked;
 use netlist_model::{Dir, NetId, PinBit};
 use plan_fitting::FitFault;
 use plan_texts::PinLine;
 use std::alloc::Global;
 use std::marker::Model;
+use texts::{OutOfMemory, Text};
 
 /// A bit of a port: its net, its port's direction, whether it clocks, and clocks, clears or presets, flip-flops, and the
 /// three-state gate that drives it.

@@ -6,13 +6,13 @@ ghost use Rattle.plan_fitting.specs.Devices as devices;
 
 use crate::bits::BitTable;
 use crate::netlist_names::{port_width, text_of_port};
-use edge_io::{OutOfMemory, Row, Text};
 use netlist_link::Linked;
 use netlist_model::{PinBit, PortId};
 use plan_fitting::FitPort;
 use plan_fitting::copies::text_copy;
 use plan_texts::{PinLine, Plan};
 use std::alloc::Global;
+use texts::{OutOfMemory, Row, Text};
 
 // The physical pin of the line at a place.
 fn pin_at(alloc: Global, lines: &[PinLine], place: usize) -> Result<Text, OutOfMemory>

@@ -6,10 +6,10 @@ ghost use Rattle.plan_fitting.specs.Fits as fits;
 ghost use Rattle.pin_plan.specs.Names.{prefix_fault_among};
 
 use crate::names::tap_names;
-use edge_io::{OutOfMemory, Text};
 use plan_fitting::FitFault;
 use plan_texts::Plan;
 use std::alloc::Global;
+use texts::{OutOfMemory, Text};
 
 // The first of the names that begins with the prefix.
 fn find_begun(

@@ -8,13 +8,13 @@ ghost use Rattle.pin_plan.specs.Keys.{control_key_of};
 use crate::drivers::Driver;
 use crate::keys::{ControlKey, OperandKey};
 use cell_library::{BoundaryKind, Function};
-use edge_io::{OutOfMemory, Row};
 use indexmap::IndexMap;
 use netlist_model::Feed;
 use plan_fitting::FitRow;
 use std::alloc::Global;
 use std::hash::Hash;
 use std::marker::Model;
+use texts::{OutOfMemory, Row};
 
 /// Boundary cells by rising number, fewer than 2^32 - 1.
 #[derive(Drop)]

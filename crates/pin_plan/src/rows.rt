@@ -8,11 +8,11 @@ use crate::drivers::Driver;
 use crate::pins::PinAt;
 use crate::row_table::RowTable;
 use cell_library::{BoundaryKind, Function};
-use edge_io::{OutOfMemory, Row};
 use netlist_model::{Dir, Feed};
 use plan_fitting::FitRow;
 use plan_texts::{PinLine, Plan};
 use std::alloc::Global;
+use texts::{OutOfMemory, Row};
 
 // The cell of an input.
 fn input_row(line: &PinLine, one: &PinAt) -> FitRow

@@ -8,12 +8,12 @@ use crate::bits::bit_key;
 use crate::keys::TakenKey;
 use crate::pins::PinAt;
 use bsdl_lexicon::NameKey;
-use edge_io::{OutOfMemory, Text};
 use indexmap::IndexSet;
 use netlist_model::PinBit;
 use plan_fitting::FitFault;
 use plan_texts::{PinLine, Plan, TapLine};
 use std::alloc::Global;
+use texts::{OutOfMemory, Text};
 
 /// What a line takes: a physical pin, or a bit of a port with the word that names it.
 #[derive(Clone, Copy)]

@@ -1,4 +1,4 @@
-use edge_io::{OutOfMemory, Text};
+use texts::{OutOfMemory, Text};
 use thiserror::Error;
 
 /// Why bytes spell no plan; of several faults, the first by this order.
@@ -35,7 +35,7 @@ impl From<OutOfMemory> for PlanFault {
 }
 
 /// Why a line isn't read: it is none that may stand there, or memory was refused.
-#[derive(Debug, Drop)]
+#[derive(Drop)]
 pub enum LineFault {
     Line,
     OutOfMemory,

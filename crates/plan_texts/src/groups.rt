@@ -12,9 +12,9 @@ use crate::plan::{PinLine, TapLine};
 use crate::written::{CodeGroups, Codes, Names, Pins, Registers, TapLines, Written};
 use bsdl_device::OpcodeEntry;
 use cell_library::{Bits, BoundaryKind};
-use edge_io::{OutOfMemory, Row, Text};
 use line_texts::LineReader;
 use std::alloc::Global;
+use texts::{OutOfMemory, Row, Text};
 
 fn read_version(reader: &mut LineReader<'_>) -> Result<(), LineFault>
     ensures gives { Gives result reader.new.rows (line_at forms.version_line reader.old.rows) }

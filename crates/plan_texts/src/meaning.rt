@@ -11,8 +11,8 @@ use crate::rules::code_of;
 use crate::written::{CodeGroups, Codes, Names, Pins, Registers, TapLines, Written};
 use bsdl_device::OpcodeEntry;
 use cell_library::Opcode;
-use edge_io::{OutOfMemory, Row};
 use std::alloc::Global;
+use texts::{OutOfMemory, Row};
 
 fn typed(opcode: &OpcodeEntry) -> Option<Opcode>
     ensures { result ≡ meaning.typed opcode.now }

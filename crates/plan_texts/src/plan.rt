@@ -1,5 +1,5 @@
 use cell_library::{Bits, BoundaryKind, Opcode};
-use edge_io::{Row, Text};
+use texts::{Row, Text};
 
 /// A port beside the netlist's, of the test access port or for linkage, and its physical pin.
 #[derive(Debug, Drop)]
@@ -17,7 +17,7 @@ pub struct PinLine {
 }
 
 /// What is to be built into a netlist: the device's names and pins, its instructions, and a boundary cell for each pin line.
-#[derive(Debug, Drop)]
+#[derive(Drop)]
 pub struct Plan {
     pub entity: Text,
     /// The name of the pin map.

@@ -10,11 +10,11 @@ use crate::plan::{PinLine, Plan, TapLine};
 use bsdl_device::instruction_word;
 use bsdl_runs::written::{cell_word, put_bits, put_number, put_pattern};
 use cell_library::{Bits, Opcode};
-use edge_io::{OutOfMemory, Text};
 use line_texts::{
     put_five, put_four, put_three, put_two, rows_of_texts_are_rows, texts_of_rows_read_back,
 };
 use std::alloc::Global;
+use texts::{OutOfMemory, Text};
 
 fn pattern_word(alloc: Global, bits: Bits) -> Result<Text, OutOfMemory>
     ensures { IfOk result (λ word. word ≡ pattern_text bits) }

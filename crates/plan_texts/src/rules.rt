@@ -14,9 +14,9 @@ use bsdl_runs::opcodes::{
     bypass_is_not_ones, clash, code_is_barred, has_instruction, has_other_length,
 };
 use cell_library::{Bits, Instr};
-use edge_io::{OutOfMemory, Row, Text};
 use first_faults::first_repeated;
 use std::alloc::Global;
+use texts::{OutOfMemory, Row, Text};
 
 fn gather_names<'a>(alloc: Global, opcodes: &'a [OpcodeEntry]) -> Result<Vec<&'a [u8]>, OutOfMemory>
     ensures { IfOk result (λ names. texts names.items ≡ rules.names_of opcodes.now) }

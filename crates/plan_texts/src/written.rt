@@ -2,7 +2,7 @@
 use crate::plan::{PinLine, TapLine};
 use bsdl_device::OpcodeEntry;
 use cell_library::{Bits, BoundaryKind};
-use edge_io::{Row, Text};
+use texts::{Row, Text};
 
 /// The lines `entity`, `package` and `prefix`.
 #[derive(Drop)]

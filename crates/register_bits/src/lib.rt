@@ -22,7 +22,7 @@ use netlist_model::{Feed, NetId};
 
 /// What steers the bits of a shift stage: TCK, TRST, and nets that are 1 exactly where the register captures, and where it shifts, on
 /// the next rising edge of TCK.
-#[derive(Clone, Copy, Debug)]
+#[derive(Clone, Copy)]
 pub struct Steering {
     pub tck: NetId,
     pub trst: NetId,
@@ -31,7 +31,7 @@ pub struct Steering {
 }
 
 /// What steers bits that are held: TCK, TRST, and a net that is 1 exactly where they load on the next falling edge of TCK.
-#[derive(Clone, Copy, Debug)]
+#[derive(Clone, Copy)]
 pub struct Holding {
     pub tck: NetId,
     pub trst: NetId,

@@ -25,7 +25,7 @@ use Rattle.scan_vectors.specs.declared.lines.Line.TheVariants.{Start, Expect}
 use Rattle.scan_vectors.specs.Grammar.{pin_of}
 use Rattle.scan_vectors.specs.declared.lines.Lines.{Lines}
 use Rattle.scan_vectors.specs.Canonical.{canonical_lines, IsLines}
-use Rattle.edge_io.specs.declared.text.OutOfMemory.{OutOfMemory}
+use Rattle.texts.specs.declared.text.OutOfMemory.{OutOfMemory}
 use Rattle.scan_programs.specs.declared.clocks.Clock.{Clock}
 use Rattle.scan_programs.specs.declared.pins.Reader.{Reader}
 use Rattle.scan_programs.specs.Scans.{all_clocks}

@@ -11,13 +11,13 @@ use crate::clocks::Clock;
 use crate::lines::{put_pins, put_set, put_set_if, put_starts, put_tdo};
 use crate::pins::{Reader, readers};
 use bsdl_device::Device;
-use edge_io::{OutOfMemory, Row};
 use scan_vectors::Line;
 use signal_values::Sig;
 use std::alloc::Global;
 use std::marker::Model;
 use tap_machine::Machine;
 use test_logic::TapState;
+use texts::{OutOfMemory, Row};
 
 /// The test logic of a device, the levels of TMS and TDI, and the lines so far.
 #[derive(Drop)]

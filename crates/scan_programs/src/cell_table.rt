@@ -5,10 +5,10 @@ ghost use Rattle.bsdl_device.specs.IsDevice.{is_at};
 ghost use Rattle.scan_programs.specs.Tables.{key_of, same_key, is_key};
 
 use bsdl_device::{CellRow, DevBit};
-use edge_io::OutOfMemory;
 use indexmap::IndexMap;
 use std::alloc::Global;
 use std::marker::Model;
+use texts::OutOfMemory;
 
 /// A bit of a port as a key.
 #[derive(Clone, Copy, PartialEq, Eq, Hash)]

@@ -12,11 +12,11 @@ ghost use Rattle.scan_programs.specs.Fits.{AreInRange, IsInRange};
 
 use bsdl_device::{CellRow, Device, Disable};
 use cell_library::{BoundaryKind, Function, Instr};
-use edge_io::OutOfMemory;
 use signal_values::{PinSig, Sig, drive, join, mux, not, pin_of, see};
 use std::alloc::Global;
 use tap_machine::Machine;
 use test_logic::Mode;
+use texts::OutOfMemory;
 
 /// The control cell of a driver: the value there that disables the driver, its update bit, and the core's control.
 #[derive(Clone, Copy)]

@@ -6,8 +6,8 @@ ghost use Rattle.scan_programs.specs.Scans as scans;
 
 use bsdl_device::{Device, Register, selected_register};
 use cell_library::{Bits, Opcode};
-use edge_io::OutOfMemory;
 use std::alloc::Global;
+use texts::OutOfMemory;
 
 /// A cycle of TCK: up and down, with these levels of TMS and TDI.
 #[derive(Clone, Copy)]

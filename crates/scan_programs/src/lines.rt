@@ -10,11 +10,11 @@ ghost use Rattle.scan_programs.specs.Program as definition;
 use crate::cells::{bit, reading};
 use crate::pins::{Reader, bit_word, indices, port_word};
 use bsdl_device::{DevPort, Device, PortMode};
-use edge_io::{OutOfMemory, Row, Text};
 use scan_vectors::Line;
 use signal_values::{PinSig, pin_of};
 use std::alloc::Global;
 use tap_machine::Machine;
+use texts::{OutOfMemory, Row, Text};
 
 fn takes_start(port: &DevPort) -> bool
     ensures { result ≡ pins.takes_start port.now }

@@ -9,8 +9,8 @@ ghost use Rattle.scan_programs.specs.Pins as definition;
 use crate::cell_table::CellTable;
 use bsdl_device::{DevBit, DevPort, Device, PortMode, PortRange};
 use bsdl_runs::written::put_number;
-use edge_io::{OutOfMemory, Text};
 use std::alloc::Global;
+use texts::{OutOfMemory, Text};
 
 /// A bit that is read, by its word, and the number of the cell that stands there.
 #[derive(Drop)]

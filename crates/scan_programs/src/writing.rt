@@ -7,9 +7,9 @@ ghost use Rattle.scan_programs.specs.Runs.{after_clocks};
 use crate::bench::Bench;
 use crate::clocks::{Clock, all_clocks};
 use bsdl_device::Device;
-use edge_io::{OutOfMemory, Row};
 use scan_vectors::{Line, Lines};
 use std::alloc::Global;
+use texts::{OutOfMemory, Row};
 
 // The lines with the numbers that they have in their canonical text.
 fn numbered(alloc: Global, list: Row<Line>) -> Result<Lines, OutOfMemory>

@@ -7,12 +7,12 @@ ghost use Rattle.scan_stitch.specs.Ready.{IsBitInRange, IsRowInRange, AreBitsInR
 
 use bsdl_device::{CellRow, DevBit, DevPort, Device, Disable, PortMode, PortRange, Safe, Stop};
 use cell_library::Function;
-use edge_io::{OutOfMemory, Row, Text};
 use netlist_model::{Dir, PinBit, Range};
 use plan_fitting::copies::{opcodes_copy, text_copy};
 use plan_fitting::{FitPort, FitRow, Fitted};
 use plan_texts::TapLine;
 use std::alloc::Global;
+use texts::{OutOfMemory, Row, Text};
 
 fn copy_texts(alloc: Global, texts: &[Text]) -> Result<Row<Text>, OutOfMemory>
     ensures { IfOk result (λ copies. copies ≡ texts.now) }

@@ -4,11 +4,11 @@ ghost use Rattle.std.specs.Prelude.{◌≡◌, Some};
 ghost use Rattle.link_model.specs.Denoted.{name_bytes};
 ghost use Rattle.stitch_names.specs.Prepared.{AreTapNames, HasEntered, IsEntered};
 
-use edge_io::Text;
 use netlist_link::Linked;
 use netlist_model::Name;
 use plan_fitting::Fitted;
 use stitch_model::TapNames;
+use texts::Text;
 
 // The name of the table with these bytes.
 fn name_of(linked: &Linked, bytes: &Text) -> Name

@@ -5,10 +5,10 @@ ghost use Rattle.netlist_arena.specs.Room.{too_many};
 ghost use Rattle.scan_stitch.specs.Ready.{IsSmall, HasTapNames};
 ghost use Rattle.stitch_names.specs.Prepared.{room_of, ports_of, with_tap_names, prepared};
 
-use edge_io::OutOfMemory;
 use netlist_arena::ReserveFault;
 use netlist_link::Linked;
 use plan_fitting::Fitted;
+use texts::OutOfMemory;
 
 /// How many cells, and how many nets, are reserved for the test logic.
 pub fn room(fitted: &Fitted) -> (u32, u32)

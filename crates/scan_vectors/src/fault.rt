@@ -1,5 +1,5 @@
-use edge_io::OutOfMemory;
 use netlist_model::What;
+use texts::OutOfMemory;
 use thiserror::Error;
 
 /// Why bytes spell no event lines; of several faults, that of the first line in the text.

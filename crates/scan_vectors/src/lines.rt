@@ -1,8 +1,8 @@
-use edge_io::{Row, Text};
 use signal_values::PinSig;
+use texts::{Row, Text};
 
 /// What an event line does with its pin.
-#[derive(Clone, Copy, Debug, PartialEq, Eq)]
+#[derive(Clone, Copy, PartialEq, Eq)]
 pub enum Act {
     Start,
     Set,
@@ -10,7 +10,7 @@ pub enum Act {
 }
 
 /// An event line; the pin is the word as it stands in the text.
-#[derive(Debug, Drop)]
+#[derive(Drop)]
 pub enum Line {
     Start { pin: Text, value: PinSig },
     Set { pin: Text, value: PinSig },
@@ -19,7 +19,7 @@ pub enum Line {
 
 /// The event lines of a text, the number of each, and the number of the line after the text's last. Lines are counted
 /// from 1, those that are skipped too.
-#[derive(Debug, Drop)]
+#[derive(Drop)]
 pub struct Lines {
     pub list: Row<Line>,
     pub numbers: Row<u64>,

@@ -5,10 +5,10 @@ ghost use Rattle.scan_vectors.specs.Canonical.{canonical_words, canonical_text, 
 ghost use Rattle.line_texts.specs.Rows.{row_text, rows_text};
 
 use crate::lines::{Act, Line, Lines};
-use edge_io::{OutOfMemory, Text};
 use line_texts::{put_three, texts_of_rows_read_back};
 use signal_values::{PinSig, show};
 use std::alloc::Global;
+use texts::{OutOfMemory, Text};
 
 fn act_word(act: Act) -> &'static [u8]
     ensures { result.now ≡ grammar.act_word act }

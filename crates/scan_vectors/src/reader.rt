@@ -5,10 +5,10 @@ ghost use Rattle.scan_vectors.specs.Faults as faults;
 use crate::fault::EventFault;
 use crate::form::{Form, form_of};
 use crate::lines::{Act, Line, Lines};
-use edge_io::{OutOfMemory, Row, Text};
 use netlist_model::What;
 use signal_values::PinSig;
 use std::alloc::Global;
+use texts::{OutOfMemory, Row, Text};
 
 const LIMIT: usize = 1_000_000;
 

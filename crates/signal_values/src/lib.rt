@@ -10,7 +10,7 @@ ghost use Rattle.signal_values.specs.Known.{NotOfKnown, AndOfKnown, OrOfKnown, X
 ghost use Rattle.signal_values.specs.Joined.{JoinIsCommutative, JoinIsAssociative, JoinOfEqual, JoinOfHighZ, ReadsShown, ReadsOnlyShown};
 
 /// What a net inside a chip carries.
-#[derive(Clone, Copy, Debug, PartialEq, Eq)]
+#[derive(Clone, Copy, PartialEq, Eq)]
 pub enum Sig {
     Zero,
     One,

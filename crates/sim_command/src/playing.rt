@@ -10,8 +10,8 @@ ghost use Rattle.sim_command.specs.Faults.{StandsInPlay};
 ghost use Rattle.sim_command.specs.Runs.{GaveInPlay, IsPlayed};
 
 use command_faults::{Fault, Status};
+use edge_io::Text;
 use edge_io::sink::Sink;
-use edge_io::text::Text;
 use event_scripts::resolve;
 use netlist_link::{Linked, link};
 use scan_vectors::read_events;

@@ -10,7 +10,7 @@ use signal_values::PinSig;
 use std::alloc::Global;
 
 /// An output or inout bit with its net.
-#[derive(Clone, Copy, Debug)]
+#[derive(Clone, Copy)]
 pub struct Shown {
     pub pin: PinBit,
     pub net: NetId,

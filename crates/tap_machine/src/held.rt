@@ -11,10 +11,10 @@ use crate::logic::Logic;
 use crate::opcodes::instruction_of;
 use bsdl_device::{Register, selected_register};
 use cell_library::{Instr, Opcode};
-use edge_io::OutOfMemory;
 use signal_values::{PinSig, Sig};
 use std::alloc::Global;
 use test_logic::TapState;
+use texts::OutOfMemory;
 
 /// What the test logic holds between two edges of TCK.
 #[derive(Drop)]

@@ -8,9 +8,9 @@ use crate::opcodes::reset_opcode;
 use crate::patterns::{bits_of, pattern};
 use bsdl_device::{CellRow, Device};
 use cell_library::{BoundaryKind, Opcode};
-use edge_io::OutOfMemory;
 use signal_values::Sig;
 use std::alloc::Global;
+use texts::OutOfMemory;
 
 /// What a device says of its test logic, which no event changes.
 #[derive(Drop)]

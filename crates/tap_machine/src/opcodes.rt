@@ -5,10 +5,10 @@ ghost use Rattle.test_logic.specs.Instructions as definition;
 
 use crate::patterns::{are_bits, pattern};
 use cell_library::{Instr, Opcode};
-use edge_io::OutOfMemory;
 use signal_values::Sig;
 use std::alloc::Global;
 use test_logic::{Mode, opcode_of};
+use texts::OutOfMemory;
 
 /// What an instruction makes of the boundary cells.
 pub fn mode_of(instruction: Instr) -> Mode

@@ -1,5 +1,5 @@
 /// A symbol of one byte.
-#[derive(Clone, Copy, Debug, Drop, PartialEq, Eq)]
+#[derive(Clone, Copy, Drop, PartialEq, Eq)]
 pub enum Symbol {
     /// `(`
     LeftParenthesis,

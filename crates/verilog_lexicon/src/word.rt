@@ -1,9 +1,9 @@
 use crate::reserved::Reserved;
 use crate::symbol::Symbol;
-use edge_io::Text;
+use texts::Text;
 
 /// A word of a text (IEEE Std 1364-2001, lexical conventions).
-#[derive(Debug, Drop)]
+#[derive(Drop)]
 pub enum Word {
     /// A simple name that isn't reserved, or an escaped name without its backslash and blank: the same bytes are the same name.
     Name(Text),
@@ -16,7 +16,7 @@ pub enum Word {
 }
 
 /// A word with its place in the text and its length, in bytes; an escaped name's has the backslash and the blank.
-#[derive(Debug, Drop)]
+#[derive(Drop)]
 pub struct Spanned {
     pub word: Word,
     pub at: u64,

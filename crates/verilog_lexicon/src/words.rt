@@ -9,14 +9,14 @@ ghost use Rattle.verilog_lexicon.specs.declared.word.Word.{Word};
 use crate::keywords::reserved_of;
 use crate::reserved::Reserved;
 use crate::symbol::Symbol;
-use edge_io::OutOfMemory;
 use std::alloc::Global;
 use std::marker::Model;
 use std::mem::size_of;
+use texts::OutOfMemory;
 
 // What a word is, and its length in the text where its kind doesn't say it. Of a name stand the offset and the count of its
 // bytes among those of all names; an escaped one takes two bytes more in the text.
-#[derive(Clone, Copy, Debug, Drop)]
+#[derive(Clone, Copy, Drop)]
 enum Mark {
     Name { count: u16, from: u32 },
     EscapedName { count: u16, from: u32 },
@@ -26,7 +26,7 @@ enum Mark {
     Symbol(Symbol),
 }
 
-#[derive(Clone, Copy, Debug, Drop)]
+#[derive(Clone, Copy, Drop)]
 struct Entry {
     at: u32,
     mark: Mark,

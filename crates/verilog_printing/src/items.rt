@@ -5,7 +5,7 @@ ghost use Rattle.verilog_tree.specs.Spelling as words;
 ghost use Rattle.verilog_tree.specs.Canonical as text_of;
 
 use crate::names::{put_name, put_number};
-use edge_io::{OutOfMemory, Text};
+use texts::{OutOfMemory, Text};
 use verilog_lexicon::Reserved;
 use verilog_tree::{Bit, Gate, GateKind, Instance, Item, Link, Operand};
 

@@ -3,8 +3,8 @@ ghost use Rattle.std.specs.Prelude.{◌≡◌, ◌++◌, OnOk};
 ghost use Rattle.std.specs.Fmt.{decimal};
 ghost use Rattle.verilog_tree.specs.Canonical as text_of;
 
-use edge_io::{OutOfMemory, Text};
 use itoa::Buffer;
+use texts::{OutOfMemory, Text};
 use verilog_lexicon::keywords::{is_simple_name, reserved_of};
 
 fn is_plain(name: &[u8]) -> bool

@@ -6,8 +6,8 @@ ghost use Rattle.verilog_tree.specs.Texts.{SpellsText};
 use crate::items::put_items;
 use crate::names::put_name;
 use crate::ports::{put_ports, put_wires};
-use edge_io::{OutOfMemory, Text};
 use std::alloc::Global;
+use texts::{OutOfMemory, Text};
 use verilog_conditions::spelled_trees_keep_the_conditions;
 use verilog_tree::Module;
 

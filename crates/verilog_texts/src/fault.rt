@@ -1,7 +1,7 @@
 ghost use Rattle.std.specs.Prelude.{◌≡◌};
 ghost use Rattle.verilog_texts.specs.TextFaults.{word_fault, syntax_fault, memory_fault};
 
-use edge_io::OutOfMemory;
+use texts::OutOfMemory;
 use thiserror::Error;
 use verilog_modules::SyntaxFault;
 use verilog_words::WordFault;

@@ -4,8 +4,8 @@ ghost use Rattle.verilog_texts.specs.TextFaults.{IsTextFault, IsModuleFault};
 
 use crate::fault::TextFault;
 use crate::laws::bytes_spell_one_tree;
-use edge_io::Text;
 use std::alloc::Global;
+use texts::Text;
 use verilog_conditions::spelled_trees_keep_the_conditions;
 use verilog_lexicon::Words;
 use verilog_modules::parse_module;

@@ -1,4 +1,4 @@
-use edge_io::{Row, Text};
+use texts::{Row, Text};
 
 /// The direction of a port.
 #[derive(Clone, Copy, Debug, Drop, PartialEq, Eq)]
@@ -24,14 +24,14 @@ pub struct Port {
 }
 
 /// A wire that is no port; a scalar has no range.
-#[derive(Debug, Drop)]
+#[derive(Drop)]
 pub struct Wire {
     pub name: Text,
     pub range: Option<Range>,
 }
 
 /// The gate primitives of the profile.
-#[derive(Clone, Copy, Debug, Drop, PartialEq, Eq)]
+#[derive(Clone, Copy, Drop, PartialEq, Eq)]
 pub enum GateKind {
     And,
     Or,
@@ -46,21 +46,21 @@ pub enum GateKind {
 }
 
 /// A scalar net, a one-bit vector by its name alone, or the bit of a vector that has the index.
-#[derive(Debug, Drop)]
+#[derive(Drop)]
 pub struct Bit {
     pub net: Text,
     pub index: Option<u32>,
 }
 
 /// What a cell reads.
-#[derive(Debug, Drop)]
+#[derive(Drop)]
 pub enum Operand {
     Bit(Bit),
     Const(bool),
 }
 
 /// A primitive gate: one input for `buf` and `not`, data and control for `bufif0` and `bufif1`, one or more for the others.
-#[derive(Debug, Drop)]
+#[derive(Drop)]
 pub struct Gate {
     pub kind: GateKind,
     pub name: Option<Text>,
@@ -69,14 +69,14 @@ pub struct Gate {
 }
 
 /// A named connection of a cell's port; an empty one has no operand.
-#[derive(Debug, Drop)]
+#[derive(Drop)]
 pub struct Link {
     pub port: Text,
     pub operand: Option<Operand>,
 }
 
 /// A library cell and its named connections.
-#[derive(Debug, Drop)]
+#[derive(Drop)]
 pub struct Instance {
     pub cell: Text,
     pub name: Text,
@@ -84,7 +84,7 @@ pub struct Instance {
 }
 
 /// One item of a module; lists of gates, instances and assignments are single items in order.
-#[derive(Debug, Drop)]
+#[derive(Drop)]
 pub enum Item {
     Gate(Gate),
     Instance(Instance),
@@ -92,7 +92,7 @@ pub enum Item {
 }
 
 /// A module: its ports in the order of the header, the wires that are no ports, and its items, in order.
-#[derive(Debug, Drop)]
+#[derive(Drop)]
 pub struct Module {
     pub name: Text,
     pub ports: Row<Port>,

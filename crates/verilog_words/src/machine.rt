@@ -11,8 +11,8 @@ use crate::classes::{
     is_blank, is_digit, is_escaped_byte, is_whole, symbol_with,
 };
 use crate::mode::{Directive, Enclosure, Mode};
-use edge_io::Text;
 use std::alloc::Global;
+use texts::Text;
 use verilog_lexicon::keywords::{is_letter, is_name_byte};
 use verilog_lexicon::{Symbol, Words};
 use word_cutter::{CutFault, LineBytes, Machine, run_len, with_digit};

@@ -1,14 +1,14 @@
 ghost use Rattle.std.specs.Prelude.{◌≡◌};
 
 /// A part of a text that stars enclose.
-#[derive(Clone, Copy, Debug, Drop)]
+#[derive(Clone, Copy, Drop)]
 pub enum Enclosure {
     BlockComment,
     Attribute,
 }
 
 /// A compiler directive of the profile.
-#[derive(Clone, Copy, Debug, Drop)]
+#[derive(Clone, Copy, Drop)]
 pub enum Directive {
     Timescale,
     DefaultNettype,
@@ -17,7 +17,7 @@ pub enum Directive {
 }
 
 /// What was begun of the next piece of a text.
-#[derive(Clone, Copy, Debug, Drop)]
+#[derive(Clone, Copy, Drop)]
 pub enum Mode {
     Between,
     /// After `/`.

@@ -1,4 +1,4 @@
-use edge_io::OutOfMemory;
+use texts::OutOfMemory;
 use thiserror::Error;
 
 /// Why a text isn't cut.

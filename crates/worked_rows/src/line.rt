@@ -2,7 +2,7 @@ use edge_io::OutOfMemory;
 use std::alloc::AllocFailed;
 
 /// Why a line can't stand where it does.
-#[derive(Clone, Copy, Debug, Drop)]
+#[derive(Clone, Copy, Drop)]
 pub(crate) enum LineFault {
     /// It is no line of a table, or another has to come before it.
     BadLine,

@@ -1,6 +1,6 @@
 use Rattle.std.specs.Prelude.{ℕ, List}
-use Rattle.edge_io.specs.declared.text.Place.{Place}
-use Rattle.edge_io.specs.declared.text.Place.TheVariants.{Short, Long}
+use Rattle.texts.specs.declared.text.Place.{Place}
+use Rattle.texts.specs.declared.text.Place.TheVariants.{Short, Long}
 
 -- the bytes of a text, wherever they lie
 abbrev pub bytes_of : Place → List ℕ

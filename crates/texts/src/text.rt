@@ -53,7 +53,7 @@ impl Model for Text {
 
     ghost Value = { List ℕ };
 
-    ghost use Rattle.edge_io.specs.Places.{bytes_of};
+    ghost use Rattle.texts.specs.Places.{bytes_of};
 
     ghost view = { λ t. bytes_of t.place };
 }
