@@ -14,10 +14,9 @@ use Rattle.cell_library.proofs.CellLaws.{is_known-gate_output}
 use Rattle.netlist_model.specs.declared.Feed.{Feed}
 use Rattle.netlist_model.specs.declared.Feed.TheVariants.{Net, Const}
 use Rattle.netlist_model.specs.Lists.{CellView, NetlistView, direction, Drives, Reads}
-use Rattle.netlist_model.specs.Settled.{feed_values, cell_value, follows_pin}
+use Rattle.netlist_model.specs.Settled.{feed_values, cell_value, follows_pin, Meets}
 use Rattle.netlist_model.specs.Cones.{GateReads, InCone, itself, behind, FlopReads, IsControlNet, IsControlPort}
 use Rattle.netlist_model.specs.Formed.{IsDriven, IsWellFormed}
-use Rattle.netlist_laws.specs.Controls.{ControlsKnownUnder, ControlsOnce}
 use Rattle.netlist_laws.proofs.Search.{cell_at_once}
 use Rattle.netlist_laws.proofs.Carried.{HoldsBelow, carried}
 use Rattle.netlist_laws.proofs.Once.{feeds_below_at, agree_inside}
@@ -100,7 +99,9 @@ length-feed_values : (v : ℕ → Sig) (feeds : List Feed) → length (feed_valu
 length-feed_values v [] = refl
 length-feed_values v (f ∷ feeds) = ap suc (length-feed_values v feeds)
 
-pub controls_known_under : ControlsKnownUnder
+-- own: under any rule that gives control ports 0 or 1, each net in the cone of a clock, clear or preset operand is 0 or 1
+pub controls_known_under : (N : NetlistView) (given : (ℕ → Sig) → ℕ → Sig) (state value : ℕ → Sig) → IsWellFormed N → Meets N given state value
+    → ((net : ℕ) → IsControlPort N net → IsKnown (given value net)) → (net : ℕ) → IsControlNet N net → IsKnown (value net)
 controls_known_under N given state value formed meets ports =
     carried N (IsControlNet N) (λ a b. IsKnown a) formed.ordered.0 given given state state value value
     (record {
@@ -128,7 +129,8 @@ controls_known_under N given state value formed meets ports =
         (is_known-gate_output cell.kind (feed_values value cell.feeds) (two_state cell.kind gate two) count known)
 
 -- control nets hang on control ports alone
-pub controls_once : ControlsOnce
+pub controls_once : (N : NetlistView) (given given' : (ℕ → Sig) → ℕ → Sig) (state state' v v' : ℕ → Sig) → IsWellFormed N → Meets N given state v → Meets N given' state' v'
+    → ((net : ℕ) → IsControlPort N net → given v net ≡ given' v' net) → (net : ℕ) → IsControlNet N net → v net ≡ v' net
 controls_once N given given' state state' v v' formed a b ports net c =
     agree_inside N (IsControlNet N) formed.ordered.0 given given' state state' v v' formed.ordered.1 (control_closed N)
     (λ i cell kind n d here e. absurd (control_no_flop N i cell kind n formed d here e))

@@ -8,10 +8,10 @@ use Rattle.cell_library.specs.declared.Kind.{Kind}
 use Rattle.cell_library.specs.declared.Kind.TheVariants.{Flop}
 use Rattle.netlist_model.specs.declared.Feed.{Feed}
 use Rattle.netlist_model.specs.Lists.{CellView, NetlistView, direction, Drives, IsUndriven}
-use Rattle.netlist_model.specs.Settled.{feed_values, cell_value, follows_pin}
+use Rattle.netlist_model.specs.Settled.{feed_values, cell_value, follows_pin, Meets}
 use Rattle.cell_library.specs.Gates.{is_flop}
 use Rattle.netlist_model.specs.Formed.{FeedsBelow, IsNumbered}
-use Rattle.netlist_laws.specs.Settle.{IsCausal, IsDrivenOnce, MeetsExists}
+use Rattle.netlist_laws.specs.Settle.{IsCausal, IsDrivenOnce}
 use Rattle.netlist_laws.proofs.Search.{Found, NoneDrives, search_driver, flop_or_gate, cell_at_once}
 use Rattle.netlist_laws.proofs.Once.{feeds_below_at, feed_values_same}
 
@@ -98,7 +98,9 @@ inside_value-undriven : (N : NetlistView) (state v : ℕ → Sig) (net : ℕ) �
 inside_value-undriven N state v net none (inr x) = refl
 inside_value-undriven N state v net none (inl f) = absurd (none f.number f.cell f.live f.output)
 
-pub meets_exists : MeetsExists
+-- own: some valuation meets them, where no net has two drivers
+pub meets_exists : (N : NetlistView) (rank : ℕ → ℕ) (given : (ℕ → Sig) → ℕ → Sig) (state : ℕ → Sig)
+    → IsNumbered N rank → IsCausal N rank given → IsDrivenOnce N → (value : ℕ → Sig) × Meets N given state value
 meets_exists N rank given state numbered causal once =
     let V : ℕ → Sig = last_value N rank given state in
     let at : (net : ℕ) → V net ≡ net_value N given state V net = fixed N rank given state numbered causal in (

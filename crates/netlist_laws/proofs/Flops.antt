@@ -16,8 +16,10 @@ use Rattle.netlist_model.specs.declared.Feed.TheVariants.{Net, Const}
 use Rattle.netlist_model.specs.Lists.{CellView, NetlistView, cell_at}
 use Rattle.netlist_model.specs.Settled.{feed_values}
 use Rattle.netlist_model.specs.Cones.{itself, FlopReads, IsControlNet}
-use Rattle.netlist_laws.specs.Runs.{FlopsStartOnce, FlopsStepOnce}
+use Rattle.netlist_laws.specs.Runs.{SameControlNets}
 use Rattle.netlist_laws.proofs.Once.{feed_values_same}
+use Rattle.netlist_model.specs.Runs.{FlopsStart, FlopsStep}
+use Rattle.netlist_laws.specs.Settle.{SameFlops}
 
 -- an operand has the same value where the net that it reads has
 pub operand_same : (v v' : ℕ → Sig) (feeds : List Feed) (k : ℕ) → ((net : ℕ) → slice_get feeds k ≡ Some (Net (record { 0 = net })) → v net ≡ v' net)
@@ -76,14 +78,18 @@ pub flop_next-after : (kind : FlopKind) (before before' after after' : List Sig)
     → operand after 2 ≡ operand after' 2 → kept ≡ kept' → flop_next kind before after kept ≡ flop_next kind before' after' kept'
 flop_next-after kind before before' after after' kept kept' same clock reset e = rw (same, clock, reset, e) refl
 
-pub flops_start_once : FlopsStartOnce
+-- own: of the nets, a start hangs on control nets alone
+pub flops_start_once : (N : NetlistView) (given given' value value' state state' : ℕ → Sig) → SameFlops N given given' → SameControlNets N value value'
+    → FlopsStart N given value state → FlopsStart N given' value' state' → SameFlops N state state'
 flops_start_once N given given' value value' state state' same controls a b i cell kind live flop =
     a.each i cell kind live flop
     ∙ flop_start-same kind (feed_values value cell.feeds) (feed_values value' cell.feeds) (given i) (given' i)
     (reset_same N i cell kind value value' live flop controls) (same i cell kind live flop)
     ∙ sym (b.each i cell kind live flop)
 
-pub flops_step_once : FlopsStepOnce
+-- own: of the nets after it, a step hangs on control nets alone
+pub flops_step_once : (N : NetlistView) (before before' after after' state state' next next' : ℕ → Sig) → ((net : ℕ) → before net ≡ before' net)
+    → SameControlNets N after after' → SameFlops N state state' → FlopsStep N before after state next → FlopsStep N before' after' state' next' → SameFlops N next next'
 flops_step_once N before before' after after' state state' next next' values controls same a b i cell kind live flop =
     a.each i cell kind live flop
     ∙ flop_next-after kind (feed_values before cell.feeds) (feed_values before' cell.feeds) (feed_values after cell.feeds) (feed_values after' cell.feeds) (state i) (state' i)

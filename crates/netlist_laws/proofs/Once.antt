@@ -13,7 +13,6 @@ use Rattle.netlist_model.specs.Lists.{CellView, NetlistView, direction, Drives}
 use Rattle.netlist_model.specs.Settled.{feed_values, cell_value, follows_pin, Meets}
 use Rattle.netlist_model.specs.Cones.{GateReads}
 use Rattle.netlist_model.specs.Formed.{FeedsBelow, IsNumbered}
-use Rattle.netlist_laws.specs.Settle.{MeetsOnce, MeetsOnceInside}
 use Rattle.netlist_laws.proofs.Carried.{HoldsBelow, carried}
 
 -- the net of an operand has a smaller number
@@ -63,14 +62,3 @@ agree_inside N C rank given given' state state' v v' numbered closed flops pins 
       undriven = λ net here g none. refl;
     })
     a b
-
-pub meets_once : MeetsOnce
-meets_once N rank given state v v' numbered causal a b net =
-    agree_inside N (λ n. Unit {0}) rank given given state state v v' numbered (λ n other here reads. tt) (λ i cell kind n d here e. refl)
-    (λ n here g lower. causal.below n g v v' (λ other less. lower other tt less)) a b net tt
-
-pub meets_once_inside : MeetsOnceInside
-meets_once_inside N inside rank given given' state state' v v' numbered closed agree a b net here =
-    agree_inside N (λ n. inside n ≡ true) rank given given' state state' v v' numbered closed.gates
-    (λ i cell kind n d there e. absurd (closed.flops i cell kind n d there e))
-    (λ n there g lower. agree.below n there g v v' lower) a b net here

@@ -9,22 +9,12 @@ use Rattle.netlist_model.specs.Lists.{CellView, NetlistView}
 use Rattle.netlist_model.specs.Settled.{feed_values, IsSettled}
 use Rattle.netlist_model.specs.Cones.{IsControlNet, IsControlPort}
 use Rattle.netlist_model.specs.Formed.{IsWellFormed}
-use Rattle.netlist_model.specs.Runs.{Moment, PinEvent, IsKnownPin, FlopsStart, FlopsStep, IsLegal, IsStep, IsRun}
+use Rattle.netlist_model.specs.Runs.{Moment, PinEvent, IsKnownPin, IsLegal, IsStep, IsRun}
 use Rattle.netlist_laws.specs.Settle.{SamePins, SameFlops}
 
 -- own: what clocks, clears or presets flip-flops is the same
 abbrev pub SameControlNets : NetlistView → (ℕ → Sig) → (ℕ → Sig) → Type 0
 SameControlNets N v v' = (net : ℕ) → IsControlNet N net → v net ≡ v' net
-
--- own: of the nets, a start hangs on control nets alone
-abbrev pub FlopsStartOnce : Type 0
-FlopsStartOnce = (N : NetlistView) (given given' value value' state state' : ℕ → Sig) → SameFlops N given given' → SameControlNets N value value'
-    → FlopsStart N given value state → FlopsStart N given' value' state' → SameFlops N state state'
-
--- own: of the nets after it, a step hangs on control nets alone
-abbrev pub FlopsStepOnce : Type 0
-FlopsStepOnce = (N : NetlistView) (before before' after after' state state' next next' : ℕ → Sig) → ((net : ℕ) → before net ≡ before' net)
-    → SameControlNets N after after' → SameFlops N state state' → FlopsStep N before after state next → FlopsStep N before' after' state' next' → SameFlops N next next'
 
 -- own: what a cell holds at a start, where the nets have these values: a flip-flop its start value, and a gate what is given
 abbrev pub kind_start : Kind → List Sig → Sig → Sig

@@ -1,13 +1,12 @@
 -- A netlist has exactly one valuation that meets its equations.
-use Rattle.std.specs.Prelude.{◌≡◌, ℕ, ◌<◌, Bool, true, Some}
+use Rattle.std.specs.Prelude.{◌≡◌, ℕ, ◌<◌, true, Some}
 use Rattle.signal_values.specs.declared.Sig.{Sig}
 use Rattle.signal_values.specs.declared.PinSig.{PinSig}
 use Rattle.cell_library.specs.declared.Kind.TheVariants.{Flop}
 use Rattle.cell_library.specs.declared.FlopKind.{FlopKind}
 use Rattle.netlist_model.specs.Lists.{CellView, NetlistView, cell_at, direction, Drives}
-use Rattle.netlist_model.specs.Settled.{follows_pin, Meets, IsSettled}
-use Rattle.netlist_model.specs.Cones.{GateReads}
-use Rattle.netlist_model.specs.Formed.{IsNumbered, IsWellFormed}
+use Rattle.netlist_model.specs.Settled.{follows_pin, IsSettled}
+use Rattle.netlist_model.specs.Formed.{IsWellFormed}
 
 -- own: what the rule gives the net of a pin hangs on nets with smaller numbers alone
 pub record IsCausal (N : NetlistView) (rank : ℕ → ℕ) (given : (ℕ → Sig) → ℕ → Sig) : Type 0 where
@@ -17,16 +16,6 @@ pub record IsCausal (N : NetlistView) (rank : ℕ → ℕ) (given : (ℕ → Sig
 -- own: no net has two drivers
 abbrev pub IsDrivenOnce : NetlistView → Type 0
 IsDrivenOnce N = (i j : ℕ) (cell other : CellView) (net : ℕ) → Drives N i cell net → Drives N j other net → i ≡ j
-
--- own: at most one valuation meets the equations, under any rule that is causal for a numbering of the gates
-abbrev pub MeetsOnce : Type 0
-MeetsOnce = (N : NetlistView) (rank : ℕ → ℕ) (given : (ℕ → Sig) → ℕ → Sig) (state v v' : ℕ → Sig)
-    → IsNumbered N rank → IsCausal N rank given → Meets N given state v → Meets N given state v' → (net : ℕ) → v net ≡ v' net
-
--- own: some valuation meets them, where no net has two drivers
-abbrev pub MeetsExists : Type 0
-MeetsExists = (N : NetlistView) (rank : ℕ → ℕ) (given : (ℕ → Sig) → ℕ → Sig) (state : ℕ → Sig)
-    → IsNumbered N rank → IsCausal N rank given → IsDrivenOnce N → (value : ℕ → Sig) × Meets N given state value
 
 -- own: the pins of input and inout bits are the same
 abbrev pub SamePins : NetlistView → (ℕ → PinSig) → (ℕ → PinSig) → Type 0
@@ -44,19 +33,3 @@ SettledExists = (N : NetlistView) → IsWellFormed N → (pins : ℕ → PinSig)
 abbrev pub SettledOnce : Type 0
 SettledOnce = (N : NetlistView) → IsWellFormed N → (pins pins' : ℕ → PinSig) (state state' v v' : ℕ → Sig)
     → SamePins N pins pins' → SameFlops N state state' → IsSettled N pins state v → IsSettled N pins' state' v' → (net : ℕ) → v net ≡ v' net
-
--- own: what a gate on a net of the set reads is of the set, and no flip-flop drives such a net
-pub record IsClosed (N : NetlistView) (inside : ℕ → Bool) : Type 0 where
-  pub gates : (net other : ℕ) → inside net ≡ true → GateReads N net other → inside other ≡ true
-  pub flops : (i : ℕ) (cell : CellView) (kind : FlopKind) (net : ℕ) → Drives N i cell net → inside net ≡ true → cell.kind ≡ Flop kind → ⊥
-
--- own: two rules give the nets of pins in the set the same, as far as they may hang on nets of the set with smaller numbers
-pub record AgreeInside (N : NetlistView) (inside : ℕ → Bool) (rank : ℕ → ℕ) (given given' : (ℕ → Sig) → ℕ → Sig) : Type 0 where
-  pub below : (net : ℕ) → inside net ≡ true → follows_pin (direction N.ports net) ≡ true → (v v' : ℕ → Sig)
-      → ((other : ℕ) → inside other ≡ true → rank other < rank net → v other ≡ v' other) → given v net ≡ given' v' net
-
--- own: on a closed set of nets the flip-flops have no say
-abbrev pub MeetsOnceInside : Type 0
-MeetsOnceInside = (N : NetlistView) (inside : ℕ → Bool) (rank : ℕ → ℕ) (given given' : (ℕ → Sig) → ℕ → Sig) (state state' v v' : ℕ → Sig)
-    → IsNumbered N rank → IsClosed N inside → AgreeInside N inside rank given given' → Meets N given state v → Meets N given' state' v'
-    → (net : ℕ) → inside net ≡ true → v net ≡ v' net
