@@ -7,19 +7,20 @@ use Rattle.netlist_model.specs.declared.Feed.TheVariants.{Net, Const}
 use Rattle.netlist_model.specs.declared.Name.{Name}
 use Rattle.netlist_model.specs.declared.NetId.{NetId}
 use Rattle.netlist_model.specs.Lists.{PortView, CellView, NetlistView, cell_at, direction}
-use Rattle.netlist_model.specs.Formed.{IsDriven, IsCombinational, FeedsBelow}
+use Rattle.netlist_model.specs.Formed.{IsDriven, IsCombinational, FeedsBelow, IsWellFormed}
 use Rattle.std.specs.Option.{option_map}
 use Rattle.std.specs.Prelude.{Option}
 use Rattle.netlist_laws.proofs.Search.{cell_at_once}
 use Rattle.netlist_images.specs.Nested.{renamed_net, renamed_feed, renamed_cell, Nested}
-use Rattle.netlist_images.specs.Renumbering.{ArePortImages}
-use Rattle.netlist_images.specs.RenumberedLaws.{CopyIsRenumbering, RenumberedBits, RenumberedNests, RenumberingTurns, RenumberedIsFormed}
+use Rattle.netlist_images.specs.Renumbering.{ArePortImages, IsRenumbering}
+use Rattle.netlist_images.specs.RenumberedLaws.{CopyIsRenumbering, RenumberedBits, RenumberingTurns}
 use Rattle.netlist_images.proofs.Numbers.{length-mapped, copied_direction, copied_bit, copied_nested, drives_over, reads_over, driven_over, control_over}
 
 pub renumbering_turns : RenumberingTurns
 renumbering_turns N M to at r = record { back = to; from = at; there = r.here; here = r.there }
 
-pub renumbered_nested : RenumberedNests
+-- own: so N is nested in M
+pub renumbered_nested : (N M : NetlistView) (to at : ℕ → ℕ) → IsRenumbering N M to at → Nested N M to at
 renumbered_nested N M to at r = copied_nested N M to at r.back r.from r.there r.here
 
 below_back : (back rank : ℕ → ℕ) (feeds : List Feed) (bound : ℕ) → FeedsBelow rank (map (renamed_feed back) feeds) bound → FeedsBelow (λ n. rank (back n)) feeds bound
@@ -32,7 +33,8 @@ combinational_over : (N M : NetlistView) (to at : ℕ → ℕ) → Nested N M to
 combinational_over N M to at n dirs net (inl e) = inl (dirs net ∙ e)
 combinational_over N M to at n dirs net (inr d) = inr (driven_over N M to at n net d.0, d.1, λ e. d.2 (sym (dirs net) ∙ e))
 
-pub renumbered_is_formed : RenumberedIsFormed
+-- own: what is numbered anew stays well formed
+pub renumbered_is_formed : (N M : NetlistView) (to at : ℕ → ℕ) → IsRenumbering N M to at → IsWellFormed N → IsWellFormed M
 renumbered_is_formed N M to at r formed =
     let back = r.back in
     let from = r.from in

@@ -6,9 +6,10 @@ use Rattle.cell_library.specs.Flops.{flop_next, flop_start}
 use Rattle.netlist_model.specs.declared.Feed.{Feed}
 use Rattle.netlist_model.specs.declared.Feed.TheVariants.{Net, Const}
 use Rattle.netlist_model.specs.declared.NetId.{NetId}
-use Rattle.netlist_model.specs.Settled.{feed_values, cell_value}
-use Rattle.netlist_images.specs.Nested.{renamed_feed, renamed_net, renamed_cell}
-use Rattle.netlist_images.specs.NestedLaws.{NestedMeets, NestedStarts, NestedSteps}
+use Rattle.netlist_model.specs.Settled.{feed_values, cell_value, Meets}
+use Rattle.netlist_images.specs.Nested.{renamed_feed, renamed_net, renamed_cell, Nested}
+use Rattle.netlist_model.specs.Lists.{NetlistView}
+use Rattle.netlist_model.specs.Runs.{FlopsStart, FlopsStep}
 
 pub feeds_renamed : (to : ℕ → ℕ) (v : ℕ → Sig) (feeds : List Feed) → feed_values v (map (renamed_feed to) feeds) ≡ feed_values (λ n. v (to n)) feeds
 feeds_renamed to v [] = refl
@@ -18,7 +19,9 @@ feeds_renamed to v (Const b ∷ feeds) = let e = feeds_renamed to v feeds in cc
 pub output_renamed : (to : ℕ → ℕ) (output : Option NetId) (net : ℕ) → output ≡ Some (record { 0 = net }) → option_map (renamed_net to) output ≡ Some (record { 0 = to net })
 output_renamed to output net e = rw e refl
 
-pub nested_meets : NestedMeets
+-- own: what is nested meets its own equations, where its pins' nets have what the other netlist gives them
+pub nested_meets : (N M : NetlistView) (to at : ℕ → ℕ) (given : (ℕ → Sig) → ℕ → Sig) (state value : ℕ → Sig) → Nested N M to at
+    → Meets M given state value → Meets N (λ v net. value (to net)) (λ i. state (at i)) (λ net. value (to net))
 nested_meets N M to at given state value nested meets = record {
   pins = λ net g. refl;
   cells = λ i cell net drives g.
@@ -28,7 +31,9 @@ nested_meets N M to at given state value nested meets = record {
   undriven = λ net g none. meets.undriven (to net) (nested.inside net g) (nested.undriven net g none);
 }
 
-pub nested_steps : NestedSteps
+-- own: and step as they do
+pub nested_steps : (N M : NetlistView) (to at : ℕ → ℕ) (before after state next : ℕ → Sig) → Nested N M to at → FlopsStep M before after state next
+    → FlopsStep N (λ net. before (to net)) (λ net. after (to net)) (λ i. state (at i)) (λ i. next (at i))
 nested_steps N M to at before after state next nested step = record {
   each = λ i cell kind live is.
       let there = nested.cells i cell live in
@@ -37,7 +42,9 @@ nested_steps N M to at before after state next nested step = record {
       ∙ ap (λ xs. flop_next kind (feed_values (λ n. before (to n)) cell.feeds) xs (state (at i))) (feeds_renamed to after cell.feeds);
 }
 
-pub nested_starts : NestedStarts
+-- own: its flip-flops start as those of the other netlist
+pub nested_starts : (N M : NetlistView) (to at : ℕ → ℕ) (given value state : ℕ → Sig) → Nested N M to at → FlopsStart M given value state
+    → FlopsStart N (λ i. given (at i)) (λ net. value (to net)) (λ i. state (at i))
 nested_starts N M to at given value state nested start = record {
   each = λ i cell kind live is.
       let there = nested.cells i cell live in

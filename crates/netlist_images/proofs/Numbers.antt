@@ -3,16 +3,13 @@ use Rattle.std.proofs.Common.{◌≡◌, ℕ, zero, suc, ◌⊎◌, List, [], �
 use Rattle.std.specs.Prelude.{Option, Some, None, slice_get, ◌==◌}
 use Rattle.std.specs.Option.{option_map}
 use Rattle.std.proofs.lemmas.Bool.Decides.{eqb_tells}
-use Rattle.netlist_model.specs.declared.Feed.TheVariants.{Net, Const}
-use Rattle.netlist_model.specs.declared.Feed.{Feed}
-use Rattle.netlist_model.specs.declared.Name.{Name}
+use Rattle.netlist_model.specs.declared.Feed.TheVariants.{Net}
 use Rattle.netlist_model.specs.declared.NetId.{NetId}
 use Rattle.netlist_model.specs.Lists.{PortView, CellView, NetlistView, bit_net, is_among, direction, Drives, Reads}
 use Rattle.netlist_model.specs.Settled.{follows_pin}
 use Rattle.netlist_model.specs.Cones.{GateReads, InCone, itself, behind, FlopReads, IsClockNet, IsControlNet}
 use Rattle.netlist_model.specs.Formed.{IsDriven}
 use Rattle.netlist_images.specs.Nested.{renamed_net, renamed_feed, renamed_cell, Nested}
-use Rattle.netlist_images.specs.NestedLaws.{NestedControls, NestedTwice}
 use Rattle.netlist_images.specs.Renumbering.{IsPortImage, ArePortImages, IsCopied}
 use Rattle.netlist_images.proofs.Nests.{output_renamed}
 
@@ -155,29 +152,4 @@ copied_nested N M to at back from c b = record {
       none (from j) (renamed_cell back there.name cell) there.live drives;
 }
 
-pub nested_controls : NestedControls
-nested_controls N M to at n = record { control = control_over N M to at n; clock = clock_over N M to at n }
-
 -- Renamed twice.
-
-feeds_twice : (to to' : ℕ → ℕ) (feeds : List Feed) → map (renamed_feed to') (map (renamed_feed to) feeds) ≡ map (renamed_feed (λ net. to' (to net))) feeds
-feeds_twice to to' [] = refl
-feeds_twice to to' (Net net ∷ feeds) = rw (feeds_twice to to' feeds) refl
-feeds_twice to to' (Const b ∷ feeds) = rw (feeds_twice to to' feeds) refl
-
-output_twice : (to to' : ℕ → ℕ) (output : Option NetId) → option_map (renamed_net to') (option_map (renamed_net to) output) ≡ option_map (renamed_net (λ net. to' (to net))) output
-output_twice to to' None = refl
-output_twice to to' (Some net) = refl
-
-cell_twice : (to to' : ℕ → ℕ) (name name' : Option Name) (cell : CellView) → renamed_cell to' name' (renamed_cell to name cell) ≡ renamed_cell (λ net. to' (to net)) name' cell
-cell_twice to to' name name' cell = rw (feeds_twice to to' cell.feeds, output_twice to to' cell.output) refl
-
-pub nested_twice : NestedTwice
-nested_twice N M K to at to' at' n m = record {
-  cells = λ i cell live.
-      let first = n.cells i cell live in
-      let then = m.cells (at i) (renamed_cell to first.name cell) first.live in
-      record { name = then.name; live = then.live ∙ ap (λ (x : CellView). Some x) (cell_twice to to' first.name then.name cell) };
-  inside = λ net g. m.inside (to net) (n.inside net g);
-  undriven = λ net g none. m.undriven (to net) (n.inside net g) (n.undriven net g none);
-}
