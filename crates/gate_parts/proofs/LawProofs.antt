@@ -18,7 +18,7 @@ use Rattle.netlist_arena.proofs.Puts.{dense_past}
 use Rattle.gate_parts.specs.Appended.{Appended, Grows}
 use Rattle.gate_parts.specs.declared.Gate.{Gate}
 use Rattle.gate_parts.specs.Parts.{gate_cell, cells_from, part_cells}
-use Rattle.gate_parts.specs.Laws.{AppendedIsThere, AppendedMore, FreeStays, PartLeavesFree, AppendedGrows, GrowthJoins, GrowthKeeps, FlopOn, FlopStarts, FlopSteps}
+use Rattle.gate_parts.specs.Laws.{AppendedIsThere, AppendedMore, FreeStays, PartLeavesFree, AppendedGrows, GrowthKeeps, FlopOn, FlopStarts, FlopSteps}
 use Rattle.gate_parts.proofs.Steps.{appended_count, appended_more}
 
 pub has_from : (N : NetlistView) (first : ℕ) (part : List CellView) → ((k : ℕ) → cell_at N (first + k) ≡ slice_get part k) → HasCells N part
@@ -91,12 +91,6 @@ pub grows_appended : AppendedGrows
 grows_appended = λ old new count part added. record {
   nets = let e = appended_count old new count part added in omega arith;
   cells = kept_at old new count part added;
-}
-
-pub growth_joins_on : GrowthJoins
-growth_joins_on = λ old middle new first then. record {
-  nets = let a = first.nets in let b = then.nets in omega arith;
-  cells = λ number cell at. then.cells number cell (first.cells number cell at);
 }
 
 kept : (old new : NetlistView) (part : List CellView) → Grows old new → HasCells old part → HasCells new part

@@ -10,13 +10,8 @@ use Rattle.netlist_model.specs.Settled.{feed_values, cell_value, Meets}
 use Rattle.netlist_model.specs.Formed.{IsWellFormed}
 use Rattle.netlist_model.specs.Contained.{HasCells}
 use Rattle.gate_parts.specs.declared.Gate.{Gate}
-use Rattle.gate_parts.specs.Parts.{feed_of, pins_of, gate_cell, cells_from, part_cells}
+use Rattle.gate_parts.specs.Parts.{feed_of, pins_of, part_cells}
 use Rattle.gate_parts.specs.Laws.{FlopOn}
-
--- own: the cell of the gate at a place, by its number and its net
-abbrev pub PartAt : Type 0
-PartAt = (first : ℕ) (given : List Feed) (number net : ℕ) (gates : List Gate) (k : ℕ) (gate : Gate) → slice_get gates k ≡ Some gate
-    → slice_get (cells_from first given number net gates) k ≡ Some (gate_cell first given (number + k) (net + k) gate)
 
 -- own: the operands of a gate, where the part's own nets begin at `first`
 abbrev pub gate_feeds : ℕ → List Feed → Gate → List Feed

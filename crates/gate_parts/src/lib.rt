@@ -18,7 +18,7 @@ use cell_library::Kind;
 pub use laws::{
     appended_count, appended_grows, appended_is_there, appended_more, appended_none,
     contained_part_has_flops, contained_part_meets, flop_starts, flop_steps, free_net_stays,
-    growth_joins, growth_keeps, levels_number, part_at, part_leaves_free_nets,
+    growth_keeps, levels_number, part_leaves_free_nets,
 };
 use netlist_arena::Netlist;
 use netlist_model::{Feed, Name, NetId};
