@@ -1,6 +1,6 @@
 -- The lists of the boundary register have a bit for each cell.
 use Rattle.std.proofs.Common.{◌≡◌, ℕ, zero, suc, ◌<◌, ◌≤◌, Bool, true, false, List, [], ◌∷◌, ◌++◌, length, refl, ap, ◌∙◌, arith}
-use Rattle.std.specs.Prelude.{Option, Some, None}
+use Rattle.std.specs.Prelude.{Option, Some, None, slice_index_or}
 use Rattle.signal_values.specs.declared.Sig.{Sig}
 use Rattle.signal_values.specs.Values.{bit}
 use Rattle.cell_library.specs.declared.Edge.{Edge}
@@ -15,7 +15,9 @@ use Rattle.test_logic.specs.declared.TapState.TheVariants.{TestLogicReset, RunTe
 use Rattle.test_logic.specs.Controller.{dr_action, act}
 use Rattle.test_logic.specs.Registers.{shifted, updated, updated_after, boundary_after}
 use Rattle.test_logic.specs.Machine.{TestLogic, Machine, IsHistory, selects, zeros, reset, edge_of, clocked, step_under}
-use Rattle.boundary_runs.specs.Lengths.{AreLong, LengthsStay, BitsByPlace}
+use Rattle.boundary_runs.specs.Lengths.{AreLong, LengthsStay}
+use Rattle.signal_values.specs.declared.Sig.TheVariants.{Unknown}
+use Rattle.boundary_cells.specs.MachineRows.{bit_at}
 
 zeros_long : {A : Type 0} (like : List A) → length (zeros like) ≡ length like
 zeros_long [] = refl
@@ -95,7 +97,8 @@ lengths = record {
   along = along;
 }
 
-pub by_place : BitsByPlace
+-- own: the bit in a place, as what stands around a netlist looks it up
+pub by_place : (bits : List Sig) (place : ℕ) → slice_index_or bits place Unknown ≡ bit_at bits place
 by_place [] place = refl
 by_place (b ∷ bits) zero = refl
 by_place (b ∷ bits) (suc place) = by_place bits place

@@ -1,11 +1,9 @@
 -- The lists of the boundary register have a bit for each cell, at every moment.
 -- IEEE Std 1149.1-2001: boundary-scan register.
-use Rattle.std.specs.Prelude.{◌≡◌, ℕ, ◌<◌, ◌≤◌, List, length, slice_index_or}
+use Rattle.std.specs.Prelude.{◌≡◌, ℕ, ◌<◌, ◌≤◌, List, length}
 use Rattle.signal_values.specs.declared.Sig.{Sig}
-use Rattle.signal_values.specs.declared.Sig.TheVariants.{Unknown}
 use Rattle.test_logic.specs.declared.Levels.{Levels}
 use Rattle.test_logic.specs.Machine.{TestLogic, Machine, IsHistory, reset, machine_step}
-use Rattle.boundary_cells.specs.MachineRows.{bit_at}
 
 pub record AreLong (L : TestLogic) (m : Machine) : Type 0 where
   pub boundary : length m.boundary ≡ length L.kinds
@@ -18,7 +16,3 @@ pub record LengthsStay : Type 0 where
       → AreLong L (machine_step L before after captured m)
   pub along : (L : TestLogic) (levels : ℕ → Levels) (captured : ℕ → List Sig) (count : ℕ) (machine : ℕ → Machine) → IsHistory L levels captured count machine
       → ((t : ℕ) → t < count → length (captured t) ≡ length L.kinds) → (t : ℕ) → t ≤ count → AreLong L (machine t)
-
--- own: the bit in a place, as what stands around a netlist looks it up
-abbrev pub BitsByPlace : Type 0
-BitsByPlace = (bits : List Sig) (place : ℕ) → slice_index_or bits place Unknown ≡ bit_at bits place

@@ -5,7 +5,7 @@
 
 ghost use Rattle.boundary_runs.specs.ChipRows.{ChipRows};
 ghost use Rattle.boundary_runs.specs.Laws.{RowsFollow};
-ghost use Rattle.boundary_runs.specs.Lengths.{BitsByPlace, LengthsStay};
+ghost use Rattle.boundary_runs.specs.Lengths.{LengthsStay};
 ghost use Rattle.boundary_runs.specs.Selections.{SelectedSteers};
 
 use boundary_cells::{
@@ -36,11 +36,6 @@ pub fn lengths_stay()
 /// Nets that tell what the instruction in effect selects steer a row.
 pub fn selected_steers()
     ensures { SelectedSteers }
-{}
-
-/// A bit by its place, as the wrapped chip looks it up.
-pub fn bits_by_place()
-    ensures { BitsByPlace }
 {}
 
 /// The rows of a wrapped chip, by their places in the test logic's lists.

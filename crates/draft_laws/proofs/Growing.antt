@@ -1,18 +1,16 @@
 -- A netlist to which cells are added stays well formed.
-use Rattle.std.proofs.Common.{◌≡◌, ◌≢◌, ℕ, ◌⊎◌, true, false, List, refl, ap, sym, ◌∙◌, inl, inr}
+use Rattle.std.proofs.Common.{◌≡◌, ◌≢◌, ℕ, ◌⊎◌, false, List, refl, ap, sym, ◌∙◌, inl, inr}
 use Rattle.std.specs.Prelude.{Some, None, slice_get}
 use Rattle.std.specs.Option.{option_and_then}
 use Rattle.netlist_laws.proofs.Search.{cell_at_once}
 use Rattle.cell_library.specs.Gates.{is_three_state}
-use Rattle.netlist_model.specs.declared.Dir.{Dir}
-use Rattle.netlist_model.specs.declared.Dir.TheVariants.{Input, Output, Inout}
-use Rattle.netlist_model.specs.declared.NetId.{NetId}
-use Rattle.netlist_model.specs.Lists.{PortView, CellView, NetlistView, bit_net, direction, Drives, Reads}
-use Rattle.netlist_model.specs.Cones.{InCone, itself, behind, GateReads, FlopReads, IsControlNet}
+use Rattle.netlist_model.specs.declared.Dir.TheVariants.{Input}
+use Rattle.netlist_model.specs.Lists.{PortView, CellView, NetlistView, bit_net, direction, Drives}
+use Rattle.netlist_model.specs.Cones.{InCone, itself, behind, GateReads, FlopReads}
 use Rattle.netlist_model.specs.Formed.{IsDriven, IsCombinational, IsWellFormed}
 use Rattle.netlist_laws.specs.Settle.{IsDrivenOnce}
 use Rattle.draft_laws.specs.Readable.{CanBeRead, IsPure}
-use Rattle.draft_laws.specs.Grown.{IsOneOf, AddsCells, IsSoundCell, AreSoundCells, GrownIsFormed, ReadableStays, PureStays}
+use Rattle.draft_laws.specs.Grown.{IsOneOf, AddsCells, AreSoundCells, GrownIsFormed, ports, output}
 
 -- directions are the same
 dir_over : (old new : NetlistView) (part : List CellView) → AddsCells old new part → (net : ℕ) → direction new.ports net ≡ direction old.ports net
@@ -66,11 +64,15 @@ cone_before old new part formed adds once wires root pure _ (behind {net} {other
     let before : InCone old root net = cone_before old new part formed adds once wires root pure net cone in
     behind before (gate_before old new part formed adds once wires net other (pure net before) gate)
 
-pub pure_stays_so : PureStays
+-- own: what is pure in the old netlist, is pure in the new
+pub pure_stays_so : (old new : NetlistView) (part : List CellView) (net : ℕ) → IsWellFormed old → AddsCells old new part → IsDrivenOnce new
+    → ((cell : CellView) (out : ℕ) → IsOneOf part cell → cell.output ≡ Some (record { 0 = out }) → direction new.ports out ≡ None) → IsPure old net → IsPure new net
 pure_stays_so old new part net formed adds once wires pure =
     λ other cone. combinational_over old new part adds other (pure other (cone_before old new part formed adds once wires net pure other cone))
 
-pub readable_stays_so : ReadableStays
+-- own: what can be read in the old netlist, can be in the new
+pub readable_stays_so : (old new : NetlistView) (part : List CellView) (net : ℕ) → AddsCells old new part → ((cell : CellView) → IsOneOf part cell → is_three_state cell.kind ≡ false)
+    → CanBeRead old net → CanBeRead new net
 readable_stays_so old new part net adds two_state can = record {
   driven = λ e. driven_over old new part adds net (can.driven (sym (dir_over old new part adds net) ∙ e));
   steady = λ i cell d three e. elim (adds.either i cell d.live) [

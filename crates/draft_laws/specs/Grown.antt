@@ -37,13 +37,3 @@ AreSoundCells N part = (cell : CellView) → IsOneOf part cell → IsSoundCell N
 abbrev pub GrownIsFormed : Type 0
 GrownIsFormed = (old new : NetlistView) (part : List CellView) (rank : ℕ → ℕ) → IsWellFormed old → AddsCells old new part
     → IsDrivenOnce new → IsNumbered new rank → AreSoundCells new part → IsWellFormed new
-
--- own: what can be read in the old netlist, can be in the new
-abbrev pub ReadableStays : Type 0
-ReadableStays = (old new : NetlistView) (part : List CellView) (net : ℕ) → AddsCells old new part → ((cell : CellView) → IsOneOf part cell → is_three_state cell.kind ≡ false)
-    → CanBeRead old net → CanBeRead new net
-
--- own: what is pure in the old netlist, is pure in the new
-abbrev pub PureStays : Type 0
-PureStays = (old new : NetlistView) (part : List CellView) (net : ℕ) → IsWellFormed old → AddsCells old new part → IsDrivenOnce new
-    → ((cell : CellView) (out : ℕ) → IsOneOf part cell → cell.output ≡ Some (record { 0 = out }) → direction new.ports out ≡ None) → IsPure old net → IsPure new net

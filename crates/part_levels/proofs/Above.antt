@@ -8,10 +8,10 @@ use Rattle.netlist_model.specs.Formed.{FeedsBelow}
 use Rattle.gate_parts.specs.declared.Pin.{Pin}
 use Rattle.gate_parts.specs.declared.Pin.TheVariants.{Own, Given}
 use Rattle.gate_parts.specs.declared.Gate.{Gate}
-use Rattle.gate_parts.specs.Parts.{feed_of, pins_of, cells_from}
+use Rattle.gate_parts.specs.Parts.{feed_of, pins_of, cells_from, part_cells}
 use Rattle.gate_parts.specs.Levels.{AreFeedsUpTo}
 use Rattle.gate_parts.proofs.LevelProofs.{feed_below}
-use Rattle.part_levels.specs.Above.{StandsOn, IsAbove, AreAbove, StandsByPlace, PartsStandAbove, is_low_pin, fits_from, TablesStandAbove}
+use Rattle.part_levels.specs.Above.{StandsOn, IsAbove, AreAbove, StandsByPlace, PartsStandAbove, is_low_pin, fits_from, fits, AreRanked}
 
 pins_below : (rank : ℕ → ℕ) (first base level bound count : ℕ) (levels : List ℕ) (given : List Feed) (pins : List Pin)
     → ((j : ℕ) → j < count → rank (first + j) ≤ base + slice_index levels j) → AreFeedsUpTo rank base given → base + level ≤ bound
@@ -46,7 +46,9 @@ above_from rank first number base count levels given k net (gate ∷ gates) at o
           let here : base + slice_index levels (k + suc i) ≤ rank (first + (k + suc i)) = from (suc i) other there is in rw e at here) up parts.1,
     )
 
-pub tables : TablesStandAbove
+-- own: where what is handed in has numbers up to the base, the gates stand above what they read
+pub tables : (rank : ℕ → ℕ) (first number base : ℕ) (levels : List ℕ) (gates : List Gate) (given : List Feed) → IsTrue (fits levels gates)
+    → AreRanked rank first base levels gates → AreFeedsUpTo rank base given → AreAbove rank (part_cells gates given first number)
 tables = λ rank first number base levels gates given low ranked up.
     above_from rank first number base (length gates) levels given 0 first gates (omega arith) ranked.up_to
     (λ i gate there is. let z : 0 + i ≡ i = omega arith in rw z (ranked.from i gate there is)) up low

@@ -1,6 +1,6 @@
 -- Nets are numbered so that each gate's net stands above those that it reads: what that is for a list of cells, and a table of levels
 -- that shows it by one computation.
-use Rattle.std.specs.Prelude.{◌≡◌, ℕ, suc, ◌+◌, ◌<◌, ◌≤◌, ◌&&◌, ◌||◌, nat_lt, Bool, true, false, List, [], ◌∷◌, ◌++◌, length, slice_get, slice_index, Option, Some, None, ⊤, IsTrue}
+use Rattle.std.specs.Prelude.{◌≡◌, ℕ, suc, ◌+◌, ◌<◌, ◌≤◌, ◌&&◌, ◌||◌, nat_lt, Bool, true, false, List, [], ◌∷◌, ◌++◌, length, slice_get, slice_index, Option, Some, None, ⊤}
 use Rattle.std.specs.List.{list_all}
 use Rattle.cell_library.specs.Gates.{is_flop}
 use Rattle.netlist_model.specs.declared.NetId.{NetId}
@@ -10,8 +10,7 @@ use Rattle.netlist_model.specs.Formed.{FeedsBelow}
 use Rattle.gate_parts.specs.declared.Pin.{Pin}
 use Rattle.gate_parts.specs.declared.Pin.TheVariants.{Own, Given}
 use Rattle.gate_parts.specs.declared.Gate.{Gate}
-use Rattle.gate_parts.specs.Parts.{pins_of, part_cells}
-use Rattle.gate_parts.specs.Levels.{AreFeedsUpTo}
+use Rattle.gate_parts.specs.Parts.{pins_of}
 
 -- own: each net that is read has a smaller number than the one that is driven
 abbrev pub StandsOn : (ℕ → ℕ) → List Feed → Option NetId → Type 0
@@ -52,8 +51,3 @@ fits levels gates = fits_from (length gates) levels 0 gates
 pub record AreRanked (rank : ℕ → ℕ) (first base : ℕ) (levels : List ℕ) (gates : List Gate) : Type 0 where
   pub up_to : (j : ℕ) → j < length gates → rank (first + j) ≤ base + slice_index levels j
   pub from : (k : ℕ) (gate : Gate) → slice_get gates k ≡ Some gate → is_flop gate.kind ≡ false → base + slice_index levels k ≤ rank (first + k)
-
--- own: where what is handed in has numbers up to the base, the gates stand above what they read
-abbrev pub TablesStandAbove : Type 0
-TablesStandAbove = (rank : ℕ → ℕ) (first number base : ℕ) (levels : List ℕ) (gates : List Gate) (given : List Feed) → IsTrue (fits levels gates)
-    → AreRanked rank first base levels gates → AreFeedsUpTo rank base given → AreAbove rank (part_cells gates given first number)

@@ -16,7 +16,7 @@ use Rattle.stitch_model.specs.Stitched.{same_place, boundary_at, first_net, live
 use Rattle.stitch_laws.specs.Places.{port_of, bypass_number, ident_number, register_number, tdo_number}
 use Rattle.stitch_laws.proofs.Places.{listed_at, mapped_at, counts_live, counts_empty, live_at}
 use Rattle.stitch_laws.proofs.Parts.{length_behind}
-use Rattle.stitch_cells.specs.Cells.{IsAt, CellOf, of_core, of_controller, of_instruction, of_bypass, of_ident, of_row, of_driver, of_tdo, StitchedHasCells, StitchedStandsBy}
+use Rattle.stitch_cells.specs.Cells.{IsAt, CellOf, of_core, of_controller, of_instruction, of_bypass, of_ident, of_row, of_driver, of_tdo}
 use Rattle.stitch_cells.proofs.Split.{split, front, back, moved}
 use Rattle.stitch_cells.proofs.Rows.{IsOfRow, of_rows, in_rows}
 
@@ -128,7 +128,9 @@ of_logic N f i cell h = elim (split i (cell_count N) (CIPDR N f) (T N f (cell_co
   | inr tdo ↦ of_tdo (moved (T N f) (cell_count N + length (CIPDR N f)) (tdo_number N f) i cell (tdo_from N f) tdo)
 ]
 
-pub has_cells : StitchedHasCells
+-- own: it has no others
+pub has_cells : (N : NetlistView) (names : TapNames) (f : Fitted) → IsDense N → (number : ℕ) (cell : CellView)
+    → cell_at (stitched N names f) number ≡ Some cell → CellOf N f number cell
 has_cells N names f dense i cell e =
     let B : Boundary = boundary_at N f in
     let core : List CellView = map (core_cell B) (live_cells N) in
@@ -181,7 +183,9 @@ core_there N names f dense i old cell at is =
     let same : all.place ≡ i = (let is = all.is in omega arith) in
     listed_at (core ++ logic) i ∙ subst (λ (k : ℕ). slice_get (core ++ logic) k ≡ Some cell) same all.at
 
-pub stands_by : StitchedStandsBy
+-- own: and each of them under its number
+pub stands_by : (N : NetlistView) (names : TapNames) (f : Fitted) → IsDense N → (number : ℕ) (cell : CellView)
+    → CellOf N f number cell → cell_at (stitched N names f) number ≡ Some cell
 stands_by N names f dense i cell (of_core old at is) = core_there N names f dense i old cell at is
 stands_by N names f dense i cell (of_controller h) =
     behind_core N names f i cell (from_registers N f i cell (from_controls N f i cell (front i (cell_count N) (C N f) (I N f (cell_count N + length (C N f))) cell h)))

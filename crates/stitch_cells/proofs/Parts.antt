@@ -22,7 +22,7 @@ use Rattle.plan_fitting.specs.declared.fitted.Fitted.{Fitted}
 use Rattle.stitch_model.specs.declared.TapPort.{TapPort}
 use Rattle.stitch_model.specs.Logic.{instruction_from, bypass_from, ident_from, ident_size, tap_at, instruction_at, ident_part}
 use Rattle.stitch_cells.specs.Gates.{EachCell, DriveInTurn, FeedsAre, IsLogicCell}
-use Rattle.stitch_cells.specs.Logic.{LogicDrivesInTurn, LogicNets, LogicCells}
+use Rattle.stitch_cells.specs.Logic.{LogicNets, LogicCells, LogicTurns}
 use Rattle.stitch_cells.proofs.Tables.{each_append, turn_append, turn_moved, table_turn, table_logic, plain_logic}
 use Rattle.stitch_cells.proofs.Registers.{Between, constant_feeds, SteeringAre, shift_logic, chain_turn, chain_logic}
 use Rattle.stitch_cells.proofs.Instructions.{instruction_turn, TapAre, instruction_logic}
@@ -53,7 +53,7 @@ ident_part_turn first port f number = by f.idcode
     by None = tt
     by (Some code) = ident_turn (first + ident_from f) number (tap_at first port) (instruction_at first port f).ident_on port.tdi code
 
-pub logic_turns : LogicDrivesInTurn
+pub logic_turns : (first : ℕ) (port : TapPort) (f : Fitted) (number : ℕ) → LogicTurns first port f number
 logic_turns first port f number = record {
   controller = table_turn CONTROLLER (tap_given port.tck port.tms port.trst) first number;
   instruction = instruction_turn (first + instruction_from) number (tap_at first port) port.tdi f.codes;

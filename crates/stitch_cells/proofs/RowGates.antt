@@ -6,7 +6,7 @@ use Rattle.cell_library.specs.declared.codes.BoundaryKind.TheVariants.{Bc1, Bc2,
 use Rattle.netlist_model.specs.declared.NetId.{NetId}
 use Rattle.netlist_model.specs.declared.Feed.{Feed}
 use Rattle.netlist_model.specs.declared.Feed.TheVariants.{Net}
-use Rattle.netlist_model.specs.Lists.{CellView}
+use Rattle.netlist_model.specs.Lists.{CellView, NetlistView}
 use Rattle.gate_parts.specs.declared.Gate.{Gate}
 use Rattle.gate_parts.specs.Parts.{feed_of, part_cells}
 use Rattle.gate_parts.proofs.Steps.{length-cells_from}
@@ -29,9 +29,10 @@ use Rattle.stitch_model.specs.Stitched.{boundary_at}
 use Rattle.stitch_laws.specs.Places.{scan_of, row_first, row_side, row_number, row_next, handed_at, drivers_at}
 use Rattle.stitch_cells.specs.Cells.{driver_number}
 use Rattle.stitch_cells.specs.Gates.{EachCell, FeedsAre, IsLogicCell, is_logic_table}
-use Rattle.stitch_cells.specs.Logic.{into_at, RowsDrive}
+use Rattle.stitch_cells.specs.Logic.{into_at, RowDrives}
 use Rattle.stitch_cells.proofs.Tables.{each_append, turn_at, feed_cons, pin_feed, table_turn, table_logic}
 use Rattle.stitch_cells.proofs.Sizes.{bidir_length}
+use Rattle.plan_fitting.specs.declared.fitted.Fitted.{Fitted}
 
 -- What they drive.
 
@@ -103,7 +104,7 @@ driver_by B number side row site.Driver j cell e = absurd (cc)
 driver_by B number side row site.Inout j cell e = absurd (cc)
 driver_by B number side row site.Control j cell e = absurd (cc)
 
-pub rows_drive : RowsDrive
+pub rows_drive : (N : NetlistView) (f : Fitted) (k : ℕ) (row : FitRow) → RowDrives N f k row
 rows_drive N f k row = record {
   own = λ j cell e below. own_by (boundary_at N f) (scan_of N f) (row_first N f k) (row_number N f k) (row_side N f k) row (row_next N f k) (site_of N.ports row) j cell e below;
   into = λ cell e. into_by (boundary_at N f) (scan_of N f) (row_first N f k) (row_number N f k) (row_side N f k) row (row_next N f k) (site_of N.ports row) cell e;

@@ -4,7 +4,7 @@ use Rattle.std.proofs.lemmas.List.Sums.{sum_by-cons}
 use Rattle.netlist_model.specs.declared.NetId.{NetId}
 use Rattle.netlist_model.specs.declared.Feed.{Feed}
 use Rattle.netlist_model.specs.declared.Feed.TheVariants.{Net}
-use Rattle.netlist_model.specs.Lists.{cell_count}
+use Rattle.netlist_model.specs.Lists.{cell_count, NetlistView}
 use Rattle.gate_parts.specs.declared.Gate.{Gate}
 use Rattle.gate_parts.specs.Parts.{part_cells}
 use Rattle.gate_parts.proofs.Steps.{length-cells_from}
@@ -37,7 +37,7 @@ use Rattle.stitch_model.specs.Rows.{nets_of_rows, nets_by, net_at, enable_of, is
 use Rattle.stitch_model.specs.Logic.{instruction_from, bypass_from, ident_from, ident_size, logic_size, tap_at, instruction_at, ident_part}
 use Rattle.stitch_model.specs.Stitched.{boundary_at, first_net}
 use Rattle.stitch_laws.specs.Places.{port_of, scan_of, instruction_number, bypass_number, ident_number, register_number, register_net, rows_before, row_first, row_side, row_number, row_next, handed_at, drivers_at}
-use Rattle.stitch_cells.specs.Sizes.{choice_count, driver_count, row_size, cells_of_rows, LogicHasLengths, RowsHaveLengths, PartsHaveNumbers}
+use Rattle.stitch_cells.specs.Sizes.{choice_count, driver_count, row_size, cells_of_rows, LogicLengths, row, RowLengths, Numbers}
 use Rattle.stitch_cells.specs.Cells.{driver_number}
 
 -- The registers.
@@ -72,7 +72,7 @@ ident_part_length first port f number = by f.idcode
     by None = refl
     by (Some code) = ident_length (first + ident_from f) number (tap_at first port) (instruction_at first port f).ident_on port.tdi code
 
-pub logic_lengths : LogicHasLengths
+pub logic_lengths : (first : ℕ) (port : TapPort) (f : Fitted) (number : ℕ) → LogicLengths first port f number
 logic_lengths first port f number = record {
   controller = refl;
   instruction = instruction_length (first + instruction_from) number (tap_at first port) port.tdi f.codes;
@@ -118,7 +118,7 @@ drivers_length B number side row site.Driver = refl
 drivers_length B number side row site.Inout = refl
 drivers_length B number side row site.Control = refl
 
-pub row_lengths : RowsHaveLengths
+pub row_lengths : (N : NetlistView) (f : Fitted) (k : ℕ) (row : FitRow) → RowLengths N f k row
 row_lengths N f k row = record {
   gates = gates_length (boundary_at N f) (scan_of N f) (row_first N f k) (row_number N f k) (row_side N f k) row (row_next N f k) (site_of N.ports row);
   drivers = drivers_length (boundary_at N f) (driver_number N f k row) (row_side N f k) row (site_of N.ports row);
@@ -155,7 +155,7 @@ rows_length B scan first number tdi side (r ∷ rows) =
 
 -- Where the parts begin.
 
-pub numbers : PartsHaveNumbers
+pub numbers : (N : NetlistView) (f : Fitted) → Numbers N f
 numbers N f =
     let c = logic_lengths (first_net N f) (port_of N) f in
     let a : instruction_number N f ≡ cell_count N + instruction_from = ap (λ (n : ℕ). cell_count N + n) (c (cell_count N)).controller in

@@ -2,14 +2,12 @@
 -- IEEE Std 1149.1-2001: test logic architecture; the order of cells is own.
 use Rattle.std.specs.Prelude.{◌≡◌, ℕ, ◌+◌, List, length, slice_get, Some}
 use Rattle.netlist_model.specs.Lists.{CellView, NetlistView, cell_at, cell_count}
-use Rattle.netlist_model.specs.Contained.{IsDense}
 use Rattle.boundary_runs.specs.Rows.{row_cells}
 use Rattle.plan_fitting.specs.declared.fitted.FitRow.{FitRow}
 use Rattle.plan_fitting.specs.declared.fitted.Fitted.{Fitted}
-use Rattle.stitch_model.specs.declared.TapNames.{TapNames}
 use Rattle.stitch_model.specs.Sides.{core_cell}
 use Rattle.stitch_model.specs.Logic.{controller_part, instruction_part, bypass_part, ident_part}
-use Rattle.stitch_model.specs.Stitched.{boundary_at, first_net, tdo_part, stitched}
+use Rattle.stitch_model.specs.Stitched.{boundary_at, first_net, tdo_part}
 use Rattle.stitch_laws.specs.Places.{port_of, scan_of, instruction_number, bypass_number, ident_number, tdo_number, row_first, row_side, row_number, row_next, boundary_row, added_drivers}
 
 -- own: the cell is one of these, the first of which has this number
@@ -39,13 +37,3 @@ pub data CellOf (N : NetlistView) (f : Fitted) (number : ℕ) (cell : CellView) 
   of_row : (k : ℕ) (row : FitRow) → slice_get f.rows k ≡ Some row → IsAt number (row_number N f k) (gates_of_row N f k row) cell → CellOf N f number cell
   of_driver : (k : ℕ) (row : FitRow) → slice_get f.rows k ≡ Some row → IsAt number (driver_number N f k row) (drivers_of_row N f k row) cell → CellOf N f number cell
   of_tdo : IsAt number (tdo_number N f) (tdo_part (boundary_at N f) (first_net N f) (port_of N) f (tdo_number N f)) cell → CellOf N f number cell
-
--- own: it has no others
-abbrev pub StitchedHasCells : Type 0
-StitchedHasCells = (N : NetlistView) (names : TapNames) (f : Fitted) → IsDense N → (number : ℕ) (cell : CellView)
-    → cell_at (stitched N names f) number ≡ Some cell → CellOf N f number cell
-
--- own: and each of them under its number
-abbrev pub StitchedStandsBy : Type 0
-StitchedStandsBy = (N : NetlistView) (names : TapNames) (f : Fitted) → IsDense N → (number : ℕ) (cell : CellView)
-    → CellOf N f number cell → cell_at (stitched N names f) number ≡ Some cell

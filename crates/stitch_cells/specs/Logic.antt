@@ -25,9 +25,6 @@ pub record LogicTurns (first : ℕ) (port : TapPort) (f : Fitted) (number : ℕ)
   pub bypass : DriveInTurn (first + bypass_from f) (bypass_part first port f number)
   pub ident : DriveInTurn (first + ident_from f) (ident_part first port f number)
 
-abbrev pub LogicDrivesInTurn : Type 0
-LogicDrivesInTurn = (first : ℕ) (port : TapPort) (f : Fitted) (number : ℕ) → LogicTurns first port f number
-
 -- own: what they may read: their own nets, and the inputs of the test access port
 pub record LogicNets (first : ℕ) (port : TapPort) (f : Fitted) (P : ℕ → Type 0) : Type 0 where
   pub tck : P port.tck.0
@@ -57,6 +54,3 @@ pub record RowDrives (N : NetlistView) (f : Fitted) (k : ℕ) (row : FitRow) : T
   pub into : (cell : CellView) → slice_get (gates_of_row N f k row) (row_nets N.ports row) ≡ Some cell
       → cell.output ≡ Some (into_at (boundary_at N f) (row_side N f k) row (site_of N.ports row))
   pub driver : (j : ℕ) (cell : CellView) → slice_get (drivers_of_row N f k row) j ≡ Some cell → cell.output ≡ Some (net_at (boundary_at N f) row)
-
-abbrev pub RowsDrive : Type 0
-RowsDrive = (N : NetlistView) (f : Fitted) (k : ℕ) (row : FitRow) → RowDrives N f k row

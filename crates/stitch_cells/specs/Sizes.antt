@@ -47,15 +47,9 @@ pub record LogicLengths (first : ℕ) (port : TapPort) (f : Fitted) (number : �
   pub bypass : length (bypass_part first port f number) ≡ 5
   pub ident : length (ident_part first port f number) ≡ ident_size f.idcode
 
-abbrev pub LogicHasLengths : Type 0
-LogicHasLengths = (first : ℕ) (port : TapPort) (f : Fitted) (number : ℕ) → LogicLengths first port f number
-
 pub record RowLengths (N : NetlistView) (f : Fitted) (k : ℕ) (row : FitRow) : Type 0 where
   pub gates : length (gates_of_row N f k row) ≡ row_gates N.ports row
   pub drivers : length (drivers_of_row N f k row) ≡ driver_count (site_of N.ports row)
-
-abbrev pub RowsHaveLengths : Type 0
-RowsHaveLengths = (N : NetlistView) (f : Fitted) (k : ℕ) (row : FitRow) → RowLengths N f k row
 
 -- own: the numbers of the first cells
 pub record Numbers (N : NetlistView) (f : Fitted) : Type 0 where
@@ -66,9 +60,6 @@ pub record Numbers (N : NetlistView) (f : Fitted) : Type 0 where
   pub row : (k : ℕ) → row_number N f k ≡ register_number N f + cells_of_rows N.ports (rows_before f k)
   pub tdo : tdo_number N f ≡ register_number N f + cells_of_rows N.ports f.rows
   pub tdo_length : (number : ℕ) → length (tdo_part (boundary_at N f) (first_net N f) (port_of N) f number) ≡ 7
-
-abbrev pub PartsHaveNumbers : Type 0
-PartsHaveNumbers = (N : NetlistView) (f : Fitted) → Numbers N f
 
 -- The whole.
 

@@ -1,12 +1,11 @@
 -- The port bits of the netlist with the test logic: those of the core, and the five of the test access port.
-use Rattle.std.proofs.Common.{◌≡◌, ◌⊎◌, inl, inr, ℕ, zero, suc, ◌+◌, ◌<◌, List, [], ◌∷◌, ◌++◌, length, refl, sym, ap, subst, ◌∙◌, arith, Option, Some, None}
+use Rattle.std.proofs.Common.{◌≡◌, ◌⊎◌, inl, inr, ℕ, zero, suc, ◌+◌, ◌<◌, List, [], ◌∷◌, ◌++◌, length, refl, sym, ap, ◌∙◌, arith, Option, Some, None}
 use Rattle.std.specs.Prelude.{slice_get}
 use Rattle.std.specs.Option.{option_and_then}
 use Rattle.list_laws.proofs.Options.{some_same}
 use Rattle.netlist_model.specs.declared.Dir.TheVariants.{Input, Output}
 use Rattle.netlist_model.specs.declared.NetId.{NetId}
 use Rattle.netlist_model.specs.Lists.{PortView, NetlistView, bit_net}
-use Rattle.netlist_model.specs.Formed.{width_of}
 use Rattle.plan_fitting.specs.declared.fitted.Fitted.{Fitted}
 use Rattle.stitch_model.specs.declared.TapNames.{TapNames}
 use Rattle.stitch_model.specs.Stitched.{scalar, tap_ports, tap_port, stitched}
@@ -104,25 +103,6 @@ bits_apart N names f well p q j k net a b = elim (bit_cases N names f p j net a)
       tap.bit.bit ∙ sym tap'.bit.bit,
     )
   ]
-]
-
--- a port's width
-scalar_width : (one port : PortView) → Some one ≡ Some port → length one.nets ≡ width_of one.range → length port.nets ≡ width_of port.range
-scalar_width one port e is = let same : one ≡ port = cc in subst (λ (x : PortView). length x.nets ≡ width_of x.range) same is
-
-tap_width : (n : ℕ) (names : TapNames) (place : ℕ) (port : PortView) → slice_get (tap_ports names (tap_port n)) place ≡ Some port → length port.nets ≡ width_of port.range
-tap_width n names zero port e = scalar_width (scalar names.tck Input (tap_port n).tck) port e refl
-tap_width n names (suc zero) port e = scalar_width (scalar names.tms Input (tap_port n).tms) port e refl
-tap_width n names (suc (suc zero)) port e = scalar_width (scalar names.tdi Input (tap_port n).tdi) port e refl
-tap_width n names (suc (suc (suc zero))) port e = scalar_width (scalar names.tdo Output (tap_port n).tdo) port e refl
-tap_width n names (suc (suc (suc (suc zero)))) port e = scalar_width (scalar names.trst Input (tap_port n).trst) port e refl
-tap_width n names (suc (suc (suc (suc (suc place))))) port e = absurd (cc)
-
-pub widths : (N : NetlistView) (names : TapNames) (f : Fitted) → FitsWell N f → (p : ℕ) (port : PortView) → slice_get (stitched N names f).ports p ≡ Some port
-    → length port.nets ≡ width_of port.range
-widths N names f well p port e = elim (port_cases N.ports (tap_ports names (port_of N)) p port e) [
-  | inl early ↦ well.laid.widths p port early
-  | inr late ↦ tap_width (length N.nets) names late.place port late.there
 ]
 
 pub port_nets : (N : NetlistView) (names : TapNames) (f : Fitted) → FitsWell N f → (p j : ℕ) (net : NetId) → bit_net (stitched N names f) p j ≡ Some net → net.0 < length N.nets + 5

@@ -7,11 +7,11 @@ use Rattle.stitch_model.specs.declared.TapNames.{TapNames}
 use Rattle.stitch_model.specs.Stitched.{stitched}
 use Rattle.stitch_ranks.specs.Laws.{StitchedIsOrdered, StitchedHasCones}
 use Rattle.stitch_rows.specs.Rows.{RowsStandSomewhere, RowsStandOnce, NetsHaveRows}
-use Rattle.stitch_formed.specs.Laws.{HasDrivers, StitchedHasDrivers, StitchedIsLaidOut, StitchedIsFormed}
+use Rattle.stitch_formed.specs.Laws.{HasDrivers, StitchedHasDrivers, StitchedIsFormed}
 use Rattle.stitch_formed.proofs.Context.{FitsWell, fits_well}
 use Rattle.stitch_formed.proofs.Bits.{bits_apart}
 use Rattle.stitch_formed.proofs.OneDriver.{one_driver_of}
-use Rattle.stitch_formed.proofs.Laid.{driver_in, laid_out as laid_out_of, takes_in}
+use Rattle.stitch_formed.proofs.Laid.{driver_in, takes_in}
 use Rattle.stitch_formed.proofs.Bufifs.{inputs_free, inout_bufif, bufif_outside}
 use Rattle.stitch_formed.proofs.Readers.{read_driven, bufif_unread, outputs_driven, inouts_driven}
 
@@ -32,10 +32,6 @@ has_drivers_of law N names f well = record {
 pub has_drivers : RowsStandSomewhere → RowsStandOnce → NetsHaveRows → DirectionHasBit → StitchedHasDrivers
 has_drivers stand once has law L p seen names fits laid dense =
     has_drivers_of law L.arena.lists names (fitted_of L p seen) (fits_well stand once has law L p seen fits laid dense)
-
-pub laid_out : RowsStandSomewhere → RowsStandOnce → NetsHaveRows → DirectionHasBit → StitchedIsLaidOut
-laid_out stand once has law L p seen names fits laid dense =
-    laid_out_of L.arena.lists names (fitted_of L p seen) (fits_well stand once has law L p seen fits laid dense)
 
 pub formed : StitchedHasDrivers → StitchedIsOrdered → StitchedHasCones → StitchedIsFormed
 formed drivers order cones L p seen names fits laid dense =

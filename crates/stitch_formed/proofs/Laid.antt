@@ -1,5 +1,5 @@
 -- Each net that is named is there, and each cell has its kind's count of operands.
-use Rattle.std.proofs.Common.{◌≡◌, inl, inr, ℕ, ◌<◌, true, false, List, length, refl, sym, ap, subst, ◌∙◌, arith, Some}
+use Rattle.std.proofs.Common.{◌≡◌, ℕ, true, false, List, length, refl, sym, ap, subst, ◌∙◌, Some}
 use Rattle.std.specs.Prelude.{slice_get}
 use Rattle.std.proofs.lemmas.List.{length-map}
 use Rattle.list_laws.proofs.Options.{some_same}
@@ -10,27 +10,23 @@ use Rattle.netlist_model.specs.declared.Dir.TheVariants.{Output}
 use Rattle.netlist_model.specs.declared.NetId.{NetId}
 use Rattle.netlist_model.specs.declared.Feed.{Feed}
 use Rattle.netlist_model.specs.Lists.{CellView, NetlistView, cell_at, Drives, Reads}
-use Rattle.netlist_model.specs.Formed.{IsLaidOut}
 use Rattle.netlist_images.specs.Nested.{renamed_feed}
 use Rattle.plan_fitting.specs.declared.fitted.FitRow.{FitRow}
 use Rattle.plan_fitting.specs.declared.fitted.Fitted.{Fitted}
 use Rattle.stitch_model.specs.declared.TapNames.{TapNames}
 use Rattle.stitch_model.specs.declared.Site.{Site}
 use Rattle.stitch_model.specs.declared.Site.TheVariants as site
-use Rattle.stitch_model.specs.Sites.{row_net, site_of, row_sides}
-use Rattle.stitch_model.specs.Sides.{is_moved, is_driven, drives, core_side, core_cell}
+use Rattle.stitch_model.specs.Sites.{row_net, site_of}
+use Rattle.stitch_model.specs.Sides.{is_driven, drives, core_side, core_cell}
 use Rattle.stitch_model.specs.Stitched.{boundary_at, stitched}
-use Rattle.stitch_model.proofs.Moves.{moved_counts}
 use Rattle.stitch_rows.specs.Rows.{StandsAt, at_observed, at_input, at_output, at_added, at_driver, at_inout, at_control, HasGate}
 use Rattle.stitch_cells.proofs.Cells.{has_cells}
 use Rattle.stitch_cells.proofs.Counts.{counts}
 use Rattle.stitch_cells.proofs.Tables.{feeds_at}
-use Rattle.stitch_formed.proofs.Bits.{widths, port_nets}
-use Rattle.stitch_formed.proofs.Context.{FitsWell, net_number, side_of}
-use Rattle.stitch_formed.proofs.Ranges.{net_count, side_range, row_range}
+use Rattle.stitch_formed.proofs.Context.{FitsWell, net_number}
 use Rattle.stitch_formed.proofs.Outputs.{output_of}
-use Rattle.stitch_formed.proofs.Places.{DriverOf, of_pin, of_tdo_pin, of_side, of_logic, of_row_net, of_tdo_net, driver_at}
-use Rattle.stitch_formed.proofs.Operands.{IsTapInput, OperandOf, core_read, added_read, tap_read, pin_read, CoreFeeds, own_feeds, row_feeds, core_feeds, driver_site, driver_on}
+use Rattle.stitch_formed.proofs.Places.{DriverOf, driver_at}
+use Rattle.stitch_formed.proofs.Operands.{OperandOf, CoreFeeds, own_feeds, row_feeds, core_feeds, driver_site, driver_on}
 use Rattle.stitch_formed.proofs.LogicReads.{CellKind, a_core, a_gate, an_added, a_tdo, kind_of, reads_of}
 
 -- What drives and what is read.
@@ -45,45 +41,6 @@ pub operand_in : (N : NetlistView) (names : TapNames) (f : Fitted) → FitsWell 
 operand_in N names f well i cell place net r = feeds_at (OperandOf N f) cell.feeds place net (reads_of N f well i cell (kind_in N names f well i cell r.live)) r.operand
 
 -- Nets that are there.
-
-some_side : (N : NetlistView) (f : Fitted) (row : FitRow) → is_moved (site_of N.ports row) ≡ true → 0 < row_sides N.ports row
-some_side N f row moved = moved_counts (site_of N.ports row) moved
-
-core_there : (N : NetlistView) (f : Fitted) → FitsWell N f → (o : ℕ) → o < length N.nets → core_side (boundary_at N f) o < net_count N f
-core_there N f well o low = elim (side_of N f o) [
-  | inl s ↦ (let is = s.is in omega arith)
-  | inr g ↦ (let r = side_range N f g.k g.row 0 g.there (some_side N f g.row g.moved) in let is = g.is in let high = r.high in omega arith)
-]
-
-tap_there : (N : NetlistView) (f : Fitted) (net : ℕ) → IsTapInput N net → net < net_count N f
-tap_there N f net (inl e) = omega arith
-tap_there N f net (inr (inl e)) = omega arith
-tap_there N f net (inr (inr (inl e))) = omega arith
-tap_there N f net (inr (inr (inr e))) = omega arith
-
-operand_there : (N : NetlistView) (f : Fitted) → FitsWell N f → (net : ℕ) → OperandOf N f net → net < net_count N f
-operand_there N f well net (core_read i cell place o reads is) = let low = core_there N f well o (well.laid.operands i cell place o reads) in omega arith
-operand_there N f well net (added_read low high) = high
-operand_there N f well net (tap_read is) = tap_there N f net is
-operand_there N f well net (pin_read side low) = omega arith
-
-driver_there : (N : NetlistView) (f : Fitted) (i net : ℕ) (cell : CellView) → DriverOf N f i net cell → net < net_count N f
-driver_there N f i net cell (of_pin low d) = omega arith
-driver_there N f i net cell (of_tdo_pin is e) = omega arith
-driver_there N f i net cell (of_side k row e there low is d) = let r = side_range N f k row e there low in let high = r.high in omega arith
-driver_there N f i net cell (of_logic j low is e) = omega arith
-driver_there N f i net cell (of_row_net k row j there low is e) = let r = row_range N f k row j there low in let high = r.high in omega arith
-driver_there N f i net cell (of_tdo_net j low is e) = omega arith
-
-pub laid_out : (N : NetlistView) (names : TapNames) (f : Fitted) → FitsWell N f → IsLaidOut (stitched N names f)
-laid_out N names f well =
-    let many : length (stitched N names f).nets ≡ net_count N f = (counts N names f).nets in
-    record {
-      widths = λ p port e. widths N names f well p port e;
-      port_nets = λ p bit net e. let low = port_nets N names f well p bit net e in omega arith;
-      operands = λ i cell place net r. let low = operand_there N f well net (operand_in N names f well i cell place net r) in omega arith;
-      outputs = λ i cell net d. let low = driver_there N f i net cell (driver_in N names f well i cell net d) in omega arith;
-    }
 
 -- Counts of operands.
 

@@ -35,10 +35,6 @@ abbrev pub StitchedHasDrivers : Type 0
 StitchedHasDrivers = (L : LinkedView) (p : Plan) (seen : List PinSeen) (names : TapNames) → IsFitting L p seen → IsLaidOut L.arena.lists → IsDense L.arena.lists
     → HasDrivers (stitched L.arena.lists names (fitted_of L p seen))
 
-abbrev pub StitchedIsLaidOut : Type 0
-StitchedIsLaidOut = (L : LinkedView) (p : Plan) (seen : List PinSeen) (names : TapNames) → IsFitting L p seen → IsLaidOut L.arena.lists → IsDense L.arena.lists
-    → IsLaidOut (stitched L.arena.lists names (fitted_of L p seen))
-
 -- the netlist with the test logic is well formed
 abbrev pub StitchedIsFormed : Type 0
 StitchedIsFormed = (L : LinkedView) (p : Plan) (seen : List PinSeen) (names : TapNames) → IsFitting L p seen → IsLaidOut L.arena.lists → IsDense L.arena.lists

@@ -3,7 +3,7 @@
 // IEEE Std 1149.1-2001: test logic architecture; the laws are own.
 #![tactic(auto)]
 
-ghost use Rattle.stitch_formed.specs.Laws.{StitchedHasDrivers, StitchedIsLaidOut, StitchedIsFormed};
+ghost use Rattle.stitch_formed.specs.Laws.{StitchedHasDrivers, StitchedIsFormed};
 
 use netlist_laws::bit_of_a_direction;
 use stitch_ranks::{stitched_has_cones, stitched_is_ordered};
@@ -12,16 +12,6 @@ use stitch_rows::{nets_have_rows, rows_stand_once, rows_stand_somewhere};
 /// Its ports, drivers and readers are those of a well-formed netlist.
 pub fn stitched_has_drivers()
     ensures { StitchedHasDrivers }
-{
-    bit_of_a_direction();
-    rows_stand_somewhere();
-    rows_stand_once();
-    nets_have_rows();
-}
-
-/// Each of its ports has its width, and each net that is named is there.
-pub fn stitched_is_laid_out()
-    ensures { StitchedIsLaidOut }
 {
     bit_of_a_direction();
     rows_stand_somewhere();

@@ -7,3 +7,4 @@ mod Places
 mod Views
 mod Prefix
 pub mod Limits
+mod Few

@@ -1,3 +1,4 @@
 pub mod Prepared
 pub mod Same
 pub mod Laws
+pub mod Taken

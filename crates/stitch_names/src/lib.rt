@@ -1,10 +1,11 @@
 // The names of the netlist with the test logic built in: how many names and how much room they take, and laws on them. Each
-// function has nothing to do, and its contract cites a statement in specs/Laws.antt.
+// function has nothing to do, and its contract cites a statement in specs/.
 // IEEE Std 1149.1-2001: test access port; IEEE Std 1364-2001: hierarchical names.
 #![tactic(auto)]
 
 ghost use Rattle.stitch_names.specs.Laws.{StitchedHasFreePrefix, StitchedIsNamed, TapNamesAreEntered};
 ghost use Rattle.stitch_names.specs.Same.{SameIsNamed};
+ghost use Rattle.stitch_names.specs.Taken.{StitchedFitsRoom};
 
 use draft_laws::part_is_named;
 use plan_devices::{prefixes_are_free, tap_names_are_new};
@@ -40,3 +41,8 @@ pub fn stitched_has_free_prefix()
     part_is_named();
     stitched_directions();
 }
+
+/// The cells and nets that are added are no more than there is room for.
+pub fn stitched_fits_room()
+    ensures { StitchedFitsRoom }
+{}

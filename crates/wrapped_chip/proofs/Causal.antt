@@ -18,7 +18,8 @@ use Rattle.test_logic.specs.Rows.{CellAt, ControlAt, into_core}
 use Rattle.bsdl_device.specs.declared.values.Disable.{Disable}
 use Rattle.bsdl_device.specs.declared.values.Device.{Device}
 use Rattle.wrapped_chip.specs.Cells.{core_datum, core_control, control_at, Numbered, into_by, row_of, chip_rule}
-use Rattle.wrapped_chip.specs.Laws.{ChipIsCausal}
+use Rattle.wrapped_chip.specs.Laws.{pins}
+use Rattle.netlist_laws.specs.Settle.{IsCausal}
 
 -- the first cell that drives the net, or none is found
 search : (places : List (Option CellView)) (net : ℕ) → Found places net ⊎ (driver_of places net ≡ None)
@@ -114,5 +115,6 @@ input_rule_same B N m pins pins' v v' net formed input p =
     ])
     ∙ pins_same B N m pins pins' v' net (row_of B N net) p
 
-pub chip_causal : ChipIsCausal
+-- what goes into the core at a pin's net hangs on nets with smaller numbers alone
+pub chip_causal : (B : Device) (N : NetlistView) (rank : ℕ → ℕ) (m : Machine) (pins : ℕ → PinSig) → IsWellFormed N → IsNumbered N rank → IsCausal N rank (chip_rule B N m pins)
 chip_causal B N rank m pins formed numbered = record { below = λ net g v v' same. chip_rule_same B N rank m pins pins v v' net formed numbered g refl same }

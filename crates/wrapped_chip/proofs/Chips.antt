@@ -24,7 +24,7 @@ use Rattle.test_logic.specs.Machine.{Machine, reset, machine_step, test_logic_of
 use Rattle.bsdl_device.specs.declared.values.Device.{Device}
 use Rattle.wrapped_chip.specs.Cells.{chip_rule, captured}
 use Rattle.wrapped_chip.specs.ChipRuns.{ChipMoment, ChipEvent, IsChipLegal, IsPowerUp, IsChipSettled, IsChipStep, chip_pins_after, levels_after}
-use Rattle.wrapped_chip.specs.Laws.{ChipSettledExists, ChipSettledOnce, ChipRunExists, ChipIsHistory, SameChipMoment, ChipRunOnce}
+use Rattle.wrapped_chip.specs.Laws.{ChipSettledExists, ChipSettledOnce, ChipRunExists, SameChipMoment, ChipRunOnce}
 use Rattle.wrapped_chip.proofs.Causal.{chip_rule_same, input_rule_same, chip_causal}
 
 pub chip_settled_exists : ChipSettledExists
@@ -151,13 +151,6 @@ pub event_at : (events : List ChipEvent) (t : ℕ) → t < length events → (ev
 event_at [] t h = absurd (omega arith)
 event_at (e ∷ es) zero h = (e, refl)
 event_at (e ∷ es) (suc t) h = event_at es t (omega arith)
-
-pub chip_is_history : ChipIsHistory
-chip_is_history B N given events chip run = record {
-  low = run.start.low;
-  start = run.start.machine;
-  steps = λ t h. let e = event_at events t h in (run.steps t e.0 e.1).machine;
-}
 
 -- a valuation by an equal machine
 of_machine : (B : Device) (N : NetlistView) (m m' : Machine) (pins : ℕ → PinSig) (state value : ℕ → Sig) → m ≡ m' → Meets N (chip_rule B N m' pins) state value

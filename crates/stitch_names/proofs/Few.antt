@@ -14,7 +14,7 @@ use Rattle.stitch_model.specs.Logic.{logic_size}
 use Rattle.stitch_model.proofs.Few.{size_few, ident_few, nets_by_few}
 use Rattle.stitch_cells.specs.Sizes.{choice_count, driver_count, row_size, cells_of_rows}
 use Rattle.stitch_cells.proofs.Counts.{counts}
-use Rattle.stitch_room.specs.Taken.{StitchedFitsRoom}
+use Rattle.stitch_names.specs.Taken.{StitchedFitsRoom}
 
 logic_few : (f : Fitted) → logic_size f ≤ 157 + 18 * f.codes.length
 logic_few f =
