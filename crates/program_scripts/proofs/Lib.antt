@@ -10,3 +10,4 @@ mod Named
 pub mod Places
 pub mod Events
 mod Legal
+mod Levels

@@ -1,3 +1,4 @@
 pub mod Words
 pub mod Beside
 pub mod Laws
+pub mod Levels

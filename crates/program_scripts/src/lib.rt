@@ -5,6 +5,7 @@
 
 ghost use Rattle.program_scripts.specs.Words.{WordsNameBits};
 ghost use Rattle.program_scripts.specs.Laws.{ProgramsAreLegal, ScriptsRunThere, ScriptsAreMet};
+ghost use Rattle.program_scripts.specs.Levels.{ProgramsKeepLevels};
 
 use netlist_laws::direction_of_a_bit;
 use program_runs::{netlist_meets_program, program_names_pins};
@@ -39,3 +40,8 @@ pub fn scripts_are_met()
     scripts_run_there();
     netlist_meets_program();
 }
+
+/// The program of a device gives the inputs of its test access port 0 or 1, and starts TRST at 0.
+pub fn programs_keep_levels()
+    ensures { ProgramsKeepLevels }
+{}

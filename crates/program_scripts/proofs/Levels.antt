@@ -35,7 +35,7 @@ use Rattle.program_scripts.proofs.Starts.{input_value}
 use Rattle.program_scripts.proofs.Places.{IsPlaced, placed}
 use Rattle.program_scripts.proofs.Events.{IsEvent, AreEvents, split}
 use Rattle.program_scripts.proofs.Plain.{identifier_plain}
-use Rattle.program_levels.specs.Laws.{KeepsLevels, ProgramsKeepLevels}
+use Rattle.program_scripts.specs.Levels.{KeepsLevels, ProgramsKeepLevels}
 
 -- A name has one place.
 
