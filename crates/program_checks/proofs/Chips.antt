@@ -1,7 +1,7 @@
 -- What an insertion wrote has the chip of the device that it describes.
 use Rattle.std.proofs.Common.{◌≡◌, ℕ, List, ◌++◌, map, refl, sym, ap, ◌∙◌, subst}
 use Rattle.verilog_tree.specs.declared.tree.Module.{Module}
-use Rattle.verilog_conditions.specs.Laws.{SpelledTreesKeepConditions}
+use Rattle.verilog_reading.specs.Conditions.{SpelledTreesKeepConditions}
 use Rattle.netlist_model.specs.Lists.{PortView}
 use Rattle.netlist_model.specs.Formed.{IsWellFormed}
 use Rattle.netlist_link.specs.Linked.{LinkedView}

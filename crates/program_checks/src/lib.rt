@@ -11,7 +11,7 @@ use plan_devices::{devices_have_ports, fitted_is_fitting, plans_suit_netlists};
 use program_runs::plans_stand_around;
 use program_scripts::{programs_are_legal, scripts_are_met};
 use realised_copies::renumbered_realises;
-use verilog_conditions::spelled_trees_keep_the_conditions;
+use verilog_reading::spelled_trees_keep_the_conditions;
 
 /// The written netlist has the chip that the described device makes of the netlist that was read.
 pub fn insertions_have_chips()

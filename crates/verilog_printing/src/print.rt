@@ -8,7 +8,7 @@ use crate::names::put_name;
 use crate::ports::{put_ports, put_wires};
 use std::alloc::Global;
 use texts::{OutOfMemory, Text};
-use verilog_conditions::spelled_trees_keep_the_conditions;
+use verilog_reading::spelled_trees_keep_the_conditions;
 use verilog_tree::Module;
 
 // As many bytes as an item takes as a rule; where items take more, the text's room grows.

@@ -5,4 +5,6 @@ pub mod Items
 pub mod Lists
 pub mod Parts
 pub mod Readers
+pub mod SpelledTrees
+pub mod SpelledWords
 pub mod Whole

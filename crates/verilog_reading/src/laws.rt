@@ -1,3 +1,4 @@
+ghost use Rattle.verilog_reading.specs.Conditions.{SpelledTreesKeepConditions};
 ghost use Rattle.verilog_reading.specs.Laws.{ReadsEachSource, ReadsOnlySources, SpellsOneSource, FaultsSpellNothing, FaultsAtFaultWord};
 
 /// The words of each written module that keeps the rules are read as it.
@@ -23,4 +24,9 @@ pub fn faults_spell_nothing()
 /// Reading stops at the least word with which no module's words go on.
 pub fn faults_at_fault_word()
     ensures { FaultsAtFaultWord }
+{}
+
+/// Each tree that some text spells keeps the conditions on names, numbers and kinds.
+pub fn spelled_trees_keep_the_conditions()
+    ensures { SpelledTreesKeepConditions }
 {}

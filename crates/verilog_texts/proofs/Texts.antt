@@ -15,7 +15,7 @@ use Rattle.verilog_modules.specs.declared.fault.SyntaxFault.TheVariants as synta
 use Rattle.verilog_modules.specs.Faults.{Refuses}
 use Rattle.verilog_texts.specs.declared.fault.TextFault.{TextFault}
 use Rattle.verilog_texts.specs.declared.fault.TextFault.TheVariants.{BadWord, BadSyntax, OutOfMemory}
-use Rattle.verilog_conditions.specs.Laws.{SpelledTreesKeepConditions}
+use Rattle.verilog_reading.specs.Conditions.{SpelledTreesKeepConditions}
 use Rattle.verilog_modules.specs.Laws.{WordsSpellOneModule}
 use Rattle.verilog_texts.specs.Laws.{BytesSpellOneTree}
 use Rattle.verilog_texts.specs.Reading.{HasWords, Spelled, IsReadAs}

@@ -22,7 +22,7 @@ use Rattle.verilog_tree.specs.Spelling.{key_of_gate, each_after_comma, optional_
 use Rattle.verilog_tree.specs.Trees.{port_of, ports_after, declared_by, declarations, has_name, declared_port, header_ports, takes_inputs, gate_inputs, item_fits, IsSource, is_port_net, wire_of, item_wires, gate_of, instance_of, assign_of, item_items, ports_of, tree_of}
 use Rattle.verilog_tree.specs.IsTree.{IsTreeName, IsTreeNumber, IsTreeRange, IsTreeBit, IsTreeOperand, IsTreePort, IsTreeWire, IsTreeLink, IsTreeItem, IsTree}
 use Rattle.verilog_tree.specs.Texts.{SpellsText}
-use Rattle.verilog_conditions.proofs.SpelledWords.{IsSpelled, AreSpelled, all_more, words_are_spelled}
+use Rattle.verilog_reading.proofs.SpelledWords.{IsSpelled, AreSpelled, all_more, words_are_spelled}
 
 -- Lists.
 

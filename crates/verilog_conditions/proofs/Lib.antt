@@ -1,2 +1,0 @@
-pub mod SpelledWords
-pub mod SpelledTrees
