@@ -73,6 +73,13 @@ def buffers(count):
     yield "endmodule"
 
 
+def starts(pins):
+    """The header of events, and each pin at 0."""
+    yield "events 1"
+    for pin in pins:
+        yield f"start {pin} 0"
+
+
 def make(path, lines):
     """Writes the text in a process of its own, so that the one that measures stays small."""
     child = os.fork()

@@ -6,9 +6,9 @@ use crate::fault::TextFault;
 use crate::laws::bytes_spell_one_tree;
 use std::alloc::Global;
 use texts::Text;
-use verilog_reading::spelled_trees_keep_the_conditions;
 use verilog_lexicon::Words;
 use verilog_modules::parse_module;
+use verilog_reading::spelled_trees_keep_the_conditions;
 use verilog_tree::Module;
 use verilog_words::Cutter;
 

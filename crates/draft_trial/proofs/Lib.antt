@@ -1,2 +1,0 @@
-mod Additions
-mod Ports
