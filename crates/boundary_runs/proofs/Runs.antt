@@ -1,6 +1,5 @@
 -- A row over a whole run.
-use Rattle.std.proofs.Common.{◌≡◌, ℕ, zero, suc, ◌<◌, ◌≤◌, List, [], ◌∷◌, length, arith, Some}
-use Rattle.std.specs.Prelude.{slice_get}
+use Rattle.std.proofs.Common.{◌≡◌, ℕ, zero, suc, ◌<◌, ◌≤◌, List, length, arith}
 use Rattle.signal_values.specs.declared.Sig.{Sig}
 use Rattle.netlist_model.specs.declared.NetId.{NetId}
 use Rattle.netlist_model.specs.Lists.{NetlistView}
@@ -16,12 +15,7 @@ use Rattle.boundary_runs.specs.Rows.{BoundaryRow, row_cells, row_kind, IsRowOf, 
 use Rattle.boundary_runs.specs.Laws.{Captures, IsServed, RowsFollow}
 use Rattle.boundary_runs.proofs.Lengths.{along}
 use Rattle.boundary_runs.proofs.Rows.{CellLaws, start_at, step_at, gives_at}
-
--- a place that has an element is one of the list
-below_length : {A : Type 0} (xs : List A) (place : ℕ) (x : A) → slice_get xs place ≡ Some x → place < length xs
-below_length [] place x at = absurd (cc)
-below_length (y ∷ ys) zero x at = omega arith
-below_length (y ∷ ys) (suc place) x at = let inner : place < length ys = below_length ys place x at in omega arith
+use Rattle.std.proofs.lemmas.Option.{slice_get_within}
 
 held_at : CellLaws → (row : BoundaryRow) (first number : ℕ) (scan : ScanNets) (next : NetId)
     → (N : NetlistView) (given : ℕ → Sig) (events : List PinEvent) (moment : ℕ → Moment) → IsWellFormed N → HasCells N (row_cells row first number scan next)
@@ -39,7 +33,7 @@ held_at by row first number scan next N given events moment formed has run L lev
     let now = by.moments N given events moment run t before in
     let event = now.step below in
     let lists = along L levels captured (length events) machine history long t before in
-    let inside : place < length L.kinds = below_length L.kinds place (row_kind row) at in
+    let inside : place < length L.kinds = slice_get_within L.kinds place (row_kind row) at in
     let place_below : place < length (machine t).boundary = rw lists.boundary inside in
     let held : HoldsRow row first place (machine t) (moment t).value
     = held_at by row first number scan next N given events moment formed has run L levels captured machine history long place at c t before

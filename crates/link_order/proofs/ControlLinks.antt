@@ -32,13 +32,9 @@ use Rattle.link_model.specs.Faults.{cells_in}
 use Rattle.link_model.specs.Late.{ControlLink, is_control_place, bit_links, flop_links, item_links, IsDerived, HasNoDerived}
 use Rattle.link_order.specs.Cones.{FlopReads}
 use Rattle.link_order.proofs.LinkNets.{find-first}
+use Rattle.list_laws.proofs.Lists.{before_push}
 
 -- Places of a joined list.
-
-slice_get-front : {X : Type 0} (xs ys : List X) (j : ℕ) (y : X) → slice_get xs j ≡ Some y → slice_get (xs ++ ys) j ≡ Some y
-slice_get-front [] ys j y e = absurd (none-some y e)
-slice_get-front (x ∷ xs) ys zero y e = e
-slice_get-front (x ∷ xs) ys (suc j) y e = slice_get-front xs ys j y e
 
 slice_get-back : {X : Type 0} (xs ys : List X) (j : ℕ) (y : X) → slice_get ys j ≡ Some y → slice_get (xs ++ ys) (length xs + j) ≡ Some y
 slice_get-back [] ys j y e = let at : 0 + j ≡ j = omega arith in ap (slice_get ys) at ∙ e
@@ -46,7 +42,7 @@ slice_get-back (x ∷ xs) ys j y e = let at : suc (length xs) + j ≡ suc (lengt
 
 flat_map-there : {X Y : Type 0} (f : X → List Y) (xs : List X) (k j : ℕ) (x : X) (y : Y) → slice_get xs k ≡ Some x → slice_get (f x) j ≡ Some y → (place : ℕ) × (slice_get (flat_map f xs) place ≡ Some y)
 flat_map-there f [] k j x y here there = absurd (none-some x here)
-flat_map-there f (z ∷ zs) zero j x y here there = (j, slice_get-front (f z) (flat_map f zs) j y (ap (λ w. slice_get (f w) j) (same_Some z x here) ∙ there))
+flat_map-there f (z ∷ zs) zero j x y here there = (j, before_push (f z) (flat_map f zs) y j (ap (λ w. slice_get (f w) j) (same_Some z x here) ∙ there))
 flat_map-there f (z ∷ zs) (suc k) j x y here there = let rest = flat_map-there f zs k j x y here there in (length (f z) + rest.0, slice_get-back (f z) (flat_map f zs) rest.0 y rest.1)
 
 -- Operand 1 of a flip-flop is CK, and operand 2 RN or SN.

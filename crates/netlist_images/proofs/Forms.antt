@@ -14,7 +14,8 @@ use Rattle.netlist_laws.proofs.Search.{cell_at_once}
 use Rattle.netlist_images.specs.Nested.{renamed_net, renamed_feed, renamed_cell, Nested}
 use Rattle.netlist_images.specs.Renumbering.{ArePortImages, IsRenumbering}
 use Rattle.netlist_images.specs.RenumberedLaws.{CopyIsRenumbering, RenumberedBits, RenumberingTurns}
-use Rattle.netlist_images.proofs.Numbers.{length-mapped, copied_direction, copied_bit, copied_nested, drives_over, reads_over, driven_over, control_over}
+use Rattle.netlist_images.proofs.Numbers.{copied_direction, copied_bit, copied_nested, drives_over, reads_over, driven_over, control_over}
+use Rattle.std.proofs.lemmas.List.{length-map}
 
 pub renumbering_turns : RenumberingTurns
 renumbering_turns N M to at r = record { back = to; from = at; there = r.here; here = r.there }
@@ -46,7 +47,7 @@ renumbered_is_formed N M to at r formed =
       counts = λ i cell live.
           let there = m.cells i cell live in
           let count : Takes cell.kind (length (map (renamed_feed back) cell.feeds)) = formed.counts (from i) (renamed_cell back there.name cell) there.live in
-          rw (length-mapped (renamed_feed back) cell.feeds) at count;
+          rw (length-map cell.feeds (renamed_feed back)) at count;
       bits_apart = λ p q j k net a b.
           formed.bits_apart p q j k (record { 0 = back net.0 }) (copied_bit M N back from to at r.here p j net a) (copied_bit M N back from to at r.here q k net b);
       inputs_free = λ i cell net d e.

@@ -1,5 +1,5 @@
 -- Ports, operands, drivers and cones under other numbers.
-use Rattle.std.proofs.Common.{◌≡◌, ℕ, zero, suc, ◌⊎◌, List, [], ◌∷◌, map, length, refl, ap, sym, ◌∙◌, inl, inr}
+use Rattle.std.proofs.Common.{◌≡◌, ℕ, zero, suc, ◌⊎◌, List, [], ◌∷◌, map, refl, ap, sym, ◌∙◌, inl, inr}
 use Rattle.std.specs.Prelude.{Option, Some, None, slice_get, ◌==◌}
 use Rattle.std.specs.Option.{option_map}
 use Rattle.std.proofs.lemmas.Bool.Decides.{eqb_tells}
@@ -18,10 +18,6 @@ pub slice_get-mapped : {A B : Type 0} (f : A → B) (xs : List A) (k : ℕ) (x :
 slice_get-mapped f [] k x e = absurd (cc)
 slice_get-mapped f (y ∷ xs) zero x e = let same : y ≡ x = cc in ap (λ z. Some (f z)) same
 slice_get-mapped f (y ∷ xs) (suc k) x e = slice_get-mapped f xs k x e
-
-pub length-mapped : {A B : Type 0} (f : A → B) (xs : List A) → length (map f xs) ≡ length xs
-length-mapped f [] = refl
-length-mapped f (x ∷ xs) = ap suc (length-mapped f xs)
 
 -- two numbers are the same exactly where their new ones are
 pub same_test : (to back : ℕ → ℕ) → ((n : ℕ) → back (to n) ≡ n) → (a b : ℕ) → (to a == to b) ≡ (a == b)

@@ -1,7 +1,7 @@
 -- Names that can't stand behind others.
 use Rattle.std.proofs.Common.{◌≡◌, ℕ, Bool, true, false, List, [], ◌∷◌, ◌++◌, refl, ap, sym, ◌∙◌, Option, Some, None, if◌then◌else◌}
 use Rattle.std.specs.List.{list_any}
-use Rattle.std.proofs.lemmas.List.{append_assoc}
+use Rattle.std.proofs.lemmas.List.{append_assoc, append-nil}
 use Rattle.indexmap.specs.IndexSet.{insert_key}
 use Rattle.list_laws.specs.Options.{or_else, first_in}
 use Rattle.list_laws.proofs.Options.{first_in-append}
@@ -30,13 +30,9 @@ pub new_key : (ks new : List NameKey) (k : NameKey) → list_any (is_same_name k
 new_key ks new k fresh is =
     ap names_in is ∙ ap (λ (b : Bool). names_in (if b then ks else ks ++ k ∷ [])) (list_any-keys k.0.now ks ∙ fresh) ∙ names-last ks k
 
-append_none : {Y : Type 0} (xs : List Y) → xs ++ [] ≡ xs
-append_none [] = refl
-append_none {Y} (x ∷ xs) = ap (λ (l : List Y). x ∷ l) (append_none xs)
-
 -- the first of two lists
 pub barred_after-append : (others before xs ys : List (List ℕ)) → barred_after others before (xs ++ ys) ≡ or_else (barred_after others before xs) (barred_after others (before ++ xs) ys)
-barred_after-append others before [] ys = ap (λ (b : List (List ℕ)). barred_after others b ys) (sym (append_none before))
+barred_after-append others before [] ys = ap (λ (b : List (List ℕ)). barred_after others b ys) (sym (append-nil before))
 barred_after-append others before (x ∷ xs) ys = by (is_barred others before x) (barred_after-append others (before ++ x ∷ []) xs ys)
   where
     by : (b : Bool) → barred_after others (before ++ x ∷ []) (xs ++ ys) ≡ or_else (barred_after others (before ++ x ∷ []) xs) (barred_after others ((before ++ x ∷ []) ++ xs) ys)

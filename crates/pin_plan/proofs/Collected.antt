@@ -3,7 +3,7 @@ use Rattle.std.proofs.Common.{◌≡◌, ℕ, zero, suc, ◌+◌, ◌<◌, ◌�
 use Rattle.std.specs.Prelude.{slice_get, IsSome}
 use Rattle.std.specs.List.{filter_map, cons_option}
 use Rattle.std.specs.Option.{option_map, option_and_then}
-use Rattle.std.proofs.lemmas.List.{append_assoc}
+use Rattle.std.proofs.lemmas.List.{append_assoc, append-nil}
 use Rattle.std.proofs.lemmas.List.Sums.{sum_by-cons}
 use Rattle.netlist_model.specs.declared.Name.{Name}
 use Rattle.netlist_model.specs.declared.Range.{Range}
@@ -46,17 +46,13 @@ collected {X} {Y} f xs i y base front new at so_far grown =
     ∙ ap (λ (k : ℕ). filter_map f (take k xs)) (sym next)
     )
 
-append_none : {Y : Type 0} (xs : List Y) → xs ++ [] ≡ xs
-append_none [] = refl
-append_none {Y} (x ∷ xs) = ap (λ (l : List Y). x ∷ l) (append_none xs)
-
 pub passed : {X Y : Type 0} (f : X → Option Y) (xs : List X) (i : ℕ) (base front : List Y) → option_and_then f (slice_get xs i) ≡ None
     → front ≡ base ++ filter_map f (take i xs) → front ≡ base ++ filter_map f (take (i + 1) xs)
 passed {X} {Y} f xs i base front at so_far =
     let next : i + 1 ≡ suc i = omega arith in
     so_far
     ∙ ap (λ (l : List Y). base ++ l) (
-    sym (append_none (filter_map f (take i xs)))
+    sym (append-nil (filter_map f (take i xs)))
     ∙ ap (λ (o : Option Y). filter_map f (take i xs) ++ listed o) (sym at)
     ∙ sym (one_more f xs i)
     ∙ ap (λ (k : ℕ). filter_map f (take k xs)) (sym next)
@@ -133,5 +129,5 @@ text_collected f xs i name base names new at so_far grown = collected f xs i nam
 
 pub name_collected : {X : Type 0} (f : X → Option (List ℕ)) (xs : List X) (i : ℕ) (o : Option (List ℕ)) (base front new : List (List ℕ)) → option_and_then f (slice_get xs i) ≡ o
     → front ≡ base ++ filter_map f (take i xs) → new ≡ front ++ cons_option o [] → new ≡ base ++ filter_map f (take (i + 1) xs)
-name_collected f xs i None base front new at so_far grown = passed f xs i base new at (grown ∙ append_none front ∙ so_far)
+name_collected f xs i None base front new at so_far grown = passed f xs i base new at (grown ∙ append-nil front ∙ so_far)
 name_collected f xs i (Some name) base front new at so_far grown = collected f xs i name base front new at so_far grown

@@ -8,8 +8,9 @@ use Rattle.plan_fitting.specs.declared.fault.FitFault.{FitFault}
 use Rattle.plan_fitting.specs.declared.fitted.FitRow.{FitRow}
 use Rattle.plan_fitting.specs.Pins.{PinSeen}
 use Rattle.plan_fitting.specs.Fits as fits
-use Rattle.plan_fitting.specs.Fits.{taken_by, cell_fault, suits_port, PhysicalPin, PortBit}
+use Rattle.plan_fitting.specs.Fits.{taken_by, cell_fault}
 use Rattle.plan_fitting.specs.Rows.{rows_after}
+use Rattle.std.proofs.lemmas.List.{append-nil}
 
 -- no element is left of one of the lists
 pub ended : {X Y : Type 0} (xs : List X) (ys : List Y) (n : ℕ) → n ≡ min (length xs) (length ys) → (drop n xs ≡ []) ⊎ (drop n ys ≡ [])
@@ -33,10 +34,6 @@ rows_end kind highz rows whole lines pins n is so_far = elim (ended lines pins n
 
 -- What they take.
 
-append_none : {Y : Type 0} (xs : List Y) → xs ++ [] ≡ xs
-append_none [] = refl
-append_none {Y} (x ∷ xs) = ap (λ (l : List Y). x ∷ l) (append_none xs)
-
 none_taken : (lines : List PinLine) → taken_by lines [] ≡ []
 none_taken [] = refl
 none_taken (line ∷ lines) = refl
@@ -44,8 +41,8 @@ none_taken (line ∷ lines) = refl
 pub taken_end : (front whole : List fits.Taken) (lines : List PinLine) (pins : List PinSeen) (n : ℕ) → n ≡ min (length lines) (length pins)
     → front ++ taken_by (drop n lines) (drop n pins) ≡ whole → front ≡ whole
 taken_end front whole lines pins n is so_far = elim (ended lines pins n is) [
-  | inl none ↦ sym (append_none front) ∙ sym (ap (λ (ls : List PinLine). front ++ taken_by ls (drop n pins)) none) ∙ so_far
-  | inr none ↦ sym (append_none front) ∙ sym (ap (λ (ps : List PinSeen). front ++ taken_by (drop n lines) ps) none ∙ ap (λ (t : List fits.Taken). front ++ t) (none_taken (drop n lines))) ∙ so_far
+  | inl none ↦ sym (append-nil front) ∙ sym (ap (λ (ls : List PinLine). front ++ taken_by ls (drop n pins)) none) ∙ so_far
+  | inr none ↦ sym (append-nil front) ∙ sym (ap (λ (ps : List PinSeen). front ++ taken_by (drop n lines) ps) none ∙ ap (λ (t : List fits.Taken). front ++ t) (none_taken (drop n lines))) ∙ so_far
 ]
 
 -- Their cells.

@@ -26,7 +26,7 @@ use Rattle.plan_fitting.specs.Devices.{fitted_of, cell_row, dev_bit, device_of}
 use Rattle.plan_fitting.specs.Laws.{OpcodesKeepTheRules, ControlCellsAreThere, DriversAgree, HighzDisablesAll}
 use Rattle.plan_devices.specs.Fitting.{IsFitting, HasRoom}
 use Rattle.plan_devices.specs.Laws.{PlansMakeDevices}
-use Rattle.plan_devices.proofs.Lists.{all_from_places, all_enumerated, get_inside}
+use Rattle.plan_devices.proofs.Lists.{all_from_places, all_enumerated}
 use Rattle.plan_devices.proofs.PlanPins.{plans_have_pins}
 use Rattle.plan_devices.proofs.PlanClock.{HasRegister, plans_have_registers}
 use Rattle.plan_devices.proofs.PlanBits.{HasBits, plans_have_bits}
@@ -40,6 +40,7 @@ use Rattle.plan_devices.proofs.DeviceRows.{right_row}
 use Rattle.plan_devices.proofs.DeviceBits.{bit_has_line, one_line, one_row, own_bits_all}
 use Rattle.plan_devices.proofs.Few.{no_more, count_of_bits, seen_is_bit}
 use Rattle.plan_devices.proofs.Facts.{Facts, facts_of}
+use Rattle.std.proofs.lemmas.Option.{slice_get_within}
 
 -- The instruction register.
 
@@ -90,7 +91,7 @@ lines_few L p seen fits facts =
   where
     inside : (k : ℕ) (one : PinSeen) → slice_get seen k ≡ Some one → k < length p.pins
     inside k one there =
-        let low : k < length seen = get_inside seen k one there in
+        let low : k < length seen = slice_get_within seen k one there in
         let many : length seen ≡ length p.pins = fits.are_seen.count in
         omega arith
 

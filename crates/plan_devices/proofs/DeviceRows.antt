@@ -3,7 +3,7 @@ use Rattle.std.proofs.Common.{◌≡◌, ℕ, ◌<◌, ◌==◌, ◌&&◌, Bool,
 use Rattle.std.specs.Prelude.{◌||◌, is_none}
 use Rattle.std.specs.List.{list_any, list_all}
 use Rattle.std.specs.Option.{option_map_or}
-use Rattle.std.proofs.lemmas.Option.{slice_get-map}
+use Rattle.std.proofs.lemmas.Option.{slice_get-map, slice_get_within}
 use Rattle.list_laws.proofs.Tests.{and_true}
 use Rattle.list_laws.proofs.Numbers.{eqb_same}
 use Rattle.list_laws.proofs.Lists.{any_at, test_at}
@@ -33,7 +33,6 @@ use Rattle.plan_fitting.specs.Pins.{PinSeen}
 use Rattle.plan_fitting.specs.Rows.{Driver, rows, has_highz}
 use Rattle.plan_fitting.specs.Devices.{mode_of_side, fit_port, fitted_of, dev_port, dev_bit, disable_by, cell_row, device_of}
 use Rattle.plan_devices.specs.Fitting.{HasWidths}
-use Rattle.plan_devices.proofs.Lists.{get_inside}
 use Rattle.plan_devices.proofs.Rows.{side_driver, data_function, IsDataRow, IsControlRow, Each}
 use Rattle.plan_devices.proofs.Lined.{IsLined, clocks_control, suits_data, suits_control}
 use Rattle.plan_devices.proofs.Indices.{IsBit, range_there, dev_port_at, count_of_ports, has_index}
@@ -50,7 +49,7 @@ mapped_at {X = X} {Y = Y} g xs k y h = by (slice_get xs k) refl (sym (slice_get-
 
 unfoldable pub lined_bit : (L : LinkedView) → HasWidths L.arena.lists → (line : PinLine) (one : PinSeen) → IsLined L line one → IsBit L one.pin
 lined_bit L wide line one is =
-    let inside : one.pin.bit < length is.seen.port.nets = get_inside is.seen.port.nets one.pin.bit one.net is.seen.net in
+    let inside : one.pin.bit < length is.seen.port.nets = slice_get_within is.seen.port.nets one.pin.bit one.net is.seen.net in
     let many : length is.seen.port.nets ≡ width_of is.seen.port.range = wide one.pin.port.0 is.seen.port is.seen.there in
     record { port = is.seen.port; there = is.seen.there; within = omega arith }
 
@@ -70,7 +69,7 @@ bit_stands L p seen pin b side is =
     let d = device_of L p seen in
     let f = fitted_of L p seen in
     let q = dev_port (fit_port L p seen (pin.port.0, b.port)) in
-    let inside : pin.port.0 < length L.arena.lists.ports = get_inside L.arena.lists.ports pin.port.0 b.port b.there in
+    let inside : pin.port.0 < length L.arena.lists.ports = slice_get_within L.arena.lists.ports pin.port.0 b.port b.there in
     ap (λ (o : Option DevPort). option_map_or (λ (x : DevPort). has_bit x.range (dev_bit f pin).index && not (is_tap_place d pin.port.0) && is_mode (mode_of_side side) x.mode) o false) (dev_port_at L p seen pin.port.0 b.port b.there)
     ∙ and_true (has_bit q.range (dev_bit f pin).index && not (is_tap_place d pin.port.0)) (is_mode (mode_of_side side) q.mode)
     (and_true (has_bit q.range (dev_bit f pin).index) (not (is_tap_place d pin.port.0))

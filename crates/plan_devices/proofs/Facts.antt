@@ -13,7 +13,7 @@ use Rattle.plan_fitting.specs.Pins.{PinSeen}
 use Rattle.plan_fitting.specs.Rows.{rows, has_highz}
 use Rattle.plan_fitting.specs.Fits.{missing_fault, twice_fault, cell_fault, name_fault, prefix_fault}
 use Rattle.plan_devices.specs.Fitting.{IsFitting}
-use Rattle.plan_devices.proofs.Lists.{all_from_places, get_inside}
+use Rattle.plan_devices.proofs.Lists.{all_from_places}
 use Rattle.plan_devices.proofs.Names.{NamesFit, names_fit}
 use Rattle.plan_devices.proofs.Taken.{TakenOnce, taken_once}
 use Rattle.plan_devices.proofs.PortBits.{AreLined, are_lined}
@@ -21,6 +21,7 @@ use Rattle.plan_devices.proofs.Lined.{IsLined, are_fit}
 use Rattle.plan_devices.proofs.Rows.{Each, rows_each}
 use Rattle.plan_devices.proofs.RowCounts.{makes_row}
 use Rattle.plan_devices.proofs.Drivers.{makes_rows}
+use Rattle.std.proofs.lemmas.Option.{slice_get_within}
 
 -- no fault stands, kind by kind
 pub record NoFault (L : LinkedView) (p : Plan) (seen : List PinSeen) : Type 0 where
@@ -64,4 +65,4 @@ facts_of has found L p seen fits =
     }
   where
     inside : (k : ℕ) (one : PinSeen) → slice_get seen k ≡ Some one → length seen ≡ length p.pins → k < length p.pins
-    inside k one there many = let low : k < length seen = get_inside seen k one there in omega arith
+    inside k one there many = let low : k < length seen = slice_get_within seen k one there in omega arith

@@ -1,9 +1,9 @@
 -- A plan that fits has no more lines than the netlist's ports have bits.
-use Rattle.std.proofs.Common.{◌≡◌, ℕ, zero, suc, ◌+◌, ◌<◌, ◌≤◌, ◌==◌, Bool, true, false, List, [], ◌∷◌, length, slice_get, Some, option_map, refl, sym, ap, ◌∙◌, arith}
+use Rattle.std.proofs.Common.{◌≡◌, ℕ, zero, suc, ◌+◌, ◌<◌, ◌≤◌, ◌==◌, Bool, true, List, [], ◌∷◌, length, slice_get, Some, option_map, refl, sym, ap, ◌∙◌, arith}
 use Rattle.std.specs.Prelude.{◌||◌, count_by, sum_by}
 use Rattle.std.specs.List.{list_any, flat_map, enumerate_from, AllByRecursion}
 use Rattle.std.proofs.lemmas.List.{length-map, length-append}
-use Rattle.std.proofs.lemmas.Option.{slice_get-map}
+use Rattle.std.proofs.lemmas.Option.{slice_get-map, slice_get_within}
 use Rattle.std.proofs.lemmas.List.Folds.{list_any-append}
 use Rattle.std.proofs.lemmas.List.Sums.{sum_by-cons}
 use Rattle.list_laws.proofs.Numbers.{eqb_same}
@@ -16,7 +16,7 @@ use Rattle.netlist_arena.specs.Arena.{bit_count}
 use Rattle.netlist_link.specs.Linked.{LinkedView}
 use Rattle.plan_fitting.specs.Pins.{PinSeen, IsSeen, same_bit}
 use Rattle.plan_fitting.specs.Names.{NamedBit, named_bit, bits_of_port, port_bits}
-use Rattle.plan_devices.proofs.Lists.{get_inside, enumerated_at}
+use Rattle.plan_devices.proofs.Lists.{enumerated_at}
 use Rattle.plan_devices.proofs.RowCounts.{weigh, count-cons, count_some}
 
 -- Two ways to count.
@@ -85,7 +85,7 @@ pub seen_is_bit : (L : LinkedView) (word : List ℕ) (one : PinSeen) → IsSeen 
 seen_is_bit L word one seen =
     let k = one.pin.port.0 in
     let j = one.pin.bit in
-    let low : j < length seen.port.nets = get_inside seen.port.nets j one.net seen.net in
+    let low : j < length seen.port.nets = slice_get_within seen.port.nets j one.net seen.net in
     let at : 0 + k ≡ k = omega arith in
     let number : slice_get (enumerate_from 0 L.arena.lists.ports) k ≡ Some (k, seen.port) = enumerated_at 0 L.arena.lists.ports k seen.port seen.there ∙ ap (λ (n : ℕ). Some (n, seen.port)) at in
     let place : slice_get (counted_from 0 (length seen.port.nets)) j ≡ Some (0 + j) = slice_get-counted_from 0 (length seen.port.nets) j low in

@@ -4,7 +4,7 @@ use Rattle.std.specs.Prelude.{◌||◌, nat_le, option_and_then}
 use Rattle.std.specs.List.{enumerate_from}
 use Rattle.std.proofs.lemmas.List.{length-map}
 use Rattle.std.proofs.lemmas.List.FromFn.{length-enumerate_from}
-use Rattle.std.proofs.lemmas.Option.{slice_get-map}
+use Rattle.std.proofs.lemmas.Option.{slice_get-map, slice_get_within}
 use Rattle.list_laws.proofs.Lists.{slice_get-append_left}
 use Rattle.list_laws.proofs.Tests.{and_true, or_more}
 use Rattle.list_laws.proofs.Options.{some_same}
@@ -23,7 +23,7 @@ use Rattle.plan_fitting.specs.declared.fitted.FitPort.{FitPort}
 use Rattle.plan_fitting.specs.Pins.{PinSeen, same_bit}
 use Rattle.plan_fitting.specs.Devices.{fit_port, fitted_of, dev_port, port_range, scalar_port, tap_ports, dev_ports, range_at, dev_bit}
 use Rattle.plan_devices.proofs.Tests.{true_not_false}
-use Rattle.plan_devices.proofs.Lists.{enumerated_at, get_inside}
+use Rattle.plan_devices.proofs.Lists.{enumerated_at}
 
 -- Ports.
 
@@ -43,7 +43,7 @@ pub dev_port_at : (L : LinkedView) (p : Plan) (seen : List PinSeen) (k : ℕ) (p
     → slice_get (dev_ports (fitted_of L p seen)) k ≡ Some (dev_port (fit_port L p seen (k, port)))
 dev_port_at L p seen k port there =
     let f = fitted_of L p seen in
-    let inside : k < length L.arena.lists.ports = get_inside L.arena.lists.ports k port there in
+    let inside : k < length L.arena.lists.ports = slice_get_within L.arena.lists.ports k port there in
     let many : length (map dev_port f.ports) ≡ length f.ports = length-map f.ports dev_port in
     let same : length f.ports ≡ length L.arena.lists.ports = count_of_ports L p seen in
     slice_get-append_left (map dev_port f.ports) (tap_ports f ++ map (scalar_port mode.Linkage) f.linkage) k (omega arith)

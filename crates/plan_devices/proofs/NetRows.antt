@@ -2,7 +2,7 @@
 use Rattle.std.proofs.Common.{◌≡◌, ℕ, zero, suc, ◌+◌, ◌<◌, ◌==◌, Bool, true, false, List, [], ◌∷◌, length, slice_get, if◌then◌else◌, Option, Some, None, option_map, refl, sym, ap, ◌∙◌, subst, inl, inr, arith, eqb-true, eq-eqb}
 use Rattle.std.specs.Prelude.{option_and_then, count_by}
 use Rattle.std.specs.Option.{option_map_or}
-use Rattle.std.proofs.lemmas.Option.{slice_get-map}
+use Rattle.std.proofs.lemmas.Option.{slice_get-map, slice_get_within}
 use Rattle.list_laws.proofs.Tests.{and_left, and_right}
 use Rattle.list_laws.proofs.Options.{some_same}
 use Rattle.netlist_model.specs.declared.NetId.{NetId}
@@ -22,7 +22,7 @@ use Rattle.plan_fitting.specs.Rows.{rows, has_highz}
 use Rattle.plan_fitting.specs.Devices.{fitted_of, dev_bit, cell_row, device_of}
 use Rattle.plan_devices.specs.Fitting.{IsFitting, HasWidths}
 use Rattle.plan_devices.proofs.Tests.{true_not_false}
-use Rattle.plan_devices.proofs.Lists.{get_inside, none_there}
+use Rattle.plan_devices.proofs.Lists.{none_there}
 use Rattle.plan_devices.proofs.Lined.{IsLined}
 use Rattle.plan_devices.proofs.Rows.{IsDataRow}
 use Rattle.plan_devices.proofs.RowCounts.{sits, count_at}
@@ -141,7 +141,7 @@ some_row has L p seen fits facts side net h =
     let id : NetId = record { 0 = net } in
     let bit = has N side id h in
     let x = pin_at bit.number bit.bit in
-    let inside : bit.bit < length bit.port.nets = get_inside bit.port.nets bit.bit id bit.has in
+    let inside : bit.bit < length bit.port.nets = slice_get_within bit.port.nets bit.bit id bit.has in
     let many : length bit.port.nets ≡ width_of bit.port.range = fits.wide bit.number bit.port bit.stands in
     let b : IsBit L x = record { port = bit.port; there = bit.stands; within = omega arith } in
     let line = bit_has_line L seen facts.lined.each bit.number bit.port bit.bit bit.stands inside in

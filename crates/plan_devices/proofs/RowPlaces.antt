@@ -2,7 +2,7 @@
 use Rattle.std.proofs.Common.{◌≡◌, ℕ, zero, suc, ◌+◌, ◌<◌, ◌≤◌, ◌==◌, Bool, true, false, List, [], ◌∷◌, length, slice_get, Option, Some, None, option_map, refl, sym, ap, ◌∙◌, inl, inr, arith, eqb-true, eq-eqb}
 use Rattle.std.specs.Prelude.{option_and_then, count_by}
 use Rattle.std.specs.Option.{option_map_or}
-use Rattle.std.proofs.lemmas.Option.{slice_get-map}
+use Rattle.std.proofs.lemmas.Option.{slice_get-map, slice_get_within}
 use Rattle.list_laws.proofs.Tests.{and_left, and_right, and_true}
 use Rattle.list_laws.proofs.Options.{some_same}
 use Rattle.list_laws.proofs.Lists.{any_at}
@@ -24,7 +24,6 @@ use Rattle.plan_fitting.specs.Rows.{rows, has_highz}
 use Rattle.plan_fitting.specs.Devices.{fitted_of, cell_row, device_of}
 use Rattle.plan_devices.specs.Fitting.{IsFitting}
 use Rattle.plan_devices.specs.Laws.{IsRowOf, RowsStandAtBits, BitsHaveRows}
-use Rattle.plan_devices.proofs.Lists.{get_inside}
 use Rattle.plan_devices.proofs.Lined.{IsLined}
 use Rattle.plan_devices.proofs.Rows.{IsDataRow}
 use Rattle.plan_devices.proofs.RowCounts.{sits, weigh, count-cons, count_some, count_at}
@@ -91,7 +90,7 @@ data_stands L p seen fits facts number r pin at is d =
     let apart = fits.formed.bits_apart y.port.0 x.port.0 y.bit x.bit d.one.net (net_of_line_is L other.line.line other.line.one other.line.on d.one.net net) (net_of_line L d.line d.one d.on) in
     let same : same_bit x y ≡ true = and_true (x.port.0 == y.port.0) (x.bit == y.bit) (eq-eqb x.port.0 y.port.0 (sym apart.0)) (eq-eqb x.bit y.bit (sym apart.1)) in
     let b : IsBit L x = lined_bit L fits.wide d.line d.one d.on in
-    let line = bit_has_line L seen facts.lined.each x.port.0 d.on.seen.port x.bit d.on.seen.there (get_inside d.on.seen.port.nets x.bit d.one.net d.on.seen.net) in
+    let line = bit_has_line L seen facts.lined.each x.port.0 d.on.seen.port x.bit d.on.seen.there (slice_get_within d.on.seen.port.nets x.bit d.one.net d.on.seen.net) in
     let one : count_by (sits x) (rows p seen) ≡ 1 = (one_row L p seen fits.wide fits.are_seen.count facts.each facts.makes facts.once.bits x b line).0 in
     let place : found.0.number ≡ number =
     once_at (sits x) (rows p seen) found.0.number number other.row r (omega arith) other.there at (sits_at x other.row y other.line.pin same) (sits_at x r x d.pin (same_self x)) in
@@ -128,7 +127,7 @@ bits_have_rows has driven L p seen fits number bit net h =
     let facts = facts_of has driven L p seen fits in
     let x = pin_at number bit in
     let port = port_of_net L bit net (slice_get L.arena.lists.ports number) h in
-    let inside : bit < length port.0.nets = get_inside port.0.nets bit net port.2 in
+    let inside : bit < length port.0.nets = slice_get_within port.0.nets bit net port.2 in
     let many : length port.0.nets ≡ width_of port.0.range = fits.wide number port.0 port.1 in
     let b : IsBit L x = record { port = port.0; there = port.1; within = omega arith } in
     let line = bit_has_line L seen facts.lined.each number port.0 bit port.1 inside in

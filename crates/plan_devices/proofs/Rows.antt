@@ -1,7 +1,7 @@
 -- Each row of a plan is the data cell of one of its lines, or a control cell that a row names.
 use Rattle.std.proofs.Common.{◌≡◌, ◌⊎◌, ℕ, zero, suc, ◌+◌, ◌-◌, Bool, true, false, List, [], ◌∷◌, ◌++◌, length, slice_get, position, if◌then◌else◌, Option, Some, None, refl, sym, ap, ◌∙◌, subst, inl, inr, arith}
 use Rattle.std.proofs.lemmas.Bool.{cases_lt}
-use Rattle.std.proofs.lemmas.Option.{get_or_from_slice_get}
+use Rattle.std.proofs.lemmas.Option.{get_or_from_slice_get, slice_get_within}
 use Rattle.std.proofs.lemmas.List.Quantifiers.{position-Some}
 use Rattle.list_laws.proofs.Numbers.{eqb_same}
 use Rattle.list_laws.proofs.Lists.{slice_get_there, slice_get-append_left, slice_get-append_right}
@@ -18,7 +18,6 @@ use Rattle.plan_texts.specs.declared.plan.PinLine.{PinLine}
 use Rattle.plan_fitting.specs.declared.fitted.FitRow.{FitRow}
 use Rattle.plan_fitting.specs.Pins.{PinSeen}
 use Rattle.plan_fitting.specs.Rows.{Driver, same_bool, same_feed, controls, input_row, two_state_row, data_row, control_row, controlled_by, output_rows, inout_rows, rows_at, rows_after, rows, output_driver, three_state, has_highz}
-use Rattle.plan_devices.proofs.Lists.{get_inside}
 
 -- the driver of a bit that a control cell is to control
 abbrev pub side_driver : Bool → PinSeen → Dir → Option Driver
@@ -85,7 +84,7 @@ Each On kind highz rs = (number : ℕ) (row : FitRow) → slice_get rs number �
 -- Longer lists.
 
 kept_at : (rs more : List FitRow) (number : ℕ) (row : FitRow) → slice_get rs number ≡ Some row → slice_get (rs ++ more) number ≡ Some row
-kept_at rs more number row h = slice_get-append_left rs more number (get_inside rs number row h) ∙ h
+kept_at rs more number row h = slice_get-append_left rs more number (slice_get_within rs number row h) ∙ h
 
 controlled_kept : (rs more : List FitRow) (d : Option Driver) (named : Option ℕ) → Controlled rs d named → Controlled (rs ++ more) d named
 controlled_kept rs more None named h = h

@@ -11,6 +11,7 @@ use Rattle.stitch_model.specs.declared.TapNames.{TapNames}
 use Rattle.stitch_model.specs.Stitched.{scalar, tap_ports, tap_port, stitched}
 use Rattle.stitch_laws.specs.Places.{port_of}
 use Rattle.stitch_formed.proofs.Context.{FitsWell}
+use Rattle.std.proofs.lemmas.Option.{slice_get_within}
 
 -- A port with its bit.
 
@@ -75,17 +76,12 @@ pub record IsTapPort (N : NetlistView) (p j : ℕ) (net : NetId) : Type 0 where
   pub is : p ≡ length N.ports + place
   pub bit : IsTapBit (length N.nets) place j net
 
-inside : {X : Type 0} (xs : List X) (k : ℕ) (x : X) → slice_get xs k ≡ Some x → k < length xs
-inside [] k x e = absurd (cc)
-inside (y ∷ ys) zero x e = omega arith
-inside (y ∷ ys) (suc k) x e = let rest = inside ys k x e in omega arith
-
 pub bit_cases : (N : NetlistView) (names : TapNames) (f : Fitted) (p j : ℕ) (net : NetId) → bit_net (stitched N names f) p j ≡ Some net → IsCoreBit N p j net ⊎ IsTapPort N p j net
 bit_cases N names f p j net e =
     let more : List PortView = tap_ports names (port_of N) in
     let bit = bit_by (N.ports ++ more) p j net (slice_get (N.ports ++ more) p) refl e in
     elim (port_cases N.ports more p bit.port bit.there) [
-      | inl early ↦ inl (record { at = ap (option_and_then (λ (x : PortView). slice_get x.nets j)) early ∙ bit.has; low = inside N.ports p bit.port early })
+      | inl early ↦ inl (record { at = ap (option_and_then (λ (x : PortView). slice_get x.nets j)) early ∙ bit.has; low = slice_get_within N.ports p bit.port early })
       | inr late ↦ inr (record { place = late.place; is = late.is; bit = tap_bit (length N.nets) names late.place j bit.port net late.there bit.has })
     ]
 

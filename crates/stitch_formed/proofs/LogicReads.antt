@@ -6,7 +6,6 @@ use Rattle.std.proofs.lemmas.Bool.{cases_lt}
 use Rattle.std.proofs.lemmas.List.Sums.{sum_by-cons}
 use Rattle.list_laws.proofs.Lists.{slice_get-append_left, slice_get-append_right}
 use Rattle.list_laws.proofs.Options.{some_same}
-use Rattle.plan_devices.proofs.Lists.{get_inside}
 use Rattle.cell_library.specs.declared.codes.BoundaryKind.{BoundaryKind}
 use Rattle.cell_library.specs.declared.codes.BoundaryKind.TheVariants.{Bc1, Bc2, Bc4, Bc7}
 use Rattle.netlist_model.specs.declared.Dir.TheVariants.{Input, Output, Inout}
@@ -48,6 +47,7 @@ use Rattle.stitch_formed.proofs.Context.{FitsWell}
 use Rattle.stitch_formed.proofs.Ranges.{tdo_net, side_range, row_range}
 use Rattle.stitch_formed.proofs.Places.{net_at_is}
 use Rattle.stitch_formed.proofs.Operands.{OperandOf, added_read, tap_read, pin_read, level_read, feed_read, core_reads}
+use Rattle.std.proofs.lemmas.Option.{slice_get_within}
 
 -- Nets of the test logic.
 
@@ -348,7 +348,7 @@ tdo_cell N f i cell h =
     let cells = part_cells TDO (tdo_feeds N f) (tdo_net N f) (tdo_number N f) in
     let last : CellView = tdo_driver (tdo_net N f) (port_of N).tdo (tdo_number N f + 6) in
     let six : length cells ≡ 6 = refl in
-    let low : h.place < 7 = get_inside (cells ++ last ∷ []) h.place cell h.at in
+    let low : h.place < 7 = slice_get_within (cells ++ last ∷ []) h.place cell h.at in
     elim (cases_lt h.place 6) [
       | inl own ↦ inl (each_at (IsLogicCell (port_of N).tck (port_of N).trst (OperandOf N f)) cells h.place cell
           (tdo_logic (tdo_net N f) (tdo_number N f) (tap_at (first_net N f) (port_of N)) (instruction_at (first_net N f) (port_of N) f) (bypass_at (first_net N f) f)

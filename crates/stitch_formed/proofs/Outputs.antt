@@ -5,7 +5,6 @@ use Rattle.std.specs.Option.{option_map}
 use Rattle.std.proofs.lemmas.Bool.{cases_lt}
 use Rattle.list_laws.proofs.Lists.{slice_get-append_left, slice_get-append_right}
 use Rattle.list_laws.proofs.Options.{some_same}
-use Rattle.plan_devices.proofs.Lists.{get_inside}
 use Rattle.netlist_model.specs.declared.NetId.{NetId}
 use Rattle.netlist_model.specs.Lists.{CellView, NetlistView, cell_at, cell_count, Drives}
 use Rattle.gate_parts.specs.Parts.{part_cells}
@@ -30,6 +29,7 @@ use Rattle.stitch_cells.proofs.Tables.{turn_at}
 use Rattle.stitch_cells.proofs.Parts.{logic_turns, tdo_turn}
 use Rattle.stitch_cells.proofs.RowGates.{rows_drive}
 use Rattle.stitch_formed.proofs.Ranges.{tdo_net}
+use Rattle.std.proofs.lemmas.Option.{slice_get_within}
 
 -- own: which cell of which part has this number and drives this net
 pub data OutputOf (N : NetlistView) (f : Fitted) (i net : ℕ) (cell : CellView) : Type 0 where
@@ -82,7 +82,7 @@ controller_output : (N : NetlistView) (f : Fitted) (i : ℕ) (cell : CellView) (
 controller_output N f i cell net h e =
     let cells = controller_part (first_net N f) (port_of N) (cell_count N) in
     let many = (logic_lengths (first_net N f) (port_of N) f (cell_count N)).controller in
-    let low = get_inside cells h.place cell h.at in
+    let low = slice_get_within cells h.place cell h.at in
     let net_is = output_is cell net _ (turn_at (first_net N f) cells h.place cell (logic_turns (first_net N f) (port_of N) f (cell_count N)).controller h.at) e in
     logic_out h.place (omega arith) h.is net_is
 
@@ -91,7 +91,7 @@ instruction_output : (N : NetlistView) (f : Fitted) (i : ℕ) (cell : CellView) 
 instruction_output N f i cell net h e =
     let cells = instruction_part (first_net N f) (port_of N) f (instruction_number N f) in
     let many = (logic_lengths (first_net N f) (port_of N) f (instruction_number N f)).instruction in
-    let low = get_inside cells h.place cell h.at in
+    let low = slice_get_within cells h.place cell h.at in
     let start = (numbers N f).instruction in
     let is = h.is in
     let net_is : net ≡ first_net N f + instruction_from + h.place =
@@ -103,7 +103,7 @@ bypass_output : (N : NetlistView) (f : Fitted) (i : ℕ) (cell : CellView) (net 
 bypass_output N f i cell net h e =
     let cells = bypass_part (first_net N f) (port_of N) f (bypass_number N f) in
     let many = (logic_lengths (first_net N f) (port_of N) f (bypass_number N f)).bypass in
-    let low = get_inside cells h.place cell h.at in
+    let low = slice_get_within cells h.place cell h.at in
     let start = (numbers N f).bypass in
     let is = h.is in
     let net_is : net ≡ first_net N f + bypass_from f + h.place =
@@ -115,7 +115,7 @@ ident_output : (N : NetlistView) (f : Fitted) (i : ℕ) (cell : CellView) (net :
 ident_output N f i cell net h e =
     let cells = ident_part (first_net N f) (port_of N) f (ident_number N f) in
     let many = (logic_lengths (first_net N f) (port_of N) f (ident_number N f)).ident in
-    let low = get_inside cells h.place cell h.at in
+    let low = slice_get_within cells h.place cell h.at in
     let start = (numbers N f).ident in
     let is = h.is in
     let net_is : net ≡ first_net N f + ident_from f + h.place =
@@ -127,7 +127,7 @@ row_output : (N : NetlistView) (f : Fitted) (i : ℕ) (cell : CellView) (net k :
 row_output N f i cell net k row there h e =
     let cells = gates_of_row N f k row in
     let many = (row_lengths N f k row).gates in
-    let low = get_inside cells h.place cell h.at in
+    let low = slice_get_within cells h.place cell h.at in
     let drive = rows_drive N f k row in
     elim (cases_lt h.place (row_nets N.ports row)) [
       | inl own ↦ row_out k row h.place there own h.is (output_is cell net _ (drive.own h.place cell h.at own) e)
@@ -144,7 +144,7 @@ driver_output : (N : NetlistView) (f : Fitted) (i : ℕ) (cell : CellView) (net 
     → cell.output ≡ Some (record { 0 = net }) → OutputOf N f i net cell
 driver_output N f i cell net k row there h e =
     let many = (row_lengths N f k row).drivers in
-    let low = get_inside (drivers_of_row N f k row) h.place cell h.at in
+    let low = slice_get_within (drivers_of_row N f k row) h.place cell h.at in
     let is = h.is in
     elim (drivers (site_of N.ports row)) [
       | inl none ↦ absurd (omega arith)
@@ -160,7 +160,7 @@ tdo_output N f i cell net h e =
     let cells = part_cells TDO given (tdo_net N f) (tdo_number N f) in
     let last : CellView = tdo_driver (tdo_net N f) port.tdo (tdo_number N f + 6) in
     let six : length cells ≡ 6 = refl in
-    let low : h.place < 7 = get_inside (cells ++ last ∷ []) h.place cell h.at in
+    let low : h.place < 7 = slice_get_within (cells ++ last ∷ []) h.place cell h.at in
     let turn = tdo_turn (tdo_net N f) (tdo_number N f) (tap_at first port) (instruction_at first port f) (bypass_at first f) (ident_at first port f) (boundary_last (boundary_at N f) first port f) in
     let is = h.is in
     elim (cases_lt h.place 6) [

@@ -3,7 +3,7 @@ use Rattle.std.proofs.Common.{◌≡◌, ℕ, suc, ◌+◌, ◌<◌, ◌||◌, B
 use Rattle.std.specs.Prelude.{slice_get, option_and_then, find, is_some}
 use Rattle.std.specs.List.{list_any}
 use Rattle.std.specs.Option.{option_map}
-use Rattle.std.proofs.lemmas.Option.{slice_get-map}
+use Rattle.std.proofs.lemmas.Option.{slice_get-map, slice_get_within}
 use Rattle.list_laws.proofs.Lists.{slice_get_there, slice_get-append_left, slice_get-append_right}
 use Rattle.list_laws.proofs.Options.{some_same}
 use Rattle.cell_library.specs.declared.codes.Bits.{Bits}
@@ -45,7 +45,6 @@ use Rattle.plan_fitting.specs.Laws.{CodesAreTheDevices, OpcodesKeepTheRules}
 use Rattle.plan_fitting.specs.Devices.{codes_of, fitted_of, cell_row, device_of}
 use Rattle.plan_devices.specs.Fitting.{IsFitting}
 use Rattle.plan_devices.specs.Laws.{PlansSuitNetlists}
-use Rattle.plan_devices.proofs.Lists.{get_inside}
 use Rattle.plan_devices.proofs.DeviceRows.{mapped_at}
 use Rattle.plan_devices.proofs.Facts.{facts_of}
 use Rattle.plan_devices.proofs.PlanClock.{plans_have_registers}
@@ -83,7 +82,7 @@ side_there has N names f formed k port net side at first is =
 
 has_ports : BitHasDirection → (N : NetlistView) (names : TapNames) (f : Fitted) → IsWellFormed (stitched N names f) → HasPorts (stitched N names f) N (places_of N names f)
 has_ports has N names f formed = record {
-  kept = λ p port at. slice_get-append_left N.ports (tap_ports names (port_of N)) p (get_inside N.ports p port at) ∙ at;
+  kept = λ p port at. slice_get-append_left N.ports (tap_ports names (port_of N)) p (slice_get_within N.ports p port at) ∙ at;
   inputs = λ input. taps input;
   sides = λ input. sides input;
   tdo = bit_there N names f 3 (scalar names.tdo dir.Output (port_of N).tdo) (port_of N).tdo refl refl;
@@ -243,7 +242,7 @@ row_of_bit by L p seen fits net side e =
 has_rows : FitLaws → (L : LinkedView) (p : Plan) (seen : List PinSeen) (names : TapNames) → Stitch L p seen names
     → HasRows (stitched L.arena.lists names (fitted_of L p seen)) L.arena.lists (device_of L p seen) (places_of L.arena.lists names (fitted_of L p seen))
 has_rows by L p seen names known = record {
-  some = let at = get_inside (device_of L p seen).cells 0 (cell_row f first.0) (slice_get-map (cell_row f) (rows p seen) 0 ∙ ap (option_map (cell_row f)) first.1) in at;
+  some = let at = slice_get_within (device_of L p seen).cells 0 (cell_row f first.0) (slice_get-map (cell_row f) (rows p seen) 0 ∙ ap (option_map (cell_row f)) first.1) in at;
   cells = λ place r there.
       let m = mapped_at (cell_row f) (rows p seen) place r there in
       subst (λ (b : BoundaryRow). HasCells M (row_cells b (row_first N f place) (row_number N f place) (scan_of N f) (row_next N f place)))

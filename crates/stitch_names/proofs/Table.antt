@@ -4,10 +4,10 @@ use Rattle.std.specs.Prelude.{slice_get}
 use Rattle.std.specs.List.{list_any}
 use Rattle.std.specs.Str.{bytes_eq}
 use Rattle.std.proofs.lemmas.Bool.{cases_Bool}
-use Rattle.std.proofs.lemmas.Option.{same_Some, slice_get_within}
+use Rattle.std.proofs.lemmas.Option.{same_Some}
 use Rattle.std.proofs.lemmas.Slice.Eq.{bytes_eq-Decides}
 use Rattle.list_laws.proofs.Bytes.{bytes_eq-same}
-use Rattle.list_laws.proofs.Lists.{slice_get-append_left, last_push}
+use Rattle.list_laws.proofs.Lists.{last_push, before_push}
 use Rattle.name_table.specs.Names.{with_name, IsOnce}
 
 -- An element of a list with more behind it.
@@ -21,9 +21,6 @@ at_append (y ∷ xs) ys (suc i) x at = elim (at_append xs ys i x at) [
   | inl before ↦ inl (omega (arith, before.0), before.1)
   | inr after ↦ inr (after.0, omega (arith, after.1), after.2)
 ]
-
-pub front_at : {X : Type 0} (xs ys : List X) (i : ℕ) (x : X) → slice_get xs i ≡ Some x → slice_get (xs ++ ys) i ≡ Some x
-front_at xs ys i x at = slice_get-append_left xs ys i (slice_get_within xs i x at) ∙ at
 
 -- One name.
 
@@ -50,7 +47,7 @@ is_found name (n ∷ names) (suc k) at none = elim (cases_Bool (bytes_eq name n)
 one_kept : (name : List ℕ) (names : List (List ℕ)) (k : ℕ) (bytes : List ℕ) → slice_get names k ≡ Some bytes → slice_get (with_name name names) k ≡ Some bytes
 one_kept name names k bytes at = elim (cases_Bool (list_any (bytes_eq name) names)) [
   | inl there ↦ rw there at
-  | inr new ↦ rw new (front_at names (name ∷ []) k bytes at)
+  | inr new ↦ rw new (before_push names (name ∷ []) bytes k at)
 ]
 
 -- a name of the table with one more is one of the table, or the new one behind it

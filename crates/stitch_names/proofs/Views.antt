@@ -2,7 +2,7 @@
 use Rattle.std.proofs.Common.{◌≡◌, ℕ, zero, suc, ◌+◌, ◌⊎◌, List, ◌++◌, length, refl, sym, ◌∙◌, ap, inl, inr, Option, Some, None, arith}
 use Rattle.std.specs.Prelude.{slice_get}
 use Rattle.std.proofs.lemmas.Option.{same_Some}
-use Rattle.list_laws.proofs.Lists.{slice_get-append_right}
+use Rattle.list_laws.proofs.Lists.{slice_get-append_right, before_push}
 use Rattle.netlist_model.specs.declared.NetId.{NetId}
 use Rattle.netlist_model.specs.declared.Name.{Name}
 use Rattle.netlist_model.specs.declared.Name.TheVariants.{Added}
@@ -23,7 +23,7 @@ use Rattle.stitch_laws.specs.Laws.{StitchedHoldsTheCore}
 use Rattle.stitch_cells.specs.Directions.{KeepsDirections, StitchedDirections}
 use Rattle.stitch_names.specs.Prepared.{with_tap_names}
 use Rattle.stitch_names.specs.Laws.{StitchedIsNamed}
-use Rattle.stitch_names.proofs.Table.{at_append, front_at, only_at}
+use Rattle.stitch_names.proofs.Table.{at_append, only_at}
 use Rattle.stitch_names.proofs.TapNames.{tap_list, taps_are_new, table_is_longer}
 use Rattle.stitch_names.proofs.Extended.{NetKind, core_net, tap_net, added_net, IsTapPort, Extends, extended_named}
 use Rattle.stitch_names.proofs.Places.{cells_either}
@@ -104,7 +104,7 @@ net_kind N names f sides net view at = elim (at_append N.nets (tap_net_views nam
 port_bit : (N : NetlistView) (names : TapNames) (f : Fitted) (k : ℕ) (name : Name) → slice_get (tap_list names) k ≡ Some name
     → slice_get (stitched N names f).nets (length N.nets + k) ≡ Some (record { name = name; index = None })
 port_bit N names f k name at =
-    slice_get-append_right N.nets (tap_net_views names ++ added N f) (length N.nets + k) k refl ∙ front_at (tap_net_views names) (added N f) k (named_net name) (tap_net_at names k name at)
+    slice_get-append_right N.nets (tap_net_views names ++ added N f) (length N.nets + k) k refl ∙ before_push (tap_net_views names) (added N f) (named_net name) k (tap_net_at names k name at)
 
 port_kind : (N : NetlistView) (names : TapNames) (f : Fitted) (p : ℕ) (port : PortView) → slice_get (stitched N names f).ports p ≡ Some port
     → (slice_get N.ports p ≡ Some port) ⊎ IsTapPort N (stitched N names f) (tap_list names) p port
@@ -127,7 +127,7 @@ pub stitched_extends : StitchedHoldsTheCore → PartIsNamed → StitchedDirectio
 stitched_extends core law directions N names f laid dense =
     let sides = directions N names f laid in
     record {
-      net_kept = λ net view at. front_at N.nets (tap_net_views names ++ added N f) net view at;
+      net_kept = λ net view at. before_push N.nets (tap_net_views names ++ added N f) view net at;
       nets = net_kind N names f sides;
       ports = port_kind N names f;
       sides = sides.core;

@@ -14,10 +14,10 @@ use Rattle.test_logic.specs.declared.TapInput.TheVariants.{Tck, Tms, Tdi, Trst}
 use Rattle.wrapped_chip.specs.Realises.{SameBit, tap_place, IsTapNet}
 use Rattle.wrapped_chip.specs.Beside.{PinOf, of_bit, of_tap, of_none}
 use Rattle.plan_fitting.specs.declared.fitted.Fitted.{Fitted}
-use Rattle.plan_devices.proofs.Lists.{get_inside}
 use Rattle.stitch_model.specs.declared.TapNames.{TapNames}
 use Rattle.stitch_model.specs.Stitched.{tap_port, tap_ports, stitched}
 use Rattle.stitch_ranks.specs.Laws.{StitchedHasPins}
+use Rattle.std.proofs.lemmas.Option.{slice_get_within}
 
 -- Bits.
 
@@ -26,7 +26,7 @@ port_inside ports number bit net h = by (slice_get ports number) refl h
   where
     by : (o : Option PortView) → slice_get ports number ≡ o → option_and_then (λ (p : PortView). slice_get p.nets bit) o ≡ Some net → number < length ports
     by None e k = absurd (cc)
-    by (Some port) e k = get_inside ports number port e
+    by (Some port) e k = slice_get_within ports number port e
 
 -- a bit of the core is there
 pub bit_there : (N : NetlistView) (names : TapNames) (f : Fitted) (number bit : ℕ) (net : NetId) → bit_net N number bit ≡ Some net → bit_net (stitched N names f) number bit ≡ Some net

@@ -7,14 +7,14 @@ use Rattle.list_laws.proofs.Tests.{both_hold, other_holds}
 use Rattle.cell_library.specs.Gates.{is_flop}
 use Rattle.gate_parts.specs.declared.Gate.{Gate}
 use Rattle.part_levels.specs.Above.{AreRanked}
-use Rattle.plan_devices.proofs.Lists.{get_inside}
+use Rattle.std.proofs.lemmas.Option.{slice_get_within}
 
 -- these are the numbers of the nets from this one on
 abbrev pub StandAt : (ℕ → ℕ) → ℕ → List ℕ → Type 0
 StandAt rank first ranks = (j x : ℕ) → slice_get ranks j ≡ Some x → rank (first + j) ≡ x
 
 pub front_at : (rank : ℕ → ℕ) (first : ℕ) (xs ys : List ℕ) → StandAt rank first (xs ++ ys) → StandAt rank first xs
-front_at rank first xs ys at j x h = at j x (slice_get-append_left xs ys j (get_inside xs j x h) ∙ h)
+front_at rank first xs ys at j x h = at j x (slice_get-append_left xs ys j (slice_get_within xs j x h) ∙ h)
 
 pub back_at : (rank : ℕ → ℕ) (first : ℕ) (xs ys : List ℕ) → StandAt rank first (xs ++ ys) → StandAt rank (first + length xs) ys
 back_at rank first xs ys at j x h =
@@ -86,7 +86,7 @@ pub ranked : (rank : ℕ → ℕ) (first base : ℕ) (levels : List ℕ) (gates 
 ranked rank first base levels gates high at = record {
   up_to = λ j low. let e = at j (level_rank base (slice_index levels j)) (level_there base levels gates high j low) in
       let up = level_up base (slice_index levels j) in omega arith;
-  from = λ k gate there is. let e = at k (level_rank base (slice_index levels k)) (level_there base levels gates high k (get_inside gates k gate there)) in
+  from = λ k gate there is. let e = at k (level_rank base (slice_index levels k)) (level_there base levels gates high k (slice_get_within gates k gate there)) in
       let from = level_from base (slice_index levels k) (level_high levels gates high k gate there is) in omega arith;
 }
 

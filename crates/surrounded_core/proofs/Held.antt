@@ -18,6 +18,7 @@ use Rattle.boundary_runs.proofs.ChipRows.{kinds_long}
 use Rattle.surrounded_core.specs.Places.{selection_nets}
 use Rattle.surrounded_core.specs.Laws.{StandsAsChip, cell_of}
 use Rattle.surrounded_core.proofs.Parts.{RunLaws, Scene, logic, levels_at, core_at, machine_at, caught_at, lists_long, outside, back_to, levelled, carried, selected}
+use Rattle.std.proofs.lemmas.Option.{slice_get_within}
 
 -- all rows are held
 abbrev pub AreHeld : Scene → ℕ → Type 0
@@ -25,11 +26,6 @@ AreHeld r t = (place : ℕ) (row : CellRow) → slice_get r.device.cells place �
     → HoldsRow (r.places.gates place) (r.places.row place) place (machine_at r t) (r.moment t).value
 
 -- Places of a list.
-
-inside : {A : Type 0} (xs : List A) (place : ℕ) (x : A) → slice_get xs place ≡ Some x → place < length xs
-inside [] place x at = absurd (cc)
-inside (y ∷ ys) zero x at = omega arith
-inside (y ∷ ys) (suc place) x at = let inner : place < length ys = inside ys place x at in omega arith
 
 ends_there : {A : Type 0} (xs : List A) (place : ℕ) (x : A) → slice_get xs place ≡ Some x → slice_get xs (suc place) ≡ None → suc place ≡ length xs
 ends_there [] place x at none = absurd (cc)
@@ -51,7 +47,7 @@ next_bit by r t below held place row there = by_next (slice_get r.device.cells (
         → (r.moment t).value (r.places.next place).0 ≡ bit_at (shifted (bit (levels_at r t).tdi) (machine_at r t).boundary) place
     by_next (Some other) at =
         let long : length (machine_at r t).boundary ≡ length r.device.cells = boundary_long by r t in
-        let less : suc place < length r.device.cells = inside r.device.cells (suc place) other at in
+        let less : suc place < length r.device.cells = slice_get_within r.device.cells (suc place) other at in
         ap (λ (n : NetId). (r.moment t).value n.0) (r.around.rows.inner place other at) ∙ (held (suc place) other at).shift
         ∙ sym ((by.places.shifts (bit (levels_at r t).tdi) (machine_at r t).boundary place).inner (omega arith))
     by_next None at =
@@ -115,7 +111,7 @@ held_always by r (suc t) below place row there =
     let now = by.moments r.outer r.beside.start r.beside.there r.moment r.beside.run t (back_to r t before) in
     let event = now.step (back_to r (suc t) below) in
     let long : length (machine_at r t).boundary ≡ length r.device.cells = boundary_long by r t in
-    let less : place < length r.device.cells = inside r.device.cells place row there in
+    let less : place < length r.device.cells = slice_get_within r.device.cells place row there in
     (by.rows (S.gates place) (S.row place) (S.row_number place) (selection_nets S).scan (S.next place)).step r.outer event.0 (levels_at r t) (levels_at r (suc t)) (r.moment t)
     (r.moment (suc t)) (logic r) (caught_at r t) (machine_at r t) place (cell_of r.device r.inner S (machine_at r t) (r.chip t).pins (r.moment t) place row)
     r.around.formed (r.around.rows.cells place row there) now.settled event.2 (is_row by r place row there) (omega arith)

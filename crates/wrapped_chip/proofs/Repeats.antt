@@ -1,6 +1,6 @@
 -- In a run of the wrapped chip an event that repeats what is there changes nothing.
-use Rattle.std.proofs.Common.{◌≡◌, ℕ, zero, suc, ◌≤◌, ◌<◌, Bool, true, false, List, [], ◌∷◌, length, refl, ap, sym, ◌∙◌, inl, inr, arith}
-use Rattle.std.specs.Prelude.{Some, slice_get}
+use Rattle.std.proofs.Common.{◌≡◌, ℕ, zero, suc, ◌≤◌, ◌<◌, Bool, true, false, List, length, refl, ap, sym, ◌∙◌, inl, inr, arith}
+use Rattle.std.specs.Prelude.{Some}
 use Rattle.netlist_laws.proofs.Repeats.{rest_of}
 use Rattle.signal_values.specs.declared.Sig.{Sig}
 use Rattle.cell_library.specs.declared.Kind.TheVariants.{Flop}
@@ -20,6 +20,7 @@ use Rattle.wrapped_chip.specs.ChipRuns.{ChipMoment, ChipEvent, at_pin, at_tap, l
 use Rattle.wrapped_chip.specs.Laws.{IsRepeat, SameChipMoment, ChipRepeats}
 use Rattle.wrapped_chip.proofs.Chips.{event_at, moment_same}
 use Rattle.wrapped_chip.proofs.Known.{run_settled}
+use Rattle.std.proofs.lemmas.Option.{slice_get_within}
 
 -- while TRST is 0 the test logic is in reset
 run_reset : (B : Device) (N : NetlistView) (given : ℕ → Sig) (events : List ChipEvent) (chip : ℕ → ChipMoment) → IsChipRun B N given events chip
@@ -83,14 +84,9 @@ repeat_step B N event w w' formed settled rests low step repeats =
     (rests i cell kind live flop)))
     settled step.settled
 
-below_length : {A : Type 0} (xs : List A) (k : ℕ) (x : A) → slice_get xs k ≡ Some x → k < length xs
-below_length [] k x e = absurd (cc)
-below_length (y ∷ xs) zero x e = omega arith
-below_length (y ∷ xs) (suc k) x e = let h = below_length xs k x e in omega arith
-
 pub chip_repeats : ChipRepeats
 chip_repeats B N given events chip formed run t event at repeats =
-    let h : t < length events = below_length events t event at in
+    let h : t < length events = slice_get_within events t event at in
     let within : t ≤ length events = omega arith in
     repeat_step B N event (chip t) (chip (suc t)) formed (run_settled B N given events chip run t within) (run_rests B N given events chip run t within)
     (run_reset B N given events chip run t within) (run.steps t event at) repeats
