@@ -1,6 +1,6 @@
 -- The bits that the plan's pin lines name, and what stands at each.
 use Rattle.std.proofs.Common.{◌≡◌, ℕ, zero, suc, ◌+◌, ◌-◌, ◌*◌, ◌/◌, ◌%◌, ◌<◌, ◌≤◌, ◌^◌, ◌⊎◌, inl, inr, Bool, true, false, List, [], ◌∷◌, ◌++◌, map, length, codes, slice_get, Option, Some, None, decimal, refl, sym, ap, ◌∙◌, subst, arith, leb-true, leb-false}
-use Rattle.std.specs.Prelude.{IsTrue, nat_le, option_map, if◌then◌else◌}
+use Rattle.std.specs.Prelude.{IsTrue, is_some, nat_le, option_map, if◌then◌else◌}
 use Rattle.std.specs.List.{AllByRecursion}
 use Rattle.std.proofs.lemmas.Fmt.{decimal_by_steps, decimal_nonempty, length-decimal-le}
 use Rattle.std.proofs.lemmas.Option.{slice_get-map}
@@ -228,11 +228,11 @@ net_below a b low e = let same : a ≡ b = ap net_number e in omega (arith, same
 reads_low : (number : ℕ) (L : LinkedView) → IsLinkOf (demo_module number) L → (root : ℕ) → FlopReads L.arena.lists 1 root ⊎ FlopReads L.arena.lists 2 root → root < 2
 reads_low number L links root (inl r) =
     let one = cell_is number L links r.number r.cell r.reads.live in
-    let flop : is_flop one.named.kind ≡ true = ap is_flop (sym one.is.kind) ∙ ap is_flop r.flop in
+    let flop : is_flop one.named.kind ≡ true = ap is_flop (sym one.is.kind) ∙ ap is_some r.flop in
     net_below root 0 (omega arith) (sym r.reads.operand ∙ ap (λ (fs : List Feed). slice_get fs 1) one.is.feeds ∙ (one.demo.controls flop).clock)
 reads_low number L links root (inr r) =
     let one = cell_is number L links r.number r.cell r.reads.live in
-    let flop : is_flop one.named.kind ≡ true = ap is_flop (sym one.is.kind) ∙ ap is_flop r.flop in
+    let flop : is_flop one.named.kind ≡ true = ap is_flop (sym one.is.kind) ∙ ap is_some r.flop in
     net_below root 1 (omega arith) (sym r.reads.operand ∙ ap (λ (fs : List Feed). slice_get fs 2) one.is.feeds ∙ (one.demo.controls flop).clear)
 
 driven_high : (number : ℕ) (L : LinkedView) → IsLinkOf (demo_module number) L → (i : ℕ) (cell : CellView) (net : ℕ) → Drives L.arena.lists i cell net → 2 ≤ net

@@ -1,6 +1,6 @@
 -- Where parts and drivers are appended, a well-formed netlist stays so.
 use Rattle.std.proofs.Common.{◌≡◌, ◌≢◌, ℕ, zero, suc, ◌+◌, ◌-◌, ◌<◌, ◌≤◌, ◌⊎◌, ◌&&◌, ◌==◌, not, true, false, Bool, IsTrue, List, [], ◌∷◌, map, length, refl, ap, sym, subst, ◌∙◌, inl, inr, arith, Option, nat_lt, nat_le, unwrap_or}
-use Rattle.std.specs.Prelude.{Some, None, slice_get}
+use Rattle.std.specs.Prelude.{Some, None, is_some, slice_get}
 use Rattle.std.specs.List.{list_all, slice_index, All}
 use Rattle.std.proofs.lemmas.Bool.{cases_lt}
 use Rattle.std.proofs.lemmas.List.{length-map}
@@ -8,9 +8,8 @@ use Rattle.std.proofs.lemmas.Option.{slice_get_within}
 use Rattle.list_laws.proofs.Tests.{both_hold, then_holds}
 use Rattle.list_laws.proofs.Lists.{slice_get_there}
 use Rattle.cell_library.specs.declared.Kind.{Kind}
-use Rattle.cell_library.specs.declared.Kind.TheVariants.{Flop}
 use Rattle.cell_library.specs.declared.FlopKind.{FlopKind}
-use Rattle.cell_library.specs.Gates.{is_three_state, is_flop, operand_count_of, Takes}
+use Rattle.cell_library.specs.Gates.{is_three_state, is_flop, flop_of, operand_count_of, Takes}
 use Rattle.netlist_model.specs.declared.Feed.{Feed}
 use Rattle.netlist_model.specs.declared.Feed.TheVariants.{Net, Const}
 use Rattle.netlist_model.specs.Below.{IsFeedBelow}
@@ -187,12 +186,12 @@ control_pin old new gates levels given c k p net gate (Given j) at flop has is e
     (c.can.control j net (record { place = k; gate = gate; pin = p; at = at; flop = flop; has = has }) (given_at given j (record { 0 = net }) e))
 
 control_of : (old new : ArenaView) (gates : List Gate) (levels : List ℕ) (given : List Feed) → IsAppendedPart old new gates levels given → (cell : CellView) → IsOneOf (part_of old gates given) cell
-    → (kind : FlopKind) (p net : ℕ) → cell.kind ≡ Flop kind → slice_get cell.feeds (suc p) ≡ Some (Net (record { 0 = net })) → IsPure new.lists net
+    → (kind : FlopKind) (p net : ℕ) → flop_of cell.kind ≡ Some kind → slice_get cell.feeds (suc p) ≡ Some (Net (record { 0 = net })) → IsPure new.lists net
 control_of old new gates levels given c cell of kind p net is at =
     let g = gate_of old gates given cell of in
     let feeds = ap (λ (x : CellView). slice_get x.feeds (suc p)) g.same ∙ at in
     let pin = pin_at (length old.lists.nets) given (pins_of g.gate.pins) (suc p) (Net (record { 0 = net })) feeds in
-    let flop : is_flop g.gate.kind ≡ true = ap (λ (x : CellView). is_flop x.kind) g.same ∙ ap is_flop is in
+    let flop : is_flop g.gate.kind ≡ true = ap (λ (x : CellView). is_flop x.kind) g.same ∙ ap is_some is in
     let controls = then_holds (is_flop g.gate.kind) (rest_is_given (pins_of g.gate.pins)) (all_at has_given_controls gates of.place g.gate c.table.controls g.at) flop in
     control_pin old new gates levels given c of.place p net g.gate pin.pin g.at flop pin.at (rest_given_at (pins_of g.gate.pins) p pin.pin controls pin.at) pin.same
 
@@ -338,7 +337,7 @@ driver_formed grows old new cell net formed once added on =
       output = λ out e. wires other out of e;
       reads = λ place read at. readable_stays_so old.lists new.lists (cell ∷ []) read adds two (on.read place read (ap (λ (c : CellView). slice_get c.feeds place) same ∙ at));
       controls = λ kind place read is where_it at.
-          let kind_is = ap (λ (c : CellView). c.kind) same ∙ is in
+          let kind_is = ap (λ (c : CellView). flop_of c.kind) same ∙ is in
           let at_it = ap (λ (c : CellView). slice_get c.feeds place) same ∙ at in
           elim where_it [
             | inl one ↦ pure read (on.control kind 0 read kind_is (rw one at at_it))

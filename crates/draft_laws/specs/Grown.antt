@@ -1,8 +1,7 @@
 -- Netlists to which cells are added, and when they stay well formed.
 use Rattle.std.specs.Prelude.{◌≡◌, ℕ, ◌⊎◌, false, List, length, slice_get, Some, None}
-use Rattle.cell_library.specs.declared.Kind.TheVariants.{Flop}
 use Rattle.cell_library.specs.declared.FlopKind.{FlopKind}
-use Rattle.cell_library.specs.Gates.{is_three_state, Takes}
+use Rattle.cell_library.specs.Gates.{is_three_state, flop_of, Takes}
 use Rattle.netlist_model.specs.declared.Feed.TheVariants.{Net}
 use Rattle.netlist_model.specs.Lists.{CellView, NetlistView, cell_at, direction}
 use Rattle.netlist_model.specs.Formed.{IsNumbered, IsWellFormed}
@@ -26,7 +25,7 @@ pub record IsSoundCell (N : NetlistView) (cell : CellView) : Type 0 where
   pub two_state : is_three_state cell.kind ≡ false
   pub output : (net : ℕ) → cell.output ≡ Some (record { 0 = net }) → direction N.ports net ≡ None
   pub reads : (place net : ℕ) → slice_get cell.feeds place ≡ Some (Net (record { 0 = net })) → CanBeRead N net
-  pub controls : (kind : FlopKind) (place net : ℕ) → cell.kind ≡ Flop kind → (place ≡ 1) ⊎ (place ≡ 2)
+  pub controls : (kind : FlopKind) (place net : ℕ) → flop_of cell.kind ≡ Some kind → (place ≡ 1) ⊎ (place ≡ 2)
       → slice_get cell.feeds place ≡ Some (Net (record { 0 = net })) → IsPure N net
 
 -- own: each cell of the list is sound

@@ -2,9 +2,9 @@
 use Rattle.std.specs.Prelude.{◌≡◌, ℕ, suc, ◌+◌, ◌<◌, ◌&&◌, ◌||◌, not, Bool, true, false, List, [], ◌∷◌, length, slice_get, Some, None, IsTrue}
 use Rattle.std.specs.List.{list_all}
 use Rattle.cell_library.specs.declared.Kind.{Kind}
-use Rattle.cell_library.specs.declared.Kind.TheVariants.{Assign, Flop}
+use Rattle.cell_library.specs.declared.Kind.TheVariants.{Assign}
 use Rattle.cell_library.specs.declared.FlopKind.{FlopKind}
-use Rattle.cell_library.specs.Gates.{is_three_state, is_flop, Takes}
+use Rattle.cell_library.specs.Gates.{is_three_state, is_flop, flop_of, Takes}
 use Rattle.netlist_model.specs.declared.Feed.{Feed}
 use Rattle.netlist_model.specs.declared.Feed.TheVariants.{Net}
 use Rattle.netlist_model.specs.Below.{AreFeedsBelow}
@@ -85,7 +85,7 @@ pub record IsDriverOn (N : NetlistView) (cell : CellView) (net : ℕ) : Type 0 w
   pub takes : Takes cell.kind (length cell.feeds)
   pub two_state : is_three_state cell.kind ≡ false
   pub read : (place read : ℕ) → slice_get cell.feeds place ≡ Some (Net (record { 0 = read })) → CanBeRead N read
-  pub control : (kind : FlopKind) (place read : ℕ) → cell.kind ≡ Flop kind → slice_get cell.feeds (suc place) ≡ Some (Net (record { 0 = read })) → IsPure N read
+  pub control : (kind : FlopKind) (place read : ℕ) → flop_of cell.kind ≡ Some kind → slice_get cell.feeds (suc place) ≡ Some (Net (record { 0 = read })) → IsPure N read
 
 -- own: where such a cell is appended, a well-formed netlist stays so
 abbrev pub DriverIsFormed : Type 0

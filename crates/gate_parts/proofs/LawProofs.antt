@@ -4,10 +4,10 @@ use Rattle.std.proofs.lemmas.Bool.{cases_lt}
 use Rattle.std.specs.List.{slice_get, range_with_len}
 use Rattle.std.proofs.lemmas.List.FromFn.{length-range_with_len, get_or-range_with_len}
 use Rattle.signal_values.specs.declared.Sig.{Sig}
-use Rattle.cell_library.specs.declared.Kind.{Kind}
-use Rattle.cell_library.specs.declared.Kind.TheVariants.{Flop}
 use Rattle.cell_library.specs.declared.FlopKind.{FlopKind}
+use Rattle.cell_library.specs.Gates.{flop_of}
 use Rattle.cell_library.specs.Flops.{flop_next, flop_start}
+use Rattle.netlist_laws.proofs.KindLaws.{cell_value-flop}
 use Rattle.netlist_model.specs.declared.Feed.{Feed}
 use Rattle.netlist_model.specs.declared.NetId.{NetId}
 use Rattle.netlist_model.specs.Lists.{CellView, NetlistView, cell_at, cell_count}
@@ -106,20 +106,17 @@ growth_keeps_all = λ old new numbers part grows contains. record {
   cells = kept old new part grows contains.cells;
 }
 
-flop_value : (kind : Kind) (flop : FlopKind) (inputs : List Sig) (state : Sig) → kind ≡ Flop flop → cell_value kind inputs state ≡ state
-flop_value kind flop inputs state is = rw is refl
-
 -- the net of a flip-flop has what it holds
 flop_holds : (N : NetlistView) (given : (ℕ → Sig) → ℕ → Sig) (state value : ℕ → Sig) (kind : FlopKind) (feeds : List Feed) (net : ℕ) (on : FlopOn N kind feeds net) → Meets N given state value
     → value net ≡ state on.has.number
 flop_holds N given state value kind feeds net on meets =
     meets.cells on.has.number (record on.cell { name = on.has.name }) net (record { live = on.has.live; output = on.output }) on.inside
-    ∙ flop_value on.cell.kind kind (feed_values value on.cell.feeds) (state on.has.number) on.kind_is
+    ∙ cell_value-flop on.cell.kind kind (feed_values value on.cell.feeds) (state on.has.number) (ap flop_of on.kind_is)
 
 pub flop_starts_by : FlopStarts
 flop_starts_by = λ N kind feeds net on given m start.
     let here = flop_holds N _ m.state m.value kind feeds net on start.settled in
-    let held = start.flops.each on.has.number (record on.cell { name = on.has.name }) kind on.has.live on.kind_is in
+    let held = start.flops.each on.has.number (record on.cell { name = on.has.name }) kind on.has.live (ap flop_of on.kind_is) in
     let operands = ap (λ (fs : List Feed). flop_start kind (feed_values m.value fs) (given on.has.number)) on.feeds_are in
     here ∙ held ∙ operands
 
@@ -127,6 +124,6 @@ pub flop_steps_by : FlopSteps
 flop_steps_by = λ N kind feeds net on event m m' settled step.
     let before = flop_holds N _ m.state m.value kind feeds net on settled in
     let after = flop_holds N _ m'.state m'.value kind feeds net on step.settled in
-    let held = step.flops.each on.has.number (record on.cell { name = on.has.name }) kind on.has.live on.kind_is in
+    let held = step.flops.each on.has.number (record on.cell { name = on.has.name }) kind on.has.live (ap flop_of on.kind_is) in
     let operands = ap (λ (fs : List Feed). flop_next kind (feed_values m.value fs) (feed_values m'.value fs) (m.state on.has.number)) on.feeds_are in
     rw before (after ∙ held ∙ operands)

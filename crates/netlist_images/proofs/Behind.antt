@@ -7,6 +7,7 @@ use Rattle.cell_library.specs.declared.Kind.{Kind}
 use Rattle.cell_library.specs.declared.Kind.TheVariants.{Bufif0, Bufif1}
 use Rattle.cell_library.specs.Flops.{flop_next, flop_start}
 use Rattle.cell_library.specs.Gates.{is_three_state}
+use Rattle.netlist_laws.proofs.KindLaws.{flop_no_bufif}
 use Rattle.netlist_model.specs.declared.Feed.{Feed}
 use Rattle.netlist_model.specs.declared.Feed.TheVariants.{Net, Const}
 use Rattle.netlist_model.specs.Lists.{CellView, NetlistView, cell_at, direction, Drives, IsUndriven}
@@ -95,7 +96,7 @@ behind_meets drivers found N M to at given state value formed nested meets =
 pub behind_steps : DriverDrives → BehindSteps
 behind_steps drivers N M to at before after state next formed nested step = record {
   each = λ i cell kind live is.
-      let there = nested.cells i cell live (ap is_three_state is) in
+      let there = nested.cells i cell live (flop_no_bufif cell.kind kind is) in
       let first = feeds_renamed to before cell.feeds ∙ sym (operands_are_given drivers N formed (λ n. before (to n)) i cell live) in
       let second = feeds_renamed to after cell.feeds ∙ sym (operands_are_given drivers N formed (λ n. after (to n)) i cell live) in
       step.each (at i) (renamed_cell to there.name cell) kind there.live is
@@ -106,7 +107,7 @@ behind_steps drivers N M to at before after state next formed nested step = reco
 pub behind_starts : DriverDrives → BehindStarts
 behind_starts drivers N M to at given value state formed nested start = record {
   each = λ i cell kind live is.
-      let there = nested.cells i cell live (ap is_three_state is) in
+      let there = nested.cells i cell live (flop_no_bufif cell.kind kind is) in
       start.each (at i) (renamed_cell to there.name cell) kind there.live is
       ∙ ap (λ xs. flop_start kind xs (given (at i)))
       (feeds_renamed to value cell.feeds ∙ sym (operands_are_given drivers N formed (λ n. value (to n)) i cell live));

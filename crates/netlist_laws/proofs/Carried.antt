@@ -1,15 +1,15 @@
 -- What holds between the values of two valuations, net by net, along the numbers of the gates.
-use Rattle.std.proofs.Common.{◌≡◌, ℕ, zero, suc, ◌<◌, true, false, List, arith, inl, inr}
+use Rattle.std.proofs.Common.{◌≡◌, ℕ, zero, suc, ◌<◌, true, false, List, Some, arith, inl, inr}
 use Rattle.list_laws.proofs.Tests.{true_or_false}
 use Rattle.signal_values.specs.declared.Sig.{Sig}
 use Rattle.signal_values.specs.declared.Sig.TheVariants.{Unknown}
 use Rattle.cell_library.specs.declared.Kind.{Kind}
-use Rattle.cell_library.specs.declared.Kind.TheVariants.{Flop}
 use Rattle.cell_library.specs.declared.FlopKind.{FlopKind}
 use Rattle.netlist_model.specs.Lists.{CellView, NetlistView, direction, Drives, IsUndriven}
 use Rattle.netlist_model.specs.Settled.{feed_values, cell_value, follows_pin, Meets}
-use Rattle.cell_library.specs.Gates.{is_flop}
-use Rattle.netlist_laws.proofs.Search.{flop_or_gate, search_driver}
+use Rattle.cell_library.specs.Gates.{flop_of, is_flop}
+use Rattle.netlist_laws.proofs.KindLaws.{flop_or_gate, cell_value-flop}
+use Rattle.netlist_laws.proofs.Search.{search_driver}
 
 -- on the nets of C with smaller numbers the relation holds
 abbrev pub HoldsBelow : (ℕ → Type 0) → (Sig → Sig → Type 0) → (ℕ → ℕ) → (ℕ → Sig) → (ℕ → Sig) → ℕ → Type 0
@@ -19,7 +19,7 @@ HoldsBelow C R rank v v' net = (other : ℕ) → C other → rank other < rank n
 pub record Carries (N : NetlistView) (C : ℕ → Type 0) (R : Sig → Sig → Type 0) (rank : ℕ → ℕ) (given given' : (ℕ → Sig) → ℕ → Sig) (state state' v v' : ℕ → Sig) : Type 0 where
   pub pins : (net : ℕ) → C net → follows_pin (direction N.ports net) ≡ true → HoldsBelow C R rank v v' net → R (given v net) (given' v' net)
   pub flops : (i : ℕ) (cell : CellView) (kind : FlopKind) (net : ℕ) → Drives N i cell net → C net → follows_pin (direction N.ports net) ≡ false
-      → cell.kind ≡ Flop kind → R (state i) (state' i)
+      → flop_of cell.kind ≡ Some kind → R (state i) (state' i)
   pub gates : (i : ℕ) (cell : CellView) (net : ℕ) → Drives N i cell net → C net → follows_pin (direction N.ports net) ≡ false → is_flop cell.kind ≡ false
       → HoldsBelow C R rank v v' net → R (cell_value cell.kind (feed_values v cell.feeds) (state i)) (cell_value cell.kind (feed_values v' cell.feeds) (state' i))
   pub undriven : (net : ℕ) → C net → follows_pin (direction N.ports net) ≡ false → IsUndriven N net → R Unknown Unknown
@@ -27,8 +27,9 @@ pub record Carries (N : NetlistView) (C : ℕ → Type 0) (R : Sig → Sig → T
 along : (R : Sig → Sig → Type 0) (a b a' b' : Sig) → a ≡ a' → b ≡ b' → R a' b' → R a b
 along R a b a' b' e e' h = rw (e, e') h
 
-flop_value : (kind : Kind) (k : FlopKind) (xs ys : List Sig) (s s' : Sig) (R : Sig → Sig → Type 0) → kind ≡ Flop k → R s s' → R (cell_value kind xs s) (cell_value kind ys s')
-flop_value kind k xs ys s s' R e h = rw e h
+flop_value : (kind : Kind) (k : FlopKind) (xs ys : List Sig) (s s' : Sig) (R : Sig → Sig → Type 0) → flop_of kind ≡ Some k → R s s'
+    → R (cell_value kind xs s) (cell_value kind ys s')
+flop_value kind k xs ys s s' R e h = rw (cell_value-flop kind k xs s e, cell_value-flop kind k ys s' e) h
 
 carried_below : (N : NetlistView) (C : ℕ → Type 0) (R : Sig → Sig → Type 0) (rank : ℕ → ℕ) (given given' : (ℕ → Sig) → ℕ → Sig) (state state' v v' : ℕ → Sig)
     → Carries N C R rank given given' state state' v v' → Meets N given state v → Meets N given' state' v'

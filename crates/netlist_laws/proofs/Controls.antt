@@ -1,14 +1,13 @@
 -- Nets that clock, clear or preset flip-flops are 0 or 1.
-use Rattle.std.proofs.Common.{◌≡◌, ℕ, suc, ◌⊎◌, true, false, List, [], ◌∷◌, length, refl, ap, sym, ◌∙◌, inl, inr, arith, All, IsTrue}
-use Rattle.std.specs.Prelude.{Some, slice_get}
+use Rattle.std.proofs.Common.{◌≡◌, ℕ, suc, ◌⊎◌, true, false, List, [], ◌∷◌, length, refl, ap, sym, ◌∙◌, inl, inr, arith, All}
+use Rattle.std.specs.Prelude.{Some, slice_get, is_some}
 use Rattle.std.proofs.lemmas.List.Elements.{All-cons}
 use Rattle.list_laws.proofs.Tests.{true_or_false}
 use Rattle.signal_values.specs.declared.Sig.{Sig}
 use Rattle.signal_values.specs.Values.{bit}
-use Rattle.cell_library.specs.declared.Kind.{Kind}
-use Rattle.cell_library.specs.declared.Kind.TheVariants.{Flop, Bufif0, Bufif1}
 use Rattle.cell_library.specs.declared.FlopKind.{FlopKind}
-use Rattle.cell_library.specs.Gates.{is_flop, is_three_state, is_two_state, Takes, gate_output}
+use Rattle.cell_library.specs.Gates.{flop_of, is_flop, is_three_state, Takes}
+use Rattle.netlist_laws.proofs.KindLaws.{two_state, cell_value-two_state}
 use Rattle.cell_library.specs.Laws.{IsKnown}
 use Rattle.cell_library.proofs.CellLaws.{is_known-gate_output}
 use Rattle.netlist_model.specs.declared.Feed.{Feed}
@@ -46,13 +45,13 @@ pub control_closed : (N : NetlistView) (net other : ℕ) → IsControlNet N net 
 control_closed N net other c g = record { root = c.root; operand = c.operand; cone = behind c.cone g }
 
 -- no flip-flop drives a control net
-pub control_no_flop : (N : NetlistView) (i : ℕ) (cell : CellView) (kind : FlopKind) (net : ℕ) → IsWellFormed N → Drives N i cell net → IsControlNet N net → cell.kind ≡ Flop kind → ⊥
+pub control_no_flop : (N : NetlistView) (i : ℕ) (cell : CellView) (kind : FlopKind) (net : ℕ) → IsWellFormed N → Drives N i cell net → IsControlNet N net → flop_of cell.kind ≡ Some kind → ⊥
 control_no_flop N i cell kind net formed drives c e =
     elim (formed.cones net c) [
       | inl input ↦ formed.inputs_free i cell net drives input
       | inr found ↦ (let d : IsDriven N net = found.0 in
           let same = cell_at_once N i d.number cell d.cell (formed.one_driver i d.number cell d.cell net drives d.drives) drives.live d.drives.live in
-          let flop : is_flop d.cell.kind ≡ true = ap (λ (x : CellView). is_flop x.kind) (sym same) ∙ ap is_flop e in
+          let flop : is_flop d.cell.kind ≡ true = ap (λ (x : CellView). is_flop x.kind) (sym same) ∙ ap is_some e in
           let gate : is_flop d.cell.kind ≡ false = found.1 in
           let clash : true ≡ false = sym flop ∙ gate in cc)
     ]
@@ -76,19 +75,6 @@ control_no_bufif N i cell net formed drives c g three =
       | inl output ↦ (let r : IsRead N net = control_read N net c in formed.bufif_unread i r.number cell r.cell r.place net drives three r.reads output)
       | inr inout ↦ (let h : follows_pin (direction N.ports net) ≡ true = ap follows_pin inout in let clash : true ≡ false = sym h ∙ g in cc)
     ]
-
--- a gate that is no three-state gate always drives
-two_state : (kind : Kind) → is_flop kind ≡ false → is_three_state kind ≡ false → IsTrue (is_two_state kind)
-two_state (Flop k) gate two = absurd (let e : true ≡ false = gate in cc)
-two_state Bufif0 gate two = absurd (let e : true ≡ false = two in cc)
-two_state Bufif1 gate two = absurd (let e : true ≡ false = two in cc)
-two_state kind gate two = refl
-
-cell_value-two_state : (kind : Kind) (xs : List Sig) (s : Sig) → is_flop kind ≡ false → is_three_state kind ≡ false → cell_value kind xs s ≡ gate_output kind xs
-cell_value-two_state (Flop k) xs s gate two = absurd (let e : true ≡ false = gate in cc)
-cell_value-two_state Bufif0 xs s gate two = absurd (let e : true ≡ false = two in cc)
-cell_value-two_state Bufif1 xs s gate two = absurd (let e : true ≡ false = two in cc)
-cell_value-two_state kind xs s gate two = refl
 
 all_known : (v : ℕ → Sig) (feeds : List Feed) → ((k net : ℕ) → slice_get feeds k ≡ Some (Net (record { 0 = net })) → IsKnown (v net)) → All IsKnown (feed_values v feeds)
 all_known v [] known = grind arith

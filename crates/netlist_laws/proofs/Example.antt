@@ -6,7 +6,7 @@ use Rattle.cell_library.specs.declared.Kind.TheVariants.{Xor, Bufif1, Flop}
 use Rattle.cell_library.specs.declared.FlopKind.{FlopKind}
 use Rattle.cell_library.specs.declared.Edge.TheVariants.{Rise}
 use Rattle.cell_library.specs.declared.ResetTo.TheVariants.{Nothing}
-use Rattle.cell_library.specs.Gates.{is_flop, is_three_state, Takes}
+use Rattle.cell_library.specs.Gates.{flop_of, is_flop, is_three_state, Takes}
 use Rattle.netlist_model.specs.declared.NetId.{NetId}
 use Rattle.netlist_model.specs.declared.Feed.{Feed}
 use Rattle.netlist_model.specs.declared.Feed.TheVariants.{Net}
@@ -184,10 +184,10 @@ gate_numbered i cell net bufif_drives gate = (omega arith, (omega arith, tt))
 gate_numbered i cell net xor_drives gate = (omega arith, (omega arith, tt))
 
 -- the one clock is net 0, and nothing is cleared or preset
-clock_is : (i : ℕ) (cell : CellView) (net : ℕ) (kind : FlopKind) → ReadsAt i cell 1 net → cell.kind ≡ Flop kind → net ≡ 0
+clock_is : (i : ℕ) (cell : CellView) (net : ℕ) (kind : FlopKind) → ReadsAt i cell 1 net → flop_of cell.kind ≡ Some kind → net ≡ 0
 clock_is i cell net kind flop_clock e = refl
-clock_is i cell net kind bufif_control e = absurd (let h : Bufif1 ≡ Flop kind = e in cc)
-clock_is i cell net kind xor_right e = absurd (let h : Xor ≡ Flop kind = e in cc)
+clock_is i cell net kind bufif_control e = absurd (let h : None ≡ Some kind = e in cc)
+clock_is i cell net kind xor_right e = absurd (let h : None ≡ Some kind = e in cc)
 
 no_reset : (i : ℕ) (cell : CellView) (net : ℕ) → ReadsAt i cell 2 net → ⊥
 no_reset i cell net r = elim r [ ]

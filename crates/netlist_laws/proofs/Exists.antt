@@ -5,14 +5,14 @@ use Rattle.list_laws.proofs.Tests.{true_or_false}
 use Rattle.signal_values.specs.declared.Sig.{Sig}
 use Rattle.signal_values.specs.declared.Sig.TheVariants.{Unknown}
 use Rattle.cell_library.specs.declared.Kind.{Kind}
-use Rattle.cell_library.specs.declared.Kind.TheVariants.{Flop}
 use Rattle.netlist_model.specs.declared.Feed.{Feed}
 use Rattle.netlist_model.specs.Lists.{CellView, NetlistView, direction, Drives, IsUndriven}
 use Rattle.netlist_model.specs.Settled.{feed_values, cell_value, follows_pin, Meets}
 use Rattle.cell_library.specs.Gates.{is_flop}
 use Rattle.netlist_model.specs.Formed.{FeedsBelow, IsNumbered}
 use Rattle.netlist_laws.specs.Settle.{IsCausal, IsDrivenOnce}
-use Rattle.netlist_laws.proofs.Search.{Found, NoneDrives, search_driver, flop_or_gate, cell_at_once}
+use Rattle.netlist_laws.proofs.Search.{Found, NoneDrives, search_driver, cell_at_once}
+use Rattle.netlist_laws.proofs.KindLaws.{flop_or_gate, cell_value-flop}
 use Rattle.netlist_laws.proofs.Once.{feeds_below_at, feed_values_same}
 
 -- what the driver of a net gives it
@@ -33,7 +33,7 @@ cell_value-same : (kind : Kind) (feeds : List Feed) (rank : ℕ → ℕ) (net : 
     → ((other : ℕ) → rank other < rank net → v other ≡ v' other) → cell_value kind (feed_values v feeds) s ≡ cell_value kind (feed_values v' feeds) s
 cell_value-same kind feeds rank net v v' s below same =
     elim (flop_or_gate kind) [
-      | inl k ↦ (let e : kind ≡ Flop k.0 = k.1 in rw e refl)
+      | inl k ↦ cell_value-flop kind k.0 (feed_values v feeds) s k.1 ∙ sym (cell_value-flop kind k.0 (feed_values v' feeds) s k.1)
       | inr gate ↦ ap (λ xs. cell_value kind xs s) (feed_values_same v v' feeds (λ k other at. same other (feeds_below_at rank feeds (rank net) k other (below gate) at)))
     ]
 

@@ -3,13 +3,12 @@ use Rattle.std.proofs.Common.{◌≡◌, ℕ, zero, suc, false, List, [], ◌∷
 use Rattle.std.specs.Prelude.{Some, slice_get}
 use Rattle.signal_values.specs.declared.Sig.{Sig}
 use Rattle.signal_values.specs.declared.Sig.TheVariants.{Zero, One, Unknown}
-use Rattle.cell_library.specs.declared.Kind.TheVariants.{Flop}
 use Rattle.cell_library.specs.declared.FlopKind.{FlopKind}
 use Rattle.cell_library.specs.declared.Edge.{Edge}
 use Rattle.cell_library.specs.declared.Edge.TheVariants.{Rise, Fall}
 use Rattle.cell_library.specs.declared.ResetTo.{ResetTo}
 use Rattle.cell_library.specs.declared.ResetTo.TheVariants.{Nothing, Zero as ToZero, One as ToOne}
-use Rattle.cell_library.specs.Gates.{operand}
+use Rattle.cell_library.specs.Gates.{flop_of, operand}
 use Rattle.cell_library.specs.Flops.{is_edge, reset_or, flop_next, flop_start}
 use Rattle.netlist_model.specs.declared.Feed.{Feed}
 use Rattle.netlist_model.specs.declared.Feed.TheVariants.{Net, Const}
@@ -30,14 +29,14 @@ operand_same v v' (Const b ∷ feeds) zero same = refl
 operand_same v v' (f ∷ feeds) (suc k) same = operand_same v v' feeds k same
 
 -- what clocks, clears or presets a flip-flop has the same value where control nets have
-pub clock_same : (N : NetlistView) (i : ℕ) (cell : CellView) (kind : FlopKind) (v v' : ℕ → Sig) → cell_at N i ≡ Some cell → cell.kind ≡ Flop kind
+pub clock_same : (N : NetlistView) (i : ℕ) (cell : CellView) (kind : FlopKind) (v v' : ℕ → Sig) → cell_at N i ≡ Some cell → flop_of cell.kind ≡ Some kind
     → ((net : ℕ) → IsControlNet N net → v net ≡ v' net) → operand (feed_values v cell.feeds) 1 ≡ operand (feed_values v' cell.feeds) 1
 clock_same N i cell kind v v' live flop same =
     operand_same v v' cell.feeds 1 (λ net at.
     let f : FlopReads N 1 net = record { number = i; cell = cell; kind = kind; flop = flop; reads = record { live = live; operand = at } } in
     same net (record { root = net; operand = inl f; cone = itself }))
 
-pub reset_same : (N : NetlistView) (i : ℕ) (cell : CellView) (kind : FlopKind) (v v' : ℕ → Sig) → cell_at N i ≡ Some cell → cell.kind ≡ Flop kind
+pub reset_same : (N : NetlistView) (i : ℕ) (cell : CellView) (kind : FlopKind) (v v' : ℕ → Sig) → cell_at N i ≡ Some cell → flop_of cell.kind ≡ Some kind
     → ((net : ℕ) → IsControlNet N net → v net ≡ v' net) → operand (feed_values v cell.feeds) 2 ≡ operand (feed_values v' cell.feeds) 2
 reset_same N i cell kind v v' live flop same =
     operand_same v v' cell.feeds 2 (λ net at.

@@ -24,7 +24,8 @@ use Rattle.netlist_laws.specs.Knowledge.{SettledKeepsOrder, ReadingsKeepOrder}
 use Rattle.netlist_laws.proofs.Search.{driver_of-driven}
 use Rattle.netlist_laws.proofs.Carried.{carried}
 use Rattle.netlist_laws.proofs.Once.{feeds_below_at}
-use Rattle.netlist_laws.proofs.Pins.{three_state_gate, pin_kinds, pin_rule-input, pin_rule-inout}
+use Rattle.netlist_laws.proofs.KindLaws.{three_state_gate}
+use Rattle.netlist_laws.proofs.Pins.{pin_kinds, pin_rule-input, pin_rule-inout}
 
 -- operands have values below where the nets that they read have
 all_below-values : (v v' : ℕ → Sig) (feeds : List Feed) → ((k net : ℕ) → slice_get feeds k ≡ Some (Net (record { 0 = net })) → IsBelow (v net) (v' net))
@@ -46,7 +47,8 @@ below-cell_drive Bufif1 xs ys a b k h = below-three_state Bufif1 xs ys a b refl 
 below-cell_drive kind xs ys a b k h = below-pin_of a b h
 
 -- and what a gate gives, seen from inside
-below-cell_value : (kind : Kind) (xs ys : List Sig) (s s' : Sig) → is_flop kind ≡ false → AllBelow xs ys → IsBelow (cell_value kind xs s) (cell_value kind ys s')
+below-cell_value : (kind : Kind) (xs ys : List Sig) (s s' : Sig) → is_flop kind ≡ false → AllBelow xs ys
+    → IsBelow (cell_value kind xs s) (cell_value kind ys s')
 below-cell_value (Flop flop) xs ys s s' gate k = absurd (let e : true ≡ false = gate in cc)
 below-cell_value Bufif0 xs ys s s' gate k = below-see _ _ (below-three_state Bufif0 xs ys Unknown Unknown refl k)
 below-cell_value Bufif1 xs ys s s' gate k = below-see _ _ (below-three_state Bufif1 xs ys Unknown Unknown refl k)

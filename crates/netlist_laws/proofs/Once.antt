@@ -1,11 +1,10 @@
 -- At most one valuation meets the equations.
-use Rattle.std.proofs.Common.{◌≡◌, ℕ, zero, suc, ◌<◌, true, false, List, [], ◌∷◌, refl, ap, ◌∙◌}
+use Rattle.std.proofs.Common.{◌≡◌, ℕ, zero, suc, ◌<◌, true, List, [], ◌∷◌, refl, ap, ◌∙◌}
 use Rattle.std.specs.Prelude.{Some, slice_get}
 use Rattle.signal_values.specs.declared.Sig.{Sig}
-use Rattle.cell_library.specs.declared.Kind.{Kind}
-use Rattle.cell_library.specs.declared.Kind.TheVariants.{Flop}
 use Rattle.cell_library.specs.declared.FlopKind.{FlopKind}
-use Rattle.cell_library.specs.Gates.{is_flop}
+use Rattle.cell_library.specs.Gates.{flop_of}
+use Rattle.netlist_laws.proofs.KindLaws.{cell_value-gate}
 use Rattle.netlist_model.specs.declared.NetId.{NetId}
 use Rattle.netlist_model.specs.declared.Feed.{Feed}
 use Rattle.netlist_model.specs.declared.Feed.TheVariants.{Net, Const}
@@ -37,16 +36,11 @@ feed_values_same v v' (Net net ∷ feeds) same =
 feed_values_same v v' (Const b ∷ feeds) same =
     let rest = feed_values_same v v' feeds (λ k. same (suc k)) in cc
 
--- a gate gives the same where its operands have the same values, whatever is kept
-pub cell_value-gate : (kind : Kind) (xs : List Sig) (s s' : Sig) → is_flop kind ≡ false → cell_value kind xs s ≡ cell_value kind xs s'
-cell_value-gate (Flop k) xs s s' gate = absurd (let e : true ≡ false = gate in cc)
-cell_value-gate kind xs s s' gate = refl
-
 -- two valuations under two rules agree on a set of nets that is closed under what gates read
 pub agree_inside : (N : NetlistView) (C : ℕ → Type 0) (rank : ℕ → ℕ) (given given' : (ℕ → Sig) → ℕ → Sig) (state state' v v' : ℕ → Sig)
     → IsNumbered N rank
     → ((net other : ℕ) → C net → GateReads N net other → C other)
-    → ((i : ℕ) (cell : CellView) (kind : FlopKind) (net : ℕ) → Drives N i cell net → C net → cell.kind ≡ Flop kind → state i ≡ state' i)
+    → ((i : ℕ) (cell : CellView) (kind : FlopKind) (net : ℕ) → Drives N i cell net → C net → flop_of cell.kind ≡ Some kind → state i ≡ state' i)
     → ((net : ℕ) → C net → follows_pin (direction N.ports net) ≡ true → HoldsBelow C (λ a b. a ≡ b) rank v v' net → given v net ≡ given' v' net)
     → Meets N given state v → Meets N given' state' v' → (net : ℕ) → C net → v net ≡ v' net
 agree_inside N C rank given given' state state' v v' numbered closed flops pins a b =

@@ -6,7 +6,8 @@ use Rattle.signal_values.specs.declared.PinSig.{PinSig}
 use Rattle.signal_values.specs.Values.{see, join}
 use Rattle.cell_library.specs.declared.Kind.{Kind}
 use Rattle.cell_library.specs.declared.Kind.TheVariants.{Bufif0, Bufif1}
-use Rattle.cell_library.specs.Gates.{is_flop, is_three_state}
+use Rattle.cell_library.specs.Gates.{is_three_state}
+use Rattle.netlist_laws.proofs.KindLaws.{three_state_gate}
 use Rattle.netlist_model.specs.declared.Dir.{Dir}
 use Rattle.netlist_model.specs.declared.Dir.TheVariants.{Input, Output, Inout}
 use Rattle.netlist_model.specs.Lists.{NetlistView, direction}
@@ -16,12 +17,6 @@ use Rattle.netlist_laws.specs.Settle.{IsCausal, SettledExists, SettledOnce}
 use Rattle.netlist_laws.proofs.Search.{driver_of-driven}
 use Rattle.netlist_laws.proofs.Once.{feeds_below_at, feed_values_same, agree_inside}
 use Rattle.netlist_laws.proofs.Exists.{meets_exists}
-
--- a three-state gate is a gate
-pub three_state_gate : (kind : Kind) → is_three_state kind ≡ true → is_flop kind ≡ false
-three_state_gate Bufif0 h = refl
-three_state_gate Bufif1 h = refl
-three_state_gate kind h = absurd (let e : false ≡ true = h in cc)
 
 -- what it drives hangs on its operands alone
 pub cell_drive-three_state : (kind : Kind) (xs : List Sig) (a b : Sig) → is_three_state kind ≡ true → cell_drive kind xs a ≡ cell_drive kind xs b

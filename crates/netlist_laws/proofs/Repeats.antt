@@ -3,7 +3,7 @@ use Rattle.std.proofs.Common.{◌≡◌, ℕ, zero, suc, ◌≤◌, ◌<◌, Lis
 use Rattle.std.specs.Prelude.{Some, slice_get}
 use Rattle.signal_values.specs.declared.Sig.{Sig}
 use Rattle.signal_values.specs.declared.PinSig.{PinSig}
-use Rattle.cell_library.specs.declared.Kind.TheVariants.{Flop}
+use Rattle.cell_library.specs.Gates.{flop_of}
 use Rattle.cell_library.specs.declared.FlopKind.{FlopKind}
 use Rattle.cell_library.specs.declared.ResetTo.{ResetTo}
 use Rattle.cell_library.specs.Flops.{reset_or, flop_start}
@@ -19,7 +19,7 @@ use Rattle.netlist_laws.proofs.Moments.{event_at, pins_after-cases, run_settled,
 
 -- a flip-flop at rest: cleared or preset where its control is 0
 abbrev pub FlopsRest : NetlistView → Moment → Type 0
-FlopsRest N m = (i : ℕ) (cell : CellView) (kind : FlopKind) → cell_at N i ≡ Some cell → cell.kind ≡ Flop kind
+FlopsRest N m = (i : ℕ) (cell : CellView) (kind : FlopKind) → cell_at N i ≡ Some cell → flop_of cell.kind ≡ Some kind
     → m.state i ≡ flop_start kind (feed_values m.value cell.feeds) (m.state i)
 
 pub rest_of : (reset : ResetTo) (control other now : Sig) → now ≡ reset_or reset control other → now ≡ reset_or reset control now

@@ -5,8 +5,8 @@ use Rattle.std.proofs.lemmas.List.Elements.{All-head, All-tail}
 use Rattle.std.proofs.lemmas.Bool.Decides.{eqb_tells}
 use Rattle.signal_values.specs.declared.Sig.{Sig}
 use Rattle.signal_values.specs.declared.PinSig.{PinSig}
-use Rattle.cell_library.specs.declared.Kind.TheVariants.{Flop}
 use Rattle.cell_library.specs.declared.FlopKind.{FlopKind}
+use Rattle.cell_library.specs.Gates.{flop_of}
 use Rattle.cell_library.specs.Flops.{flop_next, flop_start}
 use Rattle.netlist_model.specs.Lists.{CellView, NetlistView, cell_at}
 use Rattle.netlist_model.specs.Settled.{feed_values, IsSettled}
@@ -32,11 +32,11 @@ start_state N value given i = cell_start (cell_at N i) value (given i)
 abbrev next_state : NetlistView → (ℕ → Sig) → (ℕ → Sig) → (ℕ → Sig) → ℕ → Sig
 next_state N before after state i = cell_next (cell_at N i) before after (state i)
 
-start_state-flop : (N : NetlistView) (value given : ℕ → Sig) (i : ℕ) (cell : CellView) (kind : FlopKind) → cell_at N i ≡ Some cell → cell.kind ≡ Flop kind
+start_state-flop : (N : NetlistView) (value given : ℕ → Sig) (i : ℕ) (cell : CellView) (kind : FlopKind) → cell_at N i ≡ Some cell → flop_of cell.kind ≡ Some kind
     → start_state N value given i ≡ flop_start kind (feed_values value cell.feeds) (given i)
 start_state-flop N value given i cell kind live flop = rw (live, flop) refl
 
-next_state-flop : (N : NetlistView) (before after state : ℕ → Sig) (i : ℕ) (cell : CellView) (kind : FlopKind) → cell_at N i ≡ Some cell → cell.kind ≡ Flop kind
+next_state-flop : (N : NetlistView) (before after state : ℕ → Sig) (i : ℕ) (cell : CellView) (kind : FlopKind) → cell_at N i ≡ Some cell → flop_of cell.kind ≡ Some kind
     → next_state N before after state i ≡ flop_next kind (feed_values before cell.feeds) (feed_values after cell.feeds) (state i)
 next_state-flop N before after state i cell kind live flop = rw (live, flop) refl
 

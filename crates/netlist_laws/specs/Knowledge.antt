@@ -3,8 +3,8 @@ use Rattle.std.specs.Prelude.{◌≡◌, ℕ, true, Some}
 use Rattle.signal_values.specs.declared.Sig.{Sig}
 use Rattle.signal_values.specs.declared.PinSig.{PinSig}
 use Rattle.signal_values.specs.Knowledge.{IsBelow, IsPinBelow}
-use Rattle.cell_library.specs.declared.Kind.TheVariants.{Flop}
 use Rattle.cell_library.specs.declared.FlopKind.{FlopKind}
+use Rattle.cell_library.specs.Gates.{flop_of}
 use Rattle.netlist_model.specs.Lists.{CellView, NetlistView, cell_at, direction}
 use Rattle.netlist_model.specs.Settled.{follows_pin, IsSettled}
 use Rattle.netlist_model.specs.Readings.{reading}
@@ -16,7 +16,7 @@ PinsBelow N pins pins' = (net : ℕ) → follows_pin (direction N.ports net) ≡
 
 -- own: the flip-flops hold values below the others
 abbrev pub FlopsBelow : NetlistView → (ℕ → Sig) → (ℕ → Sig) → Type 0
-FlopsBelow N state state' = (i : ℕ) (cell : CellView) (kind : FlopKind) → cell_at N i ≡ Some cell → cell.kind ≡ Flop kind → IsBelow (state i) (state' i)
+FlopsBelow N state state' = (i : ℕ) (cell : CellView) (kind : FlopKind) → cell_at N i ≡ Some cell → flop_of cell.kind ≡ Some kind → IsBelow (state i) (state' i)
 
 -- own: where pins and flip-flops are better known, each net is better known or the same, and never another known value
 abbrev pub SettledKeepsOrder : Type 0

@@ -3,7 +3,8 @@ use Rattle.std.specs.Prelude.{◌≡◌, ℕ, suc, ◌≤◌, List, length, slic
 use Rattle.signal_values.specs.declared.Sig.{Sig}
 use Rattle.signal_values.specs.declared.PinSig.{PinSig}
 use Rattle.cell_library.specs.declared.Kind.{Kind}
-use Rattle.cell_library.specs.declared.Kind.TheVariants.{Flop}
+use Rattle.cell_library.specs.declared.FlopKind.{FlopKind}
+use Rattle.cell_library.specs.Gates.{flop_of}
 use Rattle.cell_library.specs.Flops.{flop_next, flop_start}
 use Rattle.netlist_model.specs.Lists.{CellView, NetlistView}
 use Rattle.netlist_model.specs.Settled.{feed_values, IsSettled}
@@ -17,18 +18,24 @@ abbrev pub SameControlNets : NetlistView → (ℕ → Sig) → (ℕ → Sig) →
 SameControlNets N v v' = (net : ℕ) → IsControlNet N net → v net ≡ v' net
 
 -- own: what a cell holds at a start, where the nets have these values: a flip-flop its start value, and a gate what is given
+abbrev pub start_if : Option FlopKind → List Sig → Sig → Sig
+start_if None inputs given = given
+start_if (Some kind) inputs given = flop_start kind inputs given
+
 abbrev pub kind_start : Kind → List Sig → Sig → Sig
-kind_start (Flop kind) inputs given = flop_start kind inputs given
-kind_start kind inputs given = given
+kind_start kind inputs given = start_if (flop_of kind) inputs given
 
 abbrev pub cell_start : Option CellView → (ℕ → Sig) → Sig → Sig
 cell_start None value given = given
 cell_start (Some cell) value given = kind_start cell.kind (feed_values value cell.feeds) given
 
 -- own: what a cell holds after a step: a flip-flop its next value, and a gate what was held
+abbrev pub next_if : Option FlopKind → List Sig → List Sig → Sig → Sig
+next_if None before after kept = kept
+next_if (Some kind) before after kept = flop_next kind before after kept
+
 abbrev pub kind_next : Kind → List Sig → List Sig → Sig → Sig
-kind_next (Flop kind) before after kept = flop_next kind before after kept
-kind_next kind before after kept = kept
+kind_next kind before after kept = next_if (flop_of kind) before after kept
 
 abbrev pub cell_next : Option CellView → (ℕ → Sig) → (ℕ → Sig) → Sig → Sig
 cell_next None before after kept = kept

@@ -1,10 +1,9 @@
 -- Cones of the netlist and of its named cells.
 use Rattle.std.proofs.Common.{◌≡◌, ℕ, List, refl, true, ◌⊎◌, inl, inr, ap, sym, ◌∙◌}
-use Rattle.std.specs.Prelude.{slice_get, ◌↔◌}
+use Rattle.std.specs.Prelude.{slice_get, is_some, Option, Some, None, ◌↔◌}
 use Rattle.cell_library.specs.declared.Kind.{Kind}
-use Rattle.cell_library.specs.declared.Kind.TheVariants.{And, Or, Nand, Nor, Xor, Xnor, Buf, Not, Bufif0, Bufif1, Assign, Mux2, Flop}
 use Rattle.cell_library.specs.declared.FlopKind.{FlopKind}
-use Rattle.cell_library.specs.Gates.{is_flop}
+use Rattle.cell_library.specs.Gates.{flop_of, is_flop}
 use Rattle.netlist_model.specs.Lists.{NetlistView}
 use Rattle.netlist_model.specs.Cones as model
 use Rattle.netlist_model.specs.Cones.{InCone, GateReads}
@@ -16,20 +15,12 @@ use Rattle.link_model.specs.Denoted.{AreCells}
 use Rattle.netlist_link.proofs.Cells.{named_at, live_at}
 
 -- a kind that keeps a value is a flip-flop
-pub flop_kind : (kind : Kind) → is_flop kind ≡ true → (k : FlopKind) × (kind ≡ Flop k)
-flop_kind (Flop k) e = (k, refl)
-flop_kind And e = absurd (cc)
-flop_kind Or e = absurd (cc)
-flop_kind Nand e = absurd (cc)
-flop_kind Nor e = absurd (cc)
-flop_kind Xor e = absurd (cc)
-flop_kind Xnor e = absurd (cc)
-flop_kind Buf e = absurd (cc)
-flop_kind Not e = absurd (cc)
-flop_kind Bufif0 e = absurd (cc)
-flop_kind Bufif1 e = absurd (cc)
-flop_kind Assign e = absurd (cc)
-flop_kind Mux2 e = absurd (cc)
+some_flop : (o : Option FlopKind) → is_some o ≡ true → (k : FlopKind) × (o ≡ Some k)
+some_flop None e = absurd (cc)
+some_flop (Some k) e = (k, refl)
+
+pub flop_kind : (kind : Kind) → is_flop kind ≡ true → (k : FlopKind) × (flop_of kind ≡ Some k)
+flop_kind kind e = some_flop (flop_of kind) e
 
 gate_reads-named : (table : List (List ℕ)) (N : NetlistView) (cells : List NamedCell) (net other : ℕ) → AreCells table N cells → GateReads N net other → late.GateReads cells net other
 gate_reads-named table N cells net other all g =
@@ -71,7 +62,7 @@ flop_reads-named table N cells place net all f =
       number = f.number;
       cell = n.named;
       there = n.there;
-      flop = ap is_flop (sym n.is.kind ∙ f.flop);
+      flop = ap is_flop (sym n.is.kind) ∙ ap is_some f.flop;
       operand = ap (λ feeds. slice_get feeds place) (sym n.is.feeds) ∙ f.reads.operand;
     }
 
@@ -83,7 +74,7 @@ flop_reads-live table N cells place net all f =
       number = f.number;
       cell = l.cell;
       kind = kind.0;
-      flop = l.is.kind ∙ kind.1;
+      flop = ap flop_of l.is.kind ∙ kind.1;
       reads = record { live = l.live; operand = ap (λ feeds. slice_get feeds place) l.is.feeds ∙ f.operand };
     }
 

@@ -1,8 +1,7 @@
 -- The cone of a net, and what clocks, clears and presets flip-flops.
 use Rattle.std.specs.Prelude.{◌≡◌, ℕ, false, ◌⊎◌, Some}
-use Rattle.cell_library.specs.declared.Kind.TheVariants.{Flop}
 use Rattle.cell_library.specs.declared.FlopKind.{FlopKind}
-use Rattle.cell_library.specs.Gates.{is_flop}
+use Rattle.cell_library.specs.Gates.{flop_of, is_flop}
 use Rattle.netlist_model.specs.declared.Dir.TheVariants.{Input}
 use Rattle.netlist_model.specs.Lists.{CellView, NetlistView, direction, Drives, Reads}
 
@@ -25,7 +24,7 @@ pub record FlopReads (N : NetlistView) (place net : ℕ) : Type 0 where
   pub number : ℕ
   pub cell : CellView
   pub kind : FlopKind
-  pub flop : cell.kind ≡ Flop kind
+  pub flop : flop_of cell.kind ≡ Some kind
   pub reads : Reads N number cell place net
 
 -- own: the net stands in the cone of a clock operand

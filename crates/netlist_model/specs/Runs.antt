@@ -3,8 +3,8 @@ use Rattle.std.specs.Prelude.{◌≡◌, ℕ, suc, ◌==◌, ◌⊎◌, true, Li
 use Rattle.signal_values.specs.declared.Sig.{Sig}
 use Rattle.signal_values.specs.declared.PinSig.{PinSig}
 use Rattle.signal_values.specs.declared.PinSig.TheVariants.{Zero, One}
-use Rattle.cell_library.specs.declared.Kind.TheVariants.{Flop}
 use Rattle.cell_library.specs.declared.FlopKind.{FlopKind}
+use Rattle.cell_library.specs.Gates.{flop_of}
 use Rattle.cell_library.specs.Flops.{flop_next, flop_start}
 use Rattle.netlist_model.specs.Lists.{CellView, NetlistView, cell_at, direction}
 use Rattle.netlist_model.specs.Settled.{feed_values, follows_pin, IsSettled}
@@ -27,12 +27,12 @@ IsKnownPin p = (p ≡ Zero) ⊎ (p ≡ One)
 
 -- own: each flip-flop has its given value, or its cleared or preset value where its RN or SN is 0
 pub record FlopsStart (N : NetlistView) (given value state : ℕ → Sig) : Type 0 where
-  pub each : (i : ℕ) (cell : CellView) (kind : FlopKind) → cell_at N i ≡ Some cell → cell.kind ≡ Flop kind
+  pub each : (i : ℕ) (cell : CellView) (kind : FlopKind) → cell_at N i ≡ Some cell → flop_of cell.kind ≡ Some kind
       → state i ≡ flop_start kind (feed_values value cell.feeds) (given i)
 
 -- own: each flip-flop has its cleared or preset value where its RN or SN is 0 after; else the D of before, where its CK changed in its direction; else it keeps its value
 pub record FlopsStep (N : NetlistView) (before after state next : ℕ → Sig) : Type 0 where
-  pub each : (i : ℕ) (cell : CellView) (kind : FlopKind) → cell_at N i ≡ Some cell → cell.kind ≡ Flop kind
+  pub each : (i : ℕ) (cell : CellView) (kind : FlopKind) → cell_at N i ≡ Some cell → flop_of cell.kind ≡ Some kind
       → next i ≡ flop_next kind (feed_values before cell.feeds) (feed_values after cell.feeds) (state i)
 
 -- own: a start, from given values of the flip-flops

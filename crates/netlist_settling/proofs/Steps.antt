@@ -1,15 +1,13 @@
 -- The flip-flops take their step one cell after another; and control nets, flip-flops and all nets make a start and a step.
-use Rattle.std.proofs.Common.{◌≡◌, ◌≢◌, ℕ, ◌+◌, ◌<◌, ◌≤◌, List, length, refl, ◌∙◌, arith, ap, Some, set, get_or-set_other, get_or-set_same, length-set, inl, inr, if◌then◌else◌}
+use Rattle.std.proofs.Common.{◌≡◌, ◌≢◌, ℕ, ◌+◌, ◌<◌, ◌≤◌, List, length, refl, ◌∙◌, arith, ap, Option, Some, set, get_or-set_other, get_or-set_same, length-set, inl, inr, if◌then◌else◌}
 use Rattle.std.proofs.lemmas.Bool.{cases_lt}
 use Rattle.std.proofs.lemmas.Bool.Decides.{eqb_tells}
 use Rattle.std.proofs.lemmas.Option.{slice_get_within}
-use Rattle.netlist_laws.specs.Runs.{kind_next, cell_next}
+use Rattle.netlist_laws.specs.Runs.{next_if, cell_next}
 use Rattle.signal_values.specs.declared.Sig.{Sig}
 use Rattle.signal_values.specs.declared.PinSig.{PinSig}
-use Rattle.cell_library.specs.declared.Kind.{Kind}
-use Rattle.cell_library.specs.declared.Kind.TheVariants.{Flop}
 use Rattle.cell_library.specs.declared.FlopKind.{FlopKind}
-use Rattle.cell_library.specs.Gates.{operand}
+use Rattle.cell_library.specs.Gates.{flop_of, operand}
 use Rattle.cell_library.specs.Flops.{reset_or, flop_next, flop_start}
 use Rattle.netlist_model.specs.declared.CellId.{CellId}
 use Rattle.netlist_model.specs.Lists.{CellView, NetlistView, cell_at}
@@ -69,10 +67,10 @@ flop_next-still : (kind : FlopKind) (xs : List Sig) (kept : Sig) → flop_next k
 flop_next-still kind xs kept =
     ap (λ b. reset_or kind.reset (operand xs 2) (if b then operand xs 0 else kept)) (is_edge-same kind.edge (operand xs 1))
 
-flop_of : (N : NetlistView) (before after : ℕ → Sig) (old new : List Sig) (i : ℕ) (cell : CellView) (kind : FlopKind) → AreNext N before after old new → cell_at N i ≡ Some cell
-    → cell.kind ≡ Flop kind → value_at new i ≡ flop_next kind (feed_values before cell.feeds) (feed_values after cell.feeds) (value_at old i)
-flop_of N before after old new i cell kind next live flop =
-    next.each i cell live ∙ ap (λ (k : Kind). kind_next k (feed_values before cell.feeds) (feed_values after cell.feeds) (value_at old i)) flop
+flop_after : (N : NetlistView) (before after : ℕ → Sig) (old new : List Sig) (i : ℕ) (cell : CellView) (kind : FlopKind) → AreNext N before after old new → cell_at N i ≡ Some cell
+    → flop_of cell.kind ≡ Some kind → value_at new i ≡ flop_next kind (feed_values before cell.feeds) (feed_values after cell.feeds) (value_at old i)
+flop_after N before after old new i cell kind next live flop =
+    next.each i cell live ∙ ap (λ (o : Option FlopKind). next_if o (feed_values before cell.feeds) (feed_values after cell.feeds) (value_at old i)) flop
 
 pub start_is : (N : NetlistView) (pins : ℕ → PinSig) (given state : List Sig) (early value : ℕ → Sig) → IsWellFormed N
     → ((net : ℕ) → IsControlPort N net → IsKnownPin (pins net)) → IsSettled N pins (value_at given) early → AreNext N early early given state
@@ -85,7 +83,7 @@ start_is N pins given state early value formed known first next last =
       settled = last;
       flops = record {
         each = λ i cell kind live flop.
-            flop_of N early early given state i cell kind next live flop
+            flop_after N early early given state i cell kind next live flop
             ∙ flop_next-still kind (feed_values early cell.feeds) (value_at given i)
             ∙ flop_start-same kind (feed_values early cell.feeds) (feed_values value cell.feeds) (value_at given i) (value_at given i)
             (reset_same N i cell kind early value live flop controls) refl;
@@ -105,7 +103,7 @@ step_is N event pins pins' held state before early value formed can pinned first
       settled = last;
       flops = record {
         each = λ i cell kind live flop.
-            flop_of N before early held state i cell kind next live flop
+            flop_after N before early held state i cell kind next live flop
             ∙ flop_next-after kind (feed_values before cell.feeds) (feed_values before cell.feeds) (feed_values early cell.feeds) (feed_values value cell.feeds) (value_at held i) (value_at held i)
             refl (clock_same N i cell kind early value live flop controls) (reset_same N i cell kind early value live flop controls) refl;
       };

@@ -9,9 +9,8 @@ use Rattle.signal_values.specs.declared.Sig.TheVariants.{Unknown}
 use Rattle.signal_values.specs.declared.PinSig.{PinSig}
 use Rattle.signal_values.specs.Values.{see, join}
 use Rattle.cell_library.specs.declared.Kind.{Kind}
-use Rattle.cell_library.specs.declared.Kind.TheVariants.{Flop}
 use Rattle.cell_library.specs.declared.FlopKind.{FlopKind}
-use Rattle.cell_library.specs.Gates.{is_flop}
+use Rattle.cell_library.specs.Gates.{flop_of, is_flop}
 use Rattle.netlist_model.specs.declared.CellId.{CellId}
 use Rattle.netlist_model.specs.declared.NetId.{NetId}
 use Rattle.netlist_model.specs.declared.Dir.{Dir}
@@ -20,7 +19,8 @@ use Rattle.netlist_model.specs.Lists.{CellView, NetlistView, cell_at, direction,
 use Rattle.netlist_model.specs.Settled.{feed_values, follows_pin, pin_rule, cell_value, IsSettled}
 use Rattle.netlist_model.specs.Formed.{IsLaidOut, IsWellFormed, IsDriven}
 use Rattle.netlist_model.specs.Orders.{StandsAt, IsCellOrder}
-use Rattle.netlist_laws.proofs.Search.{flop_or_gate, cell_at_once, driver_of-driven}
+use Rattle.netlist_laws.proofs.KindLaws.{flop_or_gate, flop_no_bufif, cell_value-flop}
+use Rattle.netlist_laws.proofs.Search.{cell_at_once, driver_of-driven}
 use Rattle.netlist_laws.proofs.Once.{feed_values_same}
 use Rattle.netlist_laws.proofs.Pins.{pin_kinds, pin_rule-input, pin_rule-inout, cell_drive-three_state}
 use Rattle.netlist_settling.specs.Values.{value_at, side_at, AreSides}
@@ -44,18 +44,18 @@ stands_same order place a b x y =
     ap number (sym x ∙ y)
 
 -- a flip-flop gives what it keeps, whatever its operands are
-driven_flop : (dir : Option Dir) (kind : Kind) (flop : FlopKind) (xs ys : List Sig) (kept : Sig) (outside : PinSig) → kind ≡ Flop flop → dir ≢ Some Inout
-    → driven_value dir kind xs kept outside ≡ driven_value dir kind ys kept outside
+driven_flop : (dir : Option Dir) (kind : Kind) (flop : FlopKind) (xs ys : List Sig) (kept : Sig) (outside : PinSig) → flop_of kind ≡ Some flop
+    → dir ≢ Some Inout → driven_value dir kind xs kept outside ≡ driven_value dir kind ys kept outside
 driven_flop (Some Input) kind flop xs ys kept outside is apart = refl
 driven_flop (Some Inout) kind flop xs ys kept outside is apart = absurd (apart refl)
-driven_flop (Some Output) kind flop xs ys kept outside is apart = rw is refl
-driven_flop None kind flop xs ys kept outside is apart = rw is refl
+driven_flop (Some Output) kind flop xs ys kept outside is apart = cell_value-flop kind flop xs kept is ∙ sym (cell_value-flop kind flop ys kept is)
+driven_flop None kind flop xs ys kept outside is apart = cell_value-flop kind flop xs kept is ∙ sym (cell_value-flop kind flop ys kept is)
 
-flop_inside : (N : NetlistView) (number : ℕ) (cell : CellView) (net : ℕ) (flop : FlopKind) → IsWellFormed N → Drives N number cell net → cell.kind ≡ Flop flop
+flop_inside : (N : NetlistView) (number : ℕ) (cell : CellView) (net : ℕ) (flop : FlopKind) → IsWellFormed N → Drives N number cell net → flop_of cell.kind ≡ Some flop
     → direction N.ports net ≢ Some Inout
 flop_inside N number cell net flop formed drives is inout =
     let three = formed.inout_bufif number cell net drives inout in
-    let no : false ≡ true = rw is at three in cc
+    let no : false ≡ true = sym (flop_no_bufif cell.kind flop is) ∙ three in cc
 
 -- a cell makes the same of its net where the operands of a gate are the same
 driven_same : (N : NetlistView) (number : ℕ) (cell : CellView) (net : ℕ) (v v' : ℕ → Sig) (kept : Sig) (outside : PinSig) → IsWellFormed N → Drives N number cell net

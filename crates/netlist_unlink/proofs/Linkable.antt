@@ -13,7 +13,7 @@ use Rattle.cell_library.specs.declared.Kind.{Kind}
 use Rattle.cell_library.specs.declared.Kind.TheVariants as kind
 use Rattle.cell_library.specs.declared.ResetTo.{ResetTo}
 use Rattle.cell_library.specs.declared.ResetTo.TheVariants.{Nothing, Zero as ToZero, One as ToOne}
-use Rattle.cell_library.specs.Gates.{is_flop, is_three_state}
+use Rattle.cell_library.specs.Gates.{flop_of, is_flop, is_three_state}
 use Rattle.cell_library.specs.Library.{cell_name, flop_ports, operand_ports, output_port}
 use Rattle.netlist_model.specs.declared.Dir.{Dir}
 use Rattle.netlist_model.specs.declared.Dir.TheVariants.{Input, Output, Inout}
@@ -417,8 +417,8 @@ library_operand naming names N i cell (kind.Flop flop) library name j link live 
     record {
       net = o.net;
       operand = elim o.operand [
-        | inl one ↦ inl (record { number = i; cell = cell; kind = flop; flop = is; reads = record { live = live; operand = one } })
-        | inr two ↦ inr (record { number = i; cell = cell; kind = flop; flop = is; reads = record { live = live; operand = two } })
+        | inl one ↦ inl (record { number = i; cell = cell; kind = flop; flop = ap flop_of is; reads = record { live = live; operand = one } })
+        | inr two ↦ inr (record { number = i; cell = cell; kind = flop; flop = ap flop_of is; reads = record { live = live; operand = two } })
       ];
       is = o.is;
     }

@@ -1,5 +1,5 @@
 -- What the pin lines of the examples are of.
-use Rattle.std.proofs.Common.{◌≡◌, ℕ, zero, suc, ◌⊎◌, Bool, true, false, List, [], ◌∷◌, ◌++◌, codes, slice_get, Option, Some, None, refl, sym, ap, ◌∙◌, subst, inl, inr}
+use Rattle.std.proofs.Common.{◌≡◌, ℕ, zero, suc, ◌⊎◌, Bool, true, false, List, [], ◌∷◌, ◌++◌, codes, slice_get, is_some, Option, Some, None, refl, sym, ap, ◌∙◌, subst, inl, inr}
 use Rattle.cell_library.specs.Gates.{is_flop}
 use Rattle.cell_library.specs.declared.codes.BoundaryKind.{BoundaryKind}
 use Rattle.cell_library.specs.declared.codes.BoundaryKind.TheVariants.{Bc1, Bc4}
@@ -75,7 +75,7 @@ HasNoFlop N = (i : ℕ) (cell : CellView) → cell_at N i ≡ Some cell → is_f
 
 no_operand : (N : NetlistView) (place net : ℕ) → HasNoFlop N → FlopReads N place net → ⊥
 no_operand N place net none reads =
-    let is : is_flop reads.cell.kind ≡ true = ap is_flop reads.flop in
+    let is : is_flop reads.cell.kind ≡ true = ap is_some reads.flop in
     let bad : true ≡ false = sym is ∙ none reads.number reads.cell reads.reads.live in
     cc
 

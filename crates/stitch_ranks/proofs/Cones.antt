@@ -1,10 +1,9 @@
 -- What clocks, clears or presets in the netlist with the test logic.
 use Rattle.std.proofs.Common.{◌≡◌, ◌⊎◌, inl, inr, ℕ, zero, suc, ◌+◌, ◌<◌, true, false, List, [], ◌∷◌, ◌++◌, map, length, refl, sym, ap, ◌∙◌, subst, Option, Some, None, option_map, arith, slice_get}
-use Rattle.std.specs.Prelude.{filter_map, option_and_then, unwrap_or}
+use Rattle.std.specs.Prelude.{filter_map, is_some, option_and_then, unwrap_or}
 use Rattle.list_laws.proofs.Options.{some_same}
-use Rattle.cell_library.specs.declared.Kind.TheVariants.{Flop}
 use Rattle.cell_library.specs.declared.FlopKind.{FlopKind}
-use Rattle.cell_library.specs.Gates.{is_flop, is_three_state}
+use Rattle.cell_library.specs.Gates.{flop_of, is_flop, is_three_state}
 use Rattle.netlist_model.specs.declared.NetId.{NetId}
 use Rattle.netlist_model.specs.declared.Dir.TheVariants.{Input, Output, Inout}
 use Rattle.netlist_model.specs.declared.Feed.{Feed}
@@ -12,6 +11,7 @@ use Rattle.netlist_model.specs.declared.Feed.TheVariants.{Net, Const}
 use Rattle.netlist_model.specs.Lists.{CellView, NetlistView, live_cell, cell_at, direction, Drives}
 use Rattle.netlist_model.specs.Cones.{GateReads, InCone, itself, behind, FlopReads, IsControlNet}
 use Rattle.netlist_model.specs.Formed.{IsLaidOut, IsWellFormed}
+use Rattle.netlist_laws.proofs.KindLaws.{flop_no_bufif}
 use Rattle.netlist_laws.proofs.Controls.{control_read, control_closed}
 use Rattle.netlist_images.specs.Nested.{renamed_net, renamed_feed}
 use Rattle.plan_fitting.specs.declared.fitted.FitRow.{FitRow}
@@ -108,10 +108,10 @@ pub record IsCoreInside (N : NetlistView) (B : Boundary) (count : ℕ) : Type 0 
   pub rows : AreDriverRows N B
 
 -- no flip-flop of the core stands at a driver's row
-pub no_flop_row : (N : NetlistView) (B : Boundary) (count : ℕ) → IsCoreInside N B count → (i : ℕ) (old : CellView) → cell_at N i ≡ Some old → (kind : FlopKind) → old.kind ≡ Flop kind → IsAtRow B old → ⊥
+pub no_flop_row : (N : NetlistView) (B : Boundary) (count : ℕ) → IsCoreInside N B count → (i : ℕ) (old : CellView) → cell_at N i ≡ Some old → (kind : FlopKind) → flop_of old.kind ≡ Some kind → IsAtRow B old → ⊥
 no_flop_row N B count in_core i old live kind flop at =
     let three : is_three_state old.kind ≡ true = in_core.rows.three at.by.k at.by.row at.by.there at.net at.by.drives i old (record { live = live; output = at.output }) in
-    let none : is_three_state old.kind ≡ false = ap is_three_state flop in
+    let none : is_three_state old.kind ≡ false = flop_no_bufif old.kind kind flop in
     let clash : true ≡ false = sym three ∙ none in cc
 
 -- and no driver of a control net
@@ -193,7 +193,7 @@ kept_cone N M B count logic is root net kept (behind {net = middle} back g) =
 fed_net : (a b : ℕ) (o : Option Feed) → o ≡ Some (Net (record { 0 = a })) → o ≡ Some (Net (record { 0 = b })) → b ≡ a
 fed_net a b o e f = ap feed_net (some_same (Net (let one : NetId = record { 0 = b } in one)) (Net (let two : NetId = record { 0 = a } in two)) o f e)
 
-core_root : (N : NetlistView) (B : Boundary) (count root : ℕ) → IsCoreInside N B count → (i place : ℕ) (old : CellView) (kind : FlopKind) → cell_at N i ≡ Some old → old.kind ≡ Flop kind
+core_root : (N : NetlistView) (B : Boundary) (count root : ℕ) → IsCoreInside N B count → (i place : ℕ) (old : CellView) (kind : FlopKind) → cell_at N i ≡ Some old → flop_of old.kind ≡ Some kind
     → slice_get (core_cell B old).feeds place ≡ Some (Net (record { 0 = root })) → (x : ℕ) × FlopReads N place x × (core_side B x ≡ root)
 core_root N B count root in_core i place old kind live flop reads = elim (core_reads B old place root reads) [
   | inl r ↦ (r.net, record { number = i; cell = old; kind = kind; flop = flop; reads = record { live = live; operand = r.reads } }, r.is)
@@ -204,7 +204,7 @@ core_root N B count root in_core i place old kind live flop reads = elim (core_r
 root_at : (N M : NetlistView) (B : Boundary) (count : ℕ) (logic : List CellView) → IsStitched N M B count logic → (place root : ℕ) (f : FlopReads M place root)
     → ((x : ℕ) × FlopReads N place x × (core_side B x ≡ root)) ⊎ IsSteered (record { 0 = count }) (record { 0 = count + 4 }) (IsNotKept N B count) f.cell
 root_at N M B count logic is place root f = elim (core_or_logic N B logic f.number f.cell (is.cells f.number f.cell f.reads.live)) [
-  | inl c ↦ inl (core_root N B count root is.core c.number place c.old f.kind c.live (ap (λ (x : CellView). x.kind) c.is ∙ f.flop)
+  | inl c ↦ inl (core_root N B count root is.core c.number place c.old f.kind c.live (ap (λ (x : CellView). flop_of x.kind) c.is ∙ f.flop)
       (ap (λ (x : CellView). slice_get x.feeds place) c.is ∙ f.reads.operand))
   | inr l ↦ inr (steered_at (record { 0 = count }) (record { 0 = count + 4 }) (IsNotKept N B count) logic is.steered l.0 f.cell l.1)
 ]
@@ -212,11 +212,11 @@ root_at N M B count logic is place root f = elim (core_or_logic N B logic f.numb
 kept_root : (N M : NetlistView) (B : Boundary) (count : ℕ) (logic : List CellView) → IsStitched N M B count logic → (root : ℕ) → FlopReads M 1 root ⊎ FlopReads M 2 root → IsKept N B count root
 kept_root N M B count logic is root (inl f) = elim (root_at N M B count logic is 1 root f) [
   | inl c ↦ kept_core c.0 (record { root = c.0; operand = inl c.1; cone = itself }) c.2
-  | inr s ↦ kept_tck (fed_net count root (slice_get f.cell.feeds 1) (s.clock (ap is_flop f.flop)) f.reads.operand)
+  | inr s ↦ kept_tck (fed_net count root (slice_get f.cell.feeds 1) (s.clock (ap is_some f.flop)) f.reads.operand)
 ]
 kept_root N M B count logic is root (inr f) = elim (root_at N M B count logic is 2 root f) [
   | inl c ↦ kept_core c.0 (record { root = c.0; operand = inr c.1; cone = itself }) c.2
-  | inr s ↦ kept_trst (fed_net (count + 4) root (slice_get f.cell.feeds 2) (s.reset (ap is_flop f.flop)) f.reads.operand)
+  | inr s ↦ kept_trst (fed_net (count + 4) root (slice_get f.cell.feeds 2) (s.reset (ap is_some f.flop)) f.reads.operand)
 ]
 
 -- each control net is TCK, TRST, or one of the core behind its boundary cells

@@ -11,7 +11,8 @@ use Rattle.netlist_model.specs.Settled.{driver_of, feed_values, follows_pin}
 use Rattle.netlist_model.specs.Formed.{IsNumbered, IsWellFormed}
 use Rattle.netlist_laws.proofs.Search.{Found, output_or_not}
 use Rattle.netlist_laws.proofs.Once.{feeds_below_at, feed_values_same}
-use Rattle.netlist_laws.proofs.Pins.{pin_kinds, three_state_gate}
+use Rattle.netlist_laws.proofs.KindLaws.{three_state_gate}
+use Rattle.netlist_laws.proofs.Pins.{pin_kinds}
 use Rattle.test_logic.specs.Machine.{Machine, in_effect, test_logic_of, update_of}
 use Rattle.test_logic.specs.Instructions.{mode_of}
 use Rattle.test_logic.specs.Rows.{CellAt, ControlAt, into_core}

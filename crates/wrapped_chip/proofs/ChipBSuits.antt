@@ -4,7 +4,8 @@ use Rattle.std.proofs.lemmas.Bool.Decides.{eqb_tells}
 use Rattle.std.specs.Prelude.{Some, None}
 use Rattle.netlist_laws.proofs.Example.{output_net}
 use Rattle.cell_library.specs.declared.Kind.{Kind}
-use Rattle.cell_library.specs.declared.Kind.TheVariants.{Buf, Bufif1, Flop}
+use Rattle.cell_library.specs.declared.Kind.TheVariants.{Buf, Bufif1}
+use Rattle.cell_library.specs.Gates.{flop_of}
 use Rattle.cell_library.specs.declared.FlopKind.{FlopKind}
 use Rattle.cell_library.specs.declared.codes.BoundaryKind.TheVariants.{Bc1, Bc7}
 use Rattle.cell_library.specs.declared.codes.Function.TheVariants.{Output3, Bidir}
@@ -31,9 +32,9 @@ at_inout net e = grind (arith, eqb_tells 0 net, eqb_tells 1 net, eqb_tells 2 net
 at_output : (net : ℕ) → direction netlist_b.ports net ≡ Some Output → net ≡ 3
 at_output net e = grind (arith, eqb_tells 0 net, eqb_tells 1 net, eqb_tells 2 net, eqb_tells 3 net)
 
-no_flop : (i : ℕ) (cell : CellView) (kind : FlopKind) → cell_at netlist_b i ≡ Some cell → cell.kind ≡ Flop kind → ⊥
-no_flop zero cell kind live flop = let same : bufif_cell ≡ cell = cc in let h : Bufif1 ≡ Flop kind = ap (λ (c : CellView). c.kind) same ∙ flop in cc
-no_flop (suc zero) cell kind live flop = let same : buf_cell ≡ cell = cc in let h : Buf ≡ Flop kind = ap (λ (c : CellView). c.kind) same ∙ flop in cc
+no_flop : (i : ℕ) (cell : CellView) (kind : FlopKind) → cell_at netlist_b i ≡ Some cell → flop_of cell.kind ≡ Some kind → ⊥
+no_flop zero cell kind live flop = let same : bufif_cell ≡ cell = cc in let h : None ≡ Some kind = ap (λ (c : CellView). flop_of c.kind) same ∙ flop in cc
+no_flop (suc zero) cell kind live flop = let same : buf_cell ≡ cell = cc in let h : None ≡ Some kind = ap (λ (c : CellView). flop_of c.kind) same ∙ flop in cc
 no_flop (suc (suc i)) cell kind live flop = let h : None ≡ Some cell = live in cc
 
 no_control : (net : ℕ) → IsControlNet netlist_b net → ⊥

@@ -5,7 +5,7 @@ use Rattle.std.specs.Prelude.{Some, None, slice_get}
 use Rattle.std.proofs.lemmas.List.Elements.{All-head, All-tail}
 use Rattle.signal_values.specs.declared.Sig.{Sig}
 use Rattle.signal_values.specs.declared.PinSig.{PinSig}
-use Rattle.cell_library.specs.declared.Kind.TheVariants.{Flop}
+use Rattle.cell_library.specs.Gates.{flop_of}
 use Rattle.cell_library.specs.declared.FlopKind.{FlopKind}
 use Rattle.cell_library.specs.Flops.{flop_next, flop_start}
 use Rattle.netlist_model.specs.Lists.{CellView, NetlistView, cell_at}
@@ -43,11 +43,11 @@ chip_controls_same : (B : Device) (N : NetlistView) (m : Machine) (pins : ℕ �
 chip_controls_same B N m pins state state' v v' formed a b net control =
     controls_once N (chip_rule B N m pins) (chip_rule B N m pins) state state' v v' formed a b (λ port is. input_rule_same B N m pins pins v v' port formed is.0 refl) net control
 
-start_flop : (place : Option CellView) (value : ℕ → Sig) (given : Sig) (cell : CellView) (kind : FlopKind) → place ≡ Some cell → cell.kind ≡ Flop kind
+start_flop : (place : Option CellView) (value : ℕ → Sig) (given : Sig) (cell : CellView) (kind : FlopKind) → place ≡ Some cell → flop_of cell.kind ≡ Some kind
     → cell_start place value given ≡ flop_start kind (feed_values value cell.feeds) given
 start_flop place value given cell kind live flop = rw (live, flop) refl
 
-next_flop : (place : Option CellView) (before after : ℕ → Sig) (kept : Sig) (cell : CellView) (kind : FlopKind) → place ≡ Some cell → cell.kind ≡ Flop kind
+next_flop : (place : Option CellView) (before after : ℕ → Sig) (kept : Sig) (cell : CellView) (kind : FlopKind) → place ≡ Some cell → flop_of cell.kind ≡ Some kind
     → cell_next place before after kept ≡ flop_next kind (feed_values before cell.feeds) (feed_values after cell.feeds) kept
 next_flop place before after kept cell kind live flop = rw (live, flop) refl
 

@@ -3,7 +3,7 @@ use Rattle.std.proofs.Common.{◌≡◌, ℕ, zero, suc, ◌≤◌, ◌<◌, Boo
 use Rattle.std.specs.Prelude.{Some}
 use Rattle.netlist_laws.proofs.Repeats.{rest_of}
 use Rattle.signal_values.specs.declared.Sig.{Sig}
-use Rattle.cell_library.specs.declared.Kind.TheVariants.{Flop}
+use Rattle.cell_library.specs.Gates.{flop_of}
 use Rattle.cell_library.specs.declared.FlopKind.{FlopKind}
 use Rattle.cell_library.specs.Flops.{flop_start}
 use Rattle.netlist_model.specs.Lists.{CellView, NetlistView, cell_at}
@@ -33,7 +33,7 @@ run_reset B N given events chip run (suc t) h low =
 
 -- the flip-flops of a moment are cleared or preset where their controls are 0
 abbrev pub FlopsRest : NetlistView → ChipMoment → Type 0
-FlopsRest N w = (i : ℕ) (cell : CellView) (kind : FlopKind) → cell_at N i ≡ Some cell → cell.kind ≡ Flop kind
+FlopsRest N w = (i : ℕ) (cell : CellView) (kind : FlopKind) → cell_at N i ≡ Some cell → flop_of cell.kind ≡ Some kind
     → w.state i ≡ flop_start kind (feed_values w.value cell.feeds) (w.state i)
 
 pub run_rests : (B : Device) (N : NetlistView) (given : ℕ → Sig) (events : List ChipEvent) (chip : ℕ → ChipMoment) → IsChipRun B N given events chip
