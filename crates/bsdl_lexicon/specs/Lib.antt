@@ -4,3 +4,4 @@ pub mod NameKeys
 pub mod Reserved
 pub mod Words
 pub mod Pieces
+pub mod Laws

@@ -1,67 +1,67 @@
-use Rattle.std.specs.Prelude.{ℕ, Bool, false, List, [], ◌∷◌, codes, if◌then◌else◌, ◌==◌}
+use Rattle.std.specs.Prelude.{ℕ, Bool, false, List, [], ◌∷◌, ◌++◌, codes, if◌then◌else◌, ◌==◌}
 use Rattle.std.specs.List.{list_any}
 use Rattle.bsdl_lexicon.specs.Names.{lower, is_same_name}
 
 -- The reserved words, by their first letter (VHDL-93, lexical elements: reserved words).
 
-unfoldable pub with_a : List (List ℕ)
+abbrev pub with_a : List (List ℕ)
 with_a = codes "abs" ∷ codes "access" ∷ codes "after" ∷ codes "alias" ∷ codes "all" ∷ codes "and" ∷ codes "architecture" ∷ codes "array" ∷ codes "assert" ∷ codes "attribute" ∷ []
 
-unfoldable pub with_b : List (List ℕ)
+abbrev pub with_b : List (List ℕ)
 with_b = codes "begin" ∷ codes "block" ∷ codes "body" ∷ codes "buffer" ∷ codes "bus" ∷ []
 
-unfoldable pub with_c : List (List ℕ)
+abbrev pub with_c : List (List ℕ)
 with_c = codes "case" ∷ codes "component" ∷ codes "configuration" ∷ codes "constant" ∷ []
 
-unfoldable pub with_d : List (List ℕ)
+abbrev pub with_d : List (List ℕ)
 with_d = codes "disconnect" ∷ codes "downto" ∷ []
 
-unfoldable pub with_e : List (List ℕ)
+abbrev pub with_e : List (List ℕ)
 with_e = codes "else" ∷ codes "elsif" ∷ codes "end" ∷ codes "entity" ∷ codes "exit" ∷ []
 
-unfoldable pub with_f : List (List ℕ)
+abbrev pub with_f : List (List ℕ)
 with_f = codes "file" ∷ codes "for" ∷ codes "function" ∷ []
 
-unfoldable pub with_g : List (List ℕ)
+abbrev pub with_g : List (List ℕ)
 with_g = codes "generate" ∷ codes "generic" ∷ codes "group" ∷ codes "guarded" ∷ []
 
-unfoldable pub with_i : List (List ℕ)
+abbrev pub with_i : List (List ℕ)
 with_i = codes "if" ∷ codes "impure" ∷ codes "in" ∷ codes "inertial" ∷ codes "inout" ∷ codes "is" ∷ []
 
-unfoldable pub with_l : List (List ℕ)
+abbrev pub with_l : List (List ℕ)
 with_l = codes "label" ∷ codes "library" ∷ codes "linkage" ∷ codes "literal" ∷ codes "loop" ∷ []
 
-unfoldable pub with_m : List (List ℕ)
+abbrev pub with_m : List (List ℕ)
 with_m = codes "map" ∷ codes "mod" ∷ []
 
-unfoldable pub with_n : List (List ℕ)
+abbrev pub with_n : List (List ℕ)
 with_n = codes "nand" ∷ codes "new" ∷ codes "next" ∷ codes "nor" ∷ codes "not" ∷ codes "null" ∷ []
 
-unfoldable pub with_o : List (List ℕ)
+abbrev pub with_o : List (List ℕ)
 with_o = codes "of" ∷ codes "on" ∷ codes "open" ∷ codes "or" ∷ codes "others" ∷ codes "out" ∷ []
 
-unfoldable pub with_p : List (List ℕ)
+abbrev pub with_p : List (List ℕ)
 with_p = codes "package" ∷ codes "port" ∷ codes "postponed" ∷ codes "procedure" ∷ codes "process" ∷ codes "pure" ∷ []
 
-unfoldable pub with_r : List (List ℕ)
+abbrev pub with_r : List (List ℕ)
 with_r = codes "range" ∷ codes "record" ∷ codes "register" ∷ codes "reject" ∷ codes "rem" ∷ codes "report" ∷ codes "return" ∷ codes "rol" ∷ codes "ror" ∷ []
 
-unfoldable pub with_s : List (List ℕ)
+abbrev pub with_s : List (List ℕ)
 with_s = codes "select" ∷ codes "severity" ∷ codes "shared" ∷ codes "signal" ∷ codes "sla" ∷ codes "sll" ∷ codes "sra" ∷ codes "srl" ∷ codes "subtype" ∷ []
 
-unfoldable pub with_t : List (List ℕ)
+abbrev pub with_t : List (List ℕ)
 with_t = codes "then" ∷ codes "to" ∷ codes "transport" ∷ codes "type" ∷ []
 
-unfoldable pub with_u : List (List ℕ)
+abbrev pub with_u : List (List ℕ)
 with_u = codes "unaffected" ∷ codes "units" ∷ codes "until" ∷ codes "use" ∷ []
 
-unfoldable pub with_v : List (List ℕ)
+abbrev pub with_v : List (List ℕ)
 with_v = codes "variable" ∷ []
 
-unfoldable pub with_w : List (List ℕ)
+abbrev pub with_w : List (List ℕ)
 with_w = codes "wait" ∷ codes "when" ∷ codes "while" ∷ codes "with" ∷ []
 
-unfoldable pub with_x : List (List ℕ)
+abbrev pub with_x : List (List ℕ)
 with_x = codes "xnor" ∷ codes "xor" ∷ []
 
 -- those that begin by this letter, which is in lower case
@@ -96,3 +96,9 @@ is_among words name = list_any (is_same_name name) words
 unfoldable pub is_reserved : List ℕ → Bool
 is_reserved [] = false
 is_reserved (b ∷ bytes) = is_among (reserved_with (lower b)) (b ∷ bytes)
+
+-- all of them
+abbrev pub reserved_words : List (List ℕ)
+reserved_words =
+    with_a ++ (with_b ++ (with_c ++ (with_d ++ (with_e ++ (with_f ++ (with_g ++ (with_i ++ (with_l ++ (with_m ++ (with_n ++
+    (with_o ++ (with_p ++ (with_r ++ (with_s ++ (with_t ++ (with_u ++ (with_v ++ (with_w ++ with_x))))))))))))))))))

@@ -3,6 +3,7 @@
 // (specs/Words.antt); specs/Pieces.antt is the word grammar. IEEE Std 1149.1-2001, the annex on BSDL; VHDL-93, lexical elements.
 #![tactic(auto)]
 
+mod laws;
 pub mod name_key;
 pub mod names;
 pub mod reader;
@@ -11,6 +12,7 @@ pub mod symbol;
 pub mod token;
 pub mod words;
 
+pub use laws::reserved_words_are_listed;
 pub use name_key::NameKey;
 pub use names::same_name;
 pub use reader::BsdlReader;

@@ -33,22 +33,3 @@ SettledExists = (N : NetlistView) → IsWellFormed N → (pins : ℕ → PinSig)
 abbrev pub SettledOnce : Type 0
 SettledOnce = (N : NetlistView) → IsWellFormed N → (pins pins' : ℕ → PinSig) (state state' v v' : ℕ → Sig)
     → SamePins N pins pins' → SameFlops N state state' → IsSettled N pins state v → IsSettled N pins' state' v' → (net : ℕ) → v net ≡ v' net
-<<<<<<< HEAD
-=======
-
--- own: what a gate on a net of the set reads is of the set, and no flip-flop drives such a net
-pub record IsClosed (N : NetlistView) (inside : ℕ → Bool) : Type 0 where
-  pub gates : (net other : ℕ) → inside net ≡ true → GateReads N net other → inside other ≡ true
-  pub flops : (i : ℕ) (cell : CellView) (kind : FlopKind) (net : ℕ) → Drives N i cell net → inside net ≡ true → flop_of cell.kind ≡ Some kind → ⊥
-
--- own: two rules give the nets of pins in the set the same, as far as they may hang on nets of the set with smaller numbers
-pub record AgreeInside (N : NetlistView) (inside : ℕ → Bool) (rank : ℕ → ℕ) (given given' : (ℕ → Sig) → ℕ → Sig) : Type 0 where
-  pub below : (net : ℕ) → inside net ≡ true → follows_pin (direction N.ports net) ≡ true → (v v' : ℕ → Sig)
-      → ((other : ℕ) → inside other ≡ true → rank other < rank net → v other ≡ v' other) → given v net ≡ given' v' net
-
--- own: on a closed set of nets the flip-flops have no say
-abbrev pub MeetsOnceInside : Type 0
-MeetsOnceInside = (N : NetlistView) (inside : ℕ → Bool) (rank : ℕ → ℕ) (given given' : (ℕ → Sig) → ℕ → Sig) (state state' v v' : ℕ → Sig)
-    → IsNumbered N rank → IsClosed N inside → AgreeInside N inside rank given given' → Meets N given state v → Meets N given' state' v'
-    → (net : ℕ) → inside net ≡ true → v net ≡ v' net
->>>>>>> 7c49b9b887b5384e0249213f35f54c2fc66bba33
