@@ -21,7 +21,7 @@ use Rattle.bsdl_device.specs.declared.entries.OpcodeEntry.{OpcodeEntry}
 use Rattle.bsdl_device.specs.declared.entries.AccessEntry.{AccessEntry}
 use Rattle.bsdl_device.specs.declared.entries.Register.TheVariants as register
 use Rattle.bsdl_device.specs.declared.entries.RowEntry.{RowEntry}
-use Rattle.bsdl_lexicon.specs.Reserved.{is_reserved, with_a, with_b, with_c, with_d, with_e, with_f, with_g, with_i, with_l, with_m, with_n, with_o, with_p, with_r, with_s, with_t, with_u, with_v, with_w, with_x}
+use Rattle.bsdl_lexicon.specs.Reserved.{is_reserved}
 use Rattle.bsdl_device.specs.Shape.{section_word}
 use Rattle.bsdl_device.specs.Spelled.{HasContents}
 use Rattle.bsdl_device.specs.Meanings.{first_meaning_fault}
@@ -112,7 +112,7 @@ pub boundary_length_word : section_word file 15 ≡ 248
 boundary_length_word = refl
 
 pub holds : HasContents file contents
-unfolding is_reserved with_a with_b with_c with_d with_e with_f with_g with_i with_l with_m with_n with_o with_p with_r with_s with_t with_u with_v with_w with_x
+unfolding is_reserved
 holds = record {
   pin_map = record { is = record { filled = refl; pins = refl }; hold = (refl, (refl, (refl, (refl, (refl, (refl, (refl, (refl, (refl, (refl, (refl, (refl, (refl, (refl, (refl, (refl, (refl, (refl, (refl, (refl, (refl, (refl, (refl, (refl, (refl, (refl, (refl, (refl, (refl, (refl, (refl, (refl, (refl, (refl, (refl, (refl, (refl, (refl, (refl, (refl, (refl, (refl, (refl, (refl, (refl, (refl, (refl, (refl, (refl, (refl, (refl, (refl, (refl, (refl, (refl, (refl, (refl, (refl, (refl, (refl, (refl, (refl, (refl, tt))))))))))))))))))))))))))))))))))))))))))))))))))))))))))))))) };
   opcodes = record { filled = refl; hold = (refl, (refl, (refl, (refl, (refl, (refl, (refl, (refl, (refl, (refl, (refl, (refl, (refl, (refl, (refl, (refl, (refl, (refl, (refl, (refl, (refl, (refl, (refl, (refl, (refl, (refl, (refl, (refl, (refl, (refl, (refl, (refl, (refl, (refl, tt)))))))))))))))))))))))))))))))))) };
