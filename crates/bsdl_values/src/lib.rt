@@ -3,11 +3,11 @@
 // IEEE Std 1149.1-2001: the annex on BSDL. Which fault comes first is own.
 #![tactic(auto)]
 
+mod device_text;
 mod laws;
 mod parse;
 mod places;
-mod reading;
 
+pub use device_text::read_device;
 pub use laws::{devices_are_read_back, spells_one_device};
 pub use parse::parse_device;
-pub use reading::read_device;

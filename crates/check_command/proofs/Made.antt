@@ -16,7 +16,7 @@ use Rattle.bsdl_values.specs.TextFaults.{IsDeviceTextFault}
 use Rattle.scan_vectors.specs.Faults.{IsFault}
 use Rattle.event_scripts.specs.declared.fault.ScriptFault.{ScriptFault}
 use Rattle.conformance_report.specs.Agreement.{PortsAgree}
-use Rattle.check_runs.specs.declared.checking.Checked.{Checked}
+use Rattle.check_runs.specs.declared.line_check.Checked.{Checked}
 use Rattle.command_faults.specs.declared.fault.Fault.{Fault}
 use Rattle.command_faults.specs.declared.fault.Fault.TheVariants as fault
 use Rattle.command_faults.specs.declared.status.Status.{Status}

@@ -3,9 +3,9 @@
 // IEEE Std 1149.1-2001: test access port; event lines and the text are own.
 #![tactic(auto)]
 
-mod checking;
+mod check_text;
 mod legal;
-mod printing;
+mod line_check;
 mod tap;
 
-pub use checking::{Checked, check_lines};
+pub use line_check::{Checked, check_lines};

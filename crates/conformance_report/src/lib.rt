@@ -3,10 +3,10 @@
 // IEEE Std 1149.1-2001: the annex on BSDL; verdicts are own.
 #![tactic(auto)]
 
-mod judging;
+mod judgement;
 mod ports;
 mod verdict;
 
-pub use judging::judge;
+pub use judgement::judge;
 pub use ports::ports_agree;
 pub use verdict::{Missed, Verdict};

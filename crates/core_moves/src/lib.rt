@@ -3,6 +3,6 @@
 // IEEE Std 1149.1-2001: boundary-scan register.
 #![tactic(auto)]
 
-mod standing;
+mod row_moves;
 
-pub use standing::stand_behind;
+pub use row_moves::stand_behind;

@@ -7,15 +7,15 @@
 
 pub mod fault;
 pub mod graph;
-pub mod holding;
 mod laws;
+pub mod marked_cones;
 pub mod order;
 pub mod spread;
 mod walk;
 
 pub use fault::OrderFault;
 pub use graph::Graph;
-pub use holding::cones_holding;
 pub use laws::{reads_stand_earlier, some_order};
+pub use marked_cones::cones_holding;
 pub use order::order_of;
 pub use spread::in_cones_of;

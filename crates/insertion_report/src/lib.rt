@@ -4,6 +4,6 @@
 #![tactic(auto)]
 
 mod lines;
-mod reporting;
+mod report_text;
 
-pub use reporting::report;
+pub use report_text::report;

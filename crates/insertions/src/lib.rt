@@ -3,9 +3,9 @@
 // IEEE Std 1149.1-2001: test logic architecture, the annex on BSDL; IEEE Std 1364-2001 for the netlists; the report is own.
 #![tactic(auto)]
 
-mod inserting;
+mod insertion;
 mod texts;
 
-pub use inserting::insert_texts;
+pub use insertion::insert_texts;
 pub use insertion_inputs::InsertFault;
 pub use texts::Inserted;

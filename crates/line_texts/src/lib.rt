@@ -5,12 +5,12 @@
 
 mod forms;
 mod laws;
-mod printing;
+mod printed_lines;
 mod reader;
 mod words;
 
 pub use forms::{after_key, four_words, one_word, three_words, two_words};
 pub use laws::{rows_of_texts_are_rows, texts_of_rows_read_back};
-pub use printing::{put_five, put_four, put_three, put_two};
+pub use printed_lines::{put_five, put_four, put_three, put_two};
 pub use reader::LineReader;
 pub use words::{is_remark, next_word, split_line};

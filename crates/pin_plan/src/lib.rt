@@ -20,9 +20,9 @@ mod twice;
 // What fitting gives.
 mod codes;
 mod copies;
-mod fitting;
+mod plan_fit;
 mod ports;
 mod row_table;
 mod rows;
 
-pub use fitting::fit;
+pub use plan_fit::fit;

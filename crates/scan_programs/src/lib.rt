@@ -11,7 +11,7 @@ mod clocks;
 mod laws;
 mod lines;
 mod pins;
-mod writing;
+mod program_lines;
 
 pub use laws::programs_are_met;
-pub use writing::program;
+pub use program_lines::program;

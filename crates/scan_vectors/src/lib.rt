@@ -3,16 +3,16 @@
 // Own: no chapter of a standard speaks of it.
 #![tactic(auto)]
 
+mod event_text;
 mod fault;
 mod form;
 mod laws;
 mod lines;
-mod printing;
+mod printed_events;
 mod reader;
-mod reading;
 
+pub use event_text::read_events;
 pub use fault::EventFault;
 pub use laws::texts_of_events_are_spelled_or_at_fault;
 pub use lines::{Act, Line, Lines};
-pub use printing::print_events;
-pub use reading::read_events;
+pub use printed_events::print_events;

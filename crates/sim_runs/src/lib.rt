@@ -6,10 +6,10 @@
 mod fault;
 mod label;
 mod moments;
-mod playing;
 mod readings;
+mod script_run;
 mod shown;
 
 pub use fault::PlayFault;
 pub use moments::begin;
-pub use playing::play;
+pub use script_run::play;

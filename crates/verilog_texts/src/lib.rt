@@ -5,8 +5,8 @@
 
 mod fault;
 mod laws;
-mod reading;
+mod module_text;
 
 pub use fault::TextFault;
 pub use laws::bytes_spell_one_tree;
-pub use reading::read_module;
+pub use module_text::read_module;

@@ -1,0 +1,35 @@
+use Rattle.std.proofs.Common.{subst}
+use Rattle.list_laws.proofs.Options.{err_is}
+use Rattle.netlist_model.specs.Formed.{IsLaidOut}
+use Rattle.netlist_arena.specs.Arena.{ArenaView}
+use Rattle.insertion_inputs.specs.declared.fault.InsertFault.TheVariants as fault
+use Rattle.insertion_inputs.specs.Faults.{StandsInTexts}
+use Rattle.insertions.proofs.Made.{plan_stands, linked_tree}
+use Rattle.insertions.proofs.insertion.insert_into.Goals as goal
+
+pub fit_text-requires : goal.fit_text-requires
+fit_text-requires c = linked_tree c.requires.0 c.args.linked.now c.requires.1
+
+pub write_stitched-requires : goal.write_stitched-requires
+write_stitched-requires c = record {
+  net = c.requires.0;
+  text = c.args.plan.now;
+  before = c.args.linked.now;
+  netlist = c.requires.1;
+  laid = subst (λ (a : ArenaView). IsLaidOut a.lists) c.netlist.ensures.netlist c.is_laid_out.ensures.laid_out;
+  fitting = c.in_ok-fitting.ensures.fitting;
+}
+
+pub returns-in_err-fitting-clause-fault : goal.returns-in_err-fitting-clause-fault
+returns-in_err-fitting-clause-fault c = λ net is.
+    err_is c.from_residual.result c.in_err-fitting.field-0.0 (StandsInTexts net c.args.plan.now) c.from_residual.ensures.1
+    (plan_stands net c.args.plan.now c.args.linked.now c.in_err-fitting.field-0.0 is c.in_err-fitting.ensures.fault)
+
+pub returns-clause-inserted : goal.returns-clause-inserted
+returns-clause-inserted c = λ net is.
+    let laid = subst (λ (a : ArenaView). IsLaidOut a.lists) c.netlist.ensures.netlist c.is_laid_out.ensures.laid_out in
+    c.in_ok-write_stitched.ensures net c.args.plan.now c.args.linked.now is laid c.in_ok-fitting.ensures.fitting
+
+pub returns-in_err-write_stitched-clause-fault : goal.returns-in_err-write_stitched-clause-fault
+returns-in_err-write_stitched-clause-fault c = λ net is.
+    err_is c.from_residual-in_err-write_stitched.result fault.OutOfMemory (StandsInTexts net c.args.plan.now) c.from_residual-in_err-write_stitched.ensures.1 tt

@@ -1,6 +1,0 @@
-use Rattle.std.proofs.Common.{◌≡◌, drop}
-use Rattle.scan_programs.specs.Runs.{after_clocks}
-use Rattle.scan_programs.proofs.writing.run.Given as goal
-
-abbrev pub invariant-loop-cycle : goal.invariant-loop-cycle
-invariant-loop-cycle l = after_clocks (drop l.cycle-index l.clocks) l.bench ≡ after_clocks l.clocks l.fn.bench
