@@ -10,7 +10,7 @@ use Rattle.netlist_model.specs.Cones.{InCone, itself, behind, GateReads, FlopRea
 use Rattle.netlist_model.specs.Formed.{IsDriven, IsCombinational, IsWellFormed}
 use Rattle.netlist_laws.specs.Settle.{IsDrivenOnce}
 use Rattle.draft_laws.specs.Readable.{CanBeRead, IsPure}
-use Rattle.draft_laws.specs.Grown.{IsOneOf, AddsCells, AreSoundCells, GrownIsFormed, ports, output}
+use Rattle.draft_laws.specs.Grown.{IsOneOf, AddsCells, AreSoundCells, GrownIsFormed}
 
 -- directions are the same
 dir_over : (old new : NetlistView) (part : List CellView) → AddsCells old new part → (net : ℕ) → direction new.ports net ≡ direction old.ports net

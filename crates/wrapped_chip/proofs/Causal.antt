@@ -19,7 +19,6 @@ use Rattle.test_logic.specs.Rows.{CellAt, ControlAt, into_core}
 use Rattle.bsdl_device.specs.declared.values.Disable.{Disable}
 use Rattle.bsdl_device.specs.declared.values.Device.{Device}
 use Rattle.wrapped_chip.specs.Cells.{core_datum, core_control, control_at, Numbered, into_by, row_of, chip_rule}
-use Rattle.wrapped_chip.specs.Laws.{pins}
 use Rattle.netlist_laws.specs.Settle.{IsCausal}
 
 -- the first cell that drives the net, or none is found
