@@ -1,12 +1,12 @@
 // Rules on the instruction register: its length, opcodes, the captured bits and the identification code.
-ghost use Rattle.std.specs.Prelude.{◌≡◌, IfOk, map};
+ghost use Rattle.std.specs.Prelude.{◌≡◌, IfOk, find, map};
 ghost use Rattle.std.specs.List.{list_any};
 ghost use Rattle.bsdl_device.specs.Instructions as profile;
 ghost use Rattle.bsdl_device.specs.Checks as rule;
 ghost use Rattle.bsdl_lexicon.specs.NameKeys.{names_in};
 
 use crate::names::is_repeated;
-use bsdl_device::{Contents, File, OpcodeEntry};
+use bsdl_device::{Contents, File, INSTRUCTIONS, OpcodeEntry, REQUIRED_INSTRUCTIONS};
 use bsdl_lexicon::NameKey;
 use bsdl_runs::opcodes::{
     bypass_is_not_ones, clash, code_is_barred, has_instruction, has_other_length, names_instruction,
@@ -15,27 +15,21 @@ use cell_library::Instr;
 use std::alloc::Global;
 use texts::OutOfMemory;
 
+// The first of these instructions that has the name.
+fn first_named(instructions: &[Instr], name: &[u8]) -> Option<Instr>
+    ensures { result ≡ find (λ i. profile.names_instruction i name.now) instructions.now }
+{
+    instructions
+        .iter()
+        .copied()
+        .find(|instruction| names_instruction(*instruction, name))
+}
+
 /// The instruction of a name.
 pub fn instruction_named(name: &[u8]) -> Option<Instr>
     ensures { result ≡ profile.instruction_named name.now }
 {
-    if names_instruction(Instr::Bypass, name) {
-        Some(Instr::Bypass)
-    } else if names_instruction(Instr::Extest, name) {
-        Some(Instr::Extest)
-    } else if names_instruction(Instr::Sample, name) {
-        Some(Instr::Sample)
-    } else if names_instruction(Instr::Preload, name) {
-        Some(Instr::Preload)
-    } else if names_instruction(Instr::Idcode, name) {
-        Some(Instr::Idcode)
-    } else if names_instruction(Instr::Highz, name) {
-        Some(Instr::Highz)
-    } else if names_instruction(Instr::Clamp, name) {
-        Some(Instr::Clamp)
-    } else {
-        None
-    }
+    first_named(&INSTRUCTIONS, name)
 }
 
 /// The instruction register has fewer than 2 bits, or more than 32.
@@ -74,10 +68,9 @@ fn named_twice(alloc: Global, opcodes: &[OpcodeEntry]) -> Result<bool, OutOfMemo
 fn lacks_instruction(opcodes: &[OpcodeEntry]) -> bool
     ensures { result ≡ rule.lacks_instruction opcodes.now }
 {
-    !has_instruction(opcodes, Instr::Extest)
-        || !has_instruction(opcodes, Instr::Sample)
-        || !has_instruction(opcodes, Instr::Preload)
-        || !has_instruction(opcodes, Instr::Bypass)
+    REQUIRED_INSTRUCTIONS
+        .iter()
+        .any(|instruction| !has_instruction(opcodes, *instruction))
 }
 
 fn has_misfit(wanted: u32, opcodes: &[OpcodeEntry]) -> bool

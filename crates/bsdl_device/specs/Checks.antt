@@ -23,7 +23,7 @@ use Rattle.bsdl_device.specs.declared.entries.AccessEntry.{AccessEntry}
 use Rattle.bsdl_device.specs.declared.entries.RowEntry.{RowEntry}
 use Rattle.bsdl_device.specs.declared.entries.Contents.{Contents}
 use Rattle.bsdl_device.specs.Ports.{declared_ports, port_names, port_bits, port_named, width, is_mode, counted_from}
-use Rattle.bsdl_device.specs.Instructions.{names_instruction, instruction_named, selected_register, is_register, same_bits}
+use Rattle.bsdl_device.specs.Instructions.{names_instruction, instruction_named, required_instructions, selected_register, is_register, same_bits}
 
 -- two of the list, an earlier and a later one, pass the test
 abbrev pub any_pair : {A : Type 0} → (A → A → Bool) → List A → Bool
@@ -119,9 +119,9 @@ opcode_is_unknown o = is_none (instruction_named o.name)
 abbrev pub opcode_named_twice : List OpcodeEntry → Bool
 opcode_named_twice opcodes = is_repeated (map (λ (o : OpcodeEntry). o.name) opcodes)
 
--- EXTEST, SAMPLE, PRELOAD or BYPASS isn't there
+-- an instruction that each device has isn't there
 abbrev pub lacks_instruction : List OpcodeEntry → Bool
-lacks_instruction opcodes = list_any (λ i. not (has_instruction opcodes i)) (instr.Extest ∷ instr.Sample ∷ instr.Preload ∷ instr.Bypass ∷ [])
+lacks_instruction opcodes = list_any (λ i. not (has_instruction opcodes i)) required_instructions
 
 abbrev pub has_other_length : ℕ → Bits → Bool
 has_other_length wanted bits = not (bits.len == wanted)

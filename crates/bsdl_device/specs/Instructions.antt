@@ -24,6 +24,10 @@ names_instruction i name = is_same_name name (instruction_word i)
 abbrev pub all_instructions : List Instr
 all_instructions = instr.Bypass ∷ instr.Extest ∷ instr.Sample ∷ instr.Preload ∷ instr.Idcode ∷ instr.Highz ∷ instr.Clamp ∷ []
 
+-- those that each device has
+abbrev pub required_instructions : List Instr
+required_instructions = instr.Extest ∷ instr.Sample ∷ instr.Preload ∷ instr.Bypass ∷ []
+
 -- the instruction of a name
 abbrev pub instruction_named : List ℕ → Option Instr
 instruction_named name = find (λ i. names_instruction i name) all_instructions

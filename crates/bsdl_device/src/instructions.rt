@@ -6,6 +6,25 @@ ghost use Rattle.bsdl_device.specs.Instructions as profile;
 use crate::entries::Register;
 use cell_library::Instr;
 
+/// The instructions of the profile, in the order in which one is looked for.
+pub const INSTRUCTIONS: [Instr; 7] = [
+    Instr::Bypass,
+    Instr::Extest,
+    Instr::Sample,
+    Instr::Preload,
+    Instr::Idcode,
+    Instr::Highz,
+    Instr::Clamp,
+];
+
+/// Those that each device has, in the order in which a missing one is told.
+pub const REQUIRED_INSTRUCTIONS: [Instr; 4] = [
+    Instr::Extest,
+    Instr::Sample,
+    Instr::Preload,
+    Instr::Bypass,
+];
+
 /// The name of an instruction in a BSDL text.
 pub fn instruction_word(instruction: Instr) -> &'static [u8]
     ensures { result.now ≡ profile.instruction_word instruction }

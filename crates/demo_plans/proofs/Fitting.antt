@@ -21,7 +21,7 @@ use Rattle.netlist_link.specs.Links.{IsLinkOf}
 use Rattle.netlist_link.specs.WellNamed.{IsWellNamed}
 use Rattle.first_faults.specs.Repeated.{has_name}
 use Rattle.bsdl_lexicon.specs.Names.{is_same_name}
-use Rattle.bsdl_lexicon.specs.Reserved.{is_reserved, with_c, with_d, with_p, with_r, with_t}
+use Rattle.bsdl_lexicon.specs.Reserved.{is_reserved}
 use Rattle.bsdl_device.specs.Runs.{is_identifier}
 use Rattle.plan_texts.specs.declared.plan.PinLine.{PinLine}
 use Rattle.plan_fitting.specs.declared.fault.FitFault.{FitFault}
@@ -160,7 +160,7 @@ abbrev unit : List (List ℕ)
 unit = codes "demo_chip" ∷ codes "PK" ∷ codes "clk" ∷ codes "rn" ∷ codes "d" ∷ codes "q" ∷ []
 
 taps_free : (others : List (List ℕ)) → list_all is_apart others ≡ true → barred_after others unit (names_of (tap_lines demo_plan)) ≡ None
-unfolding is_reserved with_t
+unfolding is_reserved
 taps_free others all =
     let tms = unit ++ codes "TCK" ∷ [] in
     let tdi = tms ++ codes "TMS" ∷ [] in
@@ -173,7 +173,7 @@ taps_free others all =
     (barred_step others trst [] (codes "TRST") (none_named others (codes "RST") all) refl refl))))
 
 unit_free : barred_after [] [] unit ≡ None
-unfolding is_reserved with_c with_d with_p with_r
+unfolding is_reserved
 unit_free = refl
 
 no_name : (number : ℕ) (L : LinkedView) → IsLinkOf (demo_module number) L → name_fault L demo_plan ≡ None

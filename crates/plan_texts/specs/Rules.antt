@@ -8,7 +8,7 @@ use Rattle.cell_library.specs.declared.codes.Bits.{Bits}
 use Rattle.cell_library.specs.declared.codes.Instr.{Instr}
 use Rattle.cell_library.specs.declared.codes.Instr.TheVariants as instr
 use Rattle.bsdl_device.specs.declared.entries.OpcodeEntry.{OpcodeEntry}
-use Rattle.bsdl_device.specs.Instructions.{instruction_word, all_instructions}
+use Rattle.bsdl_device.specs.Instructions.{instruction_word, all_instructions, required_instructions}
 use Rattle.bsdl_device.specs.Checks.{has_instruction, has_other_length, bypass_is_not_ones, opcodes_clash, code_is_barred}
 use Rattle.first_faults.specs.First.{or_else, first_in}
 use Rattle.first_faults.specs.Repeated.{repeated}
@@ -48,9 +48,9 @@ misfit_after length before (o ∷ opcodes) =
 abbrev pub missing : List OpcodeEntry → Instr → Option PlanFault
 missing opcodes i = if has_instruction opcodes i then None else Some (fault.PlanOpcode (instruction_word i))
 
--- the instructions that each device has
+-- the first that each device has and that isn't there
 abbrev pub missing_fault : List OpcodeEntry → Option PlanFault
-missing_fault opcodes = first_in (missing opcodes) (instr.Extest ∷ instr.Sample ∷ instr.Preload ∷ instr.Bypass ∷ [])
+missing_fault opcodes = first_in (missing opcodes) required_instructions
 
 -- the two captured bits nearest TDO are 01
 abbrev pub capture_fault : ℕ → Bits → Option PlanFault

@@ -1,28 +1,25 @@
 // The instructions of the profile, by their names.
-ghost use Rattle.std.specs.Prelude.{◌≡◌};
+ghost use Rattle.std.specs.Prelude.{◌≡◌, find};
+ghost use Rattle.std.specs.Str.{bytes_eq};
+ghost use Rattle.bsdl_device.specs.Instructions.{instruction_word};
 ghost use Rattle.plan_texts.specs.Rules as rules;
 
+use bsdl_device::{INSTRUCTIONS, instruction_word};
 use cell_library::Instr;
+
+// The first of these instructions that has the name, byte for byte.
+fn first_named(instructions: &[Instr], name: &[u8]) -> Option<Instr>
+    ensures { result ≡ find (λ i. bytes_eq name.now (instruction_word i)) instructions.now }
+{
+    instructions
+        .iter()
+        .copied()
+        .find(|instruction| name == instruction_word(*instruction))
+}
 
 /// The instruction of a name, byte for byte.
 pub fn instruction_of(name: &[u8]) -> Option<Instr>
     ensures { result ≡ rules.instruction_of name.now }
 {
-    if name == b"BYPASS".as_slice() {
-        Some(Instr::Bypass)
-    } else if name == b"EXTEST".as_slice() {
-        Some(Instr::Extest)
-    } else if name == b"SAMPLE".as_slice() {
-        Some(Instr::Sample)
-    } else if name == b"PRELOAD".as_slice() {
-        Some(Instr::Preload)
-    } else if name == b"IDCODE".as_slice() {
-        Some(Instr::Idcode)
-    } else if name == b"HIGHZ".as_slice() {
-        Some(Instr::Highz)
-    } else if name == b"CLAMP".as_slice() {
-        Some(Instr::Clamp)
-    } else {
-        None
-    }
+    first_named(&INSTRUCTIONS, name)
 }

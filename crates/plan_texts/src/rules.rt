@@ -9,7 +9,7 @@ ghost use Rattle.plan_texts.specs.Rules as rules;
 use crate::fault::PlanFault;
 use crate::instructions::instruction_of;
 use crate::written::{CodeGroups, Written};
-use bsdl_device::{OpcodeEntry, instruction_word};
+use bsdl_device::{OpcodeEntry, REQUIRED_INSTRUCTIONS, instruction_word};
 use bsdl_runs::opcodes::{
     bypass_is_not_ones, clash, code_is_barred, has_instruction, has_other_length,
 };
@@ -98,36 +98,16 @@ fn find_misfit(
     Ok(None)
 }
 
-fn missing(
-    alloc: Global,
-    opcodes: &[OpcodeEntry],
-    instruction: Instr,
-) -> Result<Option<PlanFault>, OutOfMemory>
-    ensures { IfOk result (λ found. found ≡ rules.missing opcodes.now instruction) }
-{
-    if has_instruction(opcodes, instruction) {
-        return Ok(None);
-    }
-    let word = Text::from_bytes(alloc, instruction_word(instruction))?;
-    Ok(Some(PlanFault::PlanOpcode { word }))
-}
-
 fn find_missing(alloc: Global, opcodes: &[OpcodeEntry]) -> Result<Option<PlanFault>, OutOfMemory>
     ensures { IfOk result (λ found. found ≡ rules.missing_fault opcodes.now) }
 {
-    match missing(alloc, opcodes, Instr::Extest)? {
-        Some(fault) => return Ok(Some(fault)),
-        None => {}
+    for instruction in &REQUIRED_INSTRUCTIONS {
+        if !has_instruction(opcodes, *instruction) {
+            let word = Text::from_bytes(alloc, instruction_word(*instruction))?;
+            return Ok(Some(PlanFault::PlanOpcode { word }));
+        }
     }
-    match missing(alloc, opcodes, Instr::Sample)? {
-        Some(fault) => return Ok(Some(fault)),
-        None => {}
-    }
-    match missing(alloc, opcodes, Instr::Preload)? {
-        Some(fault) => return Ok(Some(fault)),
-        None => {}
-    }
-    missing(alloc, opcodes, Instr::Bypass)
+    Ok(None)
 }
 
 fn capture_fault(

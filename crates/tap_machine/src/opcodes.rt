@@ -1,9 +1,10 @@
 // The opcodes of a device, and the instruction that each names.
 
-ghost use Rattle.std.specs.Prelude.{◌≡◌, IfOk};
+ghost use Rattle.std.specs.Prelude.{◌≡◌, IfOk, find};
 ghost use Rattle.test_logic.specs.Instructions as definition;
 
 use crate::patterns::{are_bits, pattern};
+use bsdl_device::INSTRUCTIONS;
 use cell_library::{Instr, Opcode};
 use signal_values::Sig;
 use std::alloc::Global;
@@ -38,28 +39,23 @@ fn names(opcodes: &[Opcode], latched: &[Sig], instruction: Instr) -> bool
 // An opcode that names nothing acts as BYPASS.
 const NAMELESS: Instr = Instr::Bypass;
 
+// The first of these instructions whose opcode is latched.
+fn first_latched(instructions: &[Instr], opcodes: &[Opcode], latched: &[Sig]) -> Option<Instr>
+    ensures { result ≡ find (λ i. definition.is_opcode latched.now
+        (definition.opcode_of opcodes.now i)) instructions.now }
+{
+    instructions
+        .iter()
+        .copied()
+        .find(|instruction| names(opcodes, latched, *instruction))
+}
+
 /// The instruction in effect while this opcode is latched.
 #[tactic(auto, unfolding(test_logic::specs::Instructions::instruction_of))]
 pub fn instruction_of(opcodes: &[Opcode], latched: &[Sig]) -> Instr
     ensures { result ≡ definition.instruction_of opcodes.now latched.now }
 {
-    if names(opcodes, latched, Instr::Bypass) {
-        Instr::Bypass
-    } else if names(opcodes, latched, Instr::Extest) {
-        Instr::Extest
-    } else if names(opcodes, latched, Instr::Sample) {
-        Instr::Sample
-    } else if names(opcodes, latched, Instr::Preload) {
-        Instr::Preload
-    } else if names(opcodes, latched, Instr::Idcode) {
-        Instr::Idcode
-    } else if names(opcodes, latched, Instr::Highz) {
-        Instr::Highz
-    } else if names(opcodes, latched, Instr::Clamp) {
-        Instr::Clamp
-    } else {
-        NAMELESS
-    }
+    first_latched(&INSTRUCTIONS, opcodes, latched).unwrap_or(NAMELESS)
 }
 
 /// The opcode that reset latches.
