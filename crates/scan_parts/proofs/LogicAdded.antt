@@ -40,7 +40,7 @@ pub record TapBelow (n : ℕ) (tap : TapNets) : Type 0 where
   pub shifts : AreNetsBelow n tap.shift_dr tap.shift_ir
   pub update : tap.update_dr.0 < n
 
-nets_below : (first n : ℕ) (tck trst : NetId) → tck.0 < first → trst.0 < first → first + 44 ≤ n → TapBelow n (tap_nets first tck trst)
+nets_below : (first n : ℕ) (tck trst : NetId) → tck.0 < first → trst.0 < first → first + 49 ≤ n → TapBelow n (tap_nets first tck trst)
 nets_below first n tck trst a b more = record {
   clock = (omega arith, omega arith);
   ir = (omega arith, omega arith);
@@ -50,7 +50,7 @@ nets_below first n tck trst a b more = record {
   update = omega arith;
 }
 
-pub tap_below : (first n : ℕ) (port : TapPort) (tap : TapNets) → IsPortBelow first port → tap ≡ tap_nets first port.tck port.trst → first + 44 ≤ n → TapBelow n tap
+pub tap_below : (first n : ℕ) (port : TapPort) (tap : TapNets) → IsPortBelow first port → tap ≡ tap_nets first port.tck port.trst → first + 49 ≤ n → TapBelow n tap
 tap_below first n port tap below is more =
     let P : TapNets → Type 0 = λ t. TapBelow n t in
     subst P (sym is) (nets_below first n port.tck port.trst below.tck below.trst more)
@@ -114,9 +114,9 @@ ident_below constants first n tdi code last low is more =
 
 -- The room that is left.
 
-pub tap_room : (old new : ArenaView) (tck tms trst : NetId) → Appended old new 44 (tap_cells (length old.lists.nets) (cell_count old.lists) tck tms trst) → new.spare.cells + 44 ≡ old.spare.cells
+pub tap_room : (old new : ArenaView) (tck tms trst : NetId) → Appended old new 49 (tap_cells (length old.lists.nets) (cell_count old.lists) tck tms trst) → new.spare.cells + 49 ≡ old.spare.cells
 tap_room old new tck tms trst added =
-    let long : length (tap_cells (length old.lists.nets) (cell_count old.lists) tck tms trst) ≡ 44 = refl in
+    let long : length (tap_cells (length old.lists.nets) (cell_count old.lists) tck tms trst) ≡ 49 = refl in
     let room = added.cell_room in
     omega arith
 
@@ -161,11 +161,11 @@ pub counted_as : (old new : ArenaView) (count count' : ℕ) (part : List CellVie
 counted_as old new count count' part e h = let P : ℕ → Type 0 = λ n. Appended old new n part in subst P e h
 
 handed_is : AppendedCount → (old a : ArenaView) (port : TapPort) (f : Fitted) (tap : TapNets) (instruction : InstrNets) (part : List CellView)
-    → tap ≡ tap_nets (length old.lists.nets) port.tck port.trst → instruction ≡ instruction_nets (length a.lists.nets) tap port.tdi f.codes → Appended old a 44 part
+    → tap ≡ tap_nets (length old.lists.nets) port.tck port.trst → instruction ≡ instruction_nets (length a.lists.nets) tap port.tdi f.codes → Appended old a 49 part
     → instruction ≡ instruction_at (length old.lists.nets) port f
 handed_is count old a port f tap instruction part tap_is instruction_is one =
     let first : ℕ = length old.lists.nets in
-    let la : length a.lists.nets ≡ first + instruction_from = count old a 44 part one in
+    let la : length a.lists.nets ≡ first + instruction_from = count old a 49 part one in
     instruction_is ∙ ap (λ (t : TapNets). instruction_nets (length a.lists.nets) t port.tdi f.codes) tap_is
     ∙ ap (λ (n : ℕ). instruction_nets n (tap_at first port) port.tdi f.codes) la
 
@@ -175,12 +175,12 @@ numbered n = record { 0 = n }
 pub logic_is : AppendedCount → (old a b c : ArenaView) (port : TapPort) (f : Fitted) (tap : TapNets) (instruction : InstrNets) (bypass : NetId) (ident : Option NetId) (one two three : List CellView)
     → tap ≡ tap_nets (length old.lists.nets) port.tck port.trst → instruction ≡ instruction_nets (length a.lists.nets) tap port.tdi f.codes
     → bypass.0 ≡ length b.lists.nets + 2 → ident ≡ option_map (ident_last (length c.lists.nets) port.tdi) f.idcode
-    → Appended old a 44 one → Appended a b (instruction_size f.codes) two → Appended b c 5 three
+    → Appended old a 49 one → Appended a b (instruction_size f.codes) two → Appended b c 5 three
     → record { tap = tap; instruction = instruction; bypass = bypass; ident = ident } ≡ logic_at (length old.lists.nets) port f
 unfolding numbered
 logic_is count old a b c port f tap instruction bypass ident one two three tap_is instruction_is bypass_is ident_is x y z =
     let first : ℕ = length old.lists.nets in
-    let la0 = count old a 44 one x in
+    let la0 = count old a 49 one x in
     let lb0 = count a b (instruction_size f.codes) two y in
     let lc0 = count b c 5 three z in
     let lc : length c.lists.nets ≡ first + ident_from f = omega arith in
@@ -195,7 +195,7 @@ logic_is count old a b c port f tap instruction bypass ident one two three tap_i
 
 pub logic_added : AppendedCount → AppendedMore → (old a b c new : ArenaView) (port : TapPort) (f : Fitted) (tap : TapNets) (instruction : InstrNets)
     → tap ≡ tap_nets (length old.lists.nets) port.tck port.trst → instruction ≡ instruction_nets (length a.lists.nets) tap port.tdi f.codes
-    → Appended old a 44 (tap_cells (length old.lists.nets) (cell_count old.lists) port.tck port.tms port.trst)
+    → Appended old a 49 (tap_cells (length old.lists.nets) (cell_count old.lists) port.tck port.tms port.trst)
     → Appended a b (instruction_size f.codes) (instruction_cells (length a.lists.nets) (cell_count a.lists) tap port.tdi f.codes)
     → Appended b c 5 (bypass_cells (length b.lists.nets) (cell_count b.lists) tap instruction.bypass_on port.tdi)
     → Appended c new (ident_size f.idcode) (option_map_or (ident_cells (length c.lists.nets) (cell_count c.lists) tap instruction.ident_on port.tdi) f.idcode [])
@@ -203,7 +203,7 @@ pub logic_added : AppendedCount → AppendedMore → (old a b c new : ArenaView)
 logic_added count join old a b c new port f tap instruction tap_is instruction_is one two three four =
     let first : ℕ = length old.lists.nets in
     let size : ℕ = instruction_size f.codes in
-    let la : length a.lists.nets ≡ first + instruction_from = count old a 44 _ one in
+    let la : length a.lists.nets ≡ first + instruction_from = count old a 49 _ one in
     let lb0 = count a b size _ two in
     let lc0 = count b c 5 _ three in
     let lb : length b.lists.nets ≡ first + bypass_from f = omega arith in
@@ -221,9 +221,9 @@ logic_added count join old a b c new port f tap instruction tap_is instruction_i
     let four' : Appended c new (ident_size f.idcode) (ident_part first port f (cell_count c.lists))
     = subst (λ (n : ℕ). P4 (tap_at first port) (instruction_at first port f) n) lc
     (subst (λ (i : InstrNets). P4 (tap_at first port) i (length c.lists.nets)) handed (subst (λ (t : TapNets). P4 t instruction (length c.lists.nets)) tap_is four)) in
-    let to_b = behind_added join old a b 44 size (controller_part first port (cell_count old.lists)) (instruction_part first port f) one two' in
-    let to_c = behind_added join old b c (44 + size) 5 _ (bypass_part first port f) to_b three' in
-    behind_added join old c new (44 + size + 5) (ident_size f.idcode) _ (ident_part first port f) to_c four'
+    let to_b = behind_added join old a b 49 size (controller_part first port (cell_count old.lists)) (instruction_part first port f) one two' in
+    let to_c = behind_added join old b c (49 + size) 5 _ (bypass_part first port f) to_b three' in
+    behind_added join old c new (49 + size + 5) (ident_size f.idcode) _ (ident_part first port f) to_c four'
 
 -- Nets that were free stay so.
 

@@ -16,7 +16,7 @@ use Rattle.stitch_cells.specs.Sizes.{choice_count, driver_count, row_size, cells
 use Rattle.stitch_cells.proofs.Counts.{counts}
 use Rattle.stitch_names.specs.Taken.{StitchedFitsRoom}
 
-logic_few : (f : Fitted) → logic_size f ≤ 157 + 18 * f.codes.length
+logic_few : (f : Fitted) → logic_size f ≤ 162 + 18 * f.codes.length
 logic_few f =
     let codes = f.codes in
     let a = size_few codes (opcode_of codes.opcodes Extest) in

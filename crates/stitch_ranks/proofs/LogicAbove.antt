@@ -47,7 +47,7 @@ length_front : (f : Fitted) → length (levels_at 0 tap_levels ++ instruction_ra
 length_front f =
     let a = length-append (levels_at 0 tap_levels) (instruction_ranks f.codes) in
     let b = length_instruction f.codes in
-    let c : length (levels_at 0 tap_levels) ≡ 44 = refl in
+    let c : length (levels_at 0 tap_levels) ≡ 49 = refl in
     omega arith
 
 length_middle : (f : Fitted) → length ((levels_at 0 tap_levels ++ instruction_ranks f.codes) ++ bypass_ranks (control_top f.codes)) ≡ ident_from f

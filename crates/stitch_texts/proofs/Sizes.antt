@@ -46,12 +46,12 @@ opcodes_few codes =
     six : (most a b c d e f : ℕ) → a ≤ most → b ≤ most → c ≤ most → d ≤ most → e ≤ most → f ≤ most → (all : ℕ) → 6 * most ≤ all → a + (b + (c + (d + (e + (f + 0))))) ≤ all
     six most a b c d e f p q r s t u all h = omega arith
 
-logic_few : (f : Fitted) → logic_size f ≤ 160 + 18 * f.codes.length
+logic_few : (f : Fitted) → logic_size f ≤ 165 + 18 * f.codes.length
 logic_few f =
     let a = opcodes_few f.codes in
     let b = ident_few f.idcode in
     let size : instruction_size f.codes ≡ 1 + 6 * f.codes.length + (opcodes_size f.codes matched_instructions + 9) = refl in
-    let whole : logic_size f ≡ 44 + instruction_size f.codes + 5 + ident_size f.idcode = refl in
+    let whole : logic_size f ≡ 49 + instruction_size f.codes + 5 + ident_size f.idcode = refl in
     omega arith
 
 -- All of it.

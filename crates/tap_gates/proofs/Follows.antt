@@ -31,7 +31,7 @@ use Rattle.test_logic.specs.Machine.{TestLogic, Machine, IsHistory, machine_step
 use Rattle.tap_gates.specs.declared.table.TheConstants.{CONTROLLER}
 use Rattle.tap_gates.specs.Controller.{tap_cells, tap_given, tap_nets, place, same_state}
 use Rattle.tap_gates.specs.Laws.{Carries, HoldsState, ShowsState, state_step, StepIsTheMachines, TapFollows}
-use Rattle.tap_gates.proofs.NextState.{next_bit}
+use Rattle.tap_gates.proofs.NextBits.{HoldsBits, next_bits, next_bit, one_hot}
 
 -- the laws that hold of every part
 pub record PartLaws : Type 0 where
@@ -123,27 +123,49 @@ start_at by N first number tck tms trst given levels m formed has start carried 
         let h : m.value (first + place s) ≡ reset_or (reset_to s) (m.value trst.0) (given on.has.number) = by.starts N _ _ (first + place s) on given m start in
         rw (h, down) (reset_low s _)
 
+-- what the flip-flops hold after an event
+abbrev pub bits_step : (TapState → Bool) → Levels → Levels → TapState → Bool
+bits_step f before after s = if after.trst then (if before.tck then f s else (if after.tck then next_bits f before.tms s else f s)) else same_state s TestLogicReset
+
 -- a flip-flop by the levels
-flop_law : (s w next : TapState) (clock clock' reset' : Bool)
-    → reset_or (reset_to s) (bit reset') (if is_edge Rise (bit clock) (bit clock') then bit (same_state s next) else bit (same_state s w))
-    ≡ bit (same_state s (if reset' then (if clock then w else (if clock' then next else w)) else TestLogicReset))
-flop_law s w next clock clock' false = reset_low s _
-flop_law s w next true clock' true = reset_high s _
-flop_law s w next false true true = reset_high s _
-flop_law s w next false false true = reset_high s _
+flop_law : (s : TapState) (own next : Bool) (clock clock' reset' : Bool)
+    → reset_or (reset_to s) (bit reset') (if is_edge Rise (bit clock) (bit clock') then bit next else bit own)
+    ≡ bit (if reset' then (if clock then own else (if clock' then next else own)) else same_state s TestLogicReset)
+flop_law s own next clock clock' false = reset_low s _
+flop_law s own next true clock' true = reset_high s _
+flop_law s own next false true true = reset_high s _
+flop_law s own next false false true = reset_high s _
+
+pub step_bits : PartLaws → (N : NetlistView) (first number : ℕ) (tck tms trst : NetId) (event : PinEvent) (f : TapState → Bool) (before after : Levels) (m m' : Moment) → IsWellFormed N
+    → HasCells N (tap_cells first number tck tms trst) → IsSettled N m.pins m.state m.value → IsStep N event m m' → Carries tck tms trst before m → Carries tck tms trst after m'
+    → HoldsBits first f m → HoldsBits first (bits_step f before after) m'
+step_bits by N first number tck tms trst event f before after m m' formed has settled step carried carried' held = record { each = go }
+  where
+    go : (s : TapState) → m'.value (first + place s) ≡ bit (bits_step f before after s)
+    go s =
+        let h : m'.value (first + place s) ≡ reset_or (reset_to s) (m'.value trst.0) (if is_edge Rise (m.value tck.0) (m'.value tck.0) then m.value (first + (17 + place s)) else m.value (first + place s))
+        = by.steps N _ _ (first + place s) (flop_at by N first number tck tms trst formed has s) event m m' settled step in
+        let next = next_bit first tck tms trst f before m (by.meets N CONTROLLER (tap_given tck tms trst) first number formed has _ m.state m.value settled) carried held s in
+        let own : m.value (first + place s) ≡ bit (f s) = held.each s in
+        rw (h, next, own, carried'.reset, carried.clock, carried'.clock) (flop_law s (f s) (next_bits f before.tms s) before.tck after.tck after.trst)
+
+-- one state
+hot_step : (w : TapState) (before after : Levels) (s : TapState) → bits_step (λ x. same_state x w) before after s ≡ same_state s (state_step w before after)
+hot_step w before after s = by_levels before.tck after.tck after.trst
+  where
+    by_levels : (a b c : Bool) → (if c then (if a then same_state s w else (if b then next_bits (λ x. same_state x w) before.tms s else same_state s w)) else same_state s TestLogicReset)
+        ≡ same_state s (if c then (if a then w else (if b then state_after w before.tms else w)) else TestLogicReset)
+    by_levels a b false = refl
+    by_levels true b true = refl
+    by_levels false true true = one_hot w before.tms s
+    by_levels false false true = refl
 
 step_at : PartLaws → (N : NetlistView) (first number : ℕ) (tck tms trst : NetId) (event : PinEvent) (w : TapState) (before after : Levels) (m m' : Moment) → IsWellFormed N
     → HasCells N (tap_cells first number tck tms trst) → IsSettled N m.pins m.state m.value → IsStep N event m m' → Carries tck tms trst before m → Carries tck tms trst after m'
     → HoldsState first w m → HoldsState first (state_step w before after) m'
-step_at by N first number tck tms trst event w before after m m' formed has settled step carried carried' held = record { each = go }
-  where
-    go : (s : TapState) → m'.value (first + place s) ≡ bit (same_state s (state_step w before after))
-    go s =
-        let f : m'.value (first + place s) ≡ reset_or (reset_to s) (m'.value trst.0) (if is_edge Rise (m.value tck.0) (m'.value tck.0) then m.value (first + (17 + place s)) else m.value (first + place s))
-        = by.steps N _ _ (first + place s) (flop_at by N first number tck tms trst formed has s) event m m' settled step in
-        let next = next_bit first tck tms trst w before m (by.meets N CONTROLLER (tap_given tck tms trst) first number formed has _ m.state m.value settled) carried held s in
-        let own : m.value (first + place s) ≡ bit (same_state s w) = held.each s in
-        rw (f, next, own, carried'.reset, carried.clock, carried'.clock) (flop_law s w (state_after w before.tms) before.tck after.tck after.trst)
+step_at by N first number tck tms trst event w before after m m' formed has settled step carried carried' held =
+    let bits = step_bits by N first number tck tms trst event (λ x. same_state x w) before after m m' formed has settled step carried carried' (record { each = held.each }) in
+    record { each = λ s. bits.each s ∙ ap bit (hot_step w before after s) }
 
 -- the test logic's own state
 pub machine_state : StepIsTheMachines

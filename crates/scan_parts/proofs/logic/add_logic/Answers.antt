@@ -13,7 +13,7 @@ add_bypass-bypass-requires-clause-cells c =
 
 pub add_bypass-bypass-requires-clause-on : goal.add_bypass-bypass-requires-clause-on
 add_bypass-bypass-requires-clause-on c =
-    let a = c.appended_count.ensures c.args.netlist.now c.add_tap-tap.new.netlist 44 _ c.add_tap-tap.ensures.added in
+    let a = c.appended_count.ensures c.args.netlist.now c.add_tap-tap.new.netlist 49 _ c.add_tap-tap.ensures.added in
     let b = c.appended_count.ensures c.add_tap-tap.new.netlist c.add_instruction-instruction.new.netlist _ _ c.add_instruction-instruction.ensures.added in
     let d = c.requires.port.tdi in
     (instruction_below c.constants_are_bits.ensures (length c.add_tap-tap.new.netlist.lists.nets) (length c.add_instruction-instruction.new.netlist.lists.nets) c.add_tap-tap.result
@@ -34,7 +34,7 @@ add_code-ident-requires-clause-cells c =
 
 pub add_code-ident-requires-clause-on : goal.add_code-ident-requires-clause-on
 add_code-ident-requires-clause-on c =
-    let a = c.appended_count.ensures c.args.netlist.now c.add_tap-tap.new.netlist 44 _ c.add_tap-tap.ensures.added in
+    let a = c.appended_count.ensures c.args.netlist.now c.add_tap-tap.new.netlist 49 _ c.add_tap-tap.ensures.added in
     let b = c.appended_count.ensures c.add_tap-tap.new.netlist c.add_instruction-instruction.new.netlist _ _ c.add_instruction-instruction.ensures.added in
     let d = c.appended_count.ensures c.add_instruction-instruction.new.netlist c.add_bypass-bypass.new.netlist 5 _ c.add_bypass-bypass.ensures.added in
     let e = c.requires.port.tdi in
@@ -51,7 +51,7 @@ returns-clause-logic c =
 
 pub returns-clause-below : goal.returns-clause-below
 returns-clause-below c =
-    let a = c.appended_count.ensures c.args.netlist.now c.add_tap-tap.new.netlist 44 _ c.add_tap-tap.ensures.added in
+    let a = c.appended_count.ensures c.args.netlist.now c.add_tap-tap.new.netlist 49 _ c.add_tap-tap.ensures.added in
     let b = c.appended_count.ensures c.add_tap-tap.new.netlist c.add_instruction-instruction.new.netlist _ _ c.add_instruction-instruction.ensures.added in
     let d = c.appended_count.ensures c.add_instruction-instruction.new.netlist c.add_bypass-bypass.new.netlist 5 _ c.add_bypass-bypass.ensures.added in
     let e = c.appended_count.ensures c.add_bypass-bypass.new.netlist c.add_code-ident.new.netlist _ _ c.add_code-ident.ensures.added in
