@@ -1,4 +1,4 @@
--- A check of what an insertion wrote by the program of its device misses nothing.
+-- A check of a netlist that keeps and realises, by the program of its device, misses nothing.
 use Rattle.std.proofs.Common.{◌≡◌, ◌≢◌, ℕ, List, length, Option, Some, inr, sym, subst, ap, ◌∙◌}
 use Rattle.command_faults.specs.declared.status.Status.{Status}
 use Rattle.command_faults.specs.declared.status.Status.TheVariants as status
@@ -10,12 +10,12 @@ use Rattle.program_checks.specs.Laws.{WrittenProgramsMissNothing}
 use Rattle.insert_cli.specs.Forms.{Form}
 use Rattle.insert_cli.specs.Commands.{FinishesIn}
 use Rattle.insert_cli.specs.Causes.{Finishes}
-use Rattle.insert_cli.specs.Meets.{AreOfInsertion, MissesNothing}
+use Rattle.insert_cli.specs.Meets.{AreOfChip, MissesNothing}
 use Rattle.insert_cli.proofs.FormLaws.{form_once}
 
-none_missed : WrittenProgramsMissNothing → (net text lines put : List ℕ) (missed : ℕ) → AreOfInsertion net text lines → IsCheck net text lines put missed → missed ≡ 0
+none_missed : WrittenProgramsMissNothing → (net text lines put : List ℕ) (missed : ℕ) → AreOfChip net text lines → IsCheck net text lines put missed → missed ≡ 0
 none_missed law net text lines put missed of c =
-    c.checked.missed_is ∙ ap length (law of.net of.plan net text of.report lines of.insertion of.program c.linked
+    c.checked.missed_is ∙ ap length (law net text lines of.together of.program c.linked
     (record { tree = c.netlist.tree; spells = c.netlist.spells; links = c.netlist.links }) c.lines c.spells_lines c.checked.script c.checked.resolved c.checked.verdict c.checked.judged)
 
 done_missed : status.Done ≢ status.Missed
@@ -31,7 +31,7 @@ all_told a b c x y z P one two three holds =
     (subst (λ (t : Option (List ℕ)). WhereAllTold t b c P) one holds))
 
 reported : WrittenProgramsMissNothing → (netlist bsdl events net text lines : List ℕ) (shelf : ShelfSeen) (sink : SinkSeen) (end : Status) → shelf.held netlist ≡ Some net → shelf.held bsdl ≡ Some text
-    → shelf.held events ≡ Some lines → AreOfInsertion net text lines → FinishesCheck netlist bsdl events shelf sink end → end ≢ status.Missed
+    → shelf.held events ≡ Some lines → AreOfChip net text lines → FinishesCheck netlist bsdl events shelf sink end → end ≢ status.Missed
 reported law netlist bsdl events net text lines shelf sink end one two three of done =
     let r = done.1 in
     let check : IsCheck net text lines r.put r.missed =

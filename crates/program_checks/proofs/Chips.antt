@@ -1,18 +1,21 @@
--- What an insertion wrote has the chip of the device that it describes.
+-- A netlist that keeps and realises has the chip of its device; so has what is read of texts that belong together.
 use Rattle.std.proofs.Common.{◌≡◌, ℕ, List, ◌++◌, map, refl, sym, ap, ◌∙◌, subst}
 use Rattle.verilog_tree.specs.declared.tree.Module.{Module}
+use Rattle.verilog_tree.specs.IsTree.{IsTree}
 use Rattle.verilog_reading.specs.Conditions.{SpelledTreesKeepConditions}
+use Rattle.verilog_texts.specs.Laws.{BytesSpellOneTree}
 use Rattle.netlist_model.specs.Lists.{PortView}
 use Rattle.netlist_model.specs.Formed.{IsWellFormed}
 use Rattle.netlist_link.specs.Linked.{LinkedView}
 use Rattle.netlist_link.specs.Links.{IsLinkOf}
-use Rattle.netlist_link.specs.ViewLaws.{IsSameView, LinkViewIsNamed, LinkViewIsFormed}
+use Rattle.netlist_link.specs.ViewLaws.{IsSameView, LinkViewsAgree, LinkViewIsNamed, LinkViewIsFormed}
 use Rattle.netlist_link.specs.WellNamed.{IsWellNamed}
 use Rattle.bsdl_device.specs.declared.values.Device.{Device}
 use Rattle.bsdl_device.specs.IsDevice.{IsDevice}
 use Rattle.bsdl_round_trip.specs.Laws.{SpelledDevicesKeep}
+use Rattle.bsdl_values.specs.Laws.{SpellsOneDevice}
 use Rattle.wrapped_chip.specs.Realises.{port_text, tap_ports, Keeps, Realises}
-use Rattle.realised_copies.specs.Laws.{RenumberedRealises}
+use Rattle.realised_copies.specs.Laws.{SameRealises}
 use Rattle.plan_texts.specs.declared.plan.Plan.{Plan}
 use Rattle.plan_fitting.specs.Pins.{PinSeen}
 use Rattle.plan_fitting.specs.Devices.{fitted_of, device_of}
@@ -21,14 +24,14 @@ use Rattle.plan_devices.specs.Laws.{PlansSuitNetlists, DevicesHavePorts, FittedI
 use Rattle.program_runs.specs.Laws.{PlansStandAround}
 use Rattle.scan_vectors.specs.declared.lines.Lines.{Lines}
 use Rattle.scan_vectors.specs.Canonical.{canonical_lines}
+use Rattle.scan_vectors.specs.Exactly.{SpelledOnce}
 use Rattle.scan_programs.specs.Program.{program_of}
 use Rattle.conformance_report.specs.Agreement.{PortsAgree}
 use Rattle.program_scripts.specs.Beside.{IsDescribed}
 use Rattle.program_scripts.specs.Laws.{HasChip, ProgramsAreLegal, ScriptsAreMet}
 use Rattle.insertions.specs.Written.{spelt, tap_of}
-use Rattle.insertions.specs.Insertions.{IsInsertion}
-use Rattle.program_checks.specs.Laws.{IsRead, InsertionsHaveChips, InsertionsAgree, ProgramsOfInsertionsAreLegal, InsertionsMissNothing, WrittenProgramsMissNothing}
-use Rattle.program_checks.proofs.Same.{same_realises}
+use Rattle.program_checks.specs.Texts.{IsRead, KeepsAndRealises, BelongTogether}
+use Rattle.program_checks.specs.Laws.{NetlistsHaveChips, InsertionsBelongTogether, ProgramTextsSpellPrograms, TextsHaveChips, TextsAgree, ProgramsAreLegalThere, TextsMissNothing, WrittenProgramsMissNothing}
 use Rattle.plan_devices.proofs.LinkViews.{view_is_wide}
 use Rattle.program_checks.proofs.Ports.{Known, own_port, inner_port, device_port, ports_agree, are_plain, input_at, input_is, tdo_is}
 
@@ -72,9 +75,9 @@ described_of have written linked K p seen viewed is =
       tdo_is = tdo_is K p B known.has known.places;
     }
 
-chip_of : PlansSuitNetlists → DevicesHavePorts → PlansStandAround → RenumberedRealises → (written linked K : LinkedView) (p : Plan) (seen : List PinSeen) → IsViewed written linked K p seen
+chip_of : PlansSuitNetlists → DevicesHavePorts → PlansStandAround → SameRealises → (written linked K : LinkedView) (p : Plan) (seen : List PinSeen) → IsViewed written linked K p seen
     → IsDevice (device_of K p seen) → Realises written.arena.lists (device_of K p seen) K.arena.lists → HasChip linked (device_of K p seen) K.arena.lists
-chip_of suit have stand copies written linked K p seen viewed is realises =
+chip_of suit have stand same_there written linked K p seen viewed is realises =
     let B = device_of K p seen in
     let known = known_of have written linked K p seen viewed in
     record {
@@ -88,54 +91,107 @@ chip_of suit have stand copies written linked K p seen viewed is realises =
         input_at = input_at K B known.places;
         tdo_at = known.places.tdo;
       };
-      realises = same_realises copies written.arena.lists linked.arena.lists K.arena.lists B viewed.same.ports viewed.same.cells viewed.was_formed realises;
+      realises = same_there written.arena.lists linked.arena.lists K.arena.lists B viewed.same.ports viewed.same.cells viewed.was_formed realises;
     }
+
+-- Netlists.
+
+itself : (linked : LinkedView) → IsSameView linked linked
+itself linked = record { title = refl; names = refl; ports = refl; nets = refl; cells = λ number. refl }
+
+viewed_alone : LinkViewIsNamed → LinkViewIsFormed → (tree : Module) (linked : LinkedView) (device : Device) → IsTree tree → IsLinkOf tree linked → (is : KeepsAndRealises linked device)
+    → IsViewed linked linked is.core is.plan is.seen
+viewed_alone named formed tree linked device spelled links is = record {
+  fits = is.fits;
+  same = itself linked;
+  named = named tree linked spelled links;
+  formed = formed tree linked spelled links;
+  wide = view_is_wide tree linked links;
+  was_formed = formed tree linked spelled links;
+  keeps = is.keeps;
+}
+
+-- of the device that it is
+chip_by : PlansSuitNetlists → DevicesHavePorts → PlansStandAround → SameRealises → (written linked : LinkedView) (device : Device) (is : KeepsAndRealises written device)
+    → IsViewed written linked is.core is.plan is.seen → IsDevice device → HasChip linked device is.core.arena.lists
+chip_by suit have stand same_there written linked device is viewed kept =
+    let K : LinkedView = is.core in
+    let B : Device = device_of K is.plan is.seen in
+    let realises : Realises written.arena.lists B K.arena.lists = subst (λ (d : Device). Realises written.arena.lists d K.arena.lists) is.device_is is.realises in
+    subst (λ (d : Device). HasChip linked d K.arena.lists) (sym is.device_is)
+    (chip_of suit have stand same_there written linked K is.plan is.seen viewed (subst IsDevice is.device_is kept) realises)
+
+pub netlists_have_chips : LinkViewIsNamed → LinkViewIsFormed → PlansSuitNetlists → DevicesHavePorts → PlansStandAround → SameRealises → NetlistsHaveChips
+netlists_have_chips named formed suit have stand same_there tree linked device spelled links kept is =
+    chip_by suit have stand same_there linked linked device is (viewed_alone named formed tree linked device spelled links is) kept
 
 -- Insertions.
 
-viewed_of : SpelledTreesKeepConditions → LinkViewIsNamed → LinkViewIsFormed → FittedIsFitting → (net plan verilog bsdl report : List ℕ) (i : IsInsertion net plan verilog bsdl report) (linked : LinkedView)
-    → IsRead verilog linked → IsViewed i.written linked i.linked i.wanted i.fits.seen
-viewed_of keep named formed fitting net plan verilog bsdl report i linked read =
-    let tree : read.tree ≡ i.written_tree = i.only_written read.tree read.spells in
-    let links : IsLinkOf i.written_tree linked = subst (λ (m : Module). IsLinkOf m linked) tree read.links in
-    let is = keep verilog i.written_tree i.spells_written in
+pub insertions_belong_together : FittedIsFitting → InsertionsBelongTogether
+insertions_belong_together fitting net plan verilog bsdl report i = record {
+  linked = i.written;
+  read = record { tree = i.written_tree; spells = i.spells_written; links = i.links_written };
+  device = device_of i.linked i.wanted i.fits.seen;
+  spells = i.device.spells;
+  chip = record {
+    core = i.linked;
+    plan = i.wanted;
+    seen = i.fits.seen;
+    fits = fitting i.tree i.linked i.wanted (fitted_of i.linked i.wanted i.fits.seen) i.is i.links (plan, i.spells_plan)
+        (record { seen = i.fits.seen; are_seen = i.fits.are_seen; faultless = i.fits.faultless; is = refl });
+    device_is = refl;
+    keeps = i.keeps;
+    realises = i.realises;
+  };
+}
+
+pub program_texts_spell_programs : ProgramTextsSpellPrograms
+program_texts_spell_programs bsdl events is =
+    record { device = is.device; spells = is.spells; lines = canonical_lines (program_of is.device); spelled = is.again; program = refl }
+
+-- Texts.
+
+viewed_of : SpelledTreesKeepConditions → BytesSpellOneTree → LinkViewsAgree → LinkViewIsNamed → LinkViewIsFormed → (netlist bsdl : List ℕ) (are : BelongTogether netlist bsdl) (linked : LinkedView)
+    → IsRead netlist linked → IsViewed are.linked linked are.chip.core are.chip.plan are.chip.seen
+viewed_of keep one agree named formed netlist bsdl are linked read =
+    let tree : read.tree ≡ are.read.tree = one netlist read.tree are.read.tree read.spells are.read.spells in
+    let links : IsLinkOf are.read.tree linked = subst (λ (m : Module). IsLinkOf m linked) tree read.links in
+    let is = keep netlist are.read.tree are.read.spells in
     record {
-      fits = fitting i.tree i.linked i.wanted (fitted_of i.linked i.wanted i.fits.seen) i.is i.links (plan, i.spells_plan)
-          (record { seen = i.fits.seen; are_seen = i.fits.are_seen; faultless = i.fits.faultless; is = refl });
-      same = i.one linked links;
-      named = named i.written_tree linked is links;
-      formed = formed i.written_tree linked is links;
-      wide = view_is_wide i.written_tree linked links;
-      was_formed = formed i.written_tree i.written is i.links_written;
-      keeps = i.keeps;
+      fits = are.chip.fits;
+      same = agree are.read.tree are.linked linked are.read.links links;
+      named = named are.read.tree linked is links;
+      formed = formed are.read.tree linked is links;
+      wide = view_is_wide are.read.tree linked links;
+      was_formed = formed are.read.tree are.linked is are.read.links;
+      keeps = are.chip.keeps;
     }
 
-pub insertions_have_chips : SpelledTreesKeepConditions → SpelledDevicesKeep → LinkViewIsNamed → LinkViewIsFormed → FittedIsFitting → PlansSuitNetlists → DevicesHavePorts → PlansStandAround
-    → RenumberedRealises → InsertionsHaveChips
-insertions_have_chips keep devices named formed fitting suit have stand copies net plan verilog bsdl report i linked read device spells =
-    let B = device_of i.linked i.wanted i.fits.seen in
-    let same : device ≡ B = i.device.only device spells in
-    let viewed = viewed_of keep named formed fitting net plan verilog bsdl report i linked read in
-    subst (λ (d : Device). HasChip linked d i.linked.arena.lists) (sym same)
-    (chip_of suit have stand copies i.written linked i.linked i.wanted i.fits.seen viewed (devices bsdl B i.device.spells) i.realises)
+pub texts_have_chips : SpelledTreesKeepConditions → SpelledDevicesKeep → BytesSpellOneTree → SpellsOneDevice → LinkViewsAgree → LinkViewIsNamed → LinkViewIsFormed → PlansSuitNetlists → DevicesHavePorts
+    → PlansStandAround → SameRealises → TextsHaveChips
+texts_have_chips keep devices one one_device agree named formed suit have stand same_there netlist bsdl are linked read device spells =
+    let same : are.device ≡ device = one_device bsdl are.device device are.spells spells in
+    subst (λ (d : Device). HasChip linked d are.chip.core.arena.lists) same
+    (chip_by suit have stand same_there are.linked linked are.device are.chip (viewed_of keep one agree named formed netlist bsdl are linked read) (devices bsdl are.device are.spells))
 
-pub insertions_agree : SpelledTreesKeepConditions → LinkViewIsNamed → LinkViewIsFormed → FittedIsFitting → DevicesHavePorts → InsertionsAgree
-insertions_agree keep named formed fitting have net plan verilog bsdl report i linked read device spells =
-    let B = device_of i.linked i.wanted i.fits.seen in
-    let same : device ≡ B = i.device.only device spells in
-    let viewed = viewed_of keep named formed fitting net plan verilog bsdl report i linked read in
-    subst (λ (d : Device). PortsAgree linked d) (sym same) (ports_agree linked i.linked i.wanted B (known_of have i.written linked i.linked i.wanted i.fits.seen viewed))
+pub texts_agree : SpelledTreesKeepConditions → BytesSpellOneTree → SpellsOneDevice → LinkViewsAgree → LinkViewIsNamed → LinkViewIsFormed → DevicesHavePorts → TextsAgree
+texts_agree keep one one_device agree named formed have netlist bsdl are linked read device spells =
+    let K : LinkedView = are.chip.core in
+    let B : Device = device_of K are.chip.plan are.chip.seen in
+    let same : device ≡ B = one_device bsdl device are.device spells are.spells ∙ are.chip.device_is in
+    let viewed = viewed_of keep one agree named formed netlist bsdl are linked read in
+    subst (λ (d : Device). PortsAgree linked d) (sym same) (ports_agree linked K are.chip.plan B (known_of have are.linked linked K are.chip.plan are.chip.seen viewed))
 
-pub programs_of_insertions_are_legal : InsertionsHaveChips → ProgramsAreLegal → ProgramsOfInsertionsAreLegal
-programs_of_insertions_are_legal chips legal net plan verilog bsdl report i linked read device spells lines program =
-    legal linked device (chips net plan verilog bsdl report i linked read device spells).beside.described lines program
+pub programs_are_legal_there : TextsHaveChips → ProgramsAreLegal → ProgramsAreLegalThere
+programs_are_legal_there chips legal netlist bsdl are linked read device spells lines program =
+    legal linked device (chips netlist bsdl are linked read device spells).beside.described lines program
 
-pub insertions_miss_nothing : InsertionsHaveChips → ScriptsAreMet → InsertionsMissNothing
-insertions_miss_nothing chips met net plan verilog bsdl report i linked read device spells script is verdict judged =
-    met linked device i.linked.arena.lists (chips net plan verilog bsdl report i linked read device spells) script is verdict judged
+pub texts_miss_nothing : TextsHaveChips → ScriptsAreMet → TextsMissNothing
+texts_miss_nothing chips met netlist bsdl are linked read device spells script is verdict judged =
+    met linked device are.chip.core.arena.lists (chips netlist bsdl are linked read device spells) script is verdict judged
 
-pub written_programs_miss_nothing : InsertionsMissNothing → WrittenProgramsMissNothing
-written_programs_miss_nothing none net plan verilog bsdl report events i program linked read lines spelled script resolved verdict judged =
-    let same : lines ≡ canonical_lines (program_of program.device) = program.again_only lines spelled in
-    none net plan verilog bsdl report i linked read program.device program.spells script
-    (record { lines = lines; spelled = record { bytes = events; spells = spelled }; program = ap (λ (l : Lines). l.list) same; resolved = resolved }) verdict judged
+pub written_programs_miss_nothing : TextsMissNothing → SpelledOnce → WrittenProgramsMissNothing
+written_programs_miss_nothing none once netlist bsdl events are program linked read lines spelled script resolved verdict judged =
+    let same : lines ≡ program.lines = once events lines program.lines spelled program.spelled in
+    none netlist bsdl are linked read program.device program.spells script
+    (record { lines = lines; spelled = record { bytes = events; spells = spelled }; program = ap (λ (l : Lines). l.list) same ∙ program.program; resolved = resolved }) verdict judged

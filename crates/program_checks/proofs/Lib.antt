@@ -1,3 +1,2 @@
-mod Same
 mod Ports
 mod Chips

@@ -1,11 +1,12 @@
--- What `insert` wrote, checked by the program that `vectors` writes of its description.
+-- A netlist that keeps and realises, checked by the program of its device; what `insert` wrote is one.
 -- IEEE Std 1149.1-2001: test access port, the annex on BSDL; IEEE Std 1364-2001 for the netlist. Plans, programs and reports are own.
 use Rattle.std.specs.Prelude.{◌≡◌, ℕ, List, []}
 use Rattle.verilog_tree.specs.declared.tree.Module.{Module}
-use Rattle.verilog_tree.specs.Texts.{SpellsText}
+use Rattle.verilog_tree.specs.IsTree.{IsTree}
 use Rattle.netlist_link.specs.Linked.{LinkedView}
 use Rattle.netlist_link.specs.Links.{IsLinkOf}
 use Rattle.bsdl_device.specs.declared.values.Device.{Device}
+use Rattle.bsdl_device.specs.IsDevice.{IsDevice}
 use Rattle.bsdl_device.specs.Spelled.{SpellsText as SpellsDeviceText}
 use Rattle.scan_vectors.specs.declared.lines.Lines.{Lines}
 use Rattle.scan_vectors.specs.Grammar.{SpellsLines}
@@ -19,36 +20,48 @@ use Rattle.conformance_report.specs.Verdicts.{IsVerdict}
 use Rattle.program_scripts.specs.Laws.{HasChip, IsProgramScript}
 use Rattle.insertions.specs.Insertions.{IsInsertion}
 use Rattle.vectors_command.specs.Programs.{IsProgramText}
+use Rattle.program_checks.specs.Texts.{IsRead, KeepsAndRealises, BelongTogether, SpellsProgram}
 
--- a netlist that some text spells
-pub record IsRead (text : List ℕ) (linked : LinkedView) : Type 0 where
-  pub tree : Module
-  pub spells : SpellsText text tree
-  pub links : IsLinkOf tree linked
+-- Netlists.
 
--- the written netlist has the chip that the described device makes of the first one
-abbrev pub InsertionsHaveChips : Type 0
-InsertionsHaveChips = (net plan verilog bsdl report : List ℕ) (i : IsInsertion net plan verilog bsdl report) (linked : LinkedView) → IsRead verilog linked
-    → (device : Device) → SpellsDeviceText bsdl device → HasChip linked device i.linked.arena.lists
+-- a link view that keeps and realises has the chip that its device makes of the core
+abbrev pub NetlistsHaveChips : Type 0
+NetlistsHaveChips = (tree : Module) (linked : LinkedView) (device : Device) → IsTree tree → IsLinkOf tree linked → IsDevice device → (is : KeepsAndRealises linked device)
+    → HasChip linked device is.core.arena.lists
+
+-- Texts that belong together.
+
+-- what an insertion writes does
+abbrev pub InsertionsBelongTogether : Type 0
+InsertionsBelongTogether = (net plan verilog bsdl report : List ℕ) → IsInsertion net plan verilog bsdl report → BelongTogether verilog bsdl
+
+-- and the text of a device's program spells that program
+abbrev pub ProgramTextsSpellPrograms : Type 0
+ProgramTextsSpellPrograms = (bsdl events : List ℕ) → IsProgramText bsdl events → SpellsProgram bsdl events
+
+-- whatever is read of such texts has the chip
+abbrev pub TextsHaveChips : Type 0
+TextsHaveChips = (netlist bsdl : List ℕ) (are : BelongTogether netlist bsdl) (linked : LinkedView) → IsRead netlist linked
+    → (device : Device) → SpellsDeviceText bsdl device → HasChip linked device are.chip.core.arena.lists
 
 -- its ports are those that are described
-abbrev pub InsertionsAgree : Type 0
-InsertionsAgree = (net plan verilog bsdl report : List ℕ) → IsInsertion net plan verilog bsdl report → (linked : LinkedView) → IsRead verilog linked
+abbrev pub TextsAgree : Type 0
+TextsAgree = (netlist bsdl : List ℕ) → BelongTogether netlist bsdl → (linked : LinkedView) → IsRead netlist linked
     → (device : Device) → SpellsDeviceText bsdl device → PortsAgree linked device
 
 -- the lines of the device's program are legal for it
-abbrev pub ProgramsOfInsertionsAreLegal : Type 0
-ProgramsOfInsertionsAreLegal = (net plan verilog bsdl report : List ℕ) → IsInsertion net plan verilog bsdl report → (linked : LinkedView) → IsRead verilog linked
+abbrev pub ProgramsAreLegalThere : Type 0
+ProgramsAreLegalThere = (netlist bsdl : List ℕ) → BelongTogether netlist bsdl → (linked : LinkedView) → IsRead netlist linked
     → (device : Device) → SpellsDeviceText bsdl device → (lines : Lines) → lines.list ≡ program_of device → AreLegal linked lines
 
 -- no expectation of the device's program is missed
-abbrev pub InsertionsMissNothing : Type 0
-InsertionsMissNothing = (net plan verilog bsdl report : List ℕ) → IsInsertion net plan verilog bsdl report → (linked : LinkedView) → IsRead verilog linked
+abbrev pub TextsMissNothing : Type 0
+TextsMissNothing = (netlist bsdl : List ℕ) → BelongTogether netlist bsdl → (linked : LinkedView) → IsRead netlist linked
     → (device : Device) → SpellsDeviceText bsdl device → (script : List ScriptLine) → IsProgramScript linked device script
     → (verdict : Verdict) → IsVerdict linked.arena.lists script verdict → verdict.missed ≡ []
 
--- nor of the text of its program
+-- nor of any text of that program
 abbrev pub WrittenProgramsMissNothing : Type 0
-WrittenProgramsMissNothing = (net plan verilog bsdl report events : List ℕ) → IsInsertion net plan verilog bsdl report → IsProgramText bsdl events → (linked : LinkedView) → IsRead verilog linked
+WrittenProgramsMissNothing = (netlist bsdl events : List ℕ) → BelongTogether netlist bsdl → SpellsProgram bsdl events → (linked : LinkedView) → IsRead netlist linked
     → (lines : Lines) → SpellsLines events lines → (script : List ScriptLine) → IsResolved linked lines script
     → (verdict : Verdict) → IsVerdict linked.arena.lists script verdict → verdict.missed ≡ []

@@ -1,63 +1,92 @@
-// What `insert` wrote, checked by the program that `vectors` writes of its description: no expectation is missed.
-// specs/Laws.antt has the statements. Its functions are laws.
+// A netlist that keeps another's ports and cells and realises its chip, checked by the program of the device: no expectation is missed.
+// What `insert` wrote is such a netlist. specs/Laws.antt has the statements, specs/Texts.antt what they speak of. Its functions are laws.
 // IEEE Std 1149.1-2001: test access port, the annex on BSDL; plans and programs are own.
 #![tactic(auto)]
 
-ghost use Rattle.program_checks.specs.Laws.{InsertionsHaveChips, InsertionsAgree, ProgramsOfInsertionsAreLegal, InsertionsMissNothing, WrittenProgramsMissNothing};
+ghost use Rattle.program_checks.specs.Laws.{NetlistsHaveChips, InsertionsBelongTogether, ProgramTextsSpellPrograms, TextsHaveChips};
+ghost use Rattle.program_checks.specs.Laws.{TextsAgree, ProgramsAreLegalThere, TextsMissNothing, WrittenProgramsMissNothing};
 
 use bsdl_round_trip::spelled_devices_keep_the_conditions;
-use netlist_link::{link_view_is_formed, link_view_is_named};
+use bsdl_values::spells_one_device;
+use netlist_link::{link_view_is_formed, link_view_is_named, link_views_agree};
 use plan_devices::{devices_have_ports, fitted_is_fitting, plans_suit_netlists};
 use program_runs::plans_stand_around;
 use program_scripts::{programs_are_legal, scripts_are_met};
-use realised_copies::renumbered_realises;
+use realised_copies::same_realises;
+use scan_vectors::texts_of_events_are_spelled_or_at_fault;
 use verilog_reading::spelled_trees_keep_the_conditions;
+use verilog_texts::bytes_spell_one_tree;
 
-/// The written netlist has the chip that the described device makes of the netlist that was read.
-pub fn insertions_have_chips()
-    ensures { InsertionsHaveChips }
+/// A link view that keeps another netlist's ports and cells and realises it has the chip that its device makes of that netlist.
+pub fn netlists_have_chips()
+    ensures { NetlistsHaveChips }
 {
-    spelled_trees_keep_the_conditions();
-    spelled_devices_keep_the_conditions();
     link_view_is_named();
     link_view_is_formed();
-    fitted_is_fitting();
     plans_suit_netlists();
     devices_have_ports();
     plans_stand_around();
-    renumbered_realises();
+    same_realises();
 }
 
-/// The ports of the written netlist are those that are described.
-pub fn insertions_agree()
-    ensures { InsertionsAgree }
+/// What `insert` writes is a netlist that keeps and realises, with its device; and what `vectors` writes is that device's program.
+pub fn insertions_belong_together()
+    ensures texts { InsertionsBelongTogether }
+    ensures programs { ProgramTextsSpellPrograms }
+{
+    fitted_is_fitting();
+}
+
+/// Whatever is read of texts that belong together has the chip that the described device makes of the core.
+pub fn texts_have_chips()
+    ensures { TextsHaveChips }
 {
     spelled_trees_keep_the_conditions();
+    spelled_devices_keep_the_conditions();
+    bytes_spell_one_tree();
+    spells_one_device();
+    link_views_agree();
     link_view_is_named();
-    fitted_is_fitting();
+    link_view_is_formed();
+    plans_suit_netlists();
+    devices_have_ports();
+    plans_stand_around();
+    same_realises();
+}
+
+/// Its ports are those that are described.
+pub fn texts_agree()
+    ensures { TextsAgree }
+{
+    spelled_trees_keep_the_conditions();
+    bytes_spell_one_tree();
+    spells_one_device();
+    link_views_agree();
+    link_view_is_named();
     link_view_is_formed();
     devices_have_ports();
 }
 
 /// The lines of the described device's program are legal for it.
-pub fn programs_of_insertions_are_legal()
-    ensures { ProgramsOfInsertionsAreLegal }
+pub fn programs_are_legal_there()
+    ensures { ProgramsAreLegalThere }
 {
-    insertions_have_chips();
+    texts_have_chips();
     programs_are_legal();
 }
 
-/// No expectation of the described device's program is missed on the written netlist.
-pub fn insertions_miss_nothing()
-    ensures { InsertionsMissNothing }
+/// No expectation of the described device's program is missed on it.
+pub fn texts_miss_nothing()
+    ensures { TextsMissNothing }
 {
-    insertions_have_chips();
+    texts_have_chips();
     scripts_are_met();
 }
 
-/// Nor is one of the text of that program.
+/// Nor is one of any text of that program.
 pub fn written_programs_miss_nothing()
     ensures { WrittenProgramsMissNothing }
 {
-    insertions_miss_nothing();
+    texts_miss_nothing();
+    texts_of_events_are_spelled_or_at_fault();
 }

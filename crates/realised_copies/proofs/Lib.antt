@@ -1,3 +1,4 @@
 pub mod Pins
 pub mod Beside
 pub mod Controls
+pub mod Same

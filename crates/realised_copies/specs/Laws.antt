@@ -23,3 +23,11 @@ RenumberedAlone = (M M' N : NetlistView) (B : Device) (to at : ℕ → ℕ) → 
 -- own: and its control ports
 abbrev pub RenumberedControls : Type 0
 RenumberedControls = (M M' N : NetlistView) (to at : ℕ → ℕ) → IsRenumbering M M' to at → HasControls M N → HasControls M' N
+
+-- own: the same ports, and the same live cell under each number; so one realises what the other does
+abbrev pub SameRealises : Type 0
+SameRealises = (M M' N : NetlistView) (B : Device) → M.ports ≡ M'.ports → ((i : ℕ) → cell_at M i ≡ cell_at M' i) → IsWellFormed M → Realises M B N → Realises M' B N
+
+-- own: and is alone where the other is
+abbrev pub SameAlone : Type 0
+SameAlone = (M M' N : NetlistView) (B : Device) → M.ports ≡ M'.ports → ((i : ℕ) → cell_at M i ≡ cell_at M' i) → IsWellFormed M → Alone M B N → Alone M' B N

@@ -1,8 +1,9 @@
-// A netlist with its nets and cells numbered anew behaves as the wrapped chip where the netlist itself does (wrapped_chip). Laws only.
+// A netlist with its nets and cells numbered anew, or with the same ports and live cells, behaves as the wrapped chip where the netlist
+// itself does (wrapped_chip). Laws only.
 // Own. For IEEE Std 1149.1-2001 see wrapped_chip.
 #![tactic(auto)]
 
-ghost use Rattle.realised_copies.specs.Laws.{RenumberedRealises, RenumberedAlone, RenumberedControls};
+ghost use Rattle.realised_copies.specs.Laws.{RenumberedRealises, RenumberedAlone, RenumberedControls, SameRealises, SameAlone};
 
 use netlist_images::{
     renumbered_bits, renumbered_directions, renumbered_ports, renumbered_reads, renumbered_runs,
@@ -42,4 +43,18 @@ pub fn renumbered_has_controls()
     renumbered_bits();
     renumbered_directions();
     renumbered_ports();
+}
+
+/// With the same ports and live cells, in a device's test logic.
+pub fn same_realises()
+    ensures { SameRealises }
+{
+    renumbered_realises();
+}
+
+/// And alone.
+pub fn same_is_alone()
+    ensures { SameAlone }
+{
+    renumbered_is_alone();
 }

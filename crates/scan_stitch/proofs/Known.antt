@@ -49,7 +49,7 @@ same_is_formed grown one other same formed =
 pub lists_before : (linked : LinkedView) (f : Fitted) (can : CanStitch linked f) → linked.arena.lists ≡ can.before.arena.lists
 lists_before linked f can = ap (λ (K : LinkedView). K.arena.lists) can.prepared_is
 
-laid_before : (linked : LinkedView) (f : Fitted) (can : CanStitch linked f) → IsLaidOut linked.arena.lists → IsLaidOut can.before.arena.lists
+pub laid_before : (linked : LinkedView) (f : Fitted) (can : CanStitch linked f) → IsLaidOut linked.arena.lists → IsLaidOut can.before.arena.lists
 laid_before linked f can laid = let P : NetlistView → Type 0 = λ N. IsLaidOut N in subst P (lists_before linked f can) laid
 
 pub names_entered : TapNamesAreEntered → (linked : LinkedView) (f : Fitted) → CanStitch linked f → HasEntered linked.names f
@@ -90,7 +90,7 @@ fits_room linked f new room can is nets cells =
     record { cells = omega arith; nets = omega arith }
 
 -- the netlist with the test logic, of the netlist that was prepared
-stitched_same : (linked : LinkedView) (f : Fitted) (names : TapNames) (can : CanStitch linked f)
+pub stitched_same : (linked : LinkedView) (f : Fitted) (names : TapNames) (can : CanStitch linked f)
     → stitched linked.arena.lists names f ≡ stitched can.before.arena.lists names (fitted_of can.before can.plan can.fitted.seen)
 stitched_same linked f names can =
     ap (λ (N : NetlistView). stitched N names f) (lists_before linked f can) ∙ ap (λ (g : Fitted). stitched can.before.arena.lists names g) can.fitted.is

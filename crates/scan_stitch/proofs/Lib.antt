@@ -4,3 +4,4 @@ pub mod Joined
 pub mod StitchSteps
 pub mod Fit
 pub mod Known
+pub mod Runs

@@ -1,5 +1,7 @@
 // The whole: the netlist of a linked one, rewritten.
 
+ghost use Rattle.wrapped_chip.specs.Realises.{Alone, Realises};
+ghost use Rattle.plan_fitting.specs.Devices.{device_of_fitted};
 ghost use Rattle.scan_stitch.specs.Stitch.{CanStitch, IsStitched};
 
 use crate::names::tap_names;
@@ -7,14 +9,20 @@ use crate::stitching::stitch_netlist;
 use draft_laws::grown_is_formed;
 use netlist_link::Linked;
 use plan_fitting::Fitted;
+use realised_copies::{same_is_alone, same_realises};
 use stitch_formed::stitched_is_formed;
 use stitch_names::{same_is_named, stitched_is_named, tap_names_are_entered};
 use stitch_ready::fitted_can_stand_behind;
+use stitch_runs::{fitting_plans_are_alone, fitting_plans_realise};
 
 /// Builds the test logic of a plan into the prepared netlist that it was fitted to. It takes no memory.
 pub fn stitch(linked: &mut Linked, fitted: &Fitted)
     requires { CanStitch linked.old fitted.now }
-    ensures { IsStitched linked.old linked.new fitted.now }
+    ensures stitched { IsStitched linked.old linked.new fitted.now }
+    // Through any legal events it behaves as the netlist before, wrapped in the device's test logic; and as the netlist before alone
+    // while a transparent instruction is in effect.
+    ensures realises { Realises linked.new.arena.lists (device_of_fitted fitted.now) linked.old.arena.lists }
+    ensures alone { Alone linked.new.arena.lists (device_of_fitted fitted.now) linked.old.arena.lists }
 {
     tap_names_are_entered();
     grown_is_formed();
@@ -22,6 +30,10 @@ pub fn stitch(linked: &mut Linked, fitted: &Fitted)
     stitched_is_named();
     same_is_named();
     fitted_can_stand_behind();
+    fitting_plans_realise();
+    fitting_plans_are_alone();
+    same_realises();
+    same_is_alone();
     linked.netlist().is_laid_out();
     let names = tap_names(linked, fitted);
     let mut draft = linked.begin_draft();

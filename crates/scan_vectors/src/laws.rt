@@ -1,4 +1,5 @@
 ghost use Rattle.scan_vectors.specs.Exactly.{SpelledOnce, SpelledIsFaultless, FaultlessIsSpelled, SpelledIsPrintable};
+ghost use Rattle.scan_vectors.specs.Exactly.{CanonicalIsSpelled};
 
 use line_texts::{rows_of_texts_are_rows, texts_of_rows_read_back};
 
@@ -10,5 +11,13 @@ pub fn texts_of_events_are_spelled_or_at_fault()
     ensures printable { SpelledIsPrintable }
 {
     rows_of_texts_are_rows();
+    texts_of_rows_read_back();
+}
+
+/// A law: the canonical text of lines that can be printed spells these lines, numbered from 2. So lines that were made, and not read, are
+/// lines that some text spells.
+pub fn canonical_texts_spell_their_lines()
+    ensures { CanonicalIsSpelled }
+{
     texts_of_rows_read_back();
 }

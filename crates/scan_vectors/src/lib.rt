@@ -13,6 +13,6 @@ mod reader;
 
 pub use event_text::read_events;
 pub use fault::EventFault;
-pub use laws::texts_of_events_are_spelled_or_at_fault;
+pub use laws::{canonical_texts_spell_their_lines, texts_of_events_are_spelled_or_at_fault};
 pub use lines::{Act, Line, Lines};
 pub use printed_events::print_events;

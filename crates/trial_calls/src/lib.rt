@@ -4,6 +4,8 @@
 #![tactic(auto)]
 
 #[cfg(test)]
+mod answers;
+#[cfg(test)]
 mod calls;
 #[cfg(test)]
 mod netlists;
@@ -11,3 +13,5 @@ mod netlists;
 mod outside;
 #[cfg(test)]
 mod remembered;
+#[cfg(test)]
+mod room;

@@ -1,11 +1,14 @@
 use Rattle.std.proofs.Common.{◌≡◌, List, length, sym, ◌∙◌, ap, subst, arith}
 use Rattle.netlist_model.specs.Formed.{IsLaidOut}
 use Rattle.netlist_model.specs.Lists.{NetlistView}
+use Rattle.wrapped_chip.specs.Realises.{Realises, Alone}
+use Rattle.plan_fitting.specs.Devices.{device_of_fitted}
 use Rattle.netlist_arena.specs.Arena.{ArenaView}
 use Rattle.stitch_model.specs.Stitched.{stitched}
 use Rattle.stitch_names.specs.Same.{IsSameNetlist}
 use Rattle.scan_stitch.specs.Stitching.{CanBeStitched, HasStitchRoom}
 use Rattle.scan_stitch.proofs.Known.{names_entered, can_of, room_made, fits_room_at, named_of, formed_of}
+use Rattle.scan_stitch.proofs.Runs.{realises_of, alone_of}
 use Rattle.scan_stitch.proofs.whole.stitch.Goals as goal
 
 pub tap_names-names-requires : goal.tap_names-names-requires
@@ -50,8 +53,8 @@ close-requires-clause-room c =
     fits_room_at c.args.linked.now c.args.fitted.now c.stitch_netlist.new.netlist.lists c.begin_draft-draft.new.self.room c.netlist_mut.result.now c.requires same c.begin_draft-draft.ensures.room
     c.stitch_netlist.ensures.nets c.stitch_netlist.ensures.cells
 
-pub returns : goal.returns
-returns c =
+pub returns-clause-stitched : goal.returns-clause-stitched
+returns-clause-stitched c =
     let same = c.netlist_mut.ensures.netlist ∙ c.begin_draft-draft.ensures.draft in
     let R : ArenaView → Type 0 = λ A. IsSameNetlist c.stitch_netlist.new.netlist.lists (stitched A.lists c.tap_names-names.result c.args.fitted.now) in
     let made = subst R same c.stitch_netlist.ensures.stitched in
@@ -64,3 +67,25 @@ returns c =
       names = c.close.ensures.names ∙ c.begin_draft-draft.ensures.names;
       title = c.close.ensures.module_name ∙ c.begin_draft-draft.ensures.module_name;
     }
+
+pub returns-clause-realises : goal.returns-clause-realises
+returns-clause-realises c =
+    let P : ArenaView → Type 0 = λ A. IsLaidOut A.lists in
+    let laid = subst P c.netlist.ensures.netlist c.is_laid_out.ensures.laid_out in
+    let same = c.netlist_mut.ensures.netlist ∙ c.begin_draft-draft.ensures.draft in
+    let R : ArenaView → Type 0 = λ A. IsSameNetlist c.stitch_netlist.new.netlist.lists (stitched A.lists c.tap_names-names.result c.args.fitted.now) in
+    let made = subst R same c.stitch_netlist.ensures.stitched in
+    let S : ArenaView → Type 0 = λ A. Realises A.lists (device_of_fitted c.args.fitted.now) c.args.linked.now.arena.lists in
+    subst S (sym c.close.ensures.netlist)
+    (realises_of c.stitched_is_formed.ensures c.fitting_plans_realise.ensures c.same_realises.ensures c.args.linked.now c.args.fitted.now c.tap_names-names.result c.stitch_netlist.new.netlist.lists c.requires laid made)
+
+pub returns-clause-alone : goal.returns-clause-alone
+returns-clause-alone c =
+    let P : ArenaView → Type 0 = λ A. IsLaidOut A.lists in
+    let laid = subst P c.netlist.ensures.netlist c.is_laid_out.ensures.laid_out in
+    let same = c.netlist_mut.ensures.netlist ∙ c.begin_draft-draft.ensures.draft in
+    let R : ArenaView → Type 0 = λ A. IsSameNetlist c.stitch_netlist.new.netlist.lists (stitched A.lists c.tap_names-names.result c.args.fitted.now) in
+    let made = subst R same c.stitch_netlist.ensures.stitched in
+    let S : ArenaView → Type 0 = λ A. Alone A.lists (device_of_fitted c.args.fitted.now) c.args.linked.now.arena.lists in
+    subst S (sym c.close.ensures.netlist)
+    (alone_of c.stitched_is_formed.ensures c.fitting_plans_are_alone.ensures c.same_is_alone.ensures c.args.linked.now c.args.fitted.now c.tap_names-names.result c.stitch_netlist.new.netlist.lists c.requires laid made)

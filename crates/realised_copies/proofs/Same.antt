@@ -1,18 +1,15 @@
--- A netlist with the same ports and live cells is numbered anew by the numbers that it has, and realises what the other does.
+-- A netlist with the same ports and live cells is numbered anew by the numbers that it has, and behaves as the other does.
 use Rattle.std.proofs.Common.{◌≡◌, ℕ, List, [], ◌∷◌, map, Option, Some, None, option_map, refl, sym, ap, ◌∙◌, subst}
 use Rattle.netlist_model.specs.declared.NetId.{NetId}
 use Rattle.netlist_model.specs.declared.Feed.{Feed}
 use Rattle.netlist_model.specs.declared.Feed.TheVariants.{Net, Const}
 use Rattle.netlist_model.specs.Lists.{PortView, CellView, NetlistView, cell_at}
-use Rattle.netlist_model.specs.Formed.{IsWellFormed}
 use Rattle.netlist_images.specs.Nested.{renamed_net, renamed_feed, renamed_cell}
 use Rattle.netlist_images.specs.Renumbering.{ArePortImages, IsCopied, IsRenumbering}
-use Rattle.bsdl_device.specs.declared.values.Device.{Device}
-use Rattle.wrapped_chip.specs.Realises.{Realises}
-use Rattle.realised_copies.specs.Laws.{RenumberedRealises}
+use Rattle.realised_copies.specs.Laws.{RenumberedRealises, RenumberedAlone, SameRealises, SameAlone}
 
 -- the same number
-abbrev pub itself : ℕ → ℕ
+abbrev itself : ℕ → ℕ
 itself n = n
 
 same_net : (net : NetId) → renamed_net itself net ≡ net
@@ -54,5 +51,8 @@ copied M M' ports cells = record {
 numbered_anew : (M M' : NetlistView) → M.ports ≡ M'.ports → ((i : ℕ) → cell_at M i ≡ cell_at M' i) → IsRenumbering M M' itself itself
 numbered_anew M M' ports cells = record { back = itself; from = itself; there = copied M M' ports cells; here = copied M' M (sym ports) (λ i. sym (cells i)) }
 
-pub same_realises : RenumberedRealises → (M M' N : NetlistView) (B : Device) → M.ports ≡ M'.ports → ((i : ℕ) → cell_at M i ≡ cell_at M' i) → IsWellFormed M → Realises M B N → Realises M' B N
+pub same_realises : RenumberedRealises → SameRealises
 same_realises copies M M' N B ports cells formed realises = copies M M' N B itself itself (numbered_anew M M' ports cells) formed (λ i cell live. refl) realises
+
+pub same_is_alone : RenumberedAlone → SameAlone
+same_is_alone copies M M' N B ports cells formed alone = copies M M' N B itself itself (numbered_anew M M' ports cells) formed (λ i cell live. refl) alone

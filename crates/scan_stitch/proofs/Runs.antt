@@ -1,0 +1,50 @@
+-- How the netlist with the test logic behaves, whose lists are those that were stitched.
+use Rattle.std.proofs.Common.{◌≡◌, ℕ, sym, subst}
+use Rattle.netlist_model.specs.Formed.{IsLaidOut, IsWellFormed}
+use Rattle.netlist_model.specs.Lists.{NetlistView, cell_at}
+use Rattle.netlist_link.specs.Linked.{LinkedView}
+use Rattle.bsdl_device.specs.declared.values.Device.{Device}
+use Rattle.wrapped_chip.specs.Realises.{Realises, Alone}
+use Rattle.realised_copies.specs.Laws.{SameRealises, SameAlone}
+use Rattle.plan_fitting.specs.declared.fitted.Fitted.{Fitted}
+use Rattle.plan_fitting.specs.Devices.{fitted_of, device_of, device_of_fitted}
+use Rattle.stitch_model.specs.declared.TapNames.{TapNames}
+use Rattle.stitch_model.specs.Stitched.{stitched}
+use Rattle.stitch_names.specs.Same.{IsSameNetlist}
+use Rattle.stitch_formed.specs.Laws.{StitchedIsFormed}
+use Rattle.stitch_runs.specs.Laws.{FittingPlansRealise, FittingPlansAreAlone}
+use Rattle.scan_stitch.specs.Stitch.{CanStitch}
+use Rattle.scan_stitch.proofs.Known.{lists_before, laid_before, stitched_same}
+
+-- What holds of a netlist, of a device and of a core: it realises, or is alone.
+
+-- the netlist and the device as they were found
+found : (P : NetlistView → Device → NetlistView → Type 0) (linked : LinkedView) (f : Fitted) (new : NetlistView) (can : CanStitch linked f)
+    → P new (device_of can.before can.plan can.fitted.seen) can.before.arena.lists → P new (device_of_fitted f) linked.arena.lists
+found P linked f new can holds =
+    let B : Device = device_of can.before can.plan can.fitted.seen in
+    subst (λ (g : Fitted). P new (device_of_fitted g) linked.arena.lists) (sym can.fitted.is)
+    (subst (λ (N : NetlistView). P new B N) (sym (lists_before linked f can)) holds)
+
+-- of the netlist as it was stitched, so of the one with the same ports and cells
+carried : (P : NetlistView → Device → NetlistView → Type 0)
+    → ((M M' N : NetlistView) (B : Device) → M.ports ≡ M'.ports → ((i : ℕ) → cell_at M i ≡ cell_at M' i) → IsWellFormed M → P M B N → P M' B N) → StitchedIsFormed
+    → (linked : LinkedView) (f : Fitted) (names : TapNames) (new : NetlistView) (can : CanStitch linked f) → IsLaidOut linked.arena.lists → IsSameNetlist new (stitched linked.arena.lists names f)
+    → P (stitched can.before.arena.lists names (fitted_of can.before can.plan can.fitted.seen)) (device_of can.before can.plan can.fitted.seen) can.before.arena.lists
+    → P new (device_of_fitted f) linked.arena.lists
+carried P law formed linked f names new can laid is holds =
+    let L : LinkedView = can.before in
+    let whole : NetlistView = stitched L.arena.lists names (fitted_of L can.plan can.fitted.seen) in
+    let well : IsWellFormed whole = formed L can.plan can.fitted.seen names can.fitting (laid_before linked f can laid) can.dense in
+    let same : IsSameNetlist new whole = subst (IsSameNetlist new) (stitched_same linked f names can) is in
+    found P linked f new can (law whole new L.arena.lists (device_of L can.plan can.fitted.seen) (sym same.ports) (λ i. sym (same.cells i)) well holds)
+
+pub realises_of : StitchedIsFormed → FittingPlansRealise → SameRealises → (linked : LinkedView) (f : Fitted) (names : TapNames) (new : NetlistView) → CanStitch linked f → IsLaidOut linked.arena.lists
+    → IsSameNetlist new (stitched linked.arena.lists names f) → Realises new (device_of_fitted f) linked.arena.lists
+realises_of formed realise same linked f names new can laid is =
+    carried Realises same formed linked f names new can laid is (realise can.before can.plan can.fitted.seen names can.fitting (laid_before linked f can laid) can.dense)
+
+pub alone_of : StitchedIsFormed → FittingPlansAreAlone → SameAlone → (linked : LinkedView) (f : Fitted) (names : TapNames) (new : NetlistView) → CanStitch linked f → IsLaidOut linked.arena.lists
+    → IsSameNetlist new (stitched linked.arena.lists names f) → Alone new (device_of_fitted f) linked.arena.lists
+alone_of formed alone same linked f names new can laid is =
+    carried Alone same formed linked f names new can laid is (alone can.before can.plan can.fitted.seen names can.fitting (laid_before linked f can laid) can.dense)
