@@ -6,7 +6,7 @@
 ghost use Rattle.surrounded_core.specs.Laws.{SurroundedStands, SurroundedReads, SurroundedRealises};
 
 use boundary_cells::{bidir_cells_follow, rows_step_as_bits};
-use boundary_runs::{bits_by_place, chip_rows, lengths_stay, rows_follow, selected_steers};
+use boundary_runs::{chip_rows, lengths_stay, rows_follow, selected_steers};
 use instruction_register::instruction_follows;
 use netlist_images::{
     nested_behind_meets, nested_behind_starts, nested_behind_steps, operands_are_given,
