@@ -37,7 +37,7 @@ use Rattle.stitch_model.specs.Rows.{nets_of_rows, nets_by, net_at, enable_of, is
 use Rattle.stitch_model.specs.Logic.{instruction_from, bypass_from, ident_from, ident_size, logic_size, tap_at, instruction_at, ident_part}
 use Rattle.stitch_model.specs.Stitched.{boundary_at, first_net}
 use Rattle.stitch_laws.specs.Places.{port_of, scan_of, instruction_number, bypass_number, ident_number, register_number, register_net, rows_before, row_first, row_side, row_number, row_next, handed_at, drivers_at}
-use Rattle.stitch_cells.specs.Sizes.{choice_count, driver_count, row_size, cells_of_rows, LogicLengths, row, RowLengths, Numbers}
+use Rattle.stitch_cells.specs.Sizes.{choice_count, driver_count, row_size, cells_of_rows, LogicLengths, RowLengths, Numbers}
 use Rattle.stitch_cells.specs.Cells.{driver_number}
 
 -- The registers.
