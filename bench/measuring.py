@@ -107,8 +107,8 @@ def run(words, runs=RUNS):
 
 
 def build():
-    """Proves and builds the program, where it isn't yet, by a run of its own."""
-    subprocess.run([os.path.join(TOP, "lavkhind")], stdout=subprocess.DEVNULL)
+    """Proves and builds the program, where it isn't yet."""
+    subprocess.run([os.path.join(TOP, "prove")], check=True)
 
 
 def wrapped(folder, number):

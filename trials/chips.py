@@ -15,6 +15,8 @@ def words_given(usage):
     if "--help" in words or "-h" in words:
         sys.exit(usage)
     if "--program" not in words:
+        if not os.path.exists(PROGRAM):
+            sys.exit("there is no proved program: ./prove makes it")
         return PROGRAM, words
     at = words.index("--program")
     return os.path.abspath(words[at + 1]), words[:at] + words[at + 2 :]
