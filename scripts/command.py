@@ -1,0 +1,58 @@
+"""What the scripts share as commands: plain errors, files read and written, and the program `lavkhind`."""
+import argparse, os, subprocess, sys
+
+TOP = os.path.dirname(os.path.dirname(os.path.abspath(__file__)))
+PROGRAM = os.path.join(TOP, "lavkhind")
+
+
+class Fault(Exception):
+    """What is wrong with the input, in a line."""
+
+
+def text_of(path):
+    try:
+        with open(path, encoding="latin-1", newline="") as file:
+            return file.read()
+    except OSError as error:
+        raise Fault(f"{path}: can't be read ({error.strerror})") from None
+
+
+def keep(path, text):
+    try:
+        with open(path, "w", encoding="latin-1", newline="") as file:
+            file.write(text)
+    except OSError as error:
+        raise Fault(f"{path}: can't be written ({error.strerror})") from None
+
+
+def words_of(text, **more):
+    """A reader of the command line, whose --help begins with this text."""
+    return argparse.ArgumentParser(description=text, formatter_class=argparse.RawDescriptionHelpFormatter, **more)
+
+
+def add_program(words):
+    words.add_argument("--program", default=PROGRAM, help="the program lavkhind, where it is another than this folder's")
+
+
+def said(program, *words):
+    """What the program prints; a Fault has its last line where it refuses."""
+    try:
+        done = subprocess.run([program, *words], stdin=subprocess.DEVNULL, stdout=subprocess.PIPE, text=True, encoding="latin-1")
+    except OSError as error:
+        raise Fault(f"{program}: can't be run ({error.strerror})") from None
+    if done.returncode not in (0, 6):
+        last = done.stdout.strip().split("\n")[-1]
+        raise Fault(f"lavkhind {words[0]} refuses: {last or f'status {done.returncode}'} (see the faults in docs/MANUAL.md)")
+    return done.stdout
+
+
+def end_with(main):
+    """Runs a script's `main`, and says a Fault in a line, with the status 1."""
+    try:
+        sys.exit(main())
+    except Fault as fault:
+        print(f"{os.path.basename(sys.argv[0])}: {fault}", file=sys.stderr)
+        sys.exit(1)
+    except BrokenPipeError:
+        os.dup2(os.open(os.devnull, os.O_WRONLY), sys.stdout.fileno())
+        sys.exit(1)

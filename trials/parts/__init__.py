@@ -1,0 +1,1 @@
+"""Trials of the scripts, a file each."""

@@ -1,0 +1,61 @@
+"""The pictures of scripts/draw hold each pin, port and cell once, and no cell stands on another; the table has a line for each."""
+import os, re, sys
+from xml.etree import ElementTree
+
+from chips import keep, text_of
+from script_trials import demo, most_rows, refusals, script, small_chips, two_hundred
+
+NEEDS = ()
+SVG = "{http://www.w3.org/2000/svg}"
+# Up to so many cells it is looked at whether they stand on one another.
+PAIRS = 300
+
+
+def boxes(picture):
+    """The cells' rectangles: left, top, right, bottom."""
+    for box in picture.iter(f"{SVG}rect"):
+        if box.get("class") == "cell":
+            x, y, width, height = (float(box.get(name)) for name in ("x", "y", "width", "height"))
+            yield x, y, x + width, y + height
+
+
+def is_apart(one, other):
+    return one[2] <= other[0] or other[2] <= one[0] or one[3] <= other[1] or other[3] <= one[1]
+
+
+def drawn(name, bsdl, room):
+    """What was found in the picture and the table of a chip."""
+    svg = os.path.join(room, "chip.svg")
+    table = script("draw", bsdl, svg).split("\n")
+    picture = ElementTree.parse(svg).getroot()
+    rows = re.findall(r'^    "(\d+) \((BC_\d), ([^,]+),', text_of(bsdl), re.M)
+    cells = list(boxes(picture))
+    words = ["".join(it.itertext()) for it in picture.iter(f"{SVG}text")]
+    pins = re.findall(r"\w+:(?:\(([\w,]+)\)|(\w+))", "".join(re.findall(r'^    "(\w+:.*)"', text_of(bsdl), re.M)))
+    physical = [pin for several, one in pins for pin in (several or one).split(",")]
+    if len(cells) != len(rows):
+        sys.exit(f"{name}: {len(cells)} cells are drawn of {len(rows)}")
+    for number, kind, _ in rows:
+        if sum(word.startswith(f"{number} {kind} ") for word in words) != 1:
+            sys.exit(f"{name}: cell {number} isn't drawn once")
+        if not any(re.match(rf"{number} .* {kind} ", line) for line in table):
+            sys.exit(f"{name}: cell {number} isn't in the table")
+    led = sum(it.get("class") == "lead" for it in picture.iter(f"{SVG}line"))
+    if led != len(physical):
+        sys.exit(f"{name}: {led} pins are drawn of {len(physical)}")
+    if len(cells) <= PAIRS and not all(is_apart(one, other) for place, one in enumerate(cells) for other in cells[:place]):
+        sys.exit(f"{name}: cells are drawn on one another")
+    return f"{name}: {led} pins and {len(cells)} cells are drawn, and stand in the table"
+
+
+def tried(program, room):
+    chips = list(small_chips(program, room))
+    for name, _, bsdl in chips:
+        yield drawn(name, bsdl, room)
+    yield drawn("200 pins", two_hundred(program, room)[1], room)
+    yield drawn("demo 999", demo(program, room, 999)[1], room)
+    yield drawn("4,091 rows", most_rows(room), room)
+    svg, (_, netlist, bsdl) = os.path.join(room, "chip.svg"), chips[0]
+    wrong = {"no file": [os.path.join(room, "missing"), svg], "a netlist": [netlist, svg], "a folder to write to": [bsdl, room], "no word": []}
+    wrong["a port that isn't mapped"] = [keep(os.path.join(room, "less.bsd"), text_of(bsdl).replace('    "en:3," &\n', "")), svg]
+    yield refusals("draw", wrong)

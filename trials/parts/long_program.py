@@ -1,0 +1,94 @@
+"""The program of scripts/long_program is met by each chip, visits each transition, and finds rows that were exchanged."""
+import itertools, os, re, sys
+
+from chips import keep, run, text_of
+from script_trials import demo, most_rows, refusals, script, small_chips
+from side_by_side import SideBySide, missed
+
+NEEDS = ()
+ROW = re.compile(r'^    "(\d+) \((.*)\)(,?"[;]?(?: &)?)$', re.M)
+
+
+def misses(netlist, events):
+    """Whether the netlist misses an expectation, by the simulator of this folder."""
+    return any(missed(SideBySide(text_of(netlist)), events))
+
+
+def exchanged(text, one, other):
+    """The BSDL text with two rows of the boundary register exchanged, and control cells named by their new numbers."""
+    numbers = {one: other, other: one}
+    rows = {int(number): fields for number, fields, _ in ROW.findall(text)}
+
+    def row(found):
+        number = int(found[1])
+        fields = rows[numbers.get(number, number)].split(", ")
+        if len(fields) > 4:
+            fields[4] = str(numbers.get(int(fields[4]), int(fields[4])))
+        return f'    "{number} ({", ".join(fields)}){found[3]}'
+
+    return ROW.sub(row, text)
+
+
+def by_check(program, room):
+    """Each small chip and ten demonstration chips meet their programs, by `check`."""
+    chips = list(small_chips(program, room)) + [(f"demo {number}", *demo(program, room, number)) for number in range(10)]
+    for name, netlist, bsdl in chips:
+        events = os.path.join(room, "long.events")
+        lines = script("long_program", bsdl, events).split()[0]
+        yield f"{name}: {lines} lines, `check` says {run([program, 'check', netlist, bsdl, events]).strip()}"
+
+
+def by_rows(program, room):
+    """Every exchange of two rows of the counter's file is found."""
+    _, netlist, bsdl = next(small_chips(program, room))
+    text, events = text_of(bsdl), os.path.join(room, "long.events")
+    rows = len(ROW.findall(text))
+    pairs = list(itertools.combinations(range(rows), 2))
+    for one, other in pairs:
+        changed = keep(os.path.join(room, "changed.bsd"), exchanged(text, one, other))
+        script("long_program", changed, events)
+        if not misses(netlist, events):
+            sys.exit(f"rows {one} and {other} exchanged: not found")
+    return f"of {len(pairs)} exchanges of two rows of the counter's file all are found"
+
+
+def transitions(events, tap):
+    """The transitions of the controller that a program makes."""
+    sys.path.append(os.path.join(os.path.dirname(os.path.dirname(os.path.dirname(os.path.abspath(__file__)))), "scripts"))
+    from machine import NEXT, RESET
+
+    levels, state, seen = {}, RESET, set()
+    for line in text_of(events).split("\n"):
+        words = line.split()
+        if not words or words[0] not in ("start", "set"):
+            continue
+        rises = words[1] == tap["TCK"] and words[2] == "1" and levels[tap["TCK"]] == "0"
+        levels[words[1]] = words[2]
+        if levels.get(tap["TRST"]) == "0":
+            state = RESET
+        elif rises:
+            tms = int(levels[tap["TMS"]])
+            seen.add((state, tms))
+            state = NEXT[state][tms]
+    return seen
+
+
+def tried(program, room):
+    yield from by_check(program, room)
+    _, _, bsdl = next(small_chips(program, room))
+    events = os.path.join(room, "long.events")
+    script("long_program", bsdl, events)
+    seen = transitions(events, {name: name for name in ("TCK", "TMS", "TRST")})
+    if len(seen) != 32:
+        sys.exit(f"of 32 transitions the counter's program makes {len(seen)}")
+    yield "the counter's program makes all 32 transitions of the controller"
+    yield by_rows(program, room)
+    bsdl = most_rows(room)
+    said = script("long_program", bsdl, events).strip().split("\n")
+    yield f"4,091 rows: {'; '.join(said)}"
+    net = os.path.join(room, "net.v")
+    keep(net, "module m (); endmodule\n")
+    missing = os.path.join(room, "missing")
+    wrong = {"no file": [missing, events], "a netlist": [net, events], "a folder to write to": [bsdl, room], "no word": []}
+    wrong["a row less"] = [keep(os.path.join(room, "less.bsd"), text_of(bsdl).replace('    "7 (BC_1, a(7), input, X)," &\n', "")), events]
+    yield refusals("long_program", wrong)

@@ -1,0 +1,138 @@
+"""OpenOCD plays the SVF of scripts/svf on the written netlist, which Icarus simulates: without a mismatch, and with one where the
+BSDL file says something else."""
+import os, re, sys
+
+from bridge import bench, bridged, simulated
+from chips import Module, keep, run, text_of
+from script_trials import demo, most_rows, refusals, script, small_chips
+
+NEEDS = ("openocd", "iverilog", "vvp")
+TAP = {"CLOCK": "TCK", "MODE": "TMS", "IN": "TDI", "OUT": "TDO", "RESET": "TRST"}
+
+
+def steps(path, svf, lengths):
+    """What OpenOCD is to do: instruction registers of these lengths, the one nearest TDO first."""
+    yield from ("adapter driver remote_bitbang", "remote_bitbang port 0", f"remote_bitbang host {path}", "reset_config trst_only")
+    yield "adapter speed 1000; gdb_port disabled; tcl_port disabled; telnet_port disabled"
+    yield from (f"jtag newtap chip tap{number} -irlen {length} -ignore-version -expected-id 0" for number, length in enumerate(lengths))
+    yield "init"
+    yield f'if {{[catch {{svf {svf} quiet}} said]}} {{echo "svf failed"}} else {{echo "svf passed"}}'
+    yield "shutdown"
+
+
+def plays(room, module, tap, netlists, svf, lengths=(4,)):
+    """Whether OpenOCD plays the file without a mismatch; the trial ends where it stops for another reason."""
+    simulation = simulated(room, bench(module, tap, {tap["MODE"]: 1}), *netlists)
+    said, _ = bridged(room, simulation, steps(os.path.join(room, "bits"), svf, lengths))
+    if "svf passed" not in said and "tdo check error" not in said.lower():
+        sys.exit(f"OpenOCD on {svf}:\n{said[-3000:]}")
+    return "svf passed" in said
+
+
+def spoiled(text):
+    """The counter's file with one thing changed: by what it is."""
+    yield "a row (BC_2 for BC_1 at q(7))", text.replace("(BC_1, q(7)", "(BC_2, q(7)")
+    yield "a code", text.replace('"0001" & "0000000000000001"', '"0001" & "0000000000000011"')
+    yield "an opcode", text.replace("IDCODE (0010)", "IDCODE (0110)")
+    yield "what the instruction register captures", text.replace('entity is "0001";', 'entity is "0101";')
+
+
+PAIR = """module pair (input TCK, input TMS, input TDI, output TDO, input TRST);
+  wire between;
+  wire [7:0] q;
+  wire [2:0] p;
+  both_ways first (.way(1'b0), .other_way(1'b0), .d(2'b0), .p(p), .TCK(TCK), .TMS(TMS), .TDI(TDI), .TDO(between), .TRST(TRST));
+  counter8 last (.clk(1'b0), .rn(1'b0), .en(1'b0), .oe(1'b0), .q(q), .TCK(TCK), .TMS(TMS), .TDI(between), .TDO(TDO), .TRST(TRST));
+endmodule
+"""
+
+
+def chain(program, room, chips):
+    """Two chips in a chain, each tested through the other."""
+    netlists = [netlist for name, netlist, _ in chips if name in ("counter8", "both_ways")]
+    pair = keep(os.path.join(room, "pair.v"), PAIR)
+    head = "module pair (\n" + ",\n".join(f"  {'output' if name == 'TDO' else 'input'} {name}" for name in TAP.values()) + "\n);\nendmodule\n"
+    svf = os.path.join(room, "chain.svf")
+    for name, _, bsdl in chips:
+        if name in ("counter8", "both_ways"):
+            where = ["--ir-before", "3", "--chips-before", "1"] if name == "counter8" else ["--ir-behind", "4", "--chips-behind", "1"]
+            script("svf", bsdl, svf, *where, "--program", program)
+            if not plays(room, Module(head), TAP, [pair, *netlists], svf, (4, 3)):
+                sys.exit(f"{name} in a chain: a mismatch")
+            script("svf", bsdl, svf, "--program", program)
+            if plays(room, Module(head), TAP, [pair, *netlists], svf, (4, 3)):
+                sys.exit(f"{name} in a chain, which the file doesn't know: no mismatch")
+    return "two chips in a chain: each passes with its header and trailer, and not without"
+
+
+# Two counters in a chain, the first one's q[0] (cell 12, under control cell 5) wired to the last one's en (cell 2): the example of the manual.
+BOARD = """module board (input TCK, input TMS, input TDI, output TDO, input TRST);
+  wire between;
+  wire [7:0] q, r;
+  counter8 first (.clk(1'b0), .rn(1'b0), .en(1'b0), .oe(1'b0), .q(q), .TCK(TCK), .TMS(TMS), .TDI(TDI), .TDO(between), .TRST(TRST));
+  counter8 last (.clk(1'b0), .rn(1'b0), .en(NET), .oe(1'b0), .q(r), .TCK(TCK), .TMS(TMS), .TDI(between), .TDO(TDO), .TRST(TRST));
+endmodule
+"""
+NET_TEST = """TRST ON;
+TRST OFF;
+STATE RESET;
+ENDIR IDLE;
+ENDDR IDLE;
+SDR 64 TDI (0000000000000000) TDO (1000100310001003) MASK (ffffffffffffffff);
+SIR 8 TDI (11);
+SDR 26 TDI (0000000);
+SIR 8 TDI (00);
+SDR 26 TDI (2040000);
+SDR 26 TDI (0040000) TDO (0000004) MASK (0000004);
+SDR 26 TDI (0000000) TDO (0000000) MASK (0000004);
+SIR 8 TDI (ff);
+STATE RESET;
+"""
+
+
+def net_test(room, chips):
+    """A net between two chips: whole, broken, and shorted to 1."""
+    head = "module board (\n" + ",\n".join(f"  {'output' if name == 'TDO' else 'input'} {name}" for name in TAP.values()) + "\n);\nendmodule\n"
+    svf = keep(os.path.join(room, "net.svf"), NET_TEST)
+    for net, passes in (("q[0]", True), ("1'bz", False), ("1'b1", False), ("q[1]", False)):
+        board = keep(os.path.join(room, "board.v"), BOARD.replace("NET", net))
+        if plays(room, Module(head), TAP, [board, chips[0][1]], svf, (4, 4)) != passes:
+            sys.exit(f"the net is {net}: {'a' if passes else 'no'} mismatch")
+    return "a net between two counters on a board: no mismatch where it is whole, and one where it is broken, stuck or wired to another pin"
+
+
+def tried(program, room):
+    chips = list(small_chips(program, room))
+    svf = os.path.join(room, "chip.svf")
+    for name, netlist, bsdl in chips:
+        counts = script("svf", bsdl, svf, "--program", program).strip()
+        text = text_of(bsdl)
+        tap = {what: re.search(rf"TAP_SCAN_{what} of (\w+) :", text)[1] for what in TAP}
+        length = int(re.search(r"INSTRUCTION_LENGTH of \w+ : entity is (\d+)", text)[1])
+        if not plays(room, Module(text_of(netlist)), tap, [netlist], svf, (length,)):
+            sys.exit(f"{name}: a mismatch")
+        yield f"{name}: OpenOCD finds no mismatch ({counts})"
+    name, netlist, bsdl = chips[0]
+    told = []
+    for what, text in spoiled(text_of(bsdl)):
+        if text == text_of(bsdl):
+            sys.exit(f"nothing is changed: {what}")
+        changed = keep(os.path.join(room, "changed.bsd"), text)
+        script("svf", changed, svf, "--program", program)
+        if plays(room, Module(text_of(netlist)), TAP, [netlist], svf):
+            sys.exit(f"{what} changed: no mismatch")
+        told.append(what)
+    yield f"the counter with one thing changed in its file: a mismatch each time ({'; '.join(told)})"
+    yield chain(program, room, chips)
+    yield net_test(room, chips)
+    netlist, demo_bsdl = demo(program, room, 999)
+    yield f"demo 999: {script('svf', demo_bsdl, svf, '--mask-inputs', '--program', program).strip()}"
+    most = most_rows(room)
+    yield f"4,091 rows: {script('svf', most, svf, '--program', program).strip()}"
+    events = keep(os.path.join(room, "pins.events"), "events 1\nstart TCK 0\nstart TRST 0\nstart en 0\nset en 1\n")
+    wrong = {"no file": [os.path.join(room, "missing"), svf], "a netlist": [netlist, svf], "a folder to write to": [bsdl, room, "--program", program]}
+    wrong["no events"] = [bsdl, svf, "--events", bsdl]
+    wrong["events that set other pins"] = [bsdl, svf, "--events", events]
+    wrong["a chip without an instruction register"] = [bsdl, svf, "--chips-before", "1"]
+    wrong["no program"] = [bsdl, svf, "--program", os.path.join(room, "missing")]
+    yield refusals("svf", wrong)
