@@ -37,13 +37,13 @@ pub record Laws : Type 0 where
 
 -- The plan.
 
-plan_memory : SpelledIsFaultless → (bytes : List ℕ) (p : Plan) (f : PlanFault) → plans.first_fault bytes ≡ None → plans.IsFault bytes f → plan_status f ≡ status.Memory
-plan_memory law bytes p (plan.PlanLine line) none bad = none_some (sym none ∙ bad)
-plan_memory law bytes p (plan.PlanTwice word) none bad = none_some (sym none ∙ bad)
-plan_memory law bytes p (plan.PlanOpcode word) none bad = none_some (sym none ∙ bad)
-plan_memory law bytes p plan.PlanIdcode none bad = none_some (sym none ∙ bad)
-plan_memory law bytes p (plan.PlanInstruction word) none bad = none_some (sym none ∙ bad)
-plan_memory law bytes p plan.OutOfMemory none bad = refl
+plan_memory : SpelledIsFaultless → (bytes : List ℕ) (p : Plan) (f : PlanFault) → SpellsPlan bytes p → plans.IsFault bytes f → plan_status f ≡ status.Memory
+plan_memory law bytes p (plan.PlanLine line) spells bad = absurd (law bytes p spells (plan.PlanLine line) bad)
+plan_memory law bytes p (plan.PlanTwice word) spells bad = absurd (law bytes p spells (plan.PlanTwice word) bad)
+plan_memory law bytes p (plan.PlanOpcode word) spells bad = absurd (law bytes p spells (plan.PlanOpcode word) bad)
+plan_memory law bytes p plan.PlanIdcode spells bad = absurd (law bytes p spells plan.PlanIdcode bad)
+plan_memory law bytes p (plan.PlanInstruction word) spells bad = absurd (law bytes p spells (plan.PlanInstruction word) bad)
+plan_memory law bytes p plan.OutOfMemory spells bad = refl
 
 has_fault : (linked : LinkedView) (p : Plan) (f : FitFault) → HasNoFault linked p → fits.HasFault linked p f → ⊥
 has_fault linked p f free bad = none_some (sym (free.faultless bad.seen bad.are_seen) ∙ bad.first)
@@ -67,7 +67,7 @@ same_free once net text linked m p ok same links spells =
 inputs_memory : Laws → (f : Fault) (net text : List ℕ) → IsInsertable net text → StandsInInputs (Some net) (Some text) f → status_of f ≡ status.Memory
 inputs_memory laws (fault.Netlist f) net text ok stands = text_memory net ok.tree f ok.spells stands
 inputs_memory laws (fault.Link f) net text ok stands = has_link_memory laws.links net ok.tree f ok.spells ok.linkable stands
-inputs_memory laws (fault.Plan f) net text ok stands = plan_memory laws.faultless text ok.plan f (laws.faultless text ok.plan ok.spells_plan) stands.1
+inputs_memory laws (fault.Plan f) net text ok stands = plan_memory laws.faultless text ok.plan f ok.spells_plan stands.1
 inputs_memory laws (fault.Fit f) net text ok stands =
     let h = stands.2 in
     let free = same_free laws.once net text h.linked h.netlist.tree h.stands.plan ok (h.netlist.only ok.tree ok.spells) h.netlist.links h.stands.spells in

@@ -92,11 +92,11 @@ registers_read s is rows rest e =
     )
 
 -- the view sees nothing in the first of these
-abbrev NotFirst : {X : Type 0} → (List (List ℕ) → Option X) → List (List (List ℕ)) → Type 0
+abbrev pub NotFirst : {X : Type 0} → (List (List ℕ) → Option X) → List (List (List ℕ)) → Type 0
 NotFirst view [] = Unit {0}
 NotFirst view (first ∷ rest) = view first ≡ None
 
-many_none : {X : Type 0} (view : List (List ℕ) → Option X) (rows : Rows) (rest : List (List (List ℕ))) → words rows ≡ rest → NotFirst view rest → many_at view rows ≡ ([], rows)
+pub many_none : {X : Type 0} (view : List (List ℕ) → Option X) (rows : Rows) (rest : List (List (List ℕ))) → words rows ≡ rest → NotFirst view rest → many_at view rows ≡ ([], rows)
 many_none view [] rest e none = refl
 many_none view (row ∷ rows) [] e none = absurd (cc)
 many_none view (row ∷ rows) (first ∷ rest) e none =
@@ -172,7 +172,7 @@ append_none : {X : Type 0} (xs : List X) → xs ++ [] ≡ xs
 append_none [] = refl
 append_none {X = X} (x ∷ xs) = ap (λ (l : List X). x ∷ l) (append_none xs)
 
-no_rows : (rows : Rows) → words rows ≡ [] → rows ≡ []
+pub no_rows : (rows : Rows) → words rows ≡ [] → rows ≡ []
 no_rows [] e = refl
 no_rows (row ∷ rows) e = absurd (cc)
 

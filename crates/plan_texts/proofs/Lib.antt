@@ -7,3 +7,4 @@ pub mod Exact
 pub mod Printed
 pub mod Digits
 pub mod Again
+pub mod Stops

@@ -23,10 +23,10 @@ use Rattle.plan_texts.proofs.Complete.{words}
 use Rattle.plan_texts.proofs.Parts.{names_second, names_third, tap_second, tap_third, tap_fourth, tap_fifth, registers_second, registers_third, codes_second, written_second, written_third, written_fourth, written_fifth, written_sixth}
 use Rattle.plan_texts.proofs.Views.{version_seen, word_seen, length_seen, capture_seen, tap_seen, opcode_seen, idcode_seen, control_seen, pin_seen}
 
-pair_first : {A B : Type 0} (a x : A) (b y : B) → ◌≡◌ {A = A × B} (a, b) (x, y) → a ≡ x
+pub pair_first : {A B : Type 0} (a x : A) (b y : B) → ◌≡◌ {A = A × B} (a, b) (x, y) → a ≡ x
 pair_first {A = A} {B = B} a x b y e = ap (λ (p : A × B). p.0) e
 
-pair_second : {A B : Type 0} (a x : A) (b y : B) → ◌≡◌ {A = A × B} (a, b) (x, y) → b ≡ y
+pub pair_second : {A B : Type 0} (a x : A) (b y : B) → ◌≡◌ {A = A × B} (a, b) (x, y) → b ≡ y
 pair_second {A = A} {B = B} a x b y e = ap (λ (p : A × B). p.1) e
 
 after_sound : {X Y : Type 0} (read : Read X) (next : X → Rows → Read Y) (y : Y) (left : Rows) → after read next ≡ (Some y, left)

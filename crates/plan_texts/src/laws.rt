@@ -1,8 +1,9 @@
-ghost use Rattle.plan_texts.specs.Exactly.{SpelledOnce, SpelledIsFaultless, FaultlessIsSpelled};
+ghost use Rattle.plan_texts.specs.Exactly.{SpelledOnce, SpelledIsFaultless, FaultlessIsSpelled, AtFaultOnce};
 
-/// A law: bytes spell one plan, or have a first fault, and not both.
+/// A law: bytes spell one plan, or have one fault, and not both.
 pub fn texts_of_plans_are_spelled_or_at_fault()
     ensures once { SpelledOnce }
     ensures faultless { SpelledIsFaultless }
     ensures spelled { FaultlessIsSpelled }
+    ensures fault { AtFaultOnce }
 {}
