@@ -1,6 +1,6 @@
 -- The canonical text of a plan that some bytes spell spells it.
-use Rattle.std.proofs.Common.{◌≡◌, ◌≢◌, ℕ, ◌+◌, ◌*◌, ◌/◌, ◌%◌, ◌^◌, ◌<◌, ◌≤◌, Bool, true, false, cond, not, List, [], ◌∷◌, ◌++◌, map, length, codes, Option, Some, None, refl, sym, ap, ◌∙◌, subst, arith, leb-true, eqb-true}
-use Rattle.std.specs.Prelude.{if◌then◌else◌, All, ◌&&◌, ◌||◌, ◌==◌, find, is_some, nat_le}
+use Rattle.std.proofs.Common.{◌≡◌, ◌≢◌, ℕ, ◌+◌, ◌*◌, ◌/◌, ◌%◌, ◌^◌, ◌<◌, ◌≤◌, Bool, true, false, List, [], ◌∷◌, ◌++◌, map, length, codes, Option, Some, None, refl, sym, ap, ◌∙◌, subst, arith, leb-true, eqb-true}
+use Rattle.std.specs.Prelude.{if◌then◌else◌, All, ◌&&◌, ◌||◌, ◌==◌, is_some, nat_le}
 use Rattle.std.specs.List.{filter_map, enumerate_from, list_all}
 use Rattle.std.specs.Option.{option_map}
 use Rattle.std.specs.Str.{bytes_eq}
@@ -19,7 +19,7 @@ use Rattle.bsdl_device.specs.declared.entries.OpcodeEntry.{OpcodeEntry}
 use Rattle.line_texts.specs.Words.{is_line_end, is_blank_byte, kept_lines}
 use Rattle.line_texts.specs.Rows.{IsWordByte, IsWord, IsRow, rows_text}
 use Rattle.line_texts.specs.Laws.{KeptAreRows, ReadsBack, RowsReadBack}
-use Rattle.first_faults.specs.First.{or_else, first_in}
+use Rattle.first_faults.specs.First.{first_in}
 use Rattle.line_texts.proofs.Rows.{IsNumberedRow}
 use Rattle.plan_texts.specs.declared.fault.PlanFault.TheVariants as fault
 use Rattle.plan_texts.specs.declared.plan.Plan.{Plan}

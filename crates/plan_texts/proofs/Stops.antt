@@ -1,21 +1,16 @@
 -- Where the reading of a plan's lines stops at a fault: other lines can follow those before it, so that a plan is read, and none is
 -- read whatever follows the line of the fault.
-use Rattle.std.proofs.Common.{◌≡◌, ℕ, ◌+◌, List, [], ◌∷◌, ◌++◌, length, drop, map, Option, Some, None, codes, refl, sym, ap, ◌∙◌, subst, append_assoc, zero, suc}
-use Rattle.cell_library.specs.declared.codes.BoundaryKind.{BoundaryKind}
+use Rattle.std.proofs.Common.{◌≡◌, ℕ, List, [], ◌∷◌, ◌++◌, length, drop, Option, Some, None, codes, refl, sym, ap, ◌∙◌, subst, append_assoc, zero, suc}
 use Rattle.cell_library.specs.declared.codes.BoundaryKind.TheVariants as kind
 use Rattle.bsdl_device.specs.declared.entries.OpcodeEntry.{OpcodeEntry}
 use Rattle.plan_texts.specs.declared.plan.TapLine.{TapLine}
 use Rattle.plan_texts.specs.declared.plan.PinLine.{PinLine}
-use Rattle.plan_texts.specs.declared.written.Names.{Names}
-use Rattle.plan_texts.specs.declared.written.TapLines.{TapLines}
-use Rattle.plan_texts.specs.declared.written.Registers.{Registers}
-use Rattle.plan_texts.specs.declared.written.Codes.{Codes}
 use Rattle.plan_texts.specs.declared.written.CodeGroups.{CodeGroups}
 use Rattle.plan_texts.specs.declared.written.Pins.{Pins}
 use Rattle.plan_texts.specs.declared.written.Written.{Written}
 use Rattle.plan_texts.specs.Forms.{is_name, is_prefix, is_clock, version_line, word_line, length_line, capture_line, tap_line, opcode_line, idcode_line, control_line, pin_line}
 use Rattle.plan_texts.specs.Reading.{Rows, Read, done, after, front, rest_if, line_at, put_first, many_at, some_of, linkage_line, ended, names_at, tap_at, registers_at, codes_at, pins_at, written_at}
-use Rattle.plan_texts.specs.Grammar.{keyed, tap_words, opcode_words}
+use Rattle.plan_texts.specs.Grammar.{keyed}
 use Rattle.plan_texts.proofs.Complete.{words, NotFirst, many_none, no_rows}
 use Rattle.plan_texts.proofs.Parts.{names_second, names_third, tap_second, tap_third, tap_fourth, tap_fifth, registers_second, registers_third, codes_second, written_second, written_third, written_fourth, written_fifth, written_sixth}
 use Rattle.plan_texts.proofs.Sound.{pair_first, pair_second}
