@@ -16,7 +16,8 @@ use Rattle.cell_library.specs.declared.PortPlace.TheVariants.{Output, Input}
 use Rattle.cell_library.specs.declared.ResetTo.{ResetTo}
 use Rattle.cell_library.specs.declared.ResetTo.TheVariants.{Nothing, Zero, One}
 use Rattle.cell_library.specs.Gates.{Takes, operand_count_of, flop_operand_count}
-use Rattle.cell_library.specs.Library.{flop_ports, operand_ports, output_port}
+use Rattle.cell_library.specs.Library.{flop_ports, kind_named, operand_ports, output_port, port_named}
+use Rattle.cell_library.proofs.NameLaws.{found_has_name}
 use Rattle.cell_library.specs.Ports.{IsNoneOf, AreApart, HasPorts, NamedCellsHavePorts}
 
 -- a name is none of those that it is apart from
@@ -97,3 +98,13 @@ takes_ports kind has = rw has.count refl
 pub taken_ports : (kind : Kind) (count : ℕ) → HasPorts kind → Takes kind count → count ≡ length (operand_ports kind)
 taken_ports kind count has takes =
     let T : Option ℕ → Type 0 = λ o. MatchOption o ((1 ≤ count) × (count ≤ 256)) (λ wanted. count ≡ wanted) in subst T has.count takes
+
+-- the port at a place of the operands is found there, whatever the kind
+pub operand_is_found : (kind : Kind) (place : ℕ) (port : List ℕ) → slice_get (operand_ports kind) place ≡ Some port → port_named kind port ≡ Some (Input place)
+operand_is_found Mux2 place port at = (named_cells_have_ports Mux2 refl).operand_found place port at
+operand_is_found (Flop kind) place port at = (named_cells_have_ports (Flop kind) refl).operand_found place port at
+operand_is_found kind place port at = absurd (let no : None ≡ Some port = at in cc)
+
+-- a kind that is found under a name has its ports
+pub found_has_ports : (name : List ℕ) (kind : Kind) → kind_named name ≡ Some kind → HasPorts kind
+found_has_ports name kind e = named_cells_have_ports kind (found_has_name name kind e)

@@ -11,7 +11,7 @@ use Rattle.netlist_laws.proofs.KindLaws.{cell_value-flop}
 use Rattle.netlist_model.specs.declared.Feed.{Feed}
 use Rattle.netlist_model.specs.declared.NetId.{NetId}
 use Rattle.netlist_model.specs.Lists.{CellView, NetlistView, cell_at, cell_count}
-use Rattle.netlist_model.specs.Settled.{feed_values, cell_value, Meets}
+use Rattle.netlist_model.specs.Settled.{feed_values, Meets}
 use Rattle.netlist_model.specs.Contained.{HasCells}
 use Rattle.netlist_arena.specs.Arena.{ArenaView}
 use Rattle.netlist_arena.proofs.Puts.{dense_past}

@@ -20,10 +20,9 @@ use Rattle.verilog_tree.specs.declared.tree.Item.TheVariants as item
 use Rattle.verilog_tree.specs.Trees.{takes_inputs}
 use Rattle.verilog_tree.specs.IsTree.{IsTreeItem}
 use Rattle.cell_library.specs.declared.Kind.{Kind}
-use Rattle.cell_library.specs.declared.Kind.TheVariants.{Mux2, Flop, Buf}
-use Rattle.cell_library.specs.declared.Edge.TheVariants.{Rise, Fall}
-use Rattle.cell_library.specs.declared.ResetTo.TheVariants.{Nothing, Zero as ToZero, One as ToOne}
+use Rattle.cell_library.specs.declared.Kind.TheVariants.{Buf}
 use Rattle.cell_library.specs.Gates.{Takes}
+use Rattle.cell_library.proofs.PortLaws.{found_has_ports, takes_ports}
 use Rattle.cell_library.specs.Library.{kind_named, operand_ports, output_port}
 use Rattle.netlist_model.specs.declared.Feed.TheVariants.{Const}
 use Rattle.netlist_model.specs.declared.What.{What}
@@ -195,31 +194,6 @@ output_below : (nets : ℕ) (names : List (List ℕ × Declared)) (links : List 
 output_below nets names links None h = tt
 output_below nets names links (Some port) h = connected_net nets names (linked_operand links port) (linked_connected nets names links port h)
 
--- a library cell takes as many operands as it has ports for them
-some_takes : (known kind : Kind) → Some known ≡ Some kind → Takes known (length (operand_ports known)) → Takes kind (length (operand_ports kind))
-some_takes known kind e h = let same : known ≡ kind = cc in subst (λ (k : Kind). Takes k (length (operand_ports k))) same h
-
-chosen_takes : (a b c d e f g : Bool) (kind : Kind)
-    → (if a then Some Mux2
-    else if b then Some (Flop (record { edge = Rise; reset = Nothing }))
-    else if c then Some (Flop (record { edge = Fall; reset = Nothing }))
-    else if d then Some (Flop (record { edge = Rise; reset = ToZero }))
-    else if e then Some (Flop (record { edge = Fall; reset = ToZero }))
-    else if f then Some (Flop (record { edge = Rise; reset = ToOne }))
-    else if g then Some (Flop (record { edge = Fall; reset = ToOne }))
-    else None) ≡ Some kind → Takes kind (length (operand_ports kind))
-chosen_takes true b c d e f g kind h = some_takes Mux2 kind h refl
-chosen_takes false true c d e f g kind h = some_takes (Flop (record { edge = Rise; reset = Nothing })) kind h refl
-chosen_takes false false true d e f g kind h = some_takes (Flop (record { edge = Fall; reset = Nothing })) kind h refl
-chosen_takes false false false true e f g kind h = some_takes (Flop (record { edge = Rise; reset = ToZero })) kind h refl
-chosen_takes false false false false true f g kind h = some_takes (Flop (record { edge = Fall; reset = ToZero })) kind h refl
-chosen_takes false false false false false true g kind h = some_takes (Flop (record { edge = Rise; reset = ToOne })) kind h refl
-chosen_takes false false false false false false true kind h = some_takes (Flop (record { edge = Fall; reset = ToOne })) kind h refl
-chosen_takes false false false false false false false kind h = absurd (cc)
-
-named_takes : (name : List ℕ) (kind : Kind) → kind_named name ≡ Some kind → Takes kind (length (operand_ports kind))
-named_takes name kind h = chosen_takes _ _ _ _ _ _ _ kind h
-
 gate_takes : (kind : GateKind) (n : ℕ) → IsTrue (takes_inputs kind n) → 0 < n → n ≤ 256 → Takes (kind_of_gate kind) n
 gate_takes gate.And n t some most = (omega arith, most)
 gate_takes gate.Or n t some most = (omega arith, most)
@@ -244,7 +218,7 @@ cell_fits nets names (item.Gate g) tree cell few h = record {
 cell_fits nets names (item.Instance i) tree cell few h =
     let k = known_kind i (kind_named i.cell) refl cell in
     let fits : FitsCell nets (library_cell names i k.0) = record {
-      count = subst (Takes k.0) (sym (length-map (operand_ports k.0) (port_feed names i.links))) (named_takes i.cell k.0 k.1);
+      count = subst (Takes k.0) (sym (length-map (operand_ports k.0) (port_feed names i.links))) (takes_ports k.0 (found_has_ports i.cell k.0 k.1));
       feeds = port_feeds_below nets names i.links (operand_ports k.0) h;
       output = output_below nets names i.links (output_port k.0) h;
     } in

@@ -3,4 +3,5 @@ pub mod Firsts
 pub mod Repeats
 pub mod NetCounts
 pub mod Fitting
+pub mod PortPlaces
 pub mod Modules

@@ -4,14 +4,12 @@ ghost use Rattle.cell_library.specs.Library as library;
 ghost use Rattle.std.specs.Option.{option_copied};
 ghost use Rattle.link_model.specs.Nets.{net_of};
 ghost use Rattle.link_model.specs.Cells as model;
-ghost use Rattle.first_faults.specs.Repeated.{texts};
 ghost use Rattle.link_names.specs.Views.{entries_of};
 ghost use Rattle.link_names.specs.FitItems.{FitsBit, FitsOperand, FitsLink, FitsGate, FitsItem};
 
 use crate::declarations::{Declaration, find};
 use crate::names::gate_name;
-use crate::ports::{operand_ports, output_port};
-use cell_library::{Kind, kind_of};
+use cell_library::{Kind, kind_of, operand_port, operand_port_count, output_port};
 use indexmap::IndexMap;
 use link_model::ItemCell;
 use netlist_model::{Feed, NetId};
@@ -140,15 +138,15 @@ fn port_feeds(
     alloc: Global,
     table: &IndexMap<&[u8], Declaration>,
     links: &[Link],
-    ports: &[&[u8]],
+    kind: Kind,
 ) -> Result<SmallVec<Feed, 4>, OutOfMemory>
     requires { All (FitsLink (2 ^ 32) (entries_of table.now)) links.now }
     ensures { IfOk result (λ feeds. feeds.items
-        ≡ map (model.port_feed (entries_of table.now) links.now) (texts ports.now)) }
+        ≡ map (model.port_feed (entries_of table.now) links.now) (library.operand_ports kind)) }
 {
     let mut feeds = SmallVec::new(alloc);
-    for port in ports {
-        feeds.push(port_feed(table, links, *port))?;
+    for place in 0..operand_port_count(kind) {
+        feeds.push(port_feed(table, links, operand_port(kind, place)))?;
     }
     Ok(feeds)
 }
@@ -175,7 +173,7 @@ fn library_cell<'a>(
         ≡ model.library_cell (entries_of table.now) instance.now kind) }
 {
     let links = instance.links.as_slice();
-    let feeds = port_feeds(alloc, table, links, operand_ports(kind))?;
+    let feeds = port_feeds(alloc, table, links, kind)?;
     Ok(ItemCell::new(
         kind,
         Some(instance.name.as_bytes()),

@@ -2,15 +2,14 @@
 ghost use Rattle.std.specs.Prelude.{◌≡◌, ◌&&◌, map, is_none, IfOk};
 ghost use Rattle.std.specs.List.{list_any};
 ghost use Rattle.std.specs.Str.{bytes_eq};
-ghost use Rattle.first_faults.specs.Repeated.{texts};
+ghost use Rattle.cell_library.specs.Library.{operand_ports};
 ghost use Rattle.verilog_tree.specs.declared.tree.Link.{Link};
 ghost use Rattle.link_model.specs.Lists.{first_in, repeated};
 ghost use Rattle.link_model.specs.Cells.{bytes_of};
 ghost use Rattle.link_model.specs.Faults as text;
 ghost use Rattle.link_names.specs.Tests.{unknown_port, missing_port, port_linked_twice, port_test, instance_faults_in};
 
-use crate::ports::operand_ports;
-use cell_library::{Kind, kind_of, port_of};
+use cell_library::{Kind, kind_of, operand_port, operand_port_count, port_of};
 use link_model::LinkFault;
 use std::alloc::Global;
 use texts::{OutOfMemory, Text};
@@ -79,12 +78,12 @@ fn find_port_missing(
     alloc: Global,
     name: &[u8],
     links: &[Link],
-    ports: &[&[u8]],
+    kind: Kind,
 ) -> Result<Option<LinkFault>, OutOfMemory>
-    ensures { IfOk result (λ fault. fault ≡ missing_port name.now links.now (texts ports.now)) }
+    ensures { IfOk result (λ fault. fault ≡ missing_port name.now links.now (operand_ports kind)) }
 {
-    for port in ports {
-        let port = *port;
+    for place in 0..operand_port_count(kind) {
+        let port = operand_port(kind, place);
         if !is_connected(links, port) {
             let instance = Text::from_bytes(alloc, name)?;
             let port = Text::from_bytes(alloc, port)?;
@@ -137,7 +136,7 @@ fn check_instance(
     let links = instance.links.as_slice();
     match test {
         PortTest::PortUnknown => find_port_unknown(alloc, name, links, kind),
-        PortTest::PortMissing => find_port_missing(alloc, name, links, operand_ports(kind)),
+        PortTest::PortMissing => find_port_missing(alloc, name, links, kind),
         PortTest::PortTwice => find_port_twice(alloc, name, links),
     }
 }

@@ -1,6 +1,6 @@
 -- Each clock, clear and preset operand of a cell is a link of the text.
-use Rattle.std.proofs.Common.{◌≡◌, ℕ, ◌+◌, ◌⊎◌, inl, inr, Bool, true, false, ◌||◌, ◌==◌, List, [], ◌∷◌, ◌++◌, length, zero, suc, Option, Some, None, arith, refl, sym, subst, ap, ◌∙◌}
-use Rattle.std.specs.Prelude.{slice_get, find, unwrap_or, codes, if◌then◌else◌}
+use Rattle.std.proofs.Common.{◌≡◌, ℕ, ◌+◌, ◌⊎◌, inl, inr, Bool, true, false, ◌||◌, ◌==◌, List, [], ◌∷◌, ◌++◌, length, zero, suc, Option, Some, None, arith, refl, sym, ap, ◌∙◌}
+use Rattle.std.specs.Prelude.{slice_get, find, unwrap_or, if◌then◌else◌}
 use Rattle.std.specs.List.{flat_map}
 use Rattle.std.specs.Option.{option_map}
 use Rattle.std.specs.Str.{bytes_eq}
@@ -8,13 +8,10 @@ use Rattle.std.specs.Cmp.Lexicographic.{bytes_decides}
 use Rattle.std.proofs.lemmas.Option.{slice_get-map, none-some, same_Some, option_and_then_some}
 use Rattle.cell_library.specs.declared.Kind.{Kind}
 use Rattle.cell_library.specs.declared.Kind.TheVariants as kind
-use Rattle.cell_library.specs.declared.FlopKind.{FlopKind}
-use Rattle.cell_library.specs.declared.Edge.{Edge}
-use Rattle.cell_library.specs.declared.ResetTo.{ResetTo}
-use Rattle.cell_library.specs.declared.ResetTo.TheVariants as reset
 use Rattle.cell_library.specs.declared.PortPlace.TheVariants as place
 use Rattle.cell_library.specs.Gates.{is_flop}
-use Rattle.cell_library.specs.Library.{kind_named, port_named, flop_ports}
+use Rattle.cell_library.proofs.PortLaws.{operand_is_found}
+use Rattle.cell_library.specs.Library.{kind_named, port_named, operand_ports}
 use Rattle.netlist_model.specs.declared.Feed.{Feed}
 use Rattle.netlist_model.specs.declared.Feed.TheVariants.{Net, Const}
 use Rattle.verilog_tree.specs.declared.tree.Module.{Module}
@@ -29,7 +26,7 @@ use Rattle.verilog_tree.specs.declared.tree.Item.TheVariants as item
 use Rattle.link_model.specs.Nets.{Declared, net_of, declared_names, declared_nets, nets_in}
 use Rattle.link_model.specs.Cells.{NamedCell, kind_of_gate, feed_of, linked_operand, port_feed, library_cell, cell_of}
 use Rattle.link_model.specs.Faults.{cells_in}
-use Rattle.link_model.specs.Late.{ControlLink, is_control_place, bit_links, flop_links, item_links, IsDerived, HasNoDerived}
+use Rattle.link_model.specs.Late.{is_control_place, bit_links, flop_links, item_links, IsDerived, HasNoDerived}
 use Rattle.link_order.specs.Cones.{FlopReads}
 use Rattle.link_order.proofs.LinkNets.{find-first}
 use Rattle.list_laws.proofs.Lists.{before_push}
@@ -45,33 +42,23 @@ flat_map-there f [] k j x y here there = absurd (none-some x here)
 flat_map-there f (z ∷ zs) zero j x y here there = (j, before_push (f z) (flat_map f zs) y j (ap (λ w. slice_get (f w) j) (same_Some z x here) ∙ there))
 flat_map-there f (z ∷ zs) (suc k) j x y here there = let rest = flat_map-there f zs k j x y here there in (length (f z) + rest.0, slice_get-back (f z) (flat_map f zs) rest.0 y rest.1)
 
--- Operand 1 of a flip-flop is CK, and operand 2 RN or SN.
-
-clock_port : (edge : Edge) (r : ResetTo) (port : List ℕ) → slice_get (flop_ports r) 1 ≡ Some port → port_named (kind.Flop (record { edge = edge; reset = r })) port ≡ Some (place.Input 1)
-clock_port edge reset.Nothing port e = subst (λ (p : List ℕ). port_named (kind.Flop (record { edge = edge; reset = reset.Nothing })) p ≡ Some (place.Input 1)) (same_Some (codes "CK") port e) refl
-clock_port edge reset.Zero port e = subst (λ (p : List ℕ). port_named (kind.Flop (record { edge = edge; reset = reset.Zero })) p ≡ Some (place.Input 1)) (same_Some (codes "CK") port e) refl
-clock_port edge reset.One port e = subst (λ (p : List ℕ). port_named (kind.Flop (record { edge = edge; reset = reset.One })) p ≡ Some (place.Input 1)) (same_Some (codes "CK") port e) refl
-
-reset_port : (edge : Edge) (r : ResetTo) (port : List ℕ) → slice_get (flop_ports r) 2 ≡ Some port → port_named (kind.Flop (record { edge = edge; reset = r })) port ≡ Some (place.Input 2)
-reset_port edge reset.Nothing port e = absurd (none-some port e)
-reset_port edge reset.Zero port e = subst (λ (p : List ℕ). port_named (kind.Flop (record { edge = edge; reset = reset.Zero })) p ≡ Some (place.Input 2)) (same_Some (codes "RN") port e) refl
-reset_port edge reset.One port e = subst (λ (p : List ℕ). port_named (kind.Flop (record { edge = edge; reset = reset.One })) p ≡ Some (place.Input 2)) (same_Some (codes "SN") port e) refl
-
 -- The link of an operand.
 
 abbrev net_or : Feed → ℕ
 net_or (Net n) = n.0
 net_or (Const b) = 0
 
-module _ (names : List (List ℕ × Declared)) (i : Instance) (flop : FlopKind) (number net : ℕ) where
-  link_there : (port : List ℕ) → number == 1 || number == 2 ≡ true → port_named (kind.Flop flop) port ≡ Some (place.Input number) → port_feed names i.links port ≡ Net (record { 0 = net })
-      → (j : ℕ) × (slice_get (flop_links names i (Some (kind.Flop flop))) j ≡ Some (record { flop = i.name; net = net }))
-  link_there port control named feed = by (linked_operand i.links port) refl
-    where
-      links_of : Link → List ControlLink
-      links_of l = if is_control_place (port_named (kind.Flop flop) l.port) then bit_links i.name names l.operand else []
+module _ (names : List (List ℕ × Declared)) (i : Instance) (kind : Kind) (flop : is_flop kind ≡ true) (number net : ℕ) where
+  -- the links of a flip-flop are those of its ports
+  in_flop : (j : ℕ) → slice_get (flat_map (λ (l : Link). if is_control_place (port_named kind l.port) then bit_links i.name names l.operand else []) i.links) j ≡ Some (record { flop = i.name; net = net })
+      → slice_get (flop_links names i (Some kind)) j ≡ Some (record { flop = i.name; net = net })
+  in_flop j there = ap (λ (b : Bool). slice_get (if b then flat_map (λ (l : Link). if is_control_place (port_named kind l.port) then bit_links i.name names l.operand else []) i.links else []) j) flop ∙ there
 
-      by : (o : Option Operand) → linked_operand i.links port ≡ o → (j : ℕ) × (slice_get (flat_map (λ (l : Link). if is_control_place (port_named (kind.Flop flop) l.port) then bit_links i.name names l.operand else []) i.links) j ≡ Some (record { flop = i.name; net = net }))
+  link_there : (port : List ℕ) → number == 1 || number == 2 ≡ true → port_named kind port ≡ Some (place.Input number) → port_feed names i.links port ≡ Net (record { 0 = net })
+      → (j : ℕ) × (slice_get (flop_links names i (Some kind)) j ≡ Some (record { flop = i.name; net = net }))
+  link_there port control named feed = let found = by (linked_operand i.links port) refl in (found.0, in_flop found.0 found.1)
+    where
+      by : (o : Option Operand) → linked_operand i.links port ≡ o → (j : ℕ) × (slice_get (flat_map (λ (l : Link). if is_control_place (port_named kind l.port) then bit_links i.name names l.operand else []) i.links) j ≡ Some (record { flop = i.name; net = net }))
       by None e = absurd (let no : Const false ≡ Net (record { 0 = net }) = sym (ap (λ (o : Option Operand). unwrap_or (option_map (feed_of names) o) (Const false)) e) ∙ feed in cc)
       by (Some (operand.Const value)) e = absurd (let no : Const value ≡ Net (record { 0 = net }) = sym (ap (λ (o : Option Operand). unwrap_or (option_map (feed_of names) o) (Const false)) e) ∙ feed in cc)
       by (Some (operand.Bit bit)) e =
@@ -80,20 +67,22 @@ module _ (names : List (List ℕ × Declared)) (i : Instance) (flop : FlopKind) 
           option_and_then_some (λ (l : Link). l.operand) (find (λ (l : Link). bytes_eq l.port port) i.links) (operand.Bit bit) e (λ l found operand_is.
           let first = find-first (λ (l : Link). bytes_eq l.port port) i.links l found in
           let port_is : l.port ≡ port = (bytes_decides l.port port).0 first.2 in
-          let chosen : is_control_place (port_named (kind.Flop flop) l.port) ≡ true = ap (λ (p : List ℕ). is_control_place (port_named (kind.Flop flop) p)) port_is ∙ ap is_control_place named ∙ control in
-          let here : slice_get (if is_control_place (port_named (kind.Flop flop) l.port) then bit_links i.name names l.operand else []) 0 ≡ Some (record { flop = i.name; net = net }) =
+          let chosen : is_control_place (port_named kind l.port) ≡ true = ap (λ (p : List ℕ). is_control_place (port_named kind p)) port_is ∙ ap is_control_place named ∙ control in
+          let here : slice_get (if is_control_place (port_named kind l.port) then bit_links i.name names l.operand else []) 0 ≡ Some (record { flop = i.name; net = net }) =
           ap (λ (b : Bool). slice_get (if b then bit_links i.name names l.operand else []) 0) chosen
           ∙ ap (λ (o : Option Operand). slice_get (bit_links i.name names o) 0) operand_is
           ∙ ap (λ (n : ℕ). Some (record { flop = i.name; net = n })) net_is in
-          flat_map-there (λ (l : Link). if is_control_place (port_named (kind.Flop flop) l.port) then bit_links i.name names l.operand else []) i.links first.0 0 l (record { flop = i.name; net = net }) first.1 here)
+          flat_map-there (λ (l : Link). if is_control_place (port_named kind l.port) then bit_links i.name names l.operand else []) i.links first.0 0 l (record { flop = i.name; net = net }) first.1 here)
 
-  operand_there : number == 1 || number == 2 ≡ true → ((port : List ℕ) → slice_get (flop_ports flop.reset) number ≡ Some port → port_named (kind.Flop flop) port ≡ Some (place.Input number))
-      → slice_get (library_cell names i (kind.Flop flop)).feeds number ≡ Some (Net (record { 0 = net })) → (j : ℕ) × (slice_get (flop_links names i (Some (kind.Flop flop))) j ≡ Some (record { flop = i.name; net = net }))
-  operand_there control named operand = by (slice_get (flop_ports flop.reset) number) refl
+  operand_there : number == 1 || number == 2 ≡ true → slice_get (library_cell names i kind).feeds number ≡ Some (Net (record { 0 = net }))
+      → (j : ℕ) × (slice_get (flop_links names i (Some kind)) j ≡ Some (record { flop = i.name; net = net }))
+  operand_there control operand = by (slice_get (operand_ports kind) number) refl
     where
-      by : (o : Option (List ℕ)) → slice_get (flop_ports flop.reset) number ≡ o → (j : ℕ) × (slice_get (flop_links names i (Some (kind.Flop flop))) j ≡ Some (record { flop = i.name; net = net }))
-      by None e = absurd (none-some (Net (record { 0 = net })) (sym (slice_get-map (port_feed names i.links) (flop_ports flop.reset) number ∙ ap (option_map (port_feed names i.links)) e) ∙ operand))
-      by (Some port) e = link_there port control (named port e) (same_Some (port_feed names i.links port) (Net (record { 0 = net })) (sym (slice_get-map (port_feed names i.links) (flop_ports flop.reset) number ∙ ap (option_map (port_feed names i.links)) e) ∙ operand))
+      by : (o : Option (List ℕ)) → slice_get (operand_ports kind) number ≡ o → (j : ℕ) × (slice_get (flop_links names i (Some kind)) j ≡ Some (record { flop = i.name; net = net }))
+      by None e = absurd (none-some (Net (record { 0 = net })) (sym (slice_get-map (port_feed names i.links) (operand_ports kind) number ∙ ap (option_map (port_feed names i.links)) e) ∙ operand))
+      by (Some port) e =
+          link_there port control (operand_is_found kind number port e)
+          (same_Some (port_feed names i.links port) (Net (record { 0 = net })) (sym (slice_get-map (port_feed names i.links) (operand_ports kind) number ∙ ap (option_map (port_feed names i.links)) e) ∙ operand))
 
 gate_kind : (g : GateKind) → is_flop (kind_of_gate g) ≡ true → ⊥
 gate_kind gate.And e = cc
@@ -107,30 +96,11 @@ gate_kind gate.Not e = cc
 gate_kind gate.Bufif0 e = cc
 gate_kind gate.Bufif1 e = cc
 
-flop_of : (k : Kind) → is_flop k ≡ true → (flop : FlopKind) × (k ≡ kind.Flop flop)
-flop_of (kind.Flop flop) e = (flop, refl)
-flop_of kind.And e = absurd (cc)
-flop_of kind.Or e = absurd (cc)
-flop_of kind.Nand e = absurd (cc)
-flop_of kind.Nor e = absurd (cc)
-flop_of kind.Xor e = absurd (cc)
-flop_of kind.Xnor e = absurd (cc)
-flop_of kind.Buf e = absurd (cc)
-flop_of kind.Not e = absurd (cc)
-flop_of kind.Bufif0 e = absurd (cc)
-flop_of kind.Bufif1 e = absurd (cc)
-flop_of kind.Assign e = absurd (cc)
-flop_of kind.Mux2 e = absurd (cc)
-
-module _ (names : List (List ℕ × Declared)) (number net : ℕ) (control : number == 1 || number == 2 ≡ true)
-    (named : (flop : FlopKind) (port : List ℕ) → slice_get (flop_ports flop.reset) number ≡ Some port → port_named (kind.Flop flop) port ≡ Some (place.Input number)) where
-  instance_there : (i : Instance) (o : Option Kind) → is_flop (library_cell names i (unwrap_or o kind.Buf)).kind ≡ true → slice_get (library_cell names i (unwrap_or o kind.Buf)).feeds number ≡ Some (Net (record { 0 = net }))
+module _ (names : List (List ℕ × Declared)) (number net : ℕ) (control : number == 1 || number == 2 ≡ true) where
+  instance_there : (i : Instance) (o : Option Kind) → is_flop (unwrap_or o kind.Buf) ≡ true → slice_get (library_cell names i (unwrap_or o kind.Buf)).feeds number ≡ Some (Net (record { 0 = net }))
       → (j : ℕ) × (flop : List ℕ) × (slice_get (flop_links names i o) j ≡ Some (record { flop = flop; net = net }))
   instance_there i None is_one operand = absurd (cc)
-  instance_there i (Some k) is_one operand =
-      let flop = flop_of k is_one in
-      let there = operand_there names i flop.0 number net control (named flop.0) (sym (ap (λ (x : Kind). slice_get (library_cell names i x).feeds number) flop.1) ∙ operand) in
-      (there.0, i.name, ap (λ (x : Kind). slice_get (flop_links names i (Some x)) there.0) flop.1 ∙ there.1)
+  instance_there i (Some k) is_one operand = let there = operand_there names i k is_one number net control operand in (there.0, i.name, there.1)
 
   item_there : (x : Item) → is_flop (cell_of names x).kind ≡ true → slice_get (cell_of names x).feeds number ≡ Some (Net (record { 0 = net }))
       → (j : ℕ) × (flop : List ℕ) × (slice_get (item_links names x) j ≡ Some (record { flop = flop; net = net }))
@@ -139,20 +109,20 @@ module _ (names : List (List ℕ × Declared)) (number net : ℕ) (control : num
   item_there (item.Assign output input) is_one operand = absurd (cc)
 
 module _ (m : Module) (none : HasNoDerived m) (net : ℕ) (derived : IsDerived (nets_in (declared_nets m)) (cells_in m) net) where
-  not_derived : (number : ℕ) → number == 1 || number == 2 ≡ true → ((flop : FlopKind) (port : List ℕ) → slice_get (flop_ports flop.reset) number ≡ Some port → port_named (kind.Flop flop) port ≡ Some (place.Input number))
-      → FlopReads (cells_in m) number net → ⊥
-  not_derived number control named r = by (slice_get m.items r.number) refl
+  not_derived : (number : ℕ) → number == 1 || number == 2 ≡ true → FlopReads (cells_in m) number net → ⊥
+  not_derived number control r = by (slice_get m.items r.number) refl
     where
       by : (o : Option Item) → slice_get m.items r.number ≡ o → ⊥
       by None e = none-some r.cell (sym (slice_get-map (cell_of (declared_names m)) m.items r.number ∙ ap (option_map (cell_of (declared_names m))) e) ∙ r.there)
       by (Some x) e =
           let same : cell_of (declared_names m) x ≡ r.cell = same_Some (cell_of (declared_names m) x) r.cell (sym (slice_get-map (cell_of (declared_names m)) m.items r.number ∙ ap (option_map (cell_of (declared_names m))) e) ∙ r.there) in
-          let link = item_there (declared_names m) number net control named x (ap (λ (c : NamedCell). is_flop c.kind) same ∙ r.flop) (ap (λ (c : NamedCell). slice_get c.feeds number) same ∙ r.operand) in
+          let link = item_there (declared_names m) number net control x (ap (λ (c : NamedCell). is_flop c.kind) same ∙ r.flop) (ap (λ (c : NamedCell). slice_get c.feeds number) same ∙ r.operand) in
           let place = flat_map-there (item_links (declared_names m)) m.items r.number link.0 x (record { flop = link.1; net = net }) e link.2 in
           none place.0 (record { flop = link.1; net = net }) (record { there = place.1; derived = derived })
 
-pub controls_not_derived : (m : Module) → HasNoDerived m → (root : ℕ) → FlopReads (cells_in m) 1 root ⊎ FlopReads (cells_in m) 2 root → IsDerived (nets_in (declared_nets m)) (cells_in m) root → ⊥
+pub controls_not_derived : (m : Module) → HasNoDerived m → (root : ℕ) → FlopReads (cells_in m) 1 root ⊎ FlopReads (cells_in m) 2 root
+    → IsDerived (nets_in (declared_nets m)) (cells_in m) root → ⊥
 controls_not_derived m none root reads derived = elim reads [
-  | inl clock ↦ not_derived m none root derived 1 refl (λ flop port e. clock_port flop.edge flop.reset port e) clock
-  | inr clear ↦ not_derived m none root derived 2 refl (λ flop port e. reset_port flop.edge flop.reset port e) clear
+  | inl clock ↦ not_derived m none root derived 1 refl clock
+  | inr clear ↦ not_derived m none root derived 2 refl clear
 ]

@@ -11,13 +11,19 @@ use Rattle.cell_library.specs.Gates.{Takes, flop_operand_count}
 use Rattle.netlist_model.specs.declared.NetId.{NetId}
 use Rattle.netlist_model.specs.Lists.{PortView, CellView, NetlistView, live_cell, is_among, direction, IsUndriven}
 use Rattle.netlist_model.specs.Below.{IsNetBelow}
-use Rattle.netlist_arena.specs.Arena.{IsPlaceBelow, IsPortBelow}
+use Rattle.netlist_arena.specs.Arena.{HasItsOperands, IsPlaceBelow, IsPortBelow}
 
 -- a live cell names nets that are there
 pub place_at : (n : ℕ) (cells : List (Option CellView)) (i : ℕ) (cell : CellView) → All (IsPlaceBelow n) cells → live_cell (slice_get cells i) ≡ Some cell → IsPlaceBelow n (Some cell)
 place_at n [] i cell below here = absurd (cc)
 place_at n (p ∷ ps) zero cell below here = rw here at (All-head (IsPlaceBelow n) p ps below)
 place_at n (p ∷ ps) (suc i) cell below here = place_at n ps i cell (All-tail (IsPlaceBelow n) p ps below) here
+
+-- a live cell has a count of operands that its kind takes
+pub count_at : (cells : List (Option CellView)) (i : ℕ) (cell : CellView) → All HasItsOperands cells → live_cell (slice_get cells i) ≡ Some cell → HasItsOperands (Some cell)
+count_at [] i cell counts here = absurd (cc)
+count_at (p ∷ ps) zero cell counts here = rw here at (All-head HasItsOperands p ps counts)
+count_at (p ∷ ps) (suc i) cell counts here = count_at ps i cell (All-tail HasItsOperands p ps counts) here
 
 pub output_below : (n net : ℕ) (output : Option NetId) → MatchOption output (Unit {0}) (IsNetBelow n) → output ≡ Some (record { 0 = net }) → net < n
 output_below n net output below is = rw is at below

@@ -9,7 +9,7 @@ use Rattle.std.proofs.lemmas.Option.{slice_get_within, slice_get_past}
 use Rattle.list_laws.proofs.Lists.{last_push}
 use Rattle.netlist_model.specs.Lists.{CellView, NetlistView, live_cell, cell_at, cell_count}
 use Rattle.netlist_model.specs.Contained.{IsDense}
-use Rattle.netlist_arena.specs.Arena.{IsPlaceBelow, live_count}
+use Rattle.netlist_arena.specs.Arena.{HasItsOperands, IsPlaceBelow, live_count}
 use Rattle.netlist_arena.specs.Adds.{AddsCell, PutsCell}
 use Rattle.netlist_arena.specs.Moves.{RemovesCell}
 use Rattle.netlist_arena.proofs.Places.{slice_get-push_other, slice_get-set_same, slice_get-set_other}
@@ -105,6 +105,10 @@ pub puts_below : (n : ℕ) (old new : List (Option CellView)) (free number : ℕ
     → All (IsPlaceBelow n) new
 puts_below n old new free number cell (inl fills) here below = let places = fills.places in rw places (All-set (IsPlaceBelow n) old free (Some cell) here below)
 puts_below n old new free number cell (inr follows) here below = let places = follows.places in rw places (All-push (IsPlaceBelow n) old (Some cell) below here)
+
+pub puts_counts : (old new : List (Option CellView)) (free number : ℕ) (cell : CellView) → PutsCell old new free number cell → HasItsOperands (Some cell) → All HasItsOperands old → All HasItsOperands new
+puts_counts old new free number cell (inl fills) here counts = let places = fills.places in rw places (All-set HasItsOperands old free (Some cell) here counts)
+puts_counts old new free number cell (inr follows) here counts = let places = follows.places in rw places (All-push HasItsOperands old (Some cell) counts here)
 
 -- a cell whose place was emptied
 pub emptied : (N : NetlistView) (number : ℕ) → IsSome (cell_at N number) → number < length N.cells → RemovesCell N (record N { cells = set N.cells number None }) number

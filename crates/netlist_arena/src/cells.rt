@@ -2,7 +2,7 @@ ghost use Rattle.std.specs.Prelude.{◌≡◌, ℕ, ◌+◌, ◌-◌, ◌^◌, �
 ghost use Rattle.cell_library.specs.Gates.{Takes};
 ghost use Rattle.netlist_model.specs.Lists.{CellView, cell_at, cell_count};
 ghost use Rattle.netlist_model.specs.Below.{AreFeedsBelow, IsFeedBelow, IsNetBelow};
-ghost use Rattle.netlist_arena.specs.Arena.{IsPlaceBelow};
+ghost use Rattle.netlist_arena.specs.Arena.{HasItsOperands, IsPlaceBelow};
 ghost use Rattle.netlist_arena.specs.Adds.{CanDrive, AddsCell, PutsCell};
 ghost use Rattle.netlist_arena.specs.Looks.{IsLive, feed_at};
 
@@ -44,6 +44,7 @@ impl Netlist {
 
     /// Adds a cell of any count of operands, which takes one spare cell and, past four operands, memory. Without
     /// memory nothing changes.
+    #[tactic(auto, using(crate::proofs::Growth::takes_few))]
     pub fn add_wide_cell(
         &mut self,
         kind: Kind,
@@ -76,6 +77,7 @@ impl Netlist {
     fn place_cell(&mut self, cell: Cell) -> CellId
         requires room { 0 < self.old.spare.cells }
         requires below { IsPlaceBelow (length self.old.lists.nets) (Some cell) }
+        requires count { HasItsOperands (Some cell) }
         requires free { CanDrive self.old.lists cell.output }
         ensures added { AddsCell self.old.lists self.new.lists result.0 cell }
         ensures spare { self.new.spare ≡ record self.old.spare { cells = self.old.spare.cells - 1 } }
@@ -87,11 +89,12 @@ impl Netlist {
     }
 
     // The live cell with this number.
-    #[tactic(auto, using(crate::proofs::Growth::place_at))]
+    #[tactic(auto, using(crate::proofs::Growth::place_at, crate::proofs::Growth::count_at))]
     pub(crate) fn cell(&self, id: CellId) -> &Cell
         requires { IsLive self.now.lists id.0 }
         ensures found { cell_at self.now.lists id.0 ≡ Some result.now }
         ensures below { IsPlaceBelow (length self.now.lists.nets) (Some result.now) }
+        ensures count { HasItsOperands (Some result.now) }
     {
         match &self.cells[id.0 as usize] {
             Some(cell) => cell,
@@ -153,9 +156,9 @@ impl Netlist {
     }
 
     /// How many operands a cell has: one of the counts that its kind takes.
-    #[tactic(auto, using(crate::proofs::Growth::takes_few))]
     pub fn feed_count(&self, cell: CellId) -> u32
         requires { IsLive self.now.lists cell.0 }
+        ensures few { result ≤ 256 }
         ensures takes { IfSome (cell_at self.now.lists cell.0) (λ found. Takes found.kind result) }
         ensures count { option_map (λ (found : CellView). length found.feeds)
             (cell_at self.now.lists cell.0) ≡ Some result }

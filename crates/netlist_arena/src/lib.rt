@@ -68,8 +68,7 @@ struct Cell {
 }
 
 impl Model for Cell {
-    ghost use Rattle.std.specs.Prelude.{length};
-    ghost use Rattle.cell_library.specs.Gates.{Takes};
+    ghost use Rattle.std.specs.Prelude.{◌≤◌, length};
     ghost use Rattle.netlist_model.specs.Lists.{CellView};
 
     ghost Value = { CellView };
@@ -81,7 +80,7 @@ impl Model for Cell {
       output = c.output;
     } };
 
-    ghost invariant = { λ c. Takes c.kind (length c.feeds.items) };
+    ghost invariant = { λ c. length c.feeds.items ≤ 256 };
 }
 
 /// A netlist, with room for what will be added. The number of a net or a port is its place in its list. A cell
@@ -103,7 +102,7 @@ pub struct Netlist {
 
 impl Model for Netlist {
     ghost use Rattle.std.specs.Prelude.{◌≡◌, ◌+◌, ◌<◌, ◌^◌, length, vec_len, vec_capacity, All};
-    ghost use Rattle.netlist_arena.specs.Arena.{ArenaView, HasRoom, IsPlaceBelow, IsPortBelow, HasSingleDrivers, live_count, bit_count};
+    ghost use Rattle.netlist_arena.specs.Arena.{ArenaView, HasRoom, HasItsOperands, IsPlaceBelow, IsPortBelow, HasSingleDrivers, live_count, bit_count};
     ghost use Rattle.netlist_arena.specs.Walks.{walks_from};
 
     ghost Value = { ArenaView };
@@ -123,6 +122,7 @@ impl Model for Netlist {
       live_are : n.live ≡ live_count n.cells.items;
       ports_below : All (IsPortBelow (length n.nets.items)) n.ports.items;
       cells_below : All (IsPlaceBelow (length n.nets.items)) n.cells.items;
+      counts : All HasItsOperands n.cells.items;
       driven_once : HasSingleDrivers n.cells.items;
     } };
 }

@@ -1,17 +1,12 @@
 -- What the kinds of items are, and which faults a module without faults of its text has not.
-use Rattle.std.proofs.Common.{◌≡◌, ℕ, Bool, true, false, List, refl, ap, sym, ◌⊎◌, inl, inr, Option, Some, None}
-use Rattle.std.specs.Prelude.{slice_get, if◌then◌else◌}
-use Rattle.std.specs.Str.{bytes_eq}
-use Rattle.std.proofs.lemmas.Option.{same_Some}
-use Rattle.std.specs.Prelude.{codes}
+use Rattle.std.proofs.Common.{◌≡◌, ℕ, true, false, List, refl, ◌⊎◌, inl, inr, Option, Some, None}
+use Rattle.std.specs.Prelude.{slice_get, IsSome}
 use Rattle.list_laws.proofs.Options.{or_else-parts, first_in-at}
 use Rattle.cell_library.specs.declared.Kind.{Kind}
 use Rattle.cell_library.specs.declared.Kind.TheVariants as kind
-use Rattle.cell_library.specs.declared.FlopKind.{FlopKind}
-use Rattle.cell_library.specs.declared.Edge.TheVariants.{Rise, Fall}
-use Rattle.cell_library.specs.declared.ResetTo.TheVariants.{Nothing, Zero as ToZero, One as ToOne}
 use Rattle.cell_library.specs.Gates.{is_flop}
 use Rattle.cell_library.specs.Library.{cell_name, kind_named}
+use Rattle.cell_library.proofs.NameLaws.{found_has_name}
 use Rattle.verilog_tree.specs.declared.tree.GateKind.{GateKind}
 use Rattle.verilog_tree.specs.declared.tree.GateKind.TheVariants as gate
 use Rattle.verilog_tree.specs.declared.tree.Item.{Item}
@@ -51,27 +46,13 @@ gate_no_assign gate.Bufif1 e = cc
 abbrev pub IsLibraryKind : Kind → Type 0
 IsLibraryKind k = (is_flop k ≡ true) ⊎ (k ≡ kind.Mux2)
 
-abbrev flop : FlopKind → Option Kind
-flop k = Some (kind.Flop k)
-
-some_flop : (f : FlopKind) (k : Kind) → flop f ≡ Some k → IsLibraryKind k
-some_flop f k e = let same : kind.Flop f ≡ k = same_Some (kind.Flop f) k e in inl (ap is_flop (sym same))
-
-chosen : (a b c d e f g : Bool) (x y z u v w : FlopKind) (k : Kind)
-    → (if a then Some kind.Mux2 else if b then flop x else if c then flop y else if d then flop z else if e then flop u else if f then flop v else if g then flop w else None) ≡ Some k → IsLibraryKind k
-chosen true b c d e f g x y z u v w k is = let same : kind.Mux2 ≡ k = same_Some kind.Mux2 k is in inr (sym same)
-chosen false true c d e f g x y z u v w k is = some_flop x k is
-chosen false false true d e f g x y z u v w k is = some_flop y k is
-chosen false false false true e f g x y z u v w k is = some_flop z k is
-chosen false false false false true f g x y z u v w k is = some_flop u k is
-chosen false false false false false true g x y z u v w k is = some_flop v k is
-chosen false false false false false false true x y z u v w k is = some_flop w k is
-chosen false false false false false false false x y z u v w k is = absurd (cc)
+named_kind : (k : Kind) → IsSome (cell_name k) → IsLibraryKind k
+named_kind kind.Mux2 named = inr refl
+named_kind (kind.Flop flop) named = inl refl
+named_kind k named = absurd (let no : false ≡ true = named in cc)
 
 pub library_kind : (name : List ℕ) (k : Kind) → kind_named name ≡ Some k → IsLibraryKind k
-library_kind name k e =
-    chosen (bytes_eq name (codes "MUX2")) (bytes_eq name (codes "DFF")) (bytes_eq name (codes "DFFN")) (bytes_eq name (codes "DFFR")) (bytes_eq name (codes "DFFNR")) (bytes_eq name (codes "DFFS")) (bytes_eq name (codes "DFFNS"))
-    (record { edge = Rise; reset = Nothing }) (record { edge = Fall; reset = Nothing }) (record { edge = Rise; reset = ToZero }) (record { edge = Fall; reset = ToZero }) (record { edge = Rise; reset = ToOne }) (record { edge = Fall; reset = ToOne }) k e
+library_kind name k e = named_kind k (found_has_name name k e)
 
 -- No fault.
 

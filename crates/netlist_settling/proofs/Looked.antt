@@ -1,6 +1,6 @@
 -- What was looked up of a cell makes its turn, its step and its drive.
 use Rattle.std.proofs.Common.{◌≡◌, ℕ, zero, suc, ◌+◌, ◌<◌, ◌≤◌, true, false, List, [], ◌∷◌, length, map, take, set, refl, arith, Option, Some, None, add-one}
-use Rattle.std.specs.Option.{option_map, option_and_then, IsSome, IfSome}
+use Rattle.std.specs.Option.{option_map, option_and_then}
 use Rattle.std.specs.List.{slice_get}
 use Rattle.netlist_laws.specs.Runs.{kind_next, cell_next}
 use Rattle.signal_values.specs.declared.Sig.{Sig}
@@ -9,7 +9,7 @@ use Rattle.signal_values.specs.Values.{pin_of}
 use Rattle.cell_library.specs.declared.Kind.{Kind}
 use Rattle.cell_library.specs.declared.Kind.TheVariants.{Flop}
 use Rattle.cell_library.specs.declared.FlopKind.{FlopKind}
-use Rattle.cell_library.specs.Gates.{is_flop, Takes}
+use Rattle.cell_library.specs.Gates.{is_flop}
 use Rattle.cell_library.specs.Flops.{flop_next}
 use Rattle.netlist_model.specs.declared.NetId.{NetId}
 use Rattle.netlist_model.specs.declared.CellId.{CellId}
@@ -17,7 +17,6 @@ use Rattle.netlist_model.specs.declared.Dir.{Dir}
 use Rattle.netlist_model.specs.declared.Feed.{Feed}
 use Rattle.netlist_model.specs.Lists.{CellView, NetlistView, cell_at}
 use Rattle.netlist_model.specs.Settled.{feed_values, cell_drive, drive_by, driver_of}
-use Rattle.netlist_arena.proofs.Growth.{takes_few}
 use Rattle.netlist_settling.specs.Values.{value_at, feeds_of}
 use Rattle.netlist_settling.specs.Passes.{driven_value, after_turn}
 use Rattle.netlist_settling.specs.Tables.{IsDriverOf}
@@ -42,11 +41,6 @@ gathered_next f xs k x y buffer at is room so_far = rw (add-one k) (gathered_suc
 pub feed_there : (found : Option CellView) (place : ℕ) (feed : Feed) → option_and_then (λ (cell : CellView). slice_get cell.feeds place) found ≡ Some feed → slice_get (feeds_of found) place ≡ Some feed
 feed_there None place feed at = absurd (cc)
 feed_there (Some cell) place feed at = at
-
--- no cell has more than 256 operands
-pub count_few : (found : Option CellView) (count : ℕ) → IsSome found → IfSome found (λ cell. Takes cell.kind count) → count ≤ 256
-count_few None count live takes = absurd (let none : false ≡ true = live in cc)
-count_few (Some cell) count live takes = takes_few cell.kind count takes
 
 -- a cell that isn't connected changes no net
 pub turn_none : (found : Option CellView) (sides : ℕ → Option Dir) (pins : ℕ → PinSig) (kept : Sig) (values : List Sig) → option_map (λ (cell : CellView). cell.output) found ≡ Some None

@@ -48,7 +48,6 @@ fn value_of(values: &[Sig], feed: Feed) -> Sig
 }
 
 /// Puts the values of a cell's operands in order at the front of a buffer, and answers how many they are.
-#[tactic(auto, using(netlist_arena::proofs::Growth::takes_few))]
 pub(crate) fn gather(netlist: &Netlist, cell: CellId, values: &[Sig], buffer: &mut [Sig]) -> usize
     requires live { IsLive netlist.now.lists cell.0 }
     requires room { length buffer.old ≡ 256 }

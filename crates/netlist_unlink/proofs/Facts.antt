@@ -6,10 +6,10 @@ use Rattle.std.proofs.Math.Seq.{take-length}
 use Rattle.verilog_tree.specs.declared.tree.GateKind.{GateKind}
 use Rattle.cell_library.specs.declared.Kind.{Kind}
 use Rattle.cell_library.specs.declared.Kind.TheVariants as kind
-use Rattle.cell_library.specs.declared.ResetTo.{ResetTo}
-use Rattle.cell_library.specs.declared.ResetTo.TheVariants.{Nothing, Zero as ToZero, One as ToOne}
 use Rattle.cell_library.specs.Gates.{is_flop, Takes}
 use Rattle.cell_library.specs.Library.{cell_name, operand_ports}
+use Rattle.cell_library.specs.Ports.{HasPorts}
+use Rattle.cell_library.proofs.PortLaws.{named_cells_have_ports, taken_ports}
 use Rattle.netlist_model.specs.declared.Feed.{Feed}
 use Rattle.netlist_model.specs.declared.Name.{Name}
 use Rattle.netlist_model.specs.declared.Name.TheVariants.{Original, Added}
@@ -46,18 +46,7 @@ port_not_added table N p number named at = go (slice_get N.ports p) refl at
 
 pub gate_no_flop : (k : Kind) (gate : GateKind) → gate_of k ≡ Some gate → is_flop k ≡ false
 gate_no_flop (kind.Flop flop) gate e = absurd (cc)
-gate_no_flop kind.And gate e = refl
-gate_no_flop kind.Or gate e = refl
-gate_no_flop kind.Nand gate e = refl
-gate_no_flop kind.Nor gate e = refl
-gate_no_flop kind.Xor gate e = refl
-gate_no_flop kind.Xnor gate e = refl
-gate_no_flop kind.Buf gate e = refl
-gate_no_flop kind.Not gate e = refl
-gate_no_flop kind.Bufif0 gate e = refl
-gate_no_flop kind.Bufif1 gate e = refl
-gate_no_flop kind.Assign gate e = refl
-gate_no_flop kind.Mux2 gate e = refl
+gate_no_flop k gate e = refl
 
 pub gate_no_mux : (k : Kind) (gate : GateKind) → gate_of k ≡ Some gate → k ≡ kind.Mux2 → ⊥
 gate_no_mux k gate e is = let bad : None ≡ Some gate = ap gate_of (sym is) ∙ e in cc
@@ -96,25 +85,12 @@ instance_named table N i k library named live is known = go (cell_at N i) refl l
     go None e live is = absurd (cc)
     go (Some cell) e live is = let at : cell_name cell.kind ≡ Some library = ap cell_name is ∙ known in named.library_named i cell e (rw at refl)
 
+-- a cell that has a name has its ports
+pub library_ports : (k : Kind) (library : List ℕ) → cell_name k ≡ Some library → HasPorts k
+library_ports k library known = named_cells_have_ports k (rw known refl)
+
 pub library_count : (k : Kind) (library : List ℕ) (count : ℕ) → cell_name k ≡ Some library → Takes k count → count ≡ length (operand_ports k)
-library_count kind.Mux2 library count known takes = takes
-library_count (kind.Flop flop) library count known takes = by_reset flop.reset refl
-  where
-    by_reset : (r : ResetTo) → flop.reset ≡ r → count ≡ length (operand_ports (kind.Flop flop))
-    by_reset Nothing e = rw e (rw e at takes)
-    by_reset ToZero e = rw e (rw e at takes)
-    by_reset ToOne e = rw e (rw e at takes)
-library_count kind.And library count known takes = absurd (cc)
-library_count kind.Or library count known takes = absurd (cc)
-library_count kind.Nand library count known takes = absurd (cc)
-library_count kind.Nor library count known takes = absurd (cc)
-library_count kind.Xor library count known takes = absurd (cc)
-library_count kind.Xnor library count known takes = absurd (cc)
-library_count kind.Buf library count known takes = absurd (cc)
-library_count kind.Not library count known takes = absurd (cc)
-library_count kind.Bufif0 library count known takes = absurd (cc)
-library_count kind.Bufif1 library count known takes = absurd (cc)
-library_count kind.Assign library count known takes = absurd (cc)
+library_count k library count known takes = taken_ports k count (library_ports k library known) takes
 
 pub instance_ports : (N : NetlistView) (i : ℕ) (k : Kind) (library : List ℕ) → IsWellFormed N → IsSome (cell_at N i) → IfSome (cell_at N i) (λ (found : CellView). found.kind ≡ k)
     → cell_name k ≡ Some library → length (feeds_of (cell_at N i)) ≤ length (operand_ports k)

@@ -1,18 +1,15 @@
 -- An item keeps its cell's kind, name and count of operands.
 use Rattle.std.proofs.Common.{◌≡◌, ℕ, List, [], ◌++◌, length, map, refl, ap, sym, ◌∙◌, subst, Option, Some, None, arith}
-use Rattle.std.specs.Prelude.{IsSome, unwrap_or, codes}
+use Rattle.std.specs.Prelude.{IsSome, unwrap_or}
 use Rattle.std.specs.Option.{option_map}
 use Rattle.std.proofs.lemmas.List.{length-map}
 use Rattle.verilog_tree.specs.declared.tree.GateKind.{GateKind}
 use Rattle.verilog_tree.specs.declared.tree.GateKind.TheVariants as gate
 use Rattle.cell_library.specs.declared.Kind.{Kind}
 use Rattle.cell_library.specs.declared.Kind.TheVariants as kind
-use Rattle.cell_library.specs.declared.Edge.{Edge}
-use Rattle.cell_library.specs.declared.Edge.TheVariants.{Rise, Fall}
-use Rattle.cell_library.specs.declared.ResetTo.{ResetTo}
-use Rattle.cell_library.specs.declared.ResetTo.TheVariants.{Nothing, Zero as ToZero, One as ToOne}
 use Rattle.cell_library.specs.Gates.{Takes}
-use Rattle.cell_library.specs.Library.{cell_name, flop_name, kind_named, operand_ports, output_port}
+use Rattle.cell_library.specs.Library.{cell_name, kind_named, operand_ports, output_port}
+use Rattle.cell_library.proofs.NameLaws.{named_is_found}
 use Rattle.netlist_model.specs.declared.Name.{Name}
 use Rattle.netlist_model.specs.Lists.{CellView, NetlistView, cell_at}
 use Rattle.netlist_model.specs.Formed.{IsWellFormed}
@@ -39,29 +36,6 @@ gate_back kind.Assign g e = absurd (cc)
 gate_back kind.Mux2 g e = absurd (cc)
 gate_back (kind.Flop flop) g e = absurd (cc)
 
-flop_back : (edge : Edge) (reset : ResetTo) → kind_named (flop_name edge reset) ≡ Some (kind.Flop (record { edge = edge; reset = reset }))
-flop_back Rise Nothing = refl
-flop_back Fall Nothing = refl
-flop_back Rise ToZero = refl
-flop_back Fall ToZero = refl
-flop_back Rise ToOne = refl
-flop_back Fall ToOne = refl
-
-pub library_back : (k : Kind) (library : List ℕ) → cell_name k ≡ Some library → kind_named library ≡ Some k
-library_back kind.Mux2 library e = let same : codes "MUX2" ≡ library = cc in ap kind_named (sym same)
-library_back (kind.Flop flop) library e = let same : flop_name flop.edge flop.reset ≡ library = cc in ap kind_named (sym same) ∙ flop_back flop.edge flop.reset
-library_back kind.And library e = absurd (cc)
-library_back kind.Or library e = absurd (cc)
-library_back kind.Nand library e = absurd (cc)
-library_back kind.Nor library e = absurd (cc)
-library_back kind.Xor library e = absurd (cc)
-library_back kind.Xnor library e = absurd (cc)
-library_back kind.Buf library e = absurd (cc)
-library_back kind.Not library e = absurd (cc)
-library_back kind.Bufif0 library e = absurd (cc)
-library_back kind.Bufif1 library e = absurd (cc)
-library_back kind.Assign library e = absurd (cc)
-
 kept_gate : (names : List (List ℕ × Declared)) (naming : Naming) (i : ℕ) (cell : CellView) (g : GateKind) (library : Option (List ℕ)) → gate_of cell.kind ≡ Some g
     → IsKept naming i cell (cell_of names (written naming i cell (Some g) library))
 kept_gate names naming i cell g library is = record {
@@ -77,7 +51,7 @@ some_text naming i (Some name) some = refl
 kept_instance : (names : List (List ℕ × Declared)) (N : NetlistView) (naming : Naming) (i : ℕ) (cell : CellView) (library : List ℕ) → IsWellNamed naming.table N → IsWellFormed N → cell_at N i ≡ Some cell
     → cell_name cell.kind ≡ Some library → IsKept naming i cell (cell_of names (written naming i cell None (Some library)))
 kept_instance names N naming i cell library named formed at is =
-    let back : unwrap_or (kind_named library) kind.Buf ≡ cell.kind = ap (λ (o : Option Kind). unwrap_or o kind.Buf) (library_back cell.kind library is) in
+    let back : unwrap_or (kind_named library) kind.Buf ≡ cell.kind = ap (λ (o : Option Kind). unwrap_or o kind.Buf) (named_is_found cell.kind library is) in
     record {
       kind = back;
       name = some_text naming i cell.name (named.library_named i cell at (rw is refl));

@@ -18,6 +18,7 @@ pub mod WireRows
 pub mod Nets
 pub mod Keys
 pub mod Bits
+pub mod PortLinks
 pub mod NewCells
 pub mod NoFaults
 pub mod Denotes

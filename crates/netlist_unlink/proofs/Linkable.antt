@@ -1,6 +1,6 @@
 -- The tree of a linked netlist can be linked again, where nothing is too many.
-use Rattle.std.proofs.Common.{◌≡◌, ℕ, zero, suc, ◌+◌, ◌<◌, ◌⊎◌, inl, inr, true, false, List, [], ◌∷◌, ◌++◌, length, map, refl, ap, sym, ◌∙◌, subst, Option, Some, None, arith}
-use Rattle.std.specs.Prelude.{slice_get, unwrap_or, option_and_then, codes}
+use Rattle.std.proofs.Common.{◌≡◌, ℕ, zero, suc, ◌+◌, ◌<◌, ◌⊎◌, inl, inr, Bool, true, false, List, [], ◌∷◌, length, map, refl, ap, sym, ◌∙◌, subst, Option, Some, None, arith}
+use Rattle.std.specs.Prelude.{slice_get, unwrap_or, option_and_then, if◌then◌else◌}
 use Rattle.std.specs.Option.{option_map}
 use Rattle.std.specs.List.{flat_map}
 use Rattle.std.proofs.lemmas.Option.{same_Some, slice_get-map}
@@ -8,20 +8,17 @@ use Rattle.verilog_tree.specs.declared.tree.GateKind.{GateKind}
 use Rattle.verilog_tree.specs.declared.tree.Instance.{Instance}
 use Rattle.verilog_tree.specs.declared.tree.Link.{Link}
 use Rattle.verilog_tree.specs.declared.tree.Module.{Module}
-use Rattle.cell_library.specs.declared.Edge.{Edge}
 use Rattle.cell_library.specs.declared.Kind.{Kind}
-use Rattle.cell_library.specs.declared.Kind.TheVariants as kind
-use Rattle.cell_library.specs.declared.ResetTo.{ResetTo}
-use Rattle.cell_library.specs.declared.ResetTo.TheVariants.{Nothing, Zero as ToZero, One as ToOne}
-use Rattle.cell_library.specs.Gates.{flop_of, is_flop, is_three_state}
-use Rattle.cell_library.specs.Library.{cell_name, flop_ports, operand_ports, output_port}
+use Rattle.cell_library.specs.Gates.{is_flop, is_three_state}
+use Rattle.cell_library.specs.Library.{cell_name, operand_ports, output_port}
+use Rattle.cell_library.proofs.NameLaws.{named_is_found}
 use Rattle.netlist_model.specs.declared.Dir.{Dir}
 use Rattle.netlist_model.specs.declared.Dir.TheVariants.{Input, Output, Inout}
 use Rattle.netlist_model.specs.declared.Feed.{Feed}
 use Rattle.netlist_model.specs.declared.Feed.TheVariants.{Net, Const}
 use Rattle.netlist_model.specs.declared.NetId.{NetId}
 use Rattle.netlist_model.specs.Lists.{CellView, Drives, NetlistView, Reads, cell_at, direction, live_cell}
-use Rattle.netlist_model.specs.Formed.{FeedsBelow, IsCombinational, IsDriven, IsLaidOut, IsWellFormed}
+use Rattle.netlist_model.specs.Formed.{IsCombinational, IsDriven, IsLaidOut, IsWellFormed}
 use Rattle.netlist_model.specs.Cones as cone
 use Rattle.netlist_model.specs.Cones.InCone.{itself, behind}
 use Rattle.link_model.specs.Lists.{or_else}
@@ -34,17 +31,17 @@ use Rattle.link_model.specs.Late.InCone.{itself as late_itself, behind as late_b
 use Rattle.link_model.specs.Late.{ControlLink, IsDerivedAt, IsLinkable, IsLoop, bit_links, control_links, flop_links, item_links}
 use Rattle.link_drivers.specs.Drivers.{DrivesNet, HasDriver, HasItsDrivers, ReadsNet, dir_at}
 use Rattle.netlist_link.specs.Linked.{LinkedView}
+use Rattle.netlist_link.proofs.Cones.{flop_kind}
 use Rattle.netlist_link.proofs.Drivers.{no_driver_fault}
 use Rattle.netlist_link.proofs.Loops.{IsRising, feeds_lower, no_loop}
-use Rattle.netlist_unlink.specs.Trees.{Naming, bit_of, cell_text, gate_of, item_of, items_from, naming_of, operand_of, tree_of, written}
+use Rattle.netlist_unlink.specs.Trees.{Naming, bit_of, cell_text, gate_of, item_of, items_from, naming_of, tree_of, written}
 use Rattle.netlist_unlink.specs.Renumbered.{IsEachOnce, cells_from, named_net, net_order, new_cell, new_feed, new_net, passed_limit, place_of, renumbered}
 use Rattle.netlist_unlink.proofs.Bits.{bit_found, each_once}
 use Rattle.netlist_unlink.proofs.Denotes.{denotes, text_is}
-use Rattle.netlist_unlink.proofs.Facts.{library_count}
+use Rattle.netlist_unlink.proofs.Facts.{library_ports}
 use Rattle.netlist_unlink.proofs.Keys.{CanName}
-use Rattle.netlist_unlink.proofs.Kept.{library_back}
-use Rattle.netlist_unlink.proofs.Members.{IsIn, joined_source, mapped_source}
-use Rattle.netlist_unlink.proofs.NewCells.{links_of}
+use Rattle.netlist_unlink.proofs.Members.{joined_source, mapped_source}
+use Rattle.netlist_unlink.proofs.PortLinks.{control_of, control_operand, control_place, links_of}
 
 -- Live cells with their numbers.
 
@@ -348,60 +345,8 @@ not_derived naming N order root root_old w at operand d = go (cone_old naming N 
 
 -- Clocks, clears and presets.
 
--- a link of a flip-flop's clock, clear or preset comes from an operand
-record IsOperandLink (naming : Naming) (names : List (List ℕ × Declared)) (feeds : List Feed) (link : ControlLink) : Type 0 where
-  net : NetId
-  operand : (slice_get feeds 1 ≡ Some (Net net)) ⊎ (slice_get feeds 2 ≡ Some (Net net))
-  is : link.net ≡ (net_of names (bit_of naming net)).0
-
--- the first of the links is that of an operand, or a later one is meant
-from_feed : (naming : Naming) (names : List (List ℕ × Declared)) (flop : List ℕ) (feed : Feed) (rest : List ControlLink) (j : ℕ) (link : ControlLink)
-    → slice_get (bit_links flop names (Some (operand_of naming feed)) ++ rest) j ≡ Some link → ((net : NetId) × (feed ≡ Net net) × (link.net ≡ (net_of names (bit_of naming net)).0)) ⊎ IsIn link rest
-from_feed naming names flop (Const value) rest j link at = inr (j, at)
-from_feed naming names flop (Net net) rest zero link at = inl (net, refl, ap (λ (l : ControlLink). l.net) (sym (same_Some (record { flop = flop; net = (net_of names (bit_of naming net)).0 }) link at)))
-from_feed naming names flop (Net net) rest (suc j) link at = inr (j, at)
-
-one_operand : (naming : Naming) (names : List (List ℕ × Declared)) (flop : List ℕ) (a b : Feed) (feeds : List Feed) (j : ℕ) (link : ControlLink)
-    → slice_get (bit_links flop names (Some (operand_of naming b)) ++ []) j ≡ Some link → IsOperandLink naming names (a ∷ b ∷ feeds) link
-one_operand naming names flop a b feeds j link at = elim (from_feed naming names flop b [] j link at) [
-  | inl here ↦ record { net = here.0; operand = inl (ap (λ (f : Feed). Some f) here.1); is = here.2 }
-  | inr none ↦ absurd (let bad : None ≡ Some link = none.1 in cc)
-]
-
-two_operands : (naming : Naming) (names : List (List ℕ × Declared)) (flop : List ℕ) (a b c : Feed) (feeds : List Feed) (j : ℕ) (link : ControlLink)
-    → slice_get (bit_links flop names (Some (operand_of naming b)) ++ (bit_links flop names (Some (operand_of naming c)) ++ [])) j ≡ Some link → IsOperandLink naming names (a ∷ b ∷ c ∷ feeds) link
-two_operands naming names flop a b c feeds j link at =
-    elim (from_feed naming names flop b (bit_links flop names (Some (operand_of naming c)) ++ []) j link at) [
-      | inl here ↦ record { net = here.0; operand = inl (ap (λ (f : Feed). Some f) here.1); is = here.2 }
-      | inr later ↦ elim (from_feed naming names flop c [] later.0 link later.1) [
-        | inl here ↦ record { net = here.0; operand = inr (ap (λ (f : Feed). Some f) here.1); is = here.2 }
-        | inr none ↦ absurd (let bad : None ≡ Some link = none.1 in cc)
-      ]
-    ]
-
 abbrev instance_as : List ℕ → List ℕ → List Link → Instance
 instance_as library name links = record { cell = library; name = name; links = links }
-
-flop_operand : (naming : Naming) (names : List (List ℕ × Declared)) (library name : List ℕ) (edge : Edge) (reset : ResetTo) (feeds : List Feed) (output : Option NetId) (j : ℕ) (link : ControlLink) → length feeds ≡ length (flop_ports reset)
-    → slice_get (flop_links names (instance_as library name (links_of naming (flop_ports reset) (Some (codes "Q")) feeds output)) (Some (kind.Flop (record { edge = edge; reset = reset })))) j ≡ Some link
-    → IsOperandLink naming names feeds link
-flop_operand naming names library name edge Nothing [] output j link e at = absurd (omega arith)
-flop_operand naming names library name edge Nothing (a ∷ []) output j link e at = absurd (omega arith)
-flop_operand naming names library name edge Nothing (a ∷ b ∷ []) None j link e at = one_operand naming names name a b [] j link at
-flop_operand naming names library name edge Nothing (a ∷ b ∷ []) (Some net) j link e at = one_operand naming names name a b [] j link at
-flop_operand naming names library name edge Nothing (a ∷ b ∷ c ∷ feeds) output j link e at = absurd (omega arith)
-flop_operand naming names library name edge ToZero [] output j link e at = absurd (omega arith)
-flop_operand naming names library name edge ToZero (a ∷ []) output j link e at = absurd (omega arith)
-flop_operand naming names library name edge ToZero (a ∷ b ∷ []) output j link e at = absurd (omega arith)
-flop_operand naming names library name edge ToZero (a ∷ b ∷ c ∷ []) None j link e at = two_operands naming names name a b c [] j link at
-flop_operand naming names library name edge ToZero (a ∷ b ∷ c ∷ []) (Some net) j link e at = two_operands naming names name a b c [] j link at
-flop_operand naming names library name edge ToZero (a ∷ b ∷ c ∷ d ∷ feeds) output j link e at = absurd (omega arith)
-flop_operand naming names library name edge ToOne [] output j link e at = absurd (omega arith)
-flop_operand naming names library name edge ToOne (a ∷ []) output j link e at = absurd (omega arith)
-flop_operand naming names library name edge ToOne (a ∷ b ∷ []) output j link e at = absurd (omega arith)
-flop_operand naming names library name edge ToOne (a ∷ b ∷ c ∷ []) None j link e at = two_operands naming names name a b c [] j link at
-flop_operand naming names library name edge ToOne (a ∷ b ∷ c ∷ []) (Some net) j link e at = two_operands naming names name a b c [] j link at
-flop_operand naming names library name edge ToOne (a ∷ b ∷ c ∷ d ∷ feeds) output j link e at = absurd (omega arith)
 
 -- an operand of a flip-flop of the netlist
 record IsControlOf (naming : Naming) (names : List (List ℕ × Declared)) (N : NetlistView) (link : ControlLink) : Type 0 where
@@ -409,31 +354,27 @@ record IsControlOf (naming : Naming) (names : List (List ℕ × Declared)) (N : 
   operand : cone.FlopReads N 1 net.0 ⊎ cone.FlopReads N 2 net.0
   is : link.net ≡ (net_of names (bit_of naming net)).0
 
-library_operand : (naming : Naming) (names : List (List ℕ × Declared)) (N : NetlistView) (i : ℕ) (cell : CellView) (k : Kind) (library name : List ℕ) (j : ℕ) (link : ControlLink) → cell_at N i ≡ Some cell → cell.kind ≡ k
-    → cell_name k ≡ Some library → length cell.feeds ≡ length (operand_ports k)
-    → slice_get (flop_links names (instance_as library name (links_of naming (operand_ports k) (output_port k) cell.feeds cell.output)) (Some k)) j ≡ Some link → IsControlOf naming names N link
-library_operand naming names N i cell (kind.Flop flop) library name j link live is known count at =
-    let o = flop_operand naming names library name flop.edge flop.reset cell.feeds cell.output j link count at in
-    record {
-      net = o.net;
-      operand = elim o.operand [
-        | inl one ↦ inl (record { number = i; cell = cell; kind = flop; flop = ap flop_of is; reads = record { live = live; operand = one } })
-        | inr two ↦ inr (record { number = i; cell = cell; kind = flop; flop = ap flop_of is; reads = record { live = live; operand = two } })
-      ];
-      is = o.is;
-    }
-library_operand naming names N i cell kind.Mux2 library name j link live is known count at = absurd (let bad : None ≡ Some link = at in cc)
-library_operand naming names N i cell kind.And library name j link live is known count at = absurd (cc)
-library_operand naming names N i cell kind.Or library name j link live is known count at = absurd (cc)
-library_operand naming names N i cell kind.Nand library name j link live is known count at = absurd (cc)
-library_operand naming names N i cell kind.Nor library name j link live is known count at = absurd (cc)
-library_operand naming names N i cell kind.Xor library name j link live is known count at = absurd (cc)
-library_operand naming names N i cell kind.Xnor library name j link live is known count at = absurd (cc)
-library_operand naming names N i cell kind.Buf library name j link live is known count at = absurd (cc)
-library_operand naming names N i cell kind.Not library name j link live is known count at = absurd (cc)
-library_operand naming names N i cell kind.Bufif0 library name j link live is known count at = absurd (cc)
-library_operand naming names N i cell kind.Bufif1 library name j link live is known count at = absurd (cc)
-library_operand naming names N i cell kind.Assign library name j link live is known count at = absurd (cc)
+library_operand : (naming : Naming) (names : List (List ℕ × Declared)) (N : NetlistView) (i : ℕ) (cell : CellView) (library name : List ℕ) (j : ℕ) (link : ControlLink) → cell_at N i ≡ Some cell
+    → cell_name cell.kind ≡ Some library
+    → slice_get (flop_links names (instance_as library name (links_of naming (operand_ports cell.kind) (output_port cell.kind) cell.feeds cell.output)) (Some cell.kind)) j ≡ Some link → IsControlOf naming names N link
+library_operand naming names N i cell library name j link live known = by (is_flop cell.kind) refl
+  where
+    links : List ControlLink
+    links = flat_map (control_of names name cell.kind) (links_of naming (operand_ports cell.kind) (output_port cell.kind) cell.feeds cell.output)
+
+    by : (b : Bool) → is_flop cell.kind ≡ b → slice_get (if b then links else []) j ≡ Some link → IsControlOf naming names N link
+    by false gate at = absurd (let bad : None ≡ Some link = at in cc)
+    by true keeps at =
+        let flop = flop_kind cell.kind keeps in
+        let o = control_operand naming names name cell.kind cell.feeds cell.output j link (library_ports cell.kind library known) at in
+        record {
+          net = o.net;
+          operand = elim (control_place o.place o.control) [
+            | inl one ↦ inl (record { number = i; cell = cell; kind = flop.0; flop = flop.1; reads = record { live = live; operand = ap (slice_get cell.feeds) (sym one) ∙ o.at } })
+            | inr two ↦ inr (record { number = i; cell = cell; kind = flop.0; flop = flop.1; reads = record { live = live; operand = ap (slice_get cell.feeds) (sym two) ∙ o.at } })
+          ];
+          is = o.is;
+        }
 
 item_operand : (naming : Naming) (names : List (List ℕ × Declared)) (N : NetlistView) (i : ℕ) (cell : CellView) (j : ℕ) (link : ControlLink) → IsWellFormed N → cell_at N i ≡ Some cell
     → slice_get (item_links names (item_of naming i cell)) j ≡ Some link → IsControlOf naming names N link
@@ -444,9 +385,9 @@ item_operand naming names N i cell j link formed live = by_gate (gate_of cell.ki
     by_library (Some library) e at =
         let text : List ℕ = unwrap_or (option_map (cell_text naming i) cell.name) [] in
         let x : Instance = instance_as library text (links_of naming (operand_ports cell.kind) (output_port cell.kind) cell.feeds cell.output) in
-        let known = library_back cell.kind library e in
+        let known = named_is_found cell.kind library e in
         let there : slice_get (flop_links names x (Some cell.kind)) j ≡ Some link = ap (λ (k : Option Kind). slice_get (flop_links names x k) j) (sym known) ∙ at in
-        library_operand naming names N i cell cell.kind library text j link live refl e (library_count cell.kind library (length cell.feeds) e (formed.counts i cell live)) there
+        library_operand naming names N i cell library text j link live e there
 
     by_gate : (g : Option GateKind) → slice_get (item_links names (written naming i cell g (cell_name cell.kind))) j ≡ Some link → IsControlOf naming names N link
     by_gate None at = by_library (cell_name cell.kind) refl at

@@ -1,16 +1,15 @@
 -- The cell of an item is the netlist's cell, with new numbers.
-use Rattle.std.proofs.Common.{◌≡◌, ℕ, suc, ◌+◌, ◌<◌, List, [], ◌∷◌, ◌++◌, length, map, refl, ap, sym, ◌∙◌, subst, Option, Some, None, arith}
-use Rattle.std.specs.Prelude.{slice_get, unwrap_or, option_and_then, codes, IsSome}
+use Rattle.std.proofs.Common.{◌≡◌, ℕ, suc, ◌+◌, ◌<◌, List, [], ◌∷◌, length, map, refl, ap, sym, ◌∙◌, subst, Option, Some, None, arith}
+use Rattle.std.specs.Prelude.{slice_get, unwrap_or, IsSome}
 use Rattle.std.specs.Option.{option_map}
 use Rattle.list_laws.proofs.Lists.{map_same}
 use Rattle.verilog_tree.specs.declared.tree.GateKind.{GateKind}
 use Rattle.verilog_tree.specs.declared.tree.Link.{Link}
 use Rattle.cell_library.specs.declared.Kind.{Kind}
 use Rattle.cell_library.specs.declared.Kind.TheVariants as kind
-use Rattle.cell_library.specs.declared.ResetTo.{ResetTo}
-use Rattle.cell_library.specs.declared.ResetTo.TheVariants.{Nothing, Zero as ToZero, One as ToOne}
 use Rattle.cell_library.specs.Gates.{Takes, is_flop}
-use Rattle.cell_library.specs.Library.{cell_name, flop_ports, kind_named, operand_ports, output_port}
+use Rattle.cell_library.specs.Library.{cell_name, kind_named, operand_ports, output_port}
+use Rattle.cell_library.proofs.NameLaws.{named_is_found}
 use Rattle.netlist_model.specs.declared.Feed.{Feed}
 use Rattle.netlist_model.specs.declared.Feed.TheVariants.{Net, Const}
 use Rattle.netlist_model.specs.declared.Name.{Name}
@@ -18,13 +17,14 @@ use Rattle.netlist_model.specs.declared.NetId.{NetId}
 use Rattle.netlist_model.specs.Lists.{CellView, NetlistView, cell_at, live_cell}
 use Rattle.netlist_model.specs.Formed.{IsLaidOut}
 use Rattle.link_model.specs.Nets.{Declared, net_of}
-use Rattle.link_model.specs.Cells.{NamedCell, cell_of, feed_of, library_cell, port_feed, port_net}
-use Rattle.netlist_unlink.specs.Trees.{Naming, bit_of, cell_text, first_operand, gate_of, item_of, items_from, operand_links, operand_of, output_bit, output_links, written}
+use Rattle.link_model.specs.Cells.{NamedCell, cell_of, feed_of, library_cell}
+use Rattle.netlist_unlink.specs.Trees.{Naming, bit_of, cell_text, first_operand, gate_of, item_of, items_from, operand_of, output_bit, written}
 use Rattle.netlist_unlink.specs.Renumbered.{cells_from, new_cell, new_feed, new_net}
-use Rattle.netlist_unlink.proofs.Facts.{gate_no_flop, gate_no_mux, library_count}
-use Rattle.netlist_unlink.proofs.Kept.{gate_back, library_back}
+use Rattle.netlist_unlink.proofs.Facts.{gate_no_flop, gate_no_mux, library_count, library_ports}
+use Rattle.netlist_unlink.proofs.Kept.{gate_back}
 use Rattle.netlist_unlink.proofs.Members.{map_twice}
 use Rattle.netlist_unlink.proofs.Nets.{AreNamed}
+use Rattle.netlist_unlink.proofs.PortLinks.{are_linked, links_of}
 use Rattle.netlist_unlink.proofs.Written.{assign_kind}
 
 -- an operand that is a net is one of the netlist's
@@ -76,89 +76,6 @@ driven : (naming : Naming) (names : List (List ℕ × Declared)) (o : Option Net
 driven naming names None some = absurd (cc)
 driven naming names (Some net) some = refl
 
--- Instances: what their links connect.
-
-abbrev pub links_of : Naming → List (List ℕ) → Option (List ℕ) → List Feed → Option NetId → List Link
-links_of naming ports out feeds output = operand_links naming ports feeds ++ output_links naming out output
-
-mux_feeds : (naming : Naming) (names : List (List ℕ × Declared)) (feeds : List Feed) (output : Option NetId) → length feeds ≡ 3
-    → map (port_feed names (links_of naming (operand_ports kind.Mux2) (output_port kind.Mux2) feeds output)) (operand_ports kind.Mux2) ≡ map (λ (f : Feed). feed_of names (operand_of naming f)) feeds
-mux_feeds naming names [] output e = absurd (omega arith)
-mux_feeds naming names (a ∷ []) output e = absurd (omega arith)
-mux_feeds naming names (a ∷ b ∷ []) output e = absurd (omega arith)
-mux_feeds naming names (a ∷ b ∷ c ∷ []) output e = refl
-mux_feeds naming names (a ∷ b ∷ c ∷ d ∷ feeds) output e = absurd (omega arith)
-
-mux_output : (naming : Naming) (names : List (List ℕ × Declared)) (feeds : List Feed) (output : Option NetId) → length feeds ≡ 3
-    → option_and_then (port_net names (links_of naming (operand_ports kind.Mux2) (output_port kind.Mux2) feeds output)) (output_port kind.Mux2) ≡ option_map (λ (net : NetId). net_of names (bit_of naming net)) output
-mux_output naming names [] output e = absurd (omega arith)
-mux_output naming names (a ∷ []) output e = absurd (omega arith)
-mux_output naming names (a ∷ b ∷ []) output e = absurd (omega arith)
-mux_output naming names (a ∷ b ∷ c ∷ []) None e = refl
-mux_output naming names (a ∷ b ∷ c ∷ []) (Some net) e = refl
-mux_output naming names (a ∷ b ∷ c ∷ d ∷ feeds) output e = absurd (omega arith)
-
-abbrev flop_output : Option (List ℕ)
-flop_output = Some (codes "Q")
-
-flop_feeds : (naming : Naming) (names : List (List ℕ × Declared)) (reset : ResetTo) (feeds : List Feed) (output : Option NetId) → length feeds ≡ length (flop_ports reset)
-    → map (port_feed names (links_of naming (flop_ports reset) flop_output feeds output)) (flop_ports reset) ≡ map (λ (f : Feed). feed_of names (operand_of naming f)) feeds
-flop_feeds naming names Nothing [] output e = absurd (omega arith)
-flop_feeds naming names Nothing (a ∷ []) output e = absurd (omega arith)
-flop_feeds naming names Nothing (a ∷ b ∷ []) output e = refl
-flop_feeds naming names Nothing (a ∷ b ∷ c ∷ feeds) output e = absurd (omega arith)
-flop_feeds naming names ToZero [] output e = absurd (omega arith)
-flop_feeds naming names ToZero (a ∷ []) output e = absurd (omega arith)
-flop_feeds naming names ToZero (a ∷ b ∷ []) output e = absurd (omega arith)
-flop_feeds naming names ToZero (a ∷ b ∷ c ∷ []) output e = refl
-flop_feeds naming names ToZero (a ∷ b ∷ c ∷ d ∷ feeds) output e = absurd (omega arith)
-flop_feeds naming names ToOne [] output e = absurd (omega arith)
-flop_feeds naming names ToOne (a ∷ []) output e = absurd (omega arith)
-flop_feeds naming names ToOne (a ∷ b ∷ []) output e = absurd (omega arith)
-flop_feeds naming names ToOne (a ∷ b ∷ c ∷ []) output e = refl
-flop_feeds naming names ToOne (a ∷ b ∷ c ∷ d ∷ feeds) output e = absurd (omega arith)
-
-flop_net : (naming : Naming) (names : List (List ℕ × Declared)) (reset : ResetTo) (feeds : List Feed) (output : Option NetId) → length feeds ≡ length (flop_ports reset)
-    → option_and_then (port_net names (links_of naming (flop_ports reset) flop_output feeds output)) flop_output ≡ option_map (λ (net : NetId). net_of names (bit_of naming net)) output
-flop_net naming names Nothing [] output e = absurd (omega arith)
-flop_net naming names Nothing (a ∷ []) output e = absurd (omega arith)
-flop_net naming names Nothing (a ∷ b ∷ []) None e = refl
-flop_net naming names Nothing (a ∷ b ∷ []) (Some net) e = refl
-flop_net naming names Nothing (a ∷ b ∷ c ∷ feeds) output e = absurd (omega arith)
-flop_net naming names ToZero [] output e = absurd (omega arith)
-flop_net naming names ToZero (a ∷ []) output e = absurd (omega arith)
-flop_net naming names ToZero (a ∷ b ∷ []) output e = absurd (omega arith)
-flop_net naming names ToZero (a ∷ b ∷ c ∷ []) None e = refl
-flop_net naming names ToZero (a ∷ b ∷ c ∷ []) (Some net) e = refl
-flop_net naming names ToZero (a ∷ b ∷ c ∷ d ∷ feeds) output e = absurd (omega arith)
-flop_net naming names ToOne [] output e = absurd (omega arith)
-flop_net naming names ToOne (a ∷ []) output e = absurd (omega arith)
-flop_net naming names ToOne (a ∷ b ∷ []) output e = absurd (omega arith)
-flop_net naming names ToOne (a ∷ b ∷ c ∷ []) None e = refl
-flop_net naming names ToOne (a ∷ b ∷ c ∷ []) (Some net) e = refl
-flop_net naming names ToOne (a ∷ b ∷ c ∷ d ∷ feeds) output e = absurd (omega arith)
-
--- operands and output of an instance's cell
-record AreLinked (naming : Naming) (names : List (List ℕ × Declared)) (k : Kind) (feeds : List Feed) (output : Option NetId) : Type 0 where
-  operands : map (port_feed names (links_of naming (operand_ports k) (output_port k) feeds output)) (operand_ports k) ≡ map (λ (f : Feed). feed_of names (operand_of naming f)) feeds
-  out : option_and_then (port_net names (links_of naming (operand_ports k) (output_port k) feeds output)) (output_port k) ≡ option_map (λ (net : NetId). net_of names (bit_of naming net)) output
-
-are_linked : (naming : Naming) (names : List (List ℕ × Declared)) (k : Kind) (library : List ℕ) (feeds : List Feed) (output : Option NetId) → cell_name k ≡ Some library → length feeds ≡ length (operand_ports k)
-    → AreLinked naming names k feeds output
-are_linked naming names kind.Mux2 library feeds output known e = record { operands = mux_feeds naming names feeds output e; out = mux_output naming names feeds output e }
-are_linked naming names (kind.Flop flop) library feeds output known e = record { operands = flop_feeds naming names flop.reset feeds output e; out = flop_net naming names flop.reset feeds output e }
-are_linked naming names kind.And library feeds output known e = absurd (cc)
-are_linked naming names kind.Or library feeds output known e = absurd (cc)
-are_linked naming names kind.Nand library feeds output known e = absurd (cc)
-are_linked naming names kind.Nor library feeds output known e = absurd (cc)
-are_linked naming names kind.Xor library feeds output known e = absurd (cc)
-are_linked naming names kind.Xnor library feeds output known e = absurd (cc)
-are_linked naming names kind.Buf library feeds output known e = absurd (cc)
-are_linked naming names kind.Not library feeds output known e = absurd (cc)
-are_linked naming names kind.Bufif0 library feeds output known e = absurd (cc)
-are_linked naming names kind.Bufif1 library feeds output known e = absurd (cc)
-are_linked naming names kind.Assign library feeds output known e = absurd (cc)
-
 -- Cells.
 
 one_feed : (naming : Naming) (names : List (List ℕ × Declared)) (feeds : List Feed) → length feeds ≡ 1
@@ -189,9 +106,9 @@ cell_is N naming order names i cell nets w named at = by_gate (gate_of cell.kind
 
     instanced : (library : List ℕ) → cell_name cell.kind ≡ Some library → gate_of cell.kind ≡ None → cell_of names (written naming i cell None (Some library)) ≡ new_cell naming order i cell
     instanced library is none =
-        let back : unwrap_or (kind_named library) kind.Buf ≡ cell.kind = ap (λ (o : Option Kind). unwrap_or o kind.Buf) (library_back cell.kind library is) in
+        let back : unwrap_or (kind_named library) kind.Buf ≡ cell.kind = ap (λ (o : Option Kind). unwrap_or o kind.Buf) (named_is_found cell.kind library is) in
         let count = library_count cell.kind library (length cell.feeds) is (w.formed.counts i cell at) in
-        let are = are_linked naming names cell.kind library cell.feeds cell.output is count in
+        let are = are_linked naming names cell.kind cell.feeds cell.output (library_ports cell.kind library is) count in
         let name = some_text cell.name (w.named.library_named i cell at (rw is refl)) in
         let text : List ℕ = unwrap_or (option_map (cell_text naming i) cell.name) [] in
         let links : List Link = links_of naming (operand_ports cell.kind) (output_port cell.kind) cell.feeds cell.output in

@@ -1,6 +1,6 @@
 -- No fault of the text stands in the tree of a linked netlist, but what is too many.
 use Rattle.std.proofs.Common.{◌≡◌, ℕ, suc, ◌+◌, ◌<◌, ◌≤◌, false, List, [], ◌∷◌, ◌++◌, length, map, refl, ap, sym, ◌∙◌, subst, Option, Some, None, arith}
-use Rattle.std.specs.Prelude.{slice_get, unwrap_or, option_and_then, codes, nat_lt, is_none, IsSome, if◌then◌else◌}
+use Rattle.std.specs.Prelude.{slice_get, unwrap_or, option_and_then, nat_lt, is_none, IsSome, if◌then◌else◌}
 use Rattle.std.specs.Option.{option_map}
 use Rattle.std.specs.List.{AllByRecursion, flat_map}
 use Rattle.std.proofs.lemmas.Bool.Decides.{nat_tests}
@@ -12,28 +12,27 @@ use Rattle.verilog_tree.specs.declared.tree.GateKind.{GateKind}
 use Rattle.verilog_tree.specs.declared.tree.Instance.{Instance}
 use Rattle.verilog_tree.specs.declared.tree.Item.{Item}
 use Rattle.verilog_tree.specs.declared.tree.Link.{Link}
-use Rattle.cell_library.specs.declared.Edge.{Edge}
 use Rattle.cell_library.specs.declared.Kind.{Kind}
 use Rattle.cell_library.specs.declared.Kind.TheVariants as kind
-use Rattle.cell_library.specs.declared.ResetTo.{ResetTo}
-use Rattle.cell_library.specs.declared.ResetTo.TheVariants.{Nothing, Zero as ToZero, One as ToOne}
-use Rattle.cell_library.specs.Gates.{Takes, is_flop}
-use Rattle.cell_library.specs.Library.{cell_name, flop_ports, operand_ports, output_port, port_named}
+use Rattle.cell_library.specs.Gates.{is_flop}
+use Rattle.cell_library.specs.Library.{cell_name, operand_ports, output_port, port_named}
 use Rattle.netlist_model.specs.declared.Feed.{Feed}
 use Rattle.netlist_model.specs.declared.Feed.TheVariants.{Net, Const}
 use Rattle.netlist_model.specs.declared.NetId.{NetId}
 use Rattle.netlist_model.specs.declared.What.TheVariants as what
 use Rattle.netlist_model.specs.Lists.{CellView, NetlistView, cell_at, live_cell}
+use Rattle.netlist_arena.proofs.Growth.{takes_few}
 use Rattle.link_model.specs.declared.fault.LinkFault.{LinkFault}
 use Rattle.link_model.specs.declared.fault.LinkFault.TheVariants as fault
 use Rattle.link_model.specs.Lists.{first_in, or_else}
 use Rattle.link_model.specs.Nets.{Declared}
 use Rattle.link_model.specs.Faults.{at_bit, at_instance, cell_unknown, gate_operands, is_output_place, item_bits, item_width, link_bits, link_width, operand_bits, port_missing, port_twice, port_unknown, too_many, wrong_width}
 use Rattle.netlist_unlink.specs.Trees.{Naming, bit_of, cell_text, first_operand, gate_of, item_of, items_from, operand_links, operand_of, output_bit, output_links, written}
-use Rattle.netlist_unlink.proofs.Facts.{gate_no_flop, gate_no_mux, library_count}
-use Rattle.netlist_unlink.proofs.Kept.{library_back}
+use Rattle.netlist_unlink.proofs.Facts.{gate_no_flop, gate_no_mux, library_count, library_ports}
+use Rattle.cell_library.proofs.NameLaws.{named_is_found}
 use Rattle.netlist_unlink.proofs.Nets.{AreNamed}
-use Rattle.netlist_unlink.proofs.NewCells.{AreBelow, IsBelow, feeds_below, links_of, output_below}
+use Rattle.netlist_unlink.proofs.NewCells.{AreBelow, IsBelow, feeds_below, output_below}
+use Rattle.netlist_unlink.proofs.PortLinks.{AreInputs, are_inputs, links_fit, links_of}
 use Rattle.netlist_unlink.proofs.Written.{assign_kind}
 
 -- No fault along a list.
@@ -123,86 +122,8 @@ bits_of_item N naming P i cell w all at = by_gate (gate_of cell.kind) refl
 
 -- Instances.
 
--- no fault of an instance's links
-record HasNoFault (i : Instance) (k : Kind) : Type 0 where
-  unknown : port_unknown i k ≡ None
-  missing : port_missing i k ≡ None
-  twice : port_twice i k ≡ None
-
 abbrev instance_with : List ℕ → List ℕ → List Link → Instance
 instance_with library name links = record { cell = library; name = name; links = links }
-
-mux_links : (naming : Naming) (library name : List ℕ) (feeds : List Feed) (output : Option NetId) → length feeds ≡ 3
-    → HasNoFault (instance_with library name (links_of naming (operand_ports kind.Mux2) (output_port kind.Mux2) feeds output)) kind.Mux2
-mux_links naming library name [] output e = absurd (omega arith)
-mux_links naming library name (a ∷ []) output e = absurd (omega arith)
-mux_links naming library name (a ∷ b ∷ []) output e = absurd (omega arith)
-mux_links naming library name (a ∷ b ∷ c ∷ []) None e = record { unknown = refl; missing = refl; twice = refl }
-mux_links naming library name (a ∷ b ∷ c ∷ []) (Some net) e = record { unknown = refl; missing = refl; twice = refl }
-mux_links naming library name (a ∷ b ∷ c ∷ d ∷ feeds) output e = absurd (omega arith)
-
-abbrev flop_kind : Edge → ResetTo → Kind
-flop_kind edge reset = kind.Flop (record { edge = edge; reset = reset })
-
-flop_links : (naming : Naming) (library name : List ℕ) (edge : Edge) (reset : ResetTo) (feeds : List Feed) (output : Option NetId) → length feeds ≡ length (flop_ports reset)
-    → HasNoFault (instance_with library name (links_of naming (flop_ports reset) (Some (codes "Q")) feeds output)) (flop_kind edge reset)
-flop_links naming library name edge Nothing [] output e = absurd (omega arith)
-flop_links naming library name edge Nothing (a ∷ []) output e = absurd (omega arith)
-flop_links naming library name edge Nothing (a ∷ b ∷ []) None e = record { unknown = refl; missing = refl; twice = refl }
-flop_links naming library name edge Nothing (a ∷ b ∷ []) (Some net) e = record { unknown = refl; missing = refl; twice = refl }
-flop_links naming library name edge Nothing (a ∷ b ∷ c ∷ feeds) output e = absurd (omega arith)
-flop_links naming library name edge ToZero [] output e = absurd (omega arith)
-flop_links naming library name edge ToZero (a ∷ []) output e = absurd (omega arith)
-flop_links naming library name edge ToZero (a ∷ b ∷ []) output e = absurd (omega arith)
-flop_links naming library name edge ToZero (a ∷ b ∷ c ∷ []) None e = record { unknown = refl; missing = refl; twice = refl }
-flop_links naming library name edge ToZero (a ∷ b ∷ c ∷ []) (Some net) e = record { unknown = refl; missing = refl; twice = refl }
-flop_links naming library name edge ToZero (a ∷ b ∷ c ∷ d ∷ feeds) output e = absurd (omega arith)
-flop_links naming library name edge ToOne [] output e = absurd (omega arith)
-flop_links naming library name edge ToOne (a ∷ []) output e = absurd (omega arith)
-flop_links naming library name edge ToOne (a ∷ b ∷ []) output e = absurd (omega arith)
-flop_links naming library name edge ToOne (a ∷ b ∷ c ∷ []) None e = record { unknown = refl; missing = refl; twice = refl }
-flop_links naming library name edge ToOne (a ∷ b ∷ c ∷ []) (Some net) e = record { unknown = refl; missing = refl; twice = refl }
-flop_links naming library name edge ToOne (a ∷ b ∷ c ∷ d ∷ feeds) output e = absurd (omega arith)
-
-links_fit : (naming : Naming) (k : Kind) (library name : List ℕ) (feeds : List Feed) (output : Option NetId) → cell_name k ≡ Some library → length feeds ≡ length (operand_ports k)
-    → HasNoFault (instance_with library name (links_of naming (operand_ports k) (output_port k) feeds output)) k
-links_fit naming kind.Mux2 library name feeds output known e = mux_links naming library name feeds output e
-links_fit naming (kind.Flop flop) library name feeds output known e = flop_links naming library name flop.edge flop.reset feeds output e
-links_fit naming kind.And library name feeds output known e = absurd (cc)
-links_fit naming kind.Or library name feeds output known e = absurd (cc)
-links_fit naming kind.Nand library name feeds output known e = absurd (cc)
-links_fit naming kind.Nor library name feeds output known e = absurd (cc)
-links_fit naming kind.Xor library name feeds output known e = absurd (cc)
-links_fit naming kind.Xnor library name feeds output known e = absurd (cc)
-links_fit naming kind.Buf library name feeds output known e = absurd (cc)
-links_fit naming kind.Not library name feeds output known e = absurd (cc)
-links_fit naming kind.Bufif0 library name feeds output known e = absurd (cc)
-links_fit naming kind.Bufif1 library name feeds output known e = absurd (cc)
-links_fit naming kind.Assign library name feeds output known e = absurd (cc)
-
--- no port of an operand is an output
-abbrev AreInputs : Kind → List (List ℕ) → Type 0
-AreInputs k ports = AllByRecursion (λ port. is_output_place (port_named k port) ≡ false) ports
-
-flop_inputs : (edge : Edge) (reset : ResetTo) → AreInputs (flop_kind edge reset) (flop_ports reset)
-flop_inputs edge Nothing = (refl, (refl, tt))
-flop_inputs edge ToZero = (refl, (refl, (refl, tt)))
-flop_inputs edge ToOne = (refl, (refl, (refl, tt)))
-
-are_inputs : (k : Kind) → AreInputs k (operand_ports k)
-are_inputs kind.Mux2 = (refl, (refl, (refl, tt)))
-are_inputs (kind.Flop flop) = flop_inputs flop.edge flop.reset
-are_inputs kind.And = tt
-are_inputs kind.Or = tt
-are_inputs kind.Nand = tt
-are_inputs kind.Nor = tt
-are_inputs kind.Xor = tt
-are_inputs kind.Xnor = tt
-are_inputs kind.Buf = tt
-are_inputs kind.Not = tt
-are_inputs kind.Bufif0 = tt
-are_inputs kind.Bufif1 = tt
-are_inputs kind.Assign = tt
 
 -- the bits have the right width
 abbrev pub AreNarrow : NetlistView → Naming → List (List ℕ × Declared) → Type 0
@@ -240,21 +161,6 @@ pub record HasNoItemFault (names : List (List ℕ × Declared)) (x : Item) : Typ
 few_enough : (count : ℕ) → count ≤ 256 → too_many what.Operands 256 count ≡ None
 few_enough count few = let no : nat_lt 256 count ≡ false = grind (arith, nat_tests) in rw no refl
 
-gate_takes : (k : Kind) (g : GateKind) (count : ℕ) → gate_of k ≡ Some g → Takes k count → count ≤ 256
-gate_takes kind.And g count e t = t.1
-gate_takes kind.Or g count e t = t.1
-gate_takes kind.Nand g count e t = t.1
-gate_takes kind.Nor g count e t = t.1
-gate_takes kind.Xor g count e t = t.1
-gate_takes kind.Xnor g count e t = t.1
-gate_takes kind.Buf g count e t = let one : count ≡ 1 = t in omega arith
-gate_takes kind.Not g count e t = let one : count ≡ 1 = t in omega arith
-gate_takes kind.Bufif0 g count e t = let two : count ≡ 2 = t in omega arith
-gate_takes kind.Bufif1 g count e t = let two : count ≡ 2 = t in omega arith
-gate_takes kind.Assign g count e t = absurd (cc)
-gate_takes kind.Mux2 g count e t = absurd (cc)
-gate_takes (kind.Flop flop) g count e t = absurd (cc)
-
 pub item_fits : (N : NetlistView) (naming : Naming) (names : List (List ℕ × Declared)) (i : ℕ) (cell : CellView) → AreNamed naming.table N → AreNarrow N naming names → cell_at N i ≡ Some cell
     → HasNoItemFault names (item_of naming i cell)
 item_fits N naming names i cell w narrow at = by_gate (gate_of cell.kind) refl
@@ -264,12 +170,13 @@ item_fits N naming names i cell w narrow at = by_gate (gate_of cell.kind) refl
 
     instanced : (library : List ℕ) → cell_name cell.kind ≡ Some library → HasNoItemFault names (written naming i cell None (Some library))
     instanced library is =
-        let known = library_back cell.kind library is in
+        let known = named_is_found cell.kind library is in
+        let has = library_ports cell.kind library is in
         let text : List ℕ = unwrap_or (option_map (cell_text naming i) cell.name) [] in
         let links : List Link = links_of naming (operand_ports cell.kind) (output_port cell.kind) cell.feeds cell.output in
         let x : Instance = instance_with library text links in
-        let fit = links_fit naming cell.kind library text cell.feeds cell.output is (library_count cell.kind library (length cell.feeds) is (w.formed.counts i cell at)) in
-        let width = links_narrow N naming names x cell.kind (operand_ports cell.kind) cell.feeds (output_links naming (output_port cell.kind) cell.output) narrow (feeds_below N i cell w.laid at) (are_inputs cell.kind)
+        let fit = links_fit naming cell.kind library text cell.feeds cell.output has (library_count cell.kind library (length cell.feeds) is (w.formed.counts i cell at)) in
+        let width = links_narrow N naming names x cell.kind (operand_ports cell.kind) cell.feeds (output_links naming (output_port cell.kind) cell.output) narrow (feeds_below N i cell w.laid at) (are_inputs cell.kind has)
         (output_narrow N naming names x cell.kind (output_port cell.kind) cell.output narrow (λ net e. output_below N i cell net w.laid at e)) in
         record {
           cell = ap (λ (o : Option Kind). if is_none o then Some (fault.CellUnknown library) else None) known;
@@ -301,7 +208,7 @@ item_fits N naming names i cell w narrow at = by_gate (gate_of cell.kind) refl
       twice = refl;
       width = none_along (at_bit wrong_width names) (item_bits (written naming i cell (Some g) library)) bits;
       operands = few_enough (length (map (operand_of naming) cell.feeds))
-          (let few = gate_takes cell.kind g (length cell.feeds) e (w.formed.counts i cell at) in let same = length-map cell.feeds (operand_of naming) in omega arith);
+          (let few = takes_few cell.kind (length cell.feeds) (w.formed.counts i cell at) in let same = length-map cell.feeds (operand_of naming) in omega arith);
     }
 
     by_gate : (g : Option GateKind) → gate_of cell.kind ≡ g → HasNoItemFault names (written naming i cell (gate_of cell.kind) (cell_name cell.kind))

@@ -209,17 +209,7 @@ flop_named Fall ToOne = name_dffns
 library_named : (k : Kind) → IfSome (cell_name k) IsTreeName
 library_named kind.Mux2 = name_mux
 library_named (kind.Flop flop) = flop_named flop.edge flop.reset
-library_named kind.And = tt
-library_named kind.Or = tt
-library_named kind.Nand = tt
-library_named kind.Nor = tt
-library_named kind.Xor = tt
-library_named kind.Xnor = tt
-library_named kind.Buf = tt
-library_named kind.Not = tt
-library_named kind.Bufif0 = tt
-library_named kind.Bufif1 = tt
-library_named kind.Assign = tt
+library_named k = tt
 
 flop_ports_named : (reset : ResetTo) → AllByRecursion IsTreeName (flop_ports reset)
 flop_ports_named Nothing = (name_port_d, (name_port_ck, tt))
@@ -229,32 +219,12 @@ flop_ports_named ToOne = (name_port_d, (name_port_ck, (name_port_sn, tt)))
 ports_named : (k : Kind) → AllByRecursion IsTreeName (operand_ports k)
 ports_named kind.Mux2 = (name_port_a, (name_port_b, (name_port_s, tt)))
 ports_named (kind.Flop flop) = flop_ports_named flop.reset
-ports_named kind.And = tt
-ports_named kind.Or = tt
-ports_named kind.Nand = tt
-ports_named kind.Nor = tt
-ports_named kind.Xor = tt
-ports_named kind.Xnor = tt
-ports_named kind.Buf = tt
-ports_named kind.Not = tt
-ports_named kind.Bufif0 = tt
-ports_named kind.Bufif1 = tt
-ports_named kind.Assign = tt
+ports_named k = tt
 
 output_named : (k : Kind) → IfSome (output_port k) IsTreeName
 output_named kind.Mux2 = name_port_y
 output_named (kind.Flop flop) = name_port_q
-output_named kind.And = tt
-output_named kind.Or = tt
-output_named kind.Nand = tt
-output_named kind.Nor = tt
-output_named kind.Xor = tt
-output_named kind.Xnor = tt
-output_named kind.Buf = tt
-output_named kind.Not = tt
-output_named kind.Bufif0 = tt
-output_named kind.Bufif1 = tt
-output_named kind.Assign = tt
+output_named k = tt
 
 tree_links : (N : NetlistView) (naming : Naming) (ports : List (List ℕ)) (feeds : List Feed) → CanWrite N naming → AllByRecursion IsTreeName ports → AreBelow N feeds
     → AllByRecursion IsTreeLink (operand_links naming ports feeds)
@@ -288,18 +258,7 @@ tree_instance N naming i cell library w at is =
 
 pub assign_kind : (k : Kind) → gate_of k ≡ None → cell_name k ≡ None → k ≡ kind.Assign
 assign_kind kind.Assign g l = refl
-assign_kind kind.Mux2 g l = absurd (cc)
-assign_kind (kind.Flop flop) g l = absurd (cc)
-assign_kind kind.And g l = absurd (cc)
-assign_kind kind.Or g l = absurd (cc)
-assign_kind kind.Nand g l = absurd (cc)
-assign_kind kind.Nor g l = absurd (cc)
-assign_kind kind.Xor g l = absurd (cc)
-assign_kind kind.Xnor g l = absurd (cc)
-assign_kind kind.Buf g l = absurd (cc)
-assign_kind kind.Not g l = absurd (cc)
-assign_kind kind.Bufif0 g l = absurd (cc)
-assign_kind kind.Bufif1 g l = absurd (cc)
+assign_kind k g l = absurd (cc)
 
 first_is : (N : NetlistView) (naming : Naming) (feeds : List Feed) → CanWrite N naming → AreBelow N feeds → IsTreeOperand (first_operand naming feeds)
 first_is N naming [] w below = tt

@@ -6,10 +6,10 @@ ghost use Rattle.netlist_arena.specs.Looks.{IsLive};
 ghost use Rattle.netlist_link.specs.Linked.{IsLinked};
 ghost use Rattle.netlist_unlink.specs.Trees.{gate_of, item_of, items_from, naming_of, written};
 
-use crate::kinds::{gate_kind, library_name};
+use crate::kinds::gate_kind;
 use crate::links::cell_links;
 use crate::parts::{cell_inputs, cell_name, driven_bit, first_input, instance_name};
-use cell_library::Kind;
+use cell_library::{Kind, cell_name as library_name};
 use netlist_link::Linked;
 use netlist_model::CellId;
 use std::alloc::Global;

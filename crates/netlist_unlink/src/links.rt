@@ -6,9 +6,8 @@ ghost use Rattle.netlist_arena.specs.Looks.{IsLive};
 ghost use Rattle.netlist_unlink.specs.Parts.{feeds_of, output_of};
 ghost use Rattle.netlist_unlink.specs.Trees.{naming_of, operand_links, output_links};
 
-use crate::kinds::{operand_port, output_port};
 use crate::names::{bit, operand};
-use cell_library::Kind;
+use cell_library::{Kind, operand_port, output_port};
 use netlist_link::Linked;
 use netlist_model::CellId;
 use std::alloc::Global;

@@ -1,8 +1,8 @@
 use Rattle.std.proofs.Common.{◌≡◌, map, take}
-use Rattle.first_faults.specs.Repeated.{texts}
+use Rattle.cell_library.specs.Library.{operand_ports}
 use Rattle.link_model.specs.Cells.{port_feed}
 use Rattle.link_names.specs.Views.{entries_of}
 use Rattle.link_names.proofs.cells.port_feeds.Given as goal
 
-abbrev pub invariant-loop-port : goal.invariant-loop-port
-invariant-loop-port l = l.feeds.items ≡ map (port_feed (entries_of l.table) l.links) (texts (take l.port-index l.ports))
+abbrev pub invariant-loop-place : goal.invariant-loop-place
+invariant-loop-place l = l.feeds.items ≡ map (port_feed (entries_of l.table) l.links) (take l.place (operand_ports l.kind))

@@ -1,7 +1,7 @@
 use Rattle.std.proofs.Common.{◌≡◌, drop}
-use Rattle.first_faults.specs.Repeated.{texts}
+use Rattle.cell_library.specs.Library.{operand_ports}
 use Rattle.link_names.specs.Tests.{missing_port}
 use Rattle.link_names.proofs.instances.find_port_missing.Given as goal
 
-abbrev pub invariant-loop-port : goal.invariant-loop-port
-invariant-loop-port l = missing_port l.name l.links (texts (drop l.port-index l.ports)) ≡ missing_port l.name l.links (texts l.ports)
+abbrev pub invariant-loop-place : goal.invariant-loop-place
+invariant-loop-place l = missing_port l.name l.links (drop l.place (operand_ports l.kind)) ≡ missing_port l.name l.links (operand_ports l.kind)

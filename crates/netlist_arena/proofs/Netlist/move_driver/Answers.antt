@@ -1,5 +1,5 @@
 use Rattle.std.proofs.Common.{sym, ◌∙◌, arith}
-use Rattle.netlist_arena.proofs.Changes.{moved_driver_below, live_count_moved_driver}
+use Rattle.netlist_arena.proofs.Changes.{moved_driver_below, moved_driver_counts, live_count_moved_driver}
 use Rattle.netlist_model.specs.Lists.{NetlistView}
 use Rattle.netlist_arena.proofs.Single.{single_moved_driver}
 use Rattle.netlist_arena.proofs.Netlist.move_driver.Goals as goal
@@ -18,5 +18,6 @@ invariant_of-self c =
       live_are = rw c.move_outputs.ensures.items (c.self.invariant.live_are ∙ sym (live_count_moved_driver c.args.from c.args.to c.self.inside.cells.items));
       ports_below = c.self.invariant.ports_below;
       cells_below = rw c.move_outputs.ensures.items (moved_driver_below _ c.args.from c.args.to c.self.inside.cells.items there c.self.invariant.cells_below);
+      counts = rw c.move_outputs.ensures.items (moved_driver_counts c.args.from c.args.to c.self.inside.cells.items c.self.invariant.counts);
       driven_once = rw c.move_outputs.ensures.items (single_moved_driver inside c.args.from c.args.to free c.self.invariant.driven_once);
     }

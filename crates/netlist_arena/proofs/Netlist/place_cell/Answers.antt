@@ -1,7 +1,7 @@
 use Rattle.std.proofs.Common.{arith, ap, ℕ, ◌+◌, ◌∙◌, sym}
 use Rattle.netlist_model.specs.Lists.{NetlistView}
 use Rattle.netlist_arena.proofs.Single.{single_added}
-use Rattle.netlist_arena.proofs.Puts.{puts_adds, puts_below}
+use Rattle.netlist_arena.proofs.Puts.{puts_adds, puts_below, puts_counts}
 use Rattle.netlist_arena.proofs.Netlist.place_cell.Goals as goal
 
 pub invariant_of-self : goal.invariant_of-self
@@ -23,6 +23,7 @@ invariant_of-self c =
       live_are = ap (λ (n : ℕ). n + 1) c.self.invariant.live_are ∙ sym added.count;
       ports_below = c.self.invariant.ports_below;
       cells_below = puts_below _ c.self.inside.cells.items c.put_cell-number.new.cells.items _ _ c.args.cell puts below c.self.invariant.cells_below;
+      counts = puts_counts c.self.inside.cells.items c.put_cell-number.new.cells.items _ _ c.args.cell puts c.requires.count c.self.invariant.counts;
       driven_once = single_added inside _ _ c.args.cell added c.self.invariant.driven_once can;
     }
 

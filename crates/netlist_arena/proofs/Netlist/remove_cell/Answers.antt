@@ -1,6 +1,6 @@
 use Rattle.std.proofs.Common.{None, arith}
 use Rattle.std.proofs.lemmas.List.Elements.{All-set}
-use Rattle.netlist_arena.specs.Arena.{IsPlaceBelow}
+use Rattle.netlist_arena.specs.Arena.{HasItsOperands, IsPlaceBelow}
 use Rattle.netlist_arena.proofs.Changes.{live_count_removed}
 use Rattle.netlist_model.specs.Lists.{NetlistView}
 use Rattle.netlist_arena.proofs.Single.{single_removed, live_below, undriven_removed}
@@ -27,6 +27,7 @@ invariant_of-self c =
       live_are = rw c.empty_place.ensures.items (omega (arith, counts, c.self.invariant.live_are));
       ports_below = c.self.invariant.ports_below;
       cells_below = rw c.empty_place.ensures.items (All-set (IsPlaceBelow _) c.self.inside.cells.items c.args.cell.0 None tt c.self.invariant.cells_below);
+      counts = rw c.empty_place.ensures.items (All-set HasItsOperands c.self.inside.cells.items c.args.cell.0 None tt c.self.invariant.counts);
       driven_once = rw c.empty_place.ensures.items (single_removed c.self.inside.cells.items c.args.cell.0 (live_below c.self.inside.cells.items c.args.cell.0 live) c.self.invariant.driven_once);
     }
 
