@@ -11,12 +11,10 @@ use Rattle.bsdl_device.specs.declared.values.Device.{Device}
 use Rattle.bsdl_device.specs.Spelled as bsdl
 use Rattle.scan_vectors.specs.declared.lines.Lines.{Lines}
 use Rattle.scan_vectors.specs.Grammar.{SpellsLines}
-use Rattle.event_scripts.specs.declared.fault.ScriptFault.{ScriptFault}
 use Rattle.event_scripts.specs.Rules.{AreLegal}
 use Rattle.conformance_report.specs.Agreement.{PortsAgree}
-use Rattle.check_runs.specs.Rules.{KeepsTapRule, IsLinesFault}
+use Rattle.check_runs.specs.Rules.{KeepsTapRule}
 use Rattle.check_runs.specs.Checks.{IsChecked}
-use Rattle.command_edges.specs.Lengths.{IsShort}
 
 -- The netlist's bytes spell one tree, which is linked to this netlist.
 pub record SpellsLinked (net : List ℕ) (linked : LinkedView) : Type 0 where
@@ -42,32 +40,6 @@ pub record IsCheck (net text events put : List ℕ) (missed : ℕ) : Type 0 wher
   pub spells_lines : SpellsLines events lines
   pub checked : IsChecked linked device lines put missed
 
--- own: the bytes spell one netlist and one device, and their ports agree
-pub record HaveSamePorts (net text : List ℕ) : Type 0 where
-  pub linked : LinkedView
-  pub netlist : SpellsLinked net linked
-  pub device : Device
-  pub spells_device : SpellsOneDevice text device
-  pub agree : PortsAgree linked device
-
--- own: the bytes spell one netlist and one device, and their ports don't agree
-pub record HaveOtherPorts (net text : List ℕ) : Type 0 where
-  pub linked : LinkedView
-  pub netlist : SpellsLinked net linked
-  pub device : Device
-  pub spells_device : SpellsOneDevice text device
-  pub differ : PortsAgree linked device → ⊥
-
--- own: the lines of the events have this fault for the netlist and the device
-pub record HasLinesFault (f : ScriptFault) (net text events : List ℕ) : Type 0 where
-  pub linked : LinkedView
-  pub netlist : SpellsLinked net linked
-  pub device : Device
-  pub spells_device : SpellsOneDevice text device
-  pub lines : Lines
-  pub spells_lines : SpellsLines events lines
-  pub fault : IsLinesFault linked device lines f
-
 -- own: the ports of a netlist are the device's, and the lines are legal for both
 pub record AreCheckable (linked : LinkedView) (device : Device) (lines : Lines) : Type 0 where
   pub agree : PortsAgree linked device
@@ -76,9 +48,6 @@ pub record AreCheckable (linked : LinkedView) (device : Device) (lines : Lines) 
 
 -- own: no fault stands in the bytes of the netlist, of the device and of the events
 pub record IsCheckable (net text events : List ℕ) : Type 0 where
-  pub short : IsShort net
-  pub short_device : IsShort text
-  pub short_events : IsShort events
   pub tree : Module
   pub spells : verilog.SpellsText net tree
   pub linkable : IsLinkable tree

@@ -1,3 +1,3 @@
 pub mod Checks
-pub mod CheckFaults
-pub mod Parts
+pub mod Faults
+pub mod Tasks

@@ -1,10 +1,9 @@
 // The command that checks: reads a netlist, a BSDL text and events, and puts the expectations that the netlist doesn't meet.
-// The contract of `check` cites specs/CheckFaults.antt, which stands on specs/Checks.antt.
+// Its task stands in specs/Tasks.antt, over specs/Checks.antt and specs/Faults.antt.
 // IEEE Std 1364-2001 for the netlist, IEEE Std 1149.1-2001 for the device; events and what is put are own.
 #![tactic(auto)]
 
+mod check_texts;
 mod checking;
-mod reading;
-mod texts;
 
-pub use checking::check;
+pub use checking::Check;

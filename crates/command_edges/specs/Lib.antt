@@ -2,5 +2,8 @@ pub mod Lengths
 pub mod Seen
 pub mod EdgeFaults
 pub mod Ends
+pub mod Names
+pub mod Texts
+pub mod Tasks
 pub mod OneText
 pub mod Spelled

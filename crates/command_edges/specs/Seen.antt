@@ -6,6 +6,7 @@ use Rattle.edge_io.specs.Shelf.{Access, Rose, RoseAt, WhereTold, told_if}
 pub record ShelfSeen : Type 0 where
   pub tells : Bool
   pub held : List ℕ → Option (List ℕ)
+  pub held_after : List ℕ → Option (List ℕ)
   pub written : List ℕ → Option (List ℕ)
   pub written_after : List ℕ → Option (List ℕ)
   pub faults : Access → List ℕ → ℕ
@@ -24,6 +25,7 @@ abbrev pub shelf_seen : {S : Type 0} → Bool → (S → List ℕ → Option (Li
 shelf_seen tells held written faults old new = record {
   tells = tells;
   held = held old;
+  held_after = held new;
   written = written old;
   written_after = written new;
   faults = faults old;

@@ -2,12 +2,14 @@ ghost use Rattle.std.specs.Prelude.{◌≡◌, IfErr, IfOk};
 ghost use Rattle.edge_io.specs.Shelf.{NoneFell, SameTold, WhereTold};
 ghost use Rattle.command_edges.specs.Lengths.{IsShort};
 ghost use Rattle.command_edges.specs.EdgeFaults.{StandsInReading};
+ghost use Rattle.command_edges.specs.Names.{names_of};
 ghost use Rattle.command_edges.specs.Seen.{shelf_seen};
+ghost use Rattle.command_edges.specs.Texts.{AreRead, StandsInReadings};
 
 use command_faults::Fault;
-use edge_io::Text;
 use edge_io::shelf::Shelf;
 use edge_io::whole::{ReadIssue, read_whole};
+use edge_io::{Row, Text};
 use std::alloc::Global;
 
 // The longest text that is read, in bytes.
@@ -33,4 +35,25 @@ pub fn read_text<'a, S: Shelf>(
         Err(ReadIssue::TooLong) => Err(Fault::TooLong { name }),
         Err(ReadIssue::OutOfMemory) => Err(Fault::OutOfMemory),
     }
+}
+
+/// Reads the texts under these names, in order, up to the first that can't be read.
+pub fn read_all<'a, S: Shelf>(
+    alloc: Global,
+    shelf: &mut S,
+    names: &[&'a str],
+) -> Result<Row<Text>, Fault<'a>>
+    ensures read { IfOk result (AreRead (S.held shelf.old) (names_of names.now)) }
+    ensures fault { IfErr result (StandsInReadings (names_of names.now)
+        (shelf_seen S.tells S.held S.written S.faults shelf.old shelf.new)) }
+    ensures held { SameTold (S.held shelf.old) (S.held shelf.new) }
+    ensures written { SameTold (S.written shelf.old) (S.written shelf.new) }
+    ensures later { NoneFell (S.faults shelf.old) (S.faults shelf.new) }
+{
+    let mut texts = Row::new(alloc);
+    for name in names {
+        let text = read_text(alloc, shelf, *name)?;
+        texts.push(text)?;
+    }
+    Ok(texts)
 }

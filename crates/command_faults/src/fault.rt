@@ -4,6 +4,7 @@ ghost use Rattle.command_faults.specs.declared.fault.Fault.TheVariants as made;
 
 use crate::status::Status;
 use bsdl_device::DeviceTextFault;
+use edge_io::OutOfMemory;
 use event_scripts::ScriptFault;
 use link_model::LinkFault;
 use netlist_model::What;
@@ -91,6 +92,14 @@ impl From<DeviceTextFault> for Fault<'_> {
 
     fn from(fault: DeviceTextFault) -> Self {
         Fault::Device(fault)
+    }
+}
+
+impl From<OutOfMemory> for Fault<'_> {
+    ghost from_gives = { λ _ given. given ≡ made.OutOfMemory };
+
+    fn from(_fault: OutOfMemory) -> Self {
+        Fault::OutOfMemory
     }
 }
 

@@ -1,5 +1,5 @@
--- A text that is accepted has no fault but want of memory.
-use Rattle.std.proofs.Common.{◌≡◌, ℕ, List, Some, refl, subst}
+-- A text that is spelled has no fault but want of memory.
+use Rattle.std.proofs.Common.{◌≡◌, ℕ, List, refl, subst}
 use Rattle.verilog_lexicon.specs.declared.word.Spanned.{Spanned}
 use Rattle.verilog_tree.specs.Texts.{SpellsModule}
 use Rattle.command_faults.specs.declared.fault.Fault.{Fault}
@@ -12,14 +12,13 @@ use Rattle.bsdl_device.specs.declared.fault.DeviceTextFault.{DeviceTextFault}
 use Rattle.bsdl_device.specs.declared.fault.DeviceTextFault.TheVariants as device
 use Rattle.bsdl_lexicon.specs.declared.token.BsdlSpanned.{BsdlSpanned}
 use Rattle.bsdl_device.specs.Spelled.{SpellsDevice}
-use Rattle.command_edges.specs.Lengths.{IsShort}
 use Rattle.convert_command.specs.declared.conversion.Conversion.{Conversion}
 use Rattle.convert_command.specs.declared.conversion.Conversion.TheVariants.{Canon, ShowBsdl}
-use Rattle.convert_command.specs.Conversions.{IsAccepted, IsSpelled}
-use Rattle.convert_command.specs.Faults.{StandsInText}
+use Rattle.convert_command.specs.Conversions.{IsSpelled}
+use Rattle.convert_command.specs.Tasks.{StandsInText}
 
 -- a text that spells a tree has no fault but want of memory
-module_memory : (c : Conversion) (bytes : List ℕ) (f : TextFault) → IsSpelled c bytes → StandsInText c (Some bytes) (fault.Netlist f) → text_status f ≡ status.Memory
+module_memory : (c : Conversion) (bytes : List ℕ) (f : TextFault) → IsSpelled c bytes → StandsInText c bytes (fault.Netlist f) → text_status f ≡ status.Memory
 module_memory Canon bytes (text.BadWord place) (tree, spells) bad = absurd (bad.none spells.words spells.cut)
 module_memory Canon bytes (text.BadSyntax place word) (tree, spells) bad =
     absurd (bad.syntax.unspelled tree (subst (λ (ws : List Spanned). SpellsModule ws tree) (bad.has.only spells.words spells.cut) spells.spells))
@@ -27,7 +26,7 @@ module_memory Canon bytes text.OutOfMemory spelled bad = refl
 module_memory ShowBsdl bytes f spelled bad = absurd bad
 
 -- nor has one that spells a device
-device_memory : (c : Conversion) (bytes : List ℕ) (f : DeviceTextFault) → IsSpelled c bytes → StandsInText c (Some bytes) (fault.Device f) → device_status f ≡ status.Memory
+device_memory : (c : Conversion) (bytes : List ℕ) (f : DeviceTextFault) → IsSpelled c bytes → StandsInText c bytes (fault.Device f) → device_status f ≡ status.Memory
 device_memory Canon bytes f spelled bad = absurd bad
 device_memory ShowBsdl bytes (device.BsdlWord place) (d, spells) bad = absurd (bad.none spells.words spells.cut)
 device_memory ShowBsdl bytes (device.BsdlSyntax place word) (d, spells) bad =
@@ -36,14 +35,8 @@ device_memory ShowBsdl bytes (device.BsdlMeaning kind place) (d, spells) bad =
     absurd (bad.meaning.unspelled d (subst (λ (ws : List BsdlSpanned). SpellsDevice ws d) (bad.has.only spells.words spells.cut) spells.spells))
 device_memory ShowBsdl bytes device.OutOfMemory spelled bad = refl
 
--- a text that is spelled has no fault but want of memory
-spelled_memory : (c : Conversion) (bytes : List ℕ) (f : Fault) → IsSpelled c bytes → StandsInText c (Some bytes) f → status_of f ≡ status.Memory
+pub spelled_memory : (c : Conversion) (bytes : List ℕ) (f : Fault) → IsSpelled c bytes → StandsInText c bytes f → status_of f ≡ status.Memory
 spelled_memory Canon bytes (fault.Netlist f) spelled stands = module_memory Canon bytes f spelled stands
 spelled_memory ShowBsdl bytes (fault.Device f) spelled stands = device_memory ShowBsdl bytes f spelled stands
+spelled_memory c bytes fault.OutOfMemory spelled stands = refl
 spelled_memory c bytes f spelled stands = absurd stands
-
-pub text_memory : (c : Conversion) (bytes : List ℕ) (f : Fault) → IsAccepted c bytes → StandsInText c (Some bytes) f → status_of f ≡ status.Memory
-text_memory c bytes f ok stands = spelled_memory c bytes f ok.spelled stands
-
-pub is_short : (c : Conversion) (bytes : List ℕ) → IsAccepted c bytes → IsShort bytes
-is_short c bytes ok = ok.short

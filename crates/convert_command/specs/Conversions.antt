@@ -8,7 +8,6 @@ use Rattle.bsdl_device.specs.Spelled.{SpellsText as SpellsDeviceText}
 use Rattle.bsdl_device.specs.Canonical.{canonical_device}
 use Rattle.convert_command.specs.declared.conversion.Conversion.{Conversion}
 use Rattle.convert_command.specs.declared.conversion.Conversion.TheVariants.{Canon, ShowBsdl}
-use Rattle.command_edges.specs.Lengths.{IsShort}
 
 -- The bytes spell one tree; the text is its canonical text, which spells that tree and no other.
 pub record IsCanonicalModule (bytes text : List ℕ) : Type 0 where
@@ -37,8 +36,3 @@ IsConverted ShowBsdl bytes text = IsCanonicalDevice bytes text
 abbrev pub IsSpelled : Conversion → List ℕ → Type 0
 IsSpelled Canon bytes = (tree : Module) × SpellsModuleText bytes tree
 IsSpelled ShowBsdl bytes = (device : Device) × SpellsDeviceText bytes device
-
--- own: bytes that are not too many, and spell what the conversion reads
-pub record IsAccepted (c : Conversion) (bytes : List ℕ) : Type 0 where
-  pub short : IsShort bytes
-  pub spelled : IsSpelled c bytes

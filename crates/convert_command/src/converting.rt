@@ -1,44 +1,32 @@
-ghost use Rattle.std.specs.Prelude.{◌≡◌, ◌≢◌, ℕ, List, IfErr, OnOk};
-ghost use Rattle.edge_io.specs.Shelf.{NoneFell, SameTold};
-ghost use Rattle.command_faults.specs.Statuses.{status_of};
-ghost use Rattle.command_faults.specs.declared.status.Status.{Status};
-ghost use Rattle.command_edges.specs.Seen.{shelf_seen};
-ghost use Rattle.convert_command.specs.Runs.{CompletesConvert, IsConvertedTo, StandsInConvert};
+ghost use Rattle.convert_command.specs.Tasks.{convert_task};
 
+use crate::canonical_texts::converted;
 use crate::conversion::Conversion;
-use crate::texts::converted;
-use command_edges::{read_text, write_text};
-use command_faults::Fault;
-use edge_io::shelf::Shelf;
+use command_edges::{Made, TextCommand, take_one};
+use command_faults::{Fault, Status};
+use edge_io::{Row, Text};
 use std::alloc::Global;
 
-/// Reads the text that lies under one name, and writes what the conversion makes of it under another. Nothing is
-/// written before the whole text is printed.
-pub fn convert<'a, S: Shelf>(
-    alloc: Global,
-    conversion: Conversion,
-    shelf: &mut S,
-    input: &'a str,
-    output: &'a str,
-) -> Result<(), Fault<'a>>
-    ensures done { OnOk result (IsConvertedTo conversion input.now output.now
-        (shelf_seen S.tells S.held S.written S.faults shelf.old shelf.new)) }
-    ensures fault { IfErr result (StandsInConvert conversion input.now output.now
-        (shelf_seen S.tells S.held S.written S.faults shelf.old shelf.new)) }
+/// Reads the text that lies under one name, and writes what the conversion makes of it under another.
+#[derive(Clone, Copy)]
+pub struct Convert<'a> {
+    pub conversion: Conversion,
+    pub input: &'a str,
+    pub output: &'a str,
+}
 
-    // Where the text is accepted, and the counts of faults of both names don't rise, it wants memory.
-    ensures complete { IfErr result (λ fault. CompletesConvert conversion input.now output.now
-        (shelf_seen S.tells S.held S.written S.faults shelf.old shelf.new) (status_of fault)) }
+impl TextCommand for Convert<'_> {
+    ghost task = { λ c. convert_task c.conversion c.input.now c.output.now };
 
-    // Only a write that failed leaves anything changed, and only under the output's name.
-    ensures unwritten { IfErr result (λ fault. (status_of fault ≢ Status.WriteFault)
-        → SameTold (S.written shelf.old) (S.written shelf.new)) }
-    ensures others { (name : List ℕ) → name ≢ output.now
-        → S.written shelf.new name ≡ S.written shelf.old name }
-    ensures held { SameTold (S.held shelf.old) (S.held shelf.new) }
-    ensures later { NoneFell (S.faults shelf.old) (S.faults shelf.new) }
-{
-    let text = read_text(alloc, shelf, input)?;
-    let printed = converted(alloc, conversion, text)?;
-    write_text(shelf, output, &printed)
+    fn make<'a>(self, alloc: Global, texts: &mut [Text]) -> Result<Made, Fault<'a>> {
+        let text = take_one(alloc, texts);
+        let printed = converted(alloc, self.conversion, text)?;
+        let mut outputs = Row::new(alloc);
+        outputs.push(printed)?;
+        Ok(Made {
+            outputs,
+            put: Text::new(alloc),
+            status: Status::Done,
+        })
+    }
 }

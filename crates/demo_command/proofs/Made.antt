@@ -1,5 +1,5 @@
--- What a demonstration comes to, from what is inserted and written.
-use Rattle.std.proofs.Common.{◌≡◌, ℕ, List, length, Option, Result, Ok, Err, OnOk, IfErr, inl, inr, sym, ◌∙◌, subst}
+-- What a demonstration comes to, from what is inserted.
+use Rattle.std.proofs.Common.{◌≡◌, ℕ, List, length, sym, ◌∙◌, subst}
 use Rattle.std.proofs.lemmas.List.{length-map}
 use Rattle.verilog_tree.specs.declared.tree.Module.{Module}
 use Rattle.verilog_tree.specs.IsTree.{IsTree}
@@ -11,18 +11,12 @@ use Rattle.plan_texts.specs.Canonical.{canonical_plan}
 use Rattle.plan_fitting.specs.Pins.{PinSeen, AreSeen}
 use Rattle.plan_fitting.specs.Rows.{rows}
 use Rattle.plan_fitting.specs.Devices.{fitted_of, cell_row, device_of}
-use Rattle.command_faults.specs.declared.fault.Fault.{Fault}
-use Rattle.command_faults.specs.Statuses.{status_of}
-use Rattle.command_edges.specs.Seen.{ShelfSeen, SinkSeen}
-use Rattle.command_edges.proofs.Told.{write_rose}
-use Rattle.command_edges.proofs.Written.{put_rose}
 use Rattle.insert_command.specs.Insertions.{IsInsertionText}
-use Rattle.insert_command.specs.Runs.{IsWrittenOut, StandsInWritings}
 use Rattle.demo_chips.specs.Netlists.{demo_module}
 use Rattle.demo_chips.specs.Plans.{demo_plan}
 use Rattle.demo_netlists.specs.Laws.{DemoHasItsCells}
 use Rattle.demo_plans.specs.Laws.{ChipsAreCounted, PlanIsAlone, boundary_cells}
-use Rattle.demo_command.specs.Demonstrations.{IsDemo, IsDemonstrated, StandsInDemo, CompletesDemo, demo_line}
+use Rattle.demo_command.specs.Demonstrations.{IsDemo}
 
 -- Texts that come of inserting.
 
@@ -44,28 +38,3 @@ demo_is cells counted alone number verilog bsdl report tree i same =
       kept = sym (cells number i.is.linked links);
       boundary = cells_counted i.is.linked i.is.wanted demo_plan i.is.fits.seen (alone i.is.wanted i.is.spells_plan) counts.boundary i.is.fits.are_seen;
     }
-
--- What is written.
-
-pub demo_done : {T : Type 0} (r : Result T Fault) (number : ℕ) (outnet outbsdl verilog bsdl line : List ℕ) (shelf : ShelfSeen) (sink : SinkSeen) → IsDemo number verilog bsdl → line ≡ demo_line number
-    → OnOk r (IsWrittenOut outnet outbsdl verilog bsdl line shelf sink) → OnOk r (IsDemonstrated number outnet outbsdl shelf sink)
-demo_done (Err f) number outnet outbsdl verilog bsdl line shelf sink made is out = tt
-demo_done (Ok x) number outnet outbsdl verilog bsdl line shelf sink made is out =
-    record { verilog = verilog; bsdl = bsdl; made = made; written_out = subst (λ (l : List ℕ). IsWrittenOut outnet outbsdl verilog bsdl l shelf sink) is out }
-
-pub demo_fault : {T : Type 0} (r : Result T Fault) (number : ℕ) (outnet outbsdl verilog bsdl line : List ℕ) (shelf : ShelfSeen) (sink : SinkSeen) (after : Option (List ℕ)) → IsDemo number verilog bsdl
-    → line ≡ demo_line number → IfErr r (λ f. StandsInWritings outnet outbsdl verilog bsdl line shelf sink f after) → IfErr r (λ f. StandsInDemo number outnet outbsdl shelf sink f after)
-demo_fault (Ok x) number outnet outbsdl verilog bsdl line shelf sink after made is stands = tt
-demo_fault (Err f) number outnet outbsdl verilog bsdl line shelf sink after made is stands =
-    inr (record { verilog = verilog; bsdl = bsdl; made = made; stands = subst (λ (l : List ℕ). StandsInWritings outnet outbsdl verilog bsdl l shelf sink f after) is stands })
-
-writings_free : (outnet outbsdl verilog bsdl line : List ℕ) (shelf : ShelfSeen) (sink : SinkSeen) (f : Fault) (after : Option (List ℕ)) → StandsInWritings outnet outbsdl verilog bsdl line shelf sink f after
-    → CompletesDemo outnet outbsdl shelf sink (status_of f)
-writings_free outnet outbsdl verilog bsdl line shelf sink f after (inl s) calm_net calm_bsdl still = absurd (calm_net (write_rose outnet shelf f s.fault_is))
-writings_free outnet outbsdl verilog bsdl line shelf sink f after (inr (inl s)) calm_net calm_bsdl still = absurd (calm_bsdl (write_rose outbsdl shelf f s.fault_is))
-writings_free outnet outbsdl verilog bsdl line shelf sink f after (inr (inr s)) calm_net calm_bsdl still = absurd (still (put_rose sink f s.fault_is))
-
-pub demo_complete : {T : Type 0} (r : Result T Fault) (outnet outbsdl verilog bsdl line : List ℕ) (shelf : ShelfSeen) (sink : SinkSeen) (after : Option (List ℕ))
-    → IfErr r (λ f. StandsInWritings outnet outbsdl verilog bsdl line shelf sink f after) → IfErr r (λ f. CompletesDemo outnet outbsdl shelf sink (status_of f))
-demo_complete (Ok x) outnet outbsdl verilog bsdl line shelf sink after stands = tt
-demo_complete (Err f) outnet outbsdl verilog bsdl line shelf sink after stands = writings_free outnet outbsdl verilog bsdl line shelf sink f after stands

@@ -1,5 +1,5 @@
--- What `demo` writes and puts, when each fault stands in it, and what it leaves. Own.
-use Rattle.std.specs.Prelude.{◌≡◌, ℕ, ◌+◌, ◌⊎◌, List, [], ◌∷◌, length, codes, Option}
+-- What `demo` writes and puts. Own.
+use Rattle.std.specs.Prelude.{◌≡◌, ℕ, ◌+◌, List, [], ◌∷◌, length, codes, true}
 use Rattle.std.specs.Fmt.{decimal}
 use Rattle.verilog_tree.specs.Canonical.{canonical}
 use Rattle.netlist_model.specs.Lists.{cell_count}
@@ -7,12 +7,10 @@ use Rattle.output_lines.specs.Lines.{words_line}
 use Rattle.plan_texts.specs.Canonical.{canonical_plan}
 use Rattle.plan_fitting.specs.Devices.{device_of}
 use Rattle.insert_command.specs.Insertions.{IsInsertionText}
-use Rattle.command_faults.specs.declared.fault.Fault.{Fault}
 use Rattle.command_faults.specs.declared.status.Status.{Status}
 use Rattle.command_faults.specs.declared.status.Status.TheVariants as status
 use Rattle.command_faults.specs.Statuses.{status_of}
-use Rattle.command_edges.specs.Seen.{ShelfSeen, SinkSeen, WriteRose, SinkRose}
-use Rattle.insert_command.specs.Runs.{IsWrittenOut, StandsInWritings}
+use Rattle.command_edges.specs.Tasks.{Task}
 use Rattle.demo_chips.specs.Netlists.{gate_count, demo_module}
 use Rattle.demo_chips.specs.Plans.{demo_plan}
 use Rattle.demo_plans.specs.Laws.{boundary_cells}
@@ -33,25 +31,18 @@ pub record IsDemo (number : ℕ) (verilog bsdl : List ℕ) : Type 0 where
   pub kept : kept_cells number ≡ cell_count insertion.is.linked.arena.lists
   pub boundary : boundary_cells ≡ length (device_of insertion.is.linked insertion.is.wanted insertion.is.fits.seen).cells
 
--- They are written under their names, and the line was given.
-pub record IsDemonstrated (number : ℕ) (outnet outbsdl : List ℕ) (shelf : ShelfSeen) (sink : SinkSeen) : Type 0 where
-  pub verilog : List ℕ
-  pub bsdl : List ℕ
-  pub made : IsDemo number verilog bsdl
-  pub written_out : IsWrittenOut outnet outbsdl verilog bsdl (demo_line number) shelf sink
+-- these are the texts of the demonstration of the number, and its line
+abbrev pub AreDemo : ℕ → List (List ℕ) → List (List ℕ) → List ℕ → Status → Type 0
+AreDemo number [] (verilog ∷ bsdl ∷ []) line end = IsDemo number verilog bsdl × (line ≡ demo_line number) × (end ≡ status.Done)
+AreDemo number _ _ line end = ⊥
 
--- what comes of the number couldn't be written
-pub record StandsInDemoWriting (number : ℕ) (outnet outbsdl : List ℕ) (shelf : ShelfSeen) (sink : SinkSeen) (f : Fault) (after : Option (List ℕ)) : Type 0 where
-  pub verilog : List ℕ
-  pub bsdl : List ℕ
-  pub made : IsDemo number verilog bsdl
-  pub stands : StandsInWritings outnet outbsdl verilog bsdl (demo_line number) shelf sink f after
-
--- The fault is want of memory, and nothing was given; or it stands in writing, and then so much was given. No other is there.
-abbrev pub StandsInDemo : ℕ → List ℕ → List ℕ → ShelfSeen → SinkSeen → Fault → Option (List ℕ) → Type 0
-StandsInDemo number outnet outbsdl shelf sink f after = ((status_of f ≡ status.Memory) × (after ≡ sink.given))
-    ⊎ StandsInDemoWriting number outnet outbsdl shelf sink f after
-
--- A refusal with this status, where neither a count of writes of both names nor the sink's rises, is want of memory.
-abbrev pub CompletesDemo : List ℕ → List ℕ → ShelfSeen → SinkSeen → Status → Type 0
-CompletesDemo outnet outbsdl shelf sink end = (WriteRose shelf outnet → ⊥) → (WriteRose shelf outbsdl → ⊥) → (SinkRose sink → ⊥) → end ≡ status.Memory
+-- The texts of the demonstration are written, and its line is put. It is refused only where memory is short, or a write fails.
+abbrev pub demo_task : ℕ → List ℕ → List ℕ → Task
+demo_task number outnet outbsdl = record {
+  reads = [];
+  writes = outnet ∷ outbsdl ∷ [];
+  puts = true;
+  Makes = AreDemo number;
+  HaveFault = λ texts f. status_of f ≡ status.Memory;
+  AreFree = λ texts. Unit {0};
+}

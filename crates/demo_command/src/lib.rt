@@ -1,12 +1,11 @@
 // The command that demonstrates: makes the netlist of a number, builds the test logic of the demonstration plan into it, and writes what
 // comes of it.
-// The contract of `demo` cites specs/Demonstrations.antt, which stands on insertions' specs/Insertions.antt.
+// Its task stands in specs/Demonstrations.antt, which stands on insertions' specs/Insertions.antt.
 // Own: no chapter of a standard speaks of it.
 #![tactic(auto)]
 
-mod command;
+mod demo_texts;
 mod demonstrating;
 mod laws;
-mod texts;
 
-pub use command::demo;
+pub use demonstrating::Demo;

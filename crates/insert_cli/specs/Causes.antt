@@ -7,15 +7,16 @@ use Rattle.command_faults.specs.declared.status.Status.{Status}
 use Rattle.command_faults.specs.Lines.{line_of}
 use Rattle.command_faults.specs.Statuses.{status_of}
 use Rattle.command_edges.specs.Seen.{ShelfSeen, SinkSeen, SinkRose}
+use Rattle.command_edges.specs.Tasks as tasks
 use Rattle.insert_cli.specs.Forms.{Form, HasForm, IsNoCommand}
 use Rattle.insert_cli.specs.Names.{Runs, IsRepeated, inputs, outputs}
-use Rattle.insert_cli.specs.Commands.{FinishesIn, StandsIn, CompletesIn}
+use Rattle.insert_cli.specs.Tasks.{task_of}
 
 -- The words are a command, which came to its end with this status.
 pub record Finishes (words : List (List ℕ)) (shelf : ShelfSeen) (sink : SinkSeen) (end : Status) : Type 0 where
   pub form : Form
   pub runs : Runs words form
-  pub finishes : FinishesIn form shelf sink end
+  pub finishes : tasks.Finishes (task_of form) shelf sink end
 
 -- an output of the command has the name of another of its files, and it is the first that has
 pub record RepeatsName (words : List (List ℕ)) (name : List ℕ) : Type 0 where
@@ -33,11 +34,11 @@ StandsInWords words f = ⊥
 pub record StandsInCommand (words : List (List ℕ)) (shelf : ShelfSeen) (sink : SinkSeen) (f : Fault) (before : Option (List ℕ)) : Type 0 where
   pub form : Form
   pub runs : Runs words form
-  pub stands : StandsIn form shelf sink f before
+  pub stands : tasks.Stands (task_of form) shelf sink f before
 
--- The fault stands in the words, and nothing was given before it; or it stands in the command that they are.
+-- The fault stands in the words, and nothing was done; or it stands in the command that they are.
 abbrev pub Stands : List (List ℕ) → ShelfSeen → SinkSeen → Fault → Option (List ℕ) → Type 0
-Stands words shelf sink f before = (StandsInWords words f × (before ≡ sink.given)) ⊎ StandsInCommand words shelf sink f before
+Stands words shelf sink f before = (StandsInWords words f × tasks.NothingDone shelf sink before) ⊎ StandsInCommand words shelf sink f before
 
 -- What was given goes on with the line; or with its front, where the sink's count rose.
 abbrev pub PutsLine : List ℕ → Option (List ℕ) → SinkSeen → Type 0
@@ -55,4 +56,4 @@ pub record Fails (words : List (List ℕ)) (shelf : ShelfSeen) (sink : SinkSeen)
 -- A refusal with this status, where no fault stands in the words and in what the command reads, and no count of reads of its inputs,
 -- of writes of its outputs or of the sink rises, is want of memory.
 abbrev pub Completes : List (List ℕ) → ShelfSeen → SinkSeen → Status → Type 0
-Completes words shelf sink end = (form : Form) → Runs words form → CompletesIn form shelf sink end
+Completes words shelf sink end = (form : Form) → Runs words form → tasks.Completes (task_of form) shelf sink end

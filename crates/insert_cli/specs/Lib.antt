@@ -1,6 +1,6 @@
 pub mod Forms
+pub mod Tasks
 pub mod Names
-pub mod Commands
 pub mod Causes
 pub mod Meets
 pub mod Parsed

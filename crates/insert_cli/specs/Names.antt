@@ -1,30 +1,17 @@
 -- The files that a command reads and writes, and their names. Own.
 use Rattle.std.specs.Prelude.{◌≡◌, ◌≢◌, ℕ, ◌⊎◌, List, [], ◌∷◌, ◌++◌}
+use Rattle.command_edges.specs.Names.{IsOneOf}
 use Rattle.insert_cli.specs.Forms.{Form, HasForm}
+use Rattle.insert_cli.specs.Tasks.{task_of}
 
--- the files that the command reads
+-- the files that the command reads, and those that it writes
 abbrev pub inputs : Form → List (List ℕ)
-inputs (Form.Converts c input output) = input ∷ []
-inputs (Form.Simulates netlist events) = netlist ∷ events ∷ []
-inputs (Form.Inserts netlist plan outnet outbsdl) = netlist ∷ plan ∷ []
-inputs (Form.MakesVectors bsdl output) = bsdl ∷ []
-inputs (Form.Checks netlist bsdl events) = netlist ∷ bsdl ∷ events ∷ []
-inputs (Form.Demonstrates number outnet outbsdl) = []
+inputs form = (task_of form).reads
 
--- the files that the command writes
 abbrev pub outputs : Form → List (List ℕ)
-outputs (Form.Converts c input output) = output ∷ []
-outputs (Form.Simulates netlist events) = []
-outputs (Form.Inserts netlist plan outnet outbsdl) = outnet ∷ outbsdl ∷ []
-outputs (Form.MakesVectors bsdl output) = output ∷ []
-outputs (Form.Checks netlist bsdl events) = []
-outputs (Form.Demonstrates number outnet outbsdl) = outnet ∷ outbsdl ∷ []
+outputs form = (task_of form).writes
 
--- the name is one of these, or none of them
-abbrev pub IsOneOf : List ℕ → List (List ℕ) → Type 0
-IsOneOf name [] = ⊥
-IsOneOf name (other ∷ others) = (name ≡ other) ⊎ IsOneOf name others
-
+-- the name is none of these
 abbrev pub IsNoneOf : List ℕ → List (List ℕ) → Type 0
 IsNoneOf name [] = Unit {0}
 IsNoneOf name (other ∷ others) = (name ≢ other) × IsNoneOf name others

@@ -1,9 +1,10 @@
-ghost use Rattle.std.specs.Prelude.{◌≡◌, ◌≢◌, ◌≤◌, ℕ, List, IfErr, IfOk};
-ghost use Rattle.edge_io.specs.Shelf.{NoneFell, SameTold};
+ghost use Rattle.std.specs.Prelude.{◌≢◌, IfErr, IfOk};
+ghost use Rattle.edge_io.specs.Shelf.{SameTold};
 ghost use Rattle.command_faults.specs.Statuses.{status_of};
 ghost use Rattle.command_faults.specs.declared.status.Status.{Status};
 ghost use Rattle.command_edges.specs.Ends.{IsEnd};
 ghost use Rattle.command_edges.specs.Seen.{shelf_seen, sink_seen};
+ghost use Rattle.command_edges.specs.Tasks.{Keeps};
 ghost use Rattle.insert_cli.specs.Causes.{Completes, Fails, Finishes, Stands};
 ghost use Rattle.insert_cli.specs.Meets.{MissesNothing};
 ghost use Rattle.insert_cli.specs.Names.{Writes};
@@ -35,13 +36,9 @@ fn run<'a, S: Shelf, O: Sink>(
     ensures complete { IfErr result (λ fault. Completes words.now
         (shelf_seen S.tells S.held S.written S.faults shelf.old shelf.new)
         (sink_seen O.given O.faults out.old out.new) (status_of fault)) }
-    ensures unwritten { IfErr result (λ fault. (status_of fault ≢ Status.WriteFault)
-        → SameTold (S.written shelf.old) (S.written shelf.new)) }
-    ensures others { (name : List ℕ) → (Writes words.now name → ⊥)
-        → S.written shelf.new name ≡ S.written shelf.old name }
-    ensures held { SameTold (S.held shelf.old) (S.held shelf.new) }
-    ensures later { NoneFell (S.faults shelf.old) (S.faults shelf.new) }
-    ensures puts_later { O.faults out.old ≤ O.faults out.new }
+    ensures keeps { Keeps (Writes words.now)
+        (shelf_seen S.tells S.held S.written S.faults shelf.old shelf.new)
+        (sink_seen O.given O.faults out.old out.new) }
 {
     let Some(command) = command_of(words) else {
         return Err(Fault::Usage);
@@ -78,9 +75,9 @@ pub fn run_tool<S: Shelf, O: Sink>(
     // Only a write that failed leaves anything changed, and only under the outputs' names.
     ensures unwritten { (IsEnd result → ⊥) → result ≢ Status.WriteFault
         → SameTold (S.written shelf.old) (S.written shelf.new) }
-    ensures others { (name : List ℕ) → (Writes words.now name → ⊥)
-        → S.written shelf.new name ≡ S.written shelf.old name }
-    ensures held { SameTold (S.held shelf.old) (S.held shelf.new) }
+    ensures keeps { Keeps (Writes words.now)
+        (shelf_seen S.tells S.held S.written S.faults shelf.old shelf.new)
+        (sink_seen O.given O.faults out.old out.new) }
 
     // Where no fault stands in the words and in what the command reads, and the counts of faults of its own names and
     // of the sink don't rise, the command comes to its end, or wants memory.
@@ -91,8 +88,6 @@ pub fn run_tool<S: Shelf, O: Sink>(
     // A check of the netlist and of the BSDL text that an insertion wrote, by the program of that device, never misses.
     ensures meets { MissesNothing words.now
         (shelf_seen S.tells S.held S.written S.faults shelf.old shelf.new) result }
-    ensures later { NoneFell (S.faults shelf.old) (S.faults shelf.new) }
-    ensures puts_later { O.faults out.old ≤ O.faults out.new }
 {
     // A law that the proof uses.
     written_programs_miss_nothing();

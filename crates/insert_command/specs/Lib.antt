@@ -4,4 +4,4 @@ pub use Rattle.insertions.specs.Faults as InputFaults
 pub use Rattle.insertions.specs.InsertFault
 pub mod Faults
 pub mod Free
-pub mod Runs
+pub mod Tasks

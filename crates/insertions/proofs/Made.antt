@@ -35,7 +35,7 @@ use Rattle.insertion_inputs.specs.Stitch.{CanStitch, IsStitched}
 use Rattle.written_runs.specs.Written.{IsStitchedOf, WritesStitched}
 use Rattle.written_runs.specs.TextLaws.{IsStitching, StitchedCanBeWritten, StitchedIsWritten}
 use Rattle.written_runs.specs.Laws.{WrittenRealises, WrittenIsAlone, WrittenHasControls}
-use Rattle.insertions.specs.declared.texts.Inserted.{Inserted}
+use Rattle.insertions.specs.declared.written_texts.Inserted.{Inserted}
 use Rattle.insertions.specs.Insertions.{IsNetlistText, IsDeviceText, IsInsertion, IsInsertionText, with_test_logic}
 use Rattle.insertions.proofs.Trees.{tree_is}
 

@@ -6,7 +6,7 @@ ghost use Rattle.insertion_inputs.specs.Faults.{StandsInTexts};
 ghost use Rattle.insertion_inputs.specs.Inputs.{IsNetlistOf, IsFittingAs};
 ghost use Rattle.insertions.specs.Insertions.{IsInsertionText, IsReadied};
 
-use crate::texts::{Inserted, write_texts};
+use crate::written_texts::{Inserted, write_texts};
 use insertion_inputs::{Fitting, InsertFault, fit_text, link_text, stitch};
 use netlist_link::Linked;
 use plan_devices::fitted_is_fitting;

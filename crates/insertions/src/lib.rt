@@ -4,8 +4,8 @@
 #![tactic(auto)]
 
 mod insertion;
-mod texts;
+mod written_texts;
 
 pub use insertion::insert_texts;
 pub use insertion_inputs::InsertFault;
-pub use texts::Inserted;
+pub use written_texts::Inserted;

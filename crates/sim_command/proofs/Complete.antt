@@ -1,5 +1,5 @@
--- A fault that stands where both texts are free of faults and no count rises is want of memory.
-use Rattle.std.proofs.Common.{◌≡◌, ℕ, List, Option, Some, None, Result, Ok, Err, IfErr, inl, inr, sym, subst, ◌∙◌, refl}
+-- A fault that stands where both texts are free of faults is want of memory.
+use Rattle.std.proofs.Common.{◌≡◌, ℕ, List, [], ◌∷◌, None, sym, subst, ◌∙◌, refl}
 use Rattle.list_laws.proofs.Options.{none_some}
 use Rattle.command_edges.proofs.Memory.{text_memory, has_link_memory}
 use Rattle.verilog_tree.specs.declared.tree.Module.{Module}
@@ -18,11 +18,9 @@ use Rattle.command_faults.specs.declared.fault.Fault.{Fault}
 use Rattle.command_faults.specs.declared.fault.Fault.TheVariants as fault
 use Rattle.command_faults.specs.declared.status.Status.TheVariants as status
 use Rattle.command_faults.specs.Statuses.{status_of, event_status, script_status}
-use Rattle.command_edges.specs.Seen.{ShelfSeen, SinkSeen, SinkRose}
-use Rattle.command_edges.proofs.Told.{reading_memory}
 use Rattle.sim_command.specs.Simulations.{IsSimulable, HasScriptFault}
-use Rattle.sim_command.specs.Faults.{StandsInPlay}
-use Rattle.sim_command.specs.Runs.{StandsInSim, CompletesSim}
+use Rattle.sim_command.specs.Faults.{StandsInBoth}
+use Rattle.sim_command.specs.Tasks.{HaveFault, AreSimulable}
 
 -- the laws that keep faults apart from what is free of them
 pub record Laws : Type 0 where
@@ -46,23 +44,16 @@ script_memory laws (script.EventIllegal number) net events ok bad =
 script_memory laws script.OutOfMemory net events ok bad = refl
 
 -- faults of both texts
-play_memory : Laws → (f : Fault) (net text : List ℕ) (sink : SinkSeen) → IsSimulable net text → (SinkRose sink → ⊥) → StandsInPlay (Some net) (Some text) sink f → status_of f ≡ status.Memory
-play_memory laws (fault.Netlist f) net text sink ok still stands = text_memory net ok.tree f ok.spells stands
-play_memory laws (fault.Link f) net text sink ok still stands = has_link_memory laws.links net ok.tree f ok.spells ok.linkable stands
-play_memory laws (fault.Events f) net text sink ok still stands = event_memory laws.faultless text ok.lines f (laws.faultless text ok.lines ok.spells_lines) stands.1
-play_memory laws (fault.Script f) net text sink ok still stands = script_memory laws f net text ok stands.2
-play_memory laws (fault.WriteFault name) net text sink ok still stands = absurd (still stands.0.1)
-play_memory laws fault.OutOfMemory net text sink ok still stands = refl
-play_memory laws f net text sink ok still stands = absurd stands
+both_memory : Laws → (f : Fault) (net text : List ℕ) → IsSimulable net text → StandsInBoth net text f → status_of f ≡ status.Memory
+both_memory laws (fault.Netlist f) net text ok stands = text_memory net ok.tree f ok.spells stands
+both_memory laws (fault.Link f) net text ok stands = has_link_memory laws.links net ok.tree f ok.spells ok.linkable stands
+both_memory laws (fault.Events f) net text ok stands = event_memory laws.faultless text ok.lines f (laws.faultless text ok.lines ok.spells_lines) stands.1
+both_memory laws (fault.Script f) net text ok stands = script_memory laws f net text ok stands
+both_memory laws fault.OutOfMemory net text ok stands = refl
+both_memory laws f net text ok stands = absurd stands
 
-sim_memory : Laws → (netlist events : List ℕ) (shelf : ShelfSeen) (sink : SinkSeen) (f : Fault) → StandsInSim netlist events shelf sink f → CompletesSim netlist events shelf sink (status_of f)
-sim_memory laws netlist events shelf sink f (inl (inl stands)) net text told too ok calm calm_too still = reading_memory netlist net shelf f told ok.short calm stands
-sim_memory laws netlist events shelf sink f (inl (inr (short, stands))) net text told too ok calm calm_too still = reading_memory events text shelf f too ok.short_events calm_too stands
-sim_memory laws netlist events shelf sink f (inr (short, stands)) net text told too ok calm calm_too still =
-    play_memory laws f net text sink ok still
-    (subst (λ (t : Option (List ℕ)). StandsInPlay (Some net) t sink f) too (subst (λ (t : Option (List ℕ)). StandsInPlay t (shelf.held events) sink f) told stands))
-
-pub sim_completes : {T : Type 0} (r : Result T Fault) → Laws → (netlist events : List ℕ) (shelf : ShelfSeen) (sink : SinkSeen) → IfErr r (StandsInSim netlist events shelf sink)
-    → IfErr r (λ f. CompletesSim netlist events shelf sink (status_of f))
-sim_completes (Ok x) laws netlist events shelf sink stands = tt
-sim_completes (Err f) laws netlist events shelf sink stands = sim_memory laws netlist events shelf sink f stands
+pub texts_memory : Laws → (f : Fault) (texts : List (List ℕ)) → AreSimulable texts → HaveFault texts f → status_of f ≡ status.Memory
+texts_memory laws f (net ∷ events ∷ []) ok stands = both_memory laws f net events ok stands
+texts_memory laws f [] ok stands = absurd stands
+texts_memory laws f (net ∷ []) ok stands = absurd stands
+texts_memory laws f (net ∷ events ∷ other ∷ more) ok stands = absurd stands

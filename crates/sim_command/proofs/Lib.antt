@@ -1,2 +1,2 @@
-pub mod Simulated
 pub mod Complete
+pub mod Simulated

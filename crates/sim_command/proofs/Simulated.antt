@@ -1,154 +1,95 @@
 -- What is known of `sim` from its parts.
-use Rattle.std.proofs.Common.{◌≡◌, ℕ, Result, Ok, Err, IfOk, IfErr, List, take, Option, Some, inl, inr, refl, subst}
-use Rattle.edge_io.specs.Shelf.{WhereTold, appended}
+use Rattle.std.proofs.Common.{◌≡◌, ℕ, Result, Ok, Err, IfOk, IfErr, List, [], ◌∷◌, Option, true, inl, inr, refl}
 use Rattle.command_faults.specs.declared.fault.Fault.{Fault}
 use Rattle.command_faults.specs.declared.fault.Fault.TheVariants as fault
 use Rattle.command_faults.specs.declared.status.Status.{Status}
+use Rattle.command_faults.specs.Statuses.{status_of}
 use Rattle.verilog_tree.specs.declared.tree.Module.{Module}
-use Rattle.verilog_texts.specs.TextFaults.{IsTextFault}
 use Rattle.verilog_texts.specs.Reading.{IsReadAs}
 use Rattle.netlist_link.specs.Linked.{LinkedView}
-use Rattle.netlist_link.specs.Links.{IsLinkOf, HasLinkFault}
-use Rattle.scan_vectors.specs.declared.lines.Lines.{Lines}
-use Rattle.scan_vectors.specs.Faults.{IsFault}
-use Rattle.scan_vectors.specs.Grammar.{SpellsLines}
-use Rattle.event_scripts.specs.declared.script.ScriptLine.{ScriptLine}
-use Rattle.event_scripts.specs.Scripts.{IsResolved, IsScriptFault}
-use Rattle.event_scripts.specs.declared.fault.ScriptFault.{ScriptFault}
-use Rattle.sim_runs.specs.Outputs.{IsOutput}
-use Rattle.command_edges.specs.Spelled.{SpellsLinkable, SpellsEvents, StandsInNetlist}
+use Rattle.netlist_link.specs.Links.{IsLinkOf}
+use Rattle.edge_io.specs.Shelf.{SameTold}
 use Rattle.command_edges.specs.Ends.{run_status}
-use Rattle.command_edges.specs.Seen.{ShelfSeen, SinkSeen, SinkRose}
-use Rattle.command_edges.proofs.Told.{IsTold, told_as, both_told, AreRead, are_short}
-use Rattle.sim_command.specs.Simulations.{IsSimulation, HasScriptFault}
-use Rattle.sim_command.specs.Faults.{HasRun, StandsInPlay}
-use Rattle.sim_command.specs.Runs.{StandsInSim, IsPlayed, IsFrontOfRun, GaveFront, GaveInPlay, IsSimulated, CompletesSim}
+use Rattle.command_edges.specs.Seen.{ShelfSeen, SinkSeen}
+use Rattle.command_edges.specs.Spelled.{SpellsLinkable, StandsInNetlist}
+use Rattle.command_edges.specs.Texts.{AreRead}
+use Rattle.command_edges.specs.Tasks.{Task, Finishes, Stands, Completes, StandsInGiving}
+use Rattle.command_edges.proofs.Outcome.{refusal_completes, giving_completes}
+use Rattle.sim_command.specs.Simulations.{IsSimulation}
+use Rattle.sim_command.specs.Faults.{StandsInBoth}
+use Rattle.sim_command.specs.Tasks.{ArePlayed, HaveFault, sim_task}
+use Rattle.sim_command.specs.Played.{IsRunOn, IsPlayedOn, IsCutShortOn, StandsInEvents, FailsToPlayOn, IsPlayed, IsCutShort, FailsToPlay}
+use Rattle.sim_command.proofs.Complete.{Laws, texts_memory}
 
--- the netlist's fault is one of both texts
-pub netlist_plays : (net : List ℕ) (events : Option (List ℕ)) (sink : SinkSeen) (f : Fault) → StandsInNetlist net f → StandsInPlay (Some net) events sink f
-netlist_plays net events sink (fault.Netlist f) stands = stands
-netlist_plays net events sink (fault.Link f) stands = stands
-netlist_plays net events sink f stands = absurd stands
+-- From a netlist to its bytes.
 
--- a fault of two texts that were read stands where they are told
-pub play_told : (net_told events_told : Option (List ℕ)) (net events : List ℕ) (sink : SinkSeen) (f : Fault) → WhereTold net_told (IsTold net) → WhereTold events_told (IsTold events)
-    → StandsInPlay (Some net) (Some events) sink f → StandsInPlay net_told events_told sink f
-play_told net_told events_told net events sink (fault.Netlist f) is too stands = told_as net_told net (λ b. IsTextFault b f) is stands
-play_told net_told events_told net events sink (fault.Link f) is too stands = told_as net_told net (HasLinkFault f) is stands
-play_told net_told events_told net events sink (fault.Events f) is too stands =
-    (told_as net_told net SpellsLinkable is stands.0, told_as events_told events (λ b. IsFault b f) too stands.1)
-play_told net_told events_told net events sink (fault.Script f) is too stands = (
-  told_as net_told net SpellsLinkable is stands.0,
-  told_as events_told events SpellsEvents too stands.1,
-  both_told net_told events_told net events (HasScriptFault f) is too stands.2,
-)
-play_told net_told events_told net events sink (fault.WriteFault name) is too stands = (
-  stands.0,
-  told_as net_told net SpellsLinkable is stands.1,
-  told_as events_told events SpellsEvents too stands.2,
-  both_told net_told events_told net events HasRun is too stands.3,
-)
-play_told net_told events_told net events sink f is too stands = stands
-
-pub played_told : (net_told events_told : Option (List ℕ)) (net events : List ℕ) (sink : SinkSeen) (end : Status) → WhereTold net_told (IsTold net) → WhereTold events_told (IsTold events)
-    → IsPlayed (Some net) (Some events) sink end → IsPlayed net_told events_told sink end
-played_told net_told events_told net events sink end is too p = record {
-  linkable = told_as net_told net SpellsLinkable is p.linkable;
-  lines = told_as events_told events SpellsEvents too p.lines;
-  text = p.text;
-  missed = p.missed;
-  simulation = both_told net_told events_told net events (λ n e. IsSimulation n e p.text p.missed) is too p.simulation;
-  gives = p.gives;
-  status_is = p.status_is;
-}
-
-pub gave_told : (net_told events_told : Option (List ℕ)) (net events : List ℕ) (f : Fault) (before after : Option (List ℕ)) → WhereTold net_told (IsTold net) → WhereTold events_told (IsTold events)
-    → GaveInPlay (Some net) (Some events) f before after → GaveInPlay net_told events_told f before after
-gave_told net_told events_told net events f before after is too (inl same) = inl same
-gave_told net_told events_told net events f before after is too (inr (failed, part)) =
-    inr (failed, record { front = part.front; gives = part.gives; of_run = both_told net_told events_told net events (IsFrontOfRun part.front) is too part.of_run })
-
-pub sim_done : (r : Result Status Fault) (netlist events : List ℕ) (shelf : ShelfSeen) (sink : SinkSeen) (net text : List ℕ) → AreRead netlist events shelf net text
-    → IfOk r (IsPlayed (Some net) (Some text) sink) → IfOk r (IsSimulated netlist events shelf sink)
-sim_done (Ok status) netlist events shelf sink net text read played =
-    (are_short netlist events shelf net text read, played_told (shelf.held netlist) (shelf.held events) net text sink status read.first_is read.second_is played)
-sim_done (Err f) netlist events shelf sink net text read played = tt
-
-pub sim_fault : (r : Result Status Fault) (netlist events : List ℕ) (shelf : ShelfSeen) (sink : SinkSeen) (net text : List ℕ) → AreRead netlist events shelf net text
-    → IfErr r (StandsInPlay (Some net) (Some text) sink) → IfErr r (StandsInSim netlist events shelf sink)
-sim_fault (Ok status) netlist events shelf sink net text read stands = tt
-sim_fault (Err f) netlist events shelf sink net text read stands =
-    inr (are_short netlist events shelf net text read, play_told (shelf.held netlist) (shelf.held events) net text sink f read.first_is read.second_is stands)
-
-pub sim_gives : (r : Result Status Fault) (netlist events : List ℕ) (shelf : ShelfSeen) (before after : Option (List ℕ)) (net text : List ℕ) → AreRead netlist events shelf net text
-    → IfErr r (λ f. GaveInPlay (Some net) (Some text) f before after) → IfErr r (λ f. GaveInPlay (shelf.held netlist) (shelf.held events) f before after)
-sim_gives (Ok status) netlist events shelf before after net text read gave = tt
-sim_gives (Err f) netlist events shelf before after net text read gave =
-    gave_told (shelf.held netlist) (shelf.held events) net text f before after read.first_is read.second_is gave
-
-pub simulation_made : (net events bytes text : List ℕ) (missed : ℕ) (tree : Module) (linked : LinkedView) (lines : Lines) (script : List ScriptLine) → IsReadAs net tree → IsLinkOf tree linked
-    → bytes ≡ events → SpellsLines bytes lines → IsResolved linked lines script → IsOutput linked lines.list script text missed → IsSimulation net events text missed
-simulation_made net events bytes text missed tree linked lines script read links same spells resolved output = record {
+simulation_made : (net events text : List ℕ) (missed : ℕ) (tree : Module) (linked : LinkedView) → IsReadAs net tree → IsLinkOf tree linked → IsRunOn linked events text missed
+    → IsSimulation net events text missed
+simulation_made net events text missed tree linked read links r = record {
   tree = tree;
   spells = read.spells;
   only = read.only;
   linked = linked;
   links = links;
-  lines = lines;
-  spells_lines = subst (λ (b : List ℕ). SpellsLines b lines) same spells;
-  script = script;
-  resolved = resolved;
-  output = output;
+  lines = r.lines;
+  spells_lines = r.spells_lines;
+  script = r.script;
+  resolved = r.resolved;
+  output = r.output;
 }
 
--- a simulation's netlist can be linked, and its events are lines
-pub linkable_of : (net events text : List ℕ) (missed : ℕ) → IsSimulation net events text missed → SpellsLinkable net
-linkable_of net events text missed s = record { tree = s.tree; spells = s.spells; linkable = s.links.linkable }
+pub netlist_stands : (net events : List ℕ) (f : Fault) → StandsInNetlist net f → StandsInBoth net events f
+netlist_stands net events (fault.Netlist f) stands = stands
+netlist_stands net events (fault.Link f) stands = stands
+netlist_stands net events f stands = absurd stands
 
-pub events_of : (net events text : List ℕ) (missed : ℕ) → IsSimulation net events text missed → SpellsEvents events
-events_of net events text missed s = (s.lines, s.spells_lines)
+events_stand : (net events : List ℕ) (tree : Module) (linked : LinkedView) (f : Fault) → IsReadAs net tree → IsLinkOf tree linked → StandsInEvents linked events f → StandsInBoth net events f
+events_stand net events tree linked (fault.Events f) read links stands = (record { tree = tree; spells = read.spells; linkable = links.linkable }, stands)
+events_stand net events tree linked (fault.Script f) read links (lines, (spelled, stands)) =
+    record { tree = tree; spells = read.spells; only = read.only; linked = linked; links = links; lines = lines; spells_lines = spelled; fault = stands }
+events_stand net events tree linked fault.OutOfMemory read links stands = tt
+events_stand net events tree linked f read links stands = absurd stands
 
--- a script's fault stands where the netlist can be linked and the events are lines
-pub script_fault_made : (net events bytes : List ℕ) (sink : SinkSeen) (f : ScriptFault) (tree : Module) (linked : LinkedView) (lines : Lines) → IsReadAs net tree → IsLinkOf tree linked
-    → bytes ≡ events → SpellsLines bytes lines → IsScriptFault linked lines f → StandsInPlay (Some net) (Some events) sink (fault.Script f)
-script_fault_made net events bytes sink f tree linked lines read links same spells stands =
-    let spelled : SpellsLines events lines = subst (λ (b : List ℕ). SpellsLines b lines) same spells in (
-      record { tree = tree; spells = read.spells; linkable = links.linkable },
-      (lines, spelled),
-      record { tree = tree; spells = read.spells; only = read.only; linked = linked; links = links; lines = lines; spells_lines = spelled; fault = stands },
-    )
+pub played_done : (r : Result Status Fault) (net events : List ℕ) (tree : Module) (linked : LinkedView) (sink : SinkSeen) → IsReadAs net tree → IsLinkOf tree linked
+    → IfOk r (IsPlayedOn linked events sink) → IfOk r (IsPlayed (net ∷ events ∷ []) sink)
+played_done (Ok end) net events tree linked sink read links p =
+    record { text = p.text; played = (p.missed, (simulation_made net events p.text p.missed tree linked read links p.run, p.status_is)); gives = p.gives }
+played_done (Err f) net events tree linked sink read links p = tt
 
--- the whole text of a run was given
-pub played_made : (net events text : List ℕ) (missed : ℕ) (sink : SinkSeen) (end : Status) → IsSimulation net events text missed → sink.given_after ≡ appended text sink.given
-    → end ≡ run_status missed → IsPlayed (Some net) (Some events) sink end
-played_made net events text missed sink end s gives is = record {
-  linkable = linkable_of net events text missed s;
-  lines = events_of net events text missed s;
-  text = text;
-  missed = missed;
-  simulation = s;
-  gives = gives;
-  status_is = is;
-}
+fails : (net events : List ℕ) (tree : Module) (linked : LinkedView) (sink : SinkSeen) (f : Fault) (given : Option (List ℕ)) → IsReadAs net tree → IsLinkOf tree linked
+    → FailsToPlayOn linked events sink f given → FailsToPlay (net ∷ events ∷ []) sink f given
+fails net events tree linked sink f given read links (inl (stands, same)) = inl (events_stand net events tree linked f read links stands, same)
+fails net events tree linked sink f given read links (inr s) = inr (record {
+  text = s.text;
+  end = run_status s.missed;
+  played = (s.missed, (simulation_made net events s.text s.missed tree linked read links s.run, refl));
+  put = s.put;
+})
 
--- a front of the text of a run was given
-pub front_made : (net events text : List ℕ) (missed count : ℕ) (before after : Option (List ℕ)) → IsSimulation net events text missed → after ≡ appended (take count text) before
-    → GaveFront (Some net) (Some events) before after
-front_made net events text missed count before after s gives = record {
-  front = take count text;
-  gives = gives;
-  of_run = record { run = record { text = text; missed = missed; simulation = s }; count = count; front_is = refl };
-}
+pub played_fault : (r : Result Status Fault) (net events : List ℕ) (tree : Module) (linked : LinkedView) (sink : SinkSeen) (given : Option (List ℕ)) → IsReadAs net tree → IsLinkOf tree linked
+    → IfErr r (λ f. FailsToPlayOn linked events sink f given) → IfErr r (λ f. FailsToPlay (net ∷ events ∷ []) sink f given)
+played_fault (Ok end) net events tree linked sink given read links s = tt
+played_fault (Err f) net events tree linked sink given read links s = fails net events tree linked sink f given read links s
 
--- A sink's count that rose goes on as risen.
-pub play_later : (net events : Option (List ℕ)) (a b : SinkSeen) (f : Fault) → (SinkRose a → SinkRose b) → StandsInPlay net events a f → StandsInPlay net events b f
-play_later net events a b (fault.WriteFault name) later stands = ((stands.0.0, later stands.0.1), stands.1, stands.2, stands.3)
-play_later net events a b f later stands = stands
+-- From texts that were read to the task.
 
-pub sim_later : (netlist events : List ℕ) (shelf : ShelfSeen) (a b : SinkSeen) (f : Fault) → (SinkRose a → SinkRose b) → StandsInSim netlist events shelf a f → StandsInSim netlist events shelf b f
-sim_later netlist events shelf a b f later (inl unread) = inl unread
-sim_later netlist events shelf a b f later (inr (short, stands)) = inr (short, play_later (shelf.held netlist) (shelf.held events) a b f later stands)
+pub sim_done : (r : Result Status Fault) (netlist events : List ℕ) (shelf : ShelfSeen) (sink : SinkSeen) (texts : List (List ℕ)) → AreRead shelf.held (netlist ∷ events ∷ []) texts
+    → IfOk r (IsPlayed texts sink) → IfOk r (Finishes (sim_task netlist events) shelf sink)
+sim_done (Ok end) netlist events shelf sink texts read p =
+    record { outputs = []; put = p.text; made = record { texts = texts; read = read; made = p.played }; written = tt; is_put = p.gives }
+sim_done (Err f) netlist events shelf sink texts read p = tt
 
-pub sim_completes_later : (netlist events : List ℕ) (shelf : ShelfSeen) (a b : SinkSeen) (end : Status) → (SinkRose a → SinkRose b) → CompletesSim netlist events shelf a end
-    → CompletesSim netlist events shelf b end
-sim_completes_later netlist events shelf a b end later completes net text told too ok calm calm_too still = completes net text told too ok calm calm_too (λ rose. still (later rose))
+pub sim_fault : (r : Result Status Fault) (netlist events : List ℕ) (shelf : ShelfSeen) (sink : SinkSeen) (given : Option (List ℕ)) (texts : List (List ℕ))
+    → AreRead shelf.held (netlist ∷ events ∷ []) texts → SameTold shelf.written shelf.written_after → IfErr r (λ f. FailsToPlay texts sink f given)
+    → IfErr r (λ f. Stands (sim_task netlist events) shelf sink f given)
+sim_fault (Ok end) netlist events shelf sink given texts read same s = tt
+sim_fault (Err f) netlist events shelf sink given texts read same (inl (bad, nothing)) = inl (inr (record { texts = texts; read = read; fault_is = bad }), (same, nothing))
+sim_fault (Err f) netlist events shelf sink given texts read same (inr s) =
+    inr (record { outputs = []; put = s.text; end = s.end; made = record { texts = texts; read = read; made = s.played }; stands = inr (tt, s.put) })
+
+pub sim_completes : (r : Result Status Fault) → Laws → (netlist events : List ℕ) (shelf : ShelfSeen) (sink : SinkSeen) (given : Option (List ℕ)) (texts : List (List ℕ))
+    → AreRead shelf.held (netlist ∷ events ∷ []) texts → IfErr r (λ f. FailsToPlay texts sink f given) → IfErr r (λ f. Completes (sim_task netlist events) shelf sink (status_of f))
+sim_completes (Ok end) laws netlist events shelf sink given texts read s = tt
+sim_completes (Err f) laws netlist events shelf sink given texts read (inl (bad, nothing)) =
+    refusal_completes (sim_task netlist events) shelf sink f texts read (λ free. texts_memory laws f texts free bad)
+sim_completes (Err f) laws netlist events shelf sink given texts read (inr s) = giving_completes (sim_task netlist events) shelf sink f [] s.text given (inr (tt, s.put))

@@ -1,3 +1,4 @@
 pub mod Simulations
 pub mod Faults
-pub mod Runs
+pub mod Tasks
+pub mod Played

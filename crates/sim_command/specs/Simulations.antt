@@ -13,7 +13,6 @@ use Rattle.event_scripts.specs.declared.fault.ScriptFault.{ScriptFault}
 use Rattle.event_scripts.specs.Rules.{AreLegal}
 use Rattle.event_scripts.specs.Scripts.{IsResolved, IsScriptFault}
 use Rattle.sim_runs.specs.Outputs.{IsOutput}
-use Rattle.command_edges.specs.Lengths.{IsShort}
 
 -- The netlist's bytes spell one tree, which is linked to this netlist; the events' bytes spell lines that are legal for it; and
 -- the text is that of their run, in which so many expectations aren't met.
@@ -42,8 +41,6 @@ pub record HasScriptFault (f : ScriptFault) (net events : List ℕ) : Type 0 whe
 
 -- own: no fault stands in the bytes of the netlist and of the events
 pub record IsSimulable (net events : List ℕ) : Type 0 where
-  pub short : IsShort net
-  pub short_events : IsShort events
   pub tree : Module
   pub spells : SpellsText net tree
   pub linkable : IsLinkable tree

@@ -1,5 +1,5 @@
 // The command that simulates: reads a netlist and events, and puts what the events' run on the netlist puts.
-// The contract of `simulate` cites specs/Runs.antt, which stands on specs/Simulations.antt and specs/Faults.antt.
+// Its task stands in specs/Tasks.antt, over specs/Simulations.antt and specs/Faults.antt.
 // IEEE Std 1364-2001 for the netlist; the texts of events and what a run puts are own.
 #![tactic(auto)]
 

@@ -1,17 +1,17 @@
 // From texts that were read to the text that is put.
-ghost use Rattle.std.specs.Prelude.{◌≡◌, ◌≤◌, Some, IfOk, IfErr};
+ghost use Rattle.std.specs.Prelude.{◌≡◌, ◌≤◌, [], ◌∷◌, length, IfOk, IfErr};
 ghost use Rattle.verilog_tree.specs.declared.tree.Module.{Module};
 ghost use Rattle.verilog_texts.specs.Reading.{IsReadAs};
 ghost use Rattle.netlist_link.specs.Links.{IsLinkOf};
 ghost use Rattle.command_edges.specs.Ends.{IsEnd, run_status};
 ghost use Rattle.command_edges.specs.Seen.{sink_seen};
 ghost use Rattle.command_edges.specs.Spelled.{StandsInNetlist};
-ghost use Rattle.sim_command.specs.Faults.{StandsInPlay};
-ghost use Rattle.sim_command.specs.Runs.{GaveInPlay, IsPlayed};
+ghost use Rattle.sim_command.specs.Played.{FailsToPlay, FailsToPlayOn, IsPlayed, IsPlayedOn};
 
+use command_edges::take_two;
 use command_faults::{Fault, Status};
-use edge_io::Text;
 use edge_io::sink::Sink;
+use edge_io::{Row, Text};
 use event_scripts::resolve;
 use netlist_link::{Linked, link};
 use scan_vectors::read_events;
@@ -40,30 +40,63 @@ fn linked_of<'a>(alloc: Global, net: Text) -> Result<Linked, Fault<'a>>
     Ok(link(alloc, &tree)?)
 }
 
-/// Plays the events that one text spells on the netlist that the other spells.
-pub fn play_texts<'a, O: Sink>(
+// Plays the events that a text spells on a netlist.
+fn play_on<'a, O: Sink>(
     alloc: Global,
-    net: Text,
-    events: Text,
+    linked: &Linked,
+    events: &[u8],
     out: &mut O,
 ) -> Result<Status, Fault<'a>>
-    ensures done { IfOk result (IsPlayed (Some net) (Some events)
+    ensures done { IfOk result (IsPlayedOn linked.now events.now
         (sink_seen O.given O.faults out.old out.new)) }
-    ensures fault { IfErr result (StandsInPlay (Some net) (Some events)
-        (sink_seen O.given O.faults out.old out.new)) }
-    ensures gave { IfErr result (λ fault. GaveInPlay (Some net) (Some events) fault
-        (O.given out.old) (O.given out.new)) }
+    ensures fault { IfErr result (λ fault. FailsToPlayOn linked.now events.now
+        (sink_seen O.given O.faults out.old out.new) fault (O.given out.new)) }
     ensures ended { IfOk result IsEnd }
     ensures later { O.faults out.old ≤ O.faults out.new }
 {
-    let linked = linked_of(alloc, net)?;
-    let lines = read_events(alloc, events.as_bytes())?;
-    let script = resolve(alloc, &lines, &linked)?;
-    match play(alloc, &linked, &lines, &script, out) {
+    let lines = read_events(alloc, events)?;
+    let script = resolve(alloc, &lines, linked)?;
+    match play(alloc, linked, &lines, &script, out) {
         Ok(missed) => Ok(status_after(missed)),
         Err(PlayFault::OutOfMemory) => Err(Fault::OutOfMemory),
         Err(PlayFault::WriteFault) => Err(Fault::WriteFault {
             name: "standard-output",
         }),
     }
+}
+
+// Plays the events that one text spells on the netlist that the other spells.
+fn play_texts<'a, O: Sink>(
+    alloc: Global,
+    net: Text,
+    events: Text,
+    out: &mut O,
+) -> Result<Status, Fault<'a>>
+    ensures done { IfOk result (IsPlayed (net ∷ events ∷ [])
+        (sink_seen O.given O.faults out.old out.new)) }
+    ensures fault { IfErr result (λ fault. FailsToPlay (net ∷ events ∷ [])
+        (sink_seen O.given O.faults out.old out.new) fault (O.given out.new)) }
+    ensures ended { IfOk result IsEnd }
+    ensures later { O.faults out.old ≤ O.faults out.new }
+{
+    let linked = linked_of(alloc, net)?;
+    play_on(alloc, &linked, events.as_bytes(), out)
+}
+
+/// Plays the texts of a netlist and of events.
+pub fn play_all<'a, O: Sink>(
+    alloc: Global,
+    texts: Row<Text>,
+    out: &mut O,
+) -> Result<Status, Fault<'a>>
+    requires { length texts ≡ 2 }
+    ensures done { IfOk result (IsPlayed texts (sink_seen O.given O.faults out.old out.new)) }
+    ensures fault { IfErr result (λ fault. FailsToPlay texts
+        (sink_seen O.given O.faults out.old out.new) fault (O.given out.new)) }
+    ensures ended { IfOk result IsEnd }
+    ensures later { O.faults out.old ≤ O.faults out.new }
+{
+    let mut texts = texts.into_vec();
+    let (net, events) = take_two(alloc, texts.as_mut_slice());
+    play_texts(alloc, net, events, out)
 }

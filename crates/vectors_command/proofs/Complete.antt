@@ -1,5 +1,5 @@
--- A text that is accepted has no fault but want of memory.
-use Rattle.std.proofs.Common.{◌≡◌, ℕ, List, Some, refl, subst}
+-- A text that spells a device has no fault but want of memory.
+use Rattle.std.proofs.Common.{◌≡◌, ℕ, List, refl, subst}
 use Rattle.bsdl_lexicon.specs.declared.token.BsdlSpanned.{BsdlSpanned}
 use Rattle.bsdl_device.specs.Spelled.{SpellsDevice}
 use Rattle.bsdl_device.specs.declared.fault.DeviceTextFault.{DeviceTextFault}
@@ -9,10 +9,8 @@ use Rattle.command_faults.specs.declared.fault.Fault.{Fault}
 use Rattle.command_faults.specs.declared.fault.Fault.TheVariants as fault
 use Rattle.command_faults.specs.declared.status.Status.TheVariants as status
 use Rattle.command_faults.specs.Statuses.{status_of, device_status}
-use Rattle.command_edges.specs.Lengths.{IsShort}
 use Rattle.command_edges.specs.Spelled.{SpellsSomeDevice}
-use Rattle.vectors_command.specs.Programs.{IsAccepted}
-use Rattle.vectors_command.specs.Faults.{StandsInText}
+use Rattle.vectors_command.specs.Tasks.{StandsInText}
 
 -- a text that spells a device has no fault but want of memory
 device_memory : (bytes : List ℕ) (f : DeviceTextFault) → SpellsSomeDevice bytes → IsDeviceTextFault bytes f → device_status f ≡ status.Memory
@@ -23,13 +21,7 @@ device_memory bytes (device.BsdlMeaning kind place) (d, spells) bad =
     absurd (bad.meaning.unspelled d (subst (λ (ws : List BsdlSpanned). SpellsDevice ws d) (bad.has.only spells.words spells.cut) spells.spells))
 device_memory bytes device.OutOfMemory spelled bad = refl
 
-spelled_memory : (bytes : List ℕ) (f : Fault) → SpellsSomeDevice bytes → StandsInText (Some bytes) f → status_of f ≡ status.Memory
+pub spelled_memory : (bytes : List ℕ) (f : Fault) → SpellsSomeDevice bytes → StandsInText bytes f → status_of f ≡ status.Memory
 spelled_memory bytes (fault.Device f) spelled stands = device_memory bytes f spelled stands
 spelled_memory bytes fault.OutOfMemory spelled stands = refl
 spelled_memory bytes f spelled stands = absurd stands
-
-pub text_memory : (bytes : List ℕ) (f : Fault) → IsAccepted bytes → StandsInText (Some bytes) f → status_of f ≡ status.Memory
-text_memory bytes f ok stands = spelled_memory bytes f ok.spelled stands
-
-pub is_short : (bytes : List ℕ) → IsAccepted bytes → IsShort bytes
-is_short bytes ok = ok.short

@@ -7,8 +7,6 @@ use Rattle.scan_vectors.specs.declared.lines.Lines.{Lines}
 use Rattle.scan_vectors.specs.Grammar.{SpellsLines}
 use Rattle.scan_vectors.specs.Canonical.{canonical_lines, canonical_text}
 use Rattle.scan_programs.specs.Program.{program_of}
-use Rattle.command_edges.specs.Lengths.{IsShort}
-use Rattle.command_edges.specs.Spelled.{SpellsSomeDevice}
 
 -- The bytes spell one device; the text is the canonical text of its program, which spells the lines of this program and no others.
 pub record IsProgramText (bytes text : List ℕ) : Type 0 where
@@ -18,8 +16,3 @@ pub record IsProgramText (bytes text : List ℕ) : Type 0 where
   pub text_is : text ≡ canonical_text (program_of device)
   pub again : SpellsLines text (canonical_lines (program_of device))
   pub again_only : (other : Lines) → SpellsLines text other → other ≡ canonical_lines (program_of device)
-
--- own: bytes that are not too many, and spell a device
-pub record IsAccepted (bytes : List ℕ) : Type 0 where
-  pub short : IsShort bytes
-  pub spelled : SpellsSomeDevice bytes

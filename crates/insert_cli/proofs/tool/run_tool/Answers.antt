@@ -1,9 +1,10 @@
-use Rattle.std.proofs.Common.{refl, sym, subst}
+use Rattle.std.proofs.Common.{refl, sym, subst, ◌∙◌}
 use Rattle.command_edges.specs.Ends.{IsEnd}
 use Rattle.command_edges.specs.Seen.{ShelfSeen, SinkSeen, shelf_seen, sink_seen}
 use Rattle.command_edges.proofs.Told.{rose_earlier, rose_on}
 use Rattle.command_faults.specs.Statuses.{status_of}
-use Rattle.insert_cli.proofs.Runs.{fault_later, completes_later, line_put}
+use Rattle.insert_cli.specs.Names.{Writes}
+use Rattle.insert_cli.proofs.Runs.{fault_later, completes_later, keeps_later, unwritten, line_put}
 use Rattle.insert_cli.proofs.Ends.{fault_apart}
 use Rattle.insert_cli.proofs.Meets.{misses_nothing, no_end_misses}
 use Rattle.insert_cli.proofs.tool.run_tool.Goals as goal
@@ -23,7 +24,7 @@ returns-clause-fault g c = λ not_end.
       stands = fault_later c.args.words.now shelf early late c.in-Err.fault (g.O.Sink.given c.run.new.out) refl
           (λ rose. rose_on (g.O.Sink.faults c.args.out.now) (g.O.Sink.faults c.run.new.out) (g.O.Sink.faults c.put_fault.new.out) rose c.put_fault.ensures.later) c.in-Err.ensures.fault;
       line = line_put c.put_fault.result
-          (λ rose. rose_earlier (g.O.Sink.faults c.args.out.now) (g.O.Sink.faults c.run.new.out) (g.O.Sink.faults c.put_fault.new.out) c.in-Err.ensures.puts_later rose)
+          (λ rose. rose_earlier (g.O.Sink.faults c.args.out.now) (g.O.Sink.faults c.run.new.out) (g.O.Sink.faults c.put_fault.new.out) c.in-Err.ensures.keeps.puts_later rose)
           c.put_fault.ensures.ok c.put_fault.ensures.fault c.put_fault.ensures.cause;
     }
 
@@ -45,3 +46,16 @@ returns-in-Ok-clause-meets g c =
     let shelf : ShelfSeen = shelf_seen g.S.Shelf.tells g.S.Shelf.held g.S.Shelf.written g.S.Shelf.faults c.args.shelf.now c.run.new.shelf in
     let sink : SinkSeen = sink_seen g.O.Sink.given g.O.Sink.faults c.args.out.now c.run.new.out in
     misses_nothing c.written_programs_miss_nothing.ensures c.args.words.now shelf sink c.in-Ok.status c.in-Ok.ensures.done
+
+pub returns-clause-unwritten : goal.returns-clause-unwritten
+returns-clause-unwritten g c = λ not_end other.
+    let shelf : ShelfSeen = shelf_seen g.S.Shelf.tells g.S.Shelf.held g.S.Shelf.written g.S.Shelf.faults c.args.shelf.now c.run.new.shelf in
+    let sink : SinkSeen = sink_seen g.O.Sink.given g.O.Sink.faults c.args.out.now c.run.new.out in
+    unwritten c.args.words.now shelf sink c.in-Err.fault (g.O.Sink.given c.run.new.out) c.in-Err.ensures.fault (λ is. other (c.status-status.ensures ∙ is))
+
+pub returns-clause-keeps : goal.returns-clause-keeps
+returns-clause-keeps g c =
+    let shelf : ShelfSeen = shelf_seen g.S.Shelf.tells g.S.Shelf.held g.S.Shelf.written g.S.Shelf.faults c.args.shelf.now c.run.new.shelf in
+    let early : SinkSeen = sink_seen g.O.Sink.given g.O.Sink.faults c.args.out.now c.run.new.out in
+    let late : SinkSeen = sink_seen g.O.Sink.given g.O.Sink.faults c.args.out.now c.put_fault.new.out in
+    keeps_later (Writes c.args.words.now) shelf early late refl c.put_fault.ensures.later c.in-Err.ensures.keeps

@@ -1,0 +1,18 @@
+-- The task of each command. Own.
+use Rattle.std.specs.Prelude.{ℕ, List}
+use Rattle.command_edges.specs.Tasks.{Task}
+use Rattle.convert_command.specs.Tasks.{convert_task}
+use Rattle.sim_command.specs.Tasks.{sim_task}
+use Rattle.insert_command.specs.Tasks.{insert_task}
+use Rattle.vectors_command.specs.Tasks.{vectors_task}
+use Rattle.check_command.specs.Tasks.{check_task}
+use Rattle.demo_command.specs.Demonstrations.{demo_task}
+use Rattle.insert_cli.specs.Forms.{Form}
+
+abbrev pub task_of : Form → Task
+task_of (Form.Converts c input output) = convert_task c input output
+task_of (Form.Simulates netlist events) = sim_task netlist events
+task_of (Form.Inserts netlist plan outnet outbsdl) = insert_task netlist plan outnet outbsdl
+task_of (Form.MakesVectors bsdl output) = vectors_task bsdl output
+task_of (Form.Checks netlist bsdl events) = check_task netlist bsdl events
+task_of (Form.Demonstrates number outnet outbsdl) = demo_task number outnet outbsdl
