@@ -30,7 +30,7 @@ use Rattle.register_gates.proofs.Ident.{cleared_is}
 use Rattle.instruction_gates.specs.declared.stages.TheConstants.{LOADS}
 use Rattle.instruction_gates.specs.Rows.{bits_in}
 use Rattle.instruction_gates.specs.Latches.{latches_cells, is_reset, is_update, Latches, LatchesFollow}
-use Rattle.instruction_gates.specs.Stages.{loads_given, ir_steering, ir_latching, shift_stage_cells, stages_cells, shift_list, latched_list, Feeds, StagesFollow}
+use Rattle.instruction_gates.specs.Stages.{loads_given, ir_steering, ir_latching, shift_stage_cells, stages_cells, shift_list, latched_list, Feeds, StagesFollow, StagesStep}
 
 -- the laws of what it is made of
 pub record PartLaws : Type 0 where
@@ -75,17 +75,54 @@ apart parts N first number tap tdi captured presets has =
     let one = (parts N (part_cells LOADS (loads_given tap) first number) (chain_cells (first + 1) (number + 1) (ir_steering tap) tdi captured)).parts two.0 in
     record { loads = one.0; chain = one.1; latches = two.1 }
 
+pub step : PartLaws → StagesStep
+step laws = λ first number tap tdi captured presets N event L before after caught machine m m' as_many formed has settled goes opcode f carries' shift latched.
+    let cells = apart laws.parts N first number tap tdi captured presets has in
+    let at : ℕ = first + (1 + 3 * length captured) in
+    let w : TapState = machine.state in
+    let ss : List Sig = shift_list m.value first captured in
+    let ls : List Sig = latched_list m.value first captured presets in
+    let steers : Steers (ir_steering tap) (ir_action w) m = record { capture = f.shows.capture_ir ∙ captures w; shift = f.shows.shift_ir ∙ shifts w } in
+    let z : first + 0 ≡ first = omega arith in
+    let e0 : m.value (first + 0) ≡ sig_or (m.value tap.update_ir.0) (m.value tap.in_reset.0)
+    = (laws.meets N LOADS (loads_given tap) first number formed cells.loads _ m.state m.value settled 0 _ refl refl).1 in
+    let latches : Latches (ir_latching first tap) w m = record {
+      loads = ap m.value (sym z) ∙ e0 ∙ ap (λ (x : Sig). sig_or x (m.value tap.in_reset.0)) (f.shows.update_ir ∙ ap bit (updates w))
+          ∙ ap (λ (x : Sig). sig_or (bit (is_update w)) x) (f.shows.in_reset ∙ ap bit (resets w)) ∙ or-bit (is_update w) (is_reset w);
+      resets = f.shows.in_reset ∙ ap bit (resets w);
+    } in
+    let a : shift_list m'.value first captured
+    ≡ bit_after before after (cleared captured) (act (ir_action w) (feed_values m.value captured) (shifted (m.value tdi.0) ss) ss) ss ss
+    = (laws.chains (first + 1) (number + 1) (ir_steering tap) tdi captured).step N event (ir_action w) before after m m' formed cells.chain settled goes f.carries carries' steers in
+    let b : latched_list m'.value first captured presets
+    ≡ bit_after before after (bits_in presets) ls (latched_after (bits_in presets) w (chain_values m.value (first + 1) presets) ls) ls
+    = (laws.latches at (number + (1 + 3 * length captured)) (ir_latching first tap) (first + 1) presets).step N event w before after m m' formed cells.latches settled goes f.carries carries' latches in
+    let next = laws.steps L before after caught machine in
+    let shift_next : List Sig → List Sig → Sig → List Sig → List Sig = λ zs cs d vs. bit_after before after zs (act (ir_action w) cs (shifted d vs) vs) vs vs in
+    let latch_next : List Sig → List Sig → List Sig → List Sig = λ rs xs vs. bit_after before after rs vs (latched_after rs w xs vs) vs in (
+      (a ∙ ap (λ (zs : List Sig). shift_next zs (feed_values m.value captured) (m.value tdi.0) ss) (cleared_is m.value captured ∙ ap (λ (xs : List Sig). zeros xs) f.pattern)
+          ∙ ap (λ (cs : List Sig). shift_next (zeros L.capture) cs (m.value tdi.0) ss) f.pattern
+          ∙ ap (λ (d : Sig). shift_next (zeros L.capture) L.capture d ss) f.data_in
+          ∙ ap (λ (vs : List Sig). shift_next (zeros L.capture) L.capture (bit before.tdi) vs) shift
+          ∙ sym next.shift),
+      (b ∙ ap (λ (rs : List Sig). latch_next rs (chain_values m.value (first + 1) presets) ls) (sym opcode)
+          ∙ ap (λ (xs : List Sig). latch_next (reset_opcode L.opcodes) xs ls) (same_values m.value (first + 1) presets captured as_many ∙ shift)
+          ∙ ap (λ (vs : List Sig). latch_next (reset_opcode L.opcodes) machine.shift vs) latched
+          ∙ sym next.latched),
+    )
+
 pub follow : PartLaws → StagesFollow
 follow laws = λ first number tap tdi captured presets N given events moment as_many formed has run L levels caught machine history opcode feeds.
-    along laws first number tap tdi captured presets N given events moment as_many formed (apart laws.parts N first number tap tdi captured presets has) run L levels caught machine history opcode feeds
+    along laws first number tap tdi captured presets N given events moment as_many formed has run L levels caught machine history opcode feeds
   where
     along : PartLaws → (first number : ℕ) (tap : TapNets) (tdi : NetId) (captured presets : List Feed) (N : NetlistView) (given : ℕ → Sig) (events : List PinEvent) (moment : ℕ → Moment)
-        → length presets ≡ length captured → IsWellFormed N → Apart N first number tap tdi captured presets → IsRun N given events moment
+        → length presets ≡ length captured → IsWellFormed N → HasCells N (stages_cells first number tap tdi captured presets) → IsRun N given events moment
         → (L : TestLogic) (levels : ℕ → Levels) (caught : ℕ → List Sig) (machine : ℕ → Machine) → IsHistory L levels caught (length events) machine
         → reset_opcode L.opcodes ≡ bits_in presets → ((t : ℕ) → t ≤ length events → Feeds tap tdi captured L (levels t) (machine t) (moment t))
         → (t : ℕ) → t ≤ length events
         → (shift_list (moment t).value first captured ≡ (machine t).shift) × (latched_list (moment t).value first captured presets ≡ (machine t).latched)
-    along laws first number tap tdi captured presets N given events moment as_many formed cells run L levels caught machine history opcode feeds zero below =
+    along laws first number tap tdi captured presets N given events moment as_many formed has run L levels caught machine history opcode feeds zero below =
+        let cells = apart laws.parts N first number tap tdi captured presets has in
         let at : ℕ = first + (1 + 3 * length captured) in
         let f = feeds 0 below in (
           ((laws.chains (first + 1) (number + 1) (ir_steering tap) tdi captured).start N given (levels 0) (moment 0) formed cells.chain run.start f.carries history.low
@@ -93,47 +130,14 @@ follow laws = λ first number tap tdi captured presets N given events moment as_
           ((laws.latches at (number + (1 + 3 * length captured)) (ir_latching first tap) (first + 1) presets).start N given (levels 0) (moment 0) formed cells.latches run.start f.carries history.low
               ∙ sym opcode ∙ sym (ap (λ (x : Machine). x.latched) history.start)),
         )
-    along laws first number tap tdi captured presets N given events moment as_many formed cells run L levels caught machine history opcode feeds (suc t) below =
+    along laws first number tap tdi captured presets N given events moment as_many formed has run L levels caught machine history opcode feeds (suc t) below =
         let now_below : t ≤ length events = omega arith in
-        let held = along laws first number tap tdi captured presets N given events moment as_many formed cells run L levels caught machine history opcode feeds t now_below in
+        let held = along laws first number tap tdi captured presets N given events moment as_many formed has run L levels caught machine history opcode feeds t now_below in
         let now = laws.moments N given events moment run t now_below in
         let event = now.step below in
-        let at : ℕ = first + (1 + 3 * length captured) in
-        let f = feeds t now_below in
-        let f' = feeds (suc t) below in
-        let m : Moment = moment t in
-        let w : TapState = (machine t).state in
-        let before : Levels = levels t in
-        let after : Levels = levels (suc t) in
-        let ss : List Sig = shift_list m.value first captured in
-        let ls : List Sig = latched_list m.value first captured presets in
-        let steers : Steers (ir_steering tap) (ir_action w) m = record { capture = f.shows.capture_ir ∙ captures w; shift = f.shows.shift_ir ∙ shifts w } in
-        let z : first + 0 ≡ first = omega arith in
-        let e0 : m.value (first + 0) ≡ sig_or (m.value tap.update_ir.0) (m.value tap.in_reset.0)
-        = (laws.meets N LOADS (loads_given tap) first number formed cells.loads _ m.state m.value now.settled 0 _ refl refl).1 in
-        let latches : Latches (ir_latching first tap) w m = record {
-          loads = ap m.value (sym z) ∙ e0 ∙ ap (λ (x : Sig). sig_or x (m.value tap.in_reset.0)) (f.shows.update_ir ∙ ap bit (updates w))
-              ∙ ap (λ (x : Sig). sig_or (bit (is_update w)) x) (f.shows.in_reset ∙ ap bit (resets w)) ∙ or-bit (is_update w) (is_reset w);
-          resets = f.shows.in_reset ∙ ap bit (resets w);
-        } in
-        let a : shift_list (moment (suc t)).value first captured
-        ≡ bit_after before after (cleared captured) (act (ir_action w) (feed_values m.value captured) (shifted (m.value tdi.0) ss) ss) ss ss
-        = (laws.chains (first + 1) (number + 1) (ir_steering tap) tdi captured).step N event.0 (ir_action w) before after m (moment (suc t)) formed cells.chain now.settled event.2
-        f.carries f'.carries steers in
-        let b : latched_list (moment (suc t)).value first captured presets
-        ≡ bit_after before after (bits_in presets) ls (latched_after (bits_in presets) w (chain_values m.value (first + 1) presets) ls) ls
-        = (laws.latches at (number + (1 + 3 * length captured)) (ir_latching first tap) (first + 1) presets).step N event.0 w before after m (moment (suc t)) formed cells.latches now.settled event.2
-        f.carries f'.carries latches in
-        let next = laws.steps L before after (caught t) (machine t) in
-        let shift_next : List Sig → List Sig → Sig → List Sig → List Sig = λ zs cs d vs. bit_after before after zs (act (ir_action w) cs (shifted d vs) vs) vs vs in
-        let latch_next : List Sig → List Sig → List Sig → List Sig = λ rs xs vs. bit_after before after rs vs (latched_after rs w xs vs) vs in (
-          (a ∙ ap (λ (zs : List Sig). shift_next zs (feed_values m.value captured) (m.value tdi.0) ss) (cleared_is m.value captured ∙ ap (λ (xs : List Sig). zeros xs) f.pattern)
-              ∙ ap (λ (cs : List Sig). shift_next (zeros L.capture) cs (m.value tdi.0) ss) f.pattern
-              ∙ ap (λ (d : Sig). shift_next (zeros L.capture) L.capture d ss) f.data_in
-              ∙ ap (λ (vs : List Sig). shift_next (zeros L.capture) L.capture (bit before.tdi) vs) held.0
-              ∙ sym (ap (λ (x : Machine). x.shift) (history.steps t below) ∙ next.shift)),
-          (b ∙ ap (λ (rs : List Sig). latch_next rs (chain_values m.value (first + 1) presets) ls) (sym opcode)
-              ∙ ap (λ (xs : List Sig). latch_next (reset_opcode L.opcodes) xs ls) (same_values m.value (first + 1) presets captured as_many ∙ held.0)
-              ∙ ap (λ (vs : List Sig). latch_next (reset_opcode L.opcodes) (machine t).shift vs) held.1
-              ∙ sym (ap (λ (x : Machine). x.latched) (history.steps t below) ∙ next.latched)),
+        let next = step laws first number tap tdi captured presets N event.0 L (levels t) (levels (suc t)) (caught t) (machine t) (moment t) (moment (suc t)) as_many formed has now.settled event.2
+        opcode (feeds t now_below) (feeds (suc t) below).carries held.0 held.1 in
+        let same = history.steps t below in (
+          next.0 ∙ ap (λ (x : Machine). x.shift) (sym same),
+          next.1 ∙ ap (λ (x : Machine). x.latched) (sym same),
         )

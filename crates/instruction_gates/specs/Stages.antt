@@ -7,15 +7,15 @@ use Rattle.netlist_model.specs.declared.NetId.{NetId}
 use Rattle.netlist_model.specs.declared.Feed.{Feed}
 use Rattle.netlist_model.specs.declared.Feed.TheVariants.{Net}
 use Rattle.netlist_model.specs.Lists.{CellView, NetlistView}
-use Rattle.netlist_model.specs.Settled.{feed_values}
+use Rattle.netlist_model.specs.Settled.{feed_values, IsSettled}
 use Rattle.netlist_model.specs.Formed.{IsWellFormed}
 use Rattle.netlist_model.specs.Contained.{HasCells}
-use Rattle.netlist_model.specs.Runs.{Moment, PinEvent, IsRun}
+use Rattle.netlist_model.specs.Runs.{Moment, PinEvent, IsStep, IsRun}
 use Rattle.gate_parts.specs.Parts.{part_cells}
 use Rattle.test_logic.specs.declared.TapNets.{TapNets}
 use Rattle.test_logic.specs.declared.Levels.{Levels}
 use Rattle.test_logic.specs.Instructions.{reset_opcode}
-use Rattle.test_logic.specs.Machine.{TestLogic, Machine, IsHistory}
+use Rattle.test_logic.specs.Machine.{TestLogic, Machine, IsHistory, machine_step}
 use Rattle.tap_gates.specs.Laws.{ShowsState}
 use Rattle.register_bits.specs.declared.Steering.{Steering}
 use Rattle.register_bits.specs.Chains.{chain_cells, chain_values}
@@ -66,3 +66,13 @@ StagesFollow = (first number : ℕ) (tap : TapNets) (tdi : NetId) (captured pres
     → reset_opcode L.opcodes ≡ bits_in presets → ((t : ℕ) → t ≤ length events → Feeds tap tdi captured L (levels t) (machine t) (moment t))
     → (t : ℕ) → t ≤ length events
     → (shift_list (moment t).value first captured ≡ (machine t).shift) × (latched_list (moment t).value first captured presets ≡ (machine t).latched)
+
+-- own: an event takes the two stages to those of the test logic after it, whatever they held
+abbrev pub StagesStep : Type 0
+StagesStep = (first number : ℕ) (tap : TapNets) (tdi : NetId) (captured presets : List Feed) (N : NetlistView) (event : PinEvent) (L : TestLogic) (before after : Levels)
+    (caught : List Sig) (machine : Machine) (m m' : Moment)
+    → length presets ≡ length captured → IsWellFormed N → HasCells N (stages_cells first number tap tdi captured presets) → IsSettled N m.pins m.state m.value → IsStep N event m m'
+    → reset_opcode L.opcodes ≡ bits_in presets → Feeds tap tdi captured L before machine m → Carries tap.tck tap.trst after m'
+    → shift_list m.value first captured ≡ machine.shift → latched_list m.value first captured presets ≡ machine.latched
+    → (shift_list m'.value first captured ≡ (machine_step L before after caught machine).shift)
+    × (latched_list m'.value first captured presets ≡ (machine_step L before after caught machine).latched)

@@ -1,7 +1,7 @@
 ghost use Rattle.instruction_gates.specs.Latches.{LatchesFollow};
 ghost use Rattle.instruction_gates.specs.Matches.{MatchesTell};
 ghost use Rattle.instruction_gates.specs.Selections.{SelectionsTell};
-ghost use Rattle.instruction_gates.specs.Stages.{StagesFollow};
+ghost use Rattle.instruction_gates.specs.Stages.{StagesFollow, StagesStep};
 
 use gate_parts::contained_part_meets;
 use netlist_laws::{contained_parts, moments_of_a_run};
@@ -35,6 +35,18 @@ pub fn selections_tell()
 /// The instruction register is that of the test logic.
 pub fn stages_follow()
     ensures { StagesFollow }
+{
+    contained_parts();
+    contained_part_meets();
+    chains_follow();
+    latches_follow();
+    steps_by_register();
+    moments_of_a_run();
+}
+
+/// And so it is after each event, whatever it held.
+pub fn stages_step()
+    ensures { StagesStep }
 {
     contained_parts();
     contained_part_meets();

@@ -13,7 +13,7 @@ mod selections;
 mod stages;
 
 pub use latches::{LOADED, Latching, add_latches};
-pub use laws::{latches_follow, matches_tell, selections_tell, stages_follow};
+pub use laws::{latches_follow, matches_tell, selections_tell, stages_follow, stages_step};
 pub use matches::{EQUAL_BIT, add_match};
 use netlist_model::Feed;
 pub use selections::{Matched, SELECTIONS, add_selections};

@@ -1,6 +1,6 @@
 -- The instruction register is that of the test logic, part by part.
-use Rattle.std.proofs.Common.{◌≡◌, ℕ, ◌+◌, ◌≤◌, List, [], ◌∷◌, ◌++◌, length, refl, sym, ap, ◌∙◌, subst, Some, None, arith}
-use Rattle.std.specs.Prelude.{Option}
+use Rattle.std.proofs.Common.{◌≡◌, ℕ, ◌+◌, ◌≤◌, false, List, [], ◌∷◌, ◌++◌, length, refl, sym, ap, ◌∙◌, subst, Some, None, arith}
+use Rattle.std.specs.Prelude.{Option, slice_get}
 use Rattle.signal_values.specs.declared.Sig.{Sig}
 use Rattle.signal_values.specs.Values.{bit}
 use Rattle.cell_library.specs.declared.codes.Bits.{Bits}
@@ -13,22 +13,27 @@ use Rattle.netlist_model.specs.Lists.{CellView, NetlistView}
 use Rattle.netlist_model.specs.Settled.{feed_value, IsSettled}
 use Rattle.netlist_model.specs.Formed.{IsWellFormed}
 use Rattle.netlist_model.specs.Contained.{HasCells}
-use Rattle.netlist_model.specs.Runs.{Moment}
+use Rattle.netlist_model.specs.Runs.{Moment, PinEvent, IsStart, IsRun}
 use Rattle.netlist_laws.specs.Contained.{ContainedParts}
 use Rattle.netlist_laws.specs.Runs.{RunHasMoments}
 use Rattle.test_logic.specs.declared.Codes.{Codes}
 use Rattle.test_logic.specs.declared.TapNets.{TapNets}
 use Rattle.test_logic.specs.Instructions.{is_pattern, opcode_of, is_opcode, instruction_of, reset_opcode}
+use Rattle.test_logic.specs.declared.TapState.TheVariants.{TestLogicReset}
+use Rattle.test_logic.specs.declared.Levels.{Levels}
 use Rattle.test_logic.specs.Registers.{first_bit}
+use Rattle.test_logic.specs.Machine.{TestLogic, Machine, AreCodes, IsHistory, reset}
+use Rattle.tap_gates.specs.Laws.{ShowsState}
 use Rattle.register_gates.specs.Constants.{ConstantsAreBits}
 use Rattle.register_gates.specs.Steps.{StepsByRegister}
 use Rattle.instruction_gates.specs.Rows.{bits_in}
 use Rattle.instruction_gates.specs.Latches.{latch_values}
 use Rattle.instruction_gates.specs.Matches.{match_before, AreKnown, MatchesTell}
 use Rattle.instruction_gates.specs.Selections.{selections_cells, Selected, Tells, SelectionsTell}
-use Rattle.instruction_gates.specs.Stages.{stages_cells, Feeds, StagesFollow}
+use Rattle.instruction_gates.specs.Stages.{stages_cells, Feeds, StagesFollow, StagesStep}
 use Rattle.instruction_register.specs.Register.{pattern_bits, latches_from, opcodes_from, selections_from, cells_with, told_with, opcode_size, opcode_cells, opcode_told, matched_instructions, opcodes_cells, opcodes_told, instruction_cells, instruction_nets, held_opcode}
-use Rattle.instruction_register.specs.Laws.{FitTheRegister, InstructionFollows}
+use Rattle.instruction_register.specs.Laws.{FitTheRegister, IsFed, Follows, InstructionFollows}
+use Rattle.instruction_register.specs.Steps.{HoldsStages, InstructionSteps}
 use Rattle.instruction_register.proofs.Patterns.{bits_in_pattern, pattern_valued, latched_as, last_of}
 use Rattle.instruction_register.proofs.Known.{known_bits, known_stages}
 
@@ -116,38 +121,86 @@ apart parts N first number tap tdi codes has =
     let two = (parts N opcodes selections).parts one.1 in
     record { stages = one.0; opcodes = two.0; selections = two.1 }
 
+-- What is the same for each moment.
+
+record Fitting (first number : ℕ) (tap : TapNets) (tdi : NetId) (codes : Codes) (L : TestLogic) : Type 0 where
+  as_many : length (pattern_bits codes codes.reset) ≡ length (pattern_bits codes codes.capture)
+  some : 1 ≤ length (pattern_bits codes codes.capture)
+  opcode : reset_opcode L.opcodes ≡ bits_in (pattern_bits codes codes.reset)
+
+fitting : PartLaws → (first number : ℕ) (tap : TapNets) (tdi : NetId) (codes : Codes) (L : TestLogic) → AreCodes codes L → FitTheRegister codes → Fitting first number tap tdi codes L
+fitting laws first number tap tdi codes L are fit =
+    let many = (laws.constants codes.length codes.capture.value).counted in
+    let others = (laws.constants codes.length codes.reset.value).counted in
+    record { as_many = omega arith; some = omega (arith, fit.some); opcode = are.reset ∙ sym (bits_in_pattern codes codes.reset fit.reset) }
+
+feeds_of : PartLaws → (tap : TapNets) (tdi : NetId) (codes : Codes) (L : TestLogic) (levels : Levels) (machine : Machine) (m : Moment) → AreCodes codes L → FitTheRegister codes
+    → IsFed tap tdi levels machine.state m → Feeds tap tdi (pattern_bits codes codes.capture) L levels machine m
+feeds_of laws tap tdi codes L levels machine m are fit fed = record {
+  carries = fed.carries;
+  shows = fed.shows;
+  data_in = fed.data_in;
+  pattern = pattern_valued laws.constants m.value codes codes.capture fit.capture ∙ sym are.capture;
+}
+
+-- what its nets tell
+tell : PartLaws → (first number : ℕ) (tap : TapNets) (tdi : NetId) (codes : Codes) (N : NetlistView) (L : TestLogic) → IsWellFormed N → HasCells N (instruction_cells first number tap tdi codes)
+    → AreCodes codes L → FitTheRegister codes → (machine : Machine) (m : Moment) → IsSettled N m.pins m.state m.value → ShowsState tap machine.state m → AreKnown machine.latched
+    → HoldsStages first codes machine m → Follows first tap tdi codes L machine m
+tell laws first number tap tdi codes N L formed has are fit machine m settled shows known held =
+    let cells = apart laws.parts N first number tap tdi codes has in
+    let same = fitting laws first number tap tdi codes L are fit in
+    let latched : List Sig = held_opcode m.value first codes in
+    let tells = all_told laws codes fit first (opcodes_from first codes) (opcodes_from number codes) N m formed settled (subst AreKnown (sym held.latched) known) cells.opcodes in
+    let nets = instruction_nets first tap tdi codes in
+    let selected : Selected nets (instruction_of codes.opcodes latched) machine.state m
+    = laws.selections (selections_from first codes) (selections_from number codes) tap (opcodes_told (opcodes_from first codes) codes) nets.last N m machine.state codes.opcodes latched
+    formed cells.selections settled tells fit.apart shows in
+    let P : List Sig → Type 0 = λ bits. Selected nets (instruction_of codes.opcodes bits) machine.state m in
+    let Q : List Opcode → Type 0 = λ opcodes. Selected nets (instruction_of opcodes machine.latched) machine.state m in
+    record {
+      shift = held.shift;
+      latched = held.latched;
+      last = last_of m.value (first + 1) tdi (pattern_bits codes codes.capture) same.some ∙ ap first_bit held.shift;
+      selected = subst Q (sym are.opcodes) (subst P held.latched selected);
+    }
+
 pub follow : PartLaws → InstructionFollows
 follow laws = λ first number tap tdi codes N given events moment formed has run L levels caught machine history are fit fed t below.
     let cells = apart laws.parts N first number tap tdi codes has in
-    let captured : List Feed = pattern_bits codes codes.capture in
-    let presets : List Feed = pattern_bits codes codes.reset in
-    let many = (laws.constants codes.length codes.capture.value).counted in
-    let others = (laws.constants codes.length codes.reset.value).counted in
-    let as_many : length presets ≡ length captured = omega arith in
-    let some : 1 ≤ length captured = omega (arith, fit.some) in
-    let fed_stages : (u : ℕ) → u ≤ length events → Feeds tap tdi captured L (levels u) (machine u) (moment u) = λ u h. record {
-      carries = (fed u h).carries;
-      shows = (fed u h).shows;
-      data_in = (fed u h).data_in;
-      pattern = pattern_valued laws.constants (moment u).value codes codes.capture fit.capture ∙ sym are.capture;
-    } in
-    let opcode : reset_opcode L.opcodes ≡ bits_in presets = are.reset ∙ sym (bits_in_pattern codes codes.reset fit.reset) in
-    let held = laws.stages first number tap tdi captured presets N given events moment as_many formed cells.stages run L levels caught machine history opcode fed_stages t below in
-    let m : Moment = moment t in
+    let same = fitting laws first number tap tdi codes L are fit in
+    let held = laws.stages first number tap tdi (pattern_bits codes codes.capture) (pattern_bits codes codes.reset) N given events moment same.as_many formed cells.stages run L levels caught machine history
+    same.opcode (λ u h. feeds_of laws tap tdi codes L (levels u) (machine u) (moment u) are fit (fed u h)) t below in
     let known = known_stages laws.steps L levels caught (length events) machine history (subst AreKnown (sym are.capture) (known_bits codes.capture.len codes.capture.value))
     (subst AreKnown (sym are.reset) (known_bits codes.reset.len codes.reset.value)) t below in
     let settled = (laws.moments N given events moment run t below).settled in
-    let latched : List Sig = held_opcode m.value first codes in
-    let tells = all_told laws codes fit first (opcodes_from first codes) (opcodes_from number codes) N m formed settled (subst AreKnown (sym held.1) known.1) cells.opcodes in
-    let nets = instruction_nets first tap tdi codes in
-    let selected : Selected nets (instruction_of codes.opcodes latched) (machine t).state m
-    = laws.selections (selections_from first codes) (selections_from number codes) tap (opcodes_told (opcodes_from first codes) codes) nets.last N m (machine t).state codes.opcodes latched
-    formed cells.selections settled tells fit.apart (fed t below).shows in
-    let P : List Sig → Type 0 = λ bits. Selected nets (instruction_of codes.opcodes bits) (machine t).state m in
-    let Q : List Opcode → Type 0 = λ opcodes. Selected nets (instruction_of opcodes (machine t).latched) (machine t).state m in
-    record {
-      shift = held.0;
-      latched = held.1;
-      last = last_of m.value (first + 1) tdi captured some ∙ ap first_bit held.0;
-      selected = subst Q (sym are.opcodes) (subst P held.1 selected);
-    }
+    tell laws first number tap tdi codes N L formed has are fit (machine t) (moment t) settled (fed t below).shows known.1 (record { shift = held.0; latched = held.1 })
+
+-- Step by step.
+
+start_stages : PartLaws → (first number : ℕ) (tap : TapNets) (tdi : NetId) (codes : Codes) (N : NetlistView) (L : TestLogic) → IsWellFormed N
+    → HasCells N (instruction_cells first number tap tdi codes) → AreCodes codes L → FitTheRegister codes → (given : ℕ → Sig) (levels : Levels) (m : Moment) → IsStart N given m
+    → IsFed tap tdi levels TestLogicReset m → levels.trst ≡ false → HoldsStages first codes (reset L) m
+start_stages laws first number tap tdi codes N L formed has are fit given levels m start fed low =
+    let cells = apart laws.parts N first number tap tdi codes has in
+    let same = fitting laws first number tap tdi codes L are fit in
+    let run : IsRun N given [] (λ t. m) = record { start = start; steps = λ t event at. absurd (no_event t event at) } in
+    let history : IsHistory L (λ t. levels) (λ t. []) 0 (λ t. reset L) = record { low = low; start = refl; steps = λ t h. absurd (omega arith) } in
+    let held = laws.stages first number tap tdi (pattern_bits codes codes.capture) (pattern_bits codes codes.reset) N given [] (λ t. m) same.as_many formed cells.stages run L (λ t. levels) (λ t. [])
+    (λ t. reset L) history same.opcode (λ u h. feeds_of laws tap tdi codes L levels (reset L) m are fit fed) 0 (omega arith) in
+    record { shift = held.0; latched = held.1 }
+  where
+    no_event : (t : ℕ) (event : PinEvent) → slice_get [] t ≡ Some event → ⊥
+    no_event t event e = absurd (cc)
+
+pub steps_on : PartLaws → StagesStep → InstructionSteps
+steps_on laws stages = λ first number tap tdi codes N L formed has are fit. record {
+  start = λ given levels m start fed low. start_stages laws first number tap tdi codes N L formed has are fit given levels m start fed low;
+  step = λ event before after caught machine m m' settled step fed carries' held.
+      let cells = apart laws.parts N first number tap tdi codes has in
+      let same = fitting laws first number tap tdi codes L are fit in
+      let next = stages first number tap tdi (pattern_bits codes codes.capture) (pattern_bits codes codes.reset) N event L before after caught machine m m' same.as_many formed cells.stages settled step
+      same.opcode (feeds_of laws tap tdi codes L before machine m are fit fed) carries' held.shift held.latched in
+      record { shift = next.0; latched = next.1 };
+  tells = λ machine m settled shows known held. tell laws first number tap tdi codes N L formed has are fit machine m settled shows known held;
+}

@@ -18,7 +18,7 @@ use Rattle.register_bits.specs.Laws.{on_edge, bit_after}
 use Rattle.register_gates.specs.Steps.{StepsByRegister}
 use Rattle.instruction_gates.specs.Matches.{IsKnown, AreKnown}
 
-known_bit : (b : Bool) → IsKnown (bit b)
+pub known_bit : (b : Bool) → IsKnown (bit b)
 known_bit true = tt
 known_bit false = tt
 
@@ -27,7 +27,7 @@ unfolding bits_of
 known_bits zero value = tt
 known_bits (suc count) value = (known_bit _, known_bits count _)
 
-known_zeros : (xs : List Sig) → AreKnown (zeros xs)
+pub known_zeros : (xs : List Sig) → AreKnown (zeros xs)
 known_zeros [] = tt
 known_zeros (x ∷ xs) = (tt, known_zeros xs)
 
@@ -35,7 +35,7 @@ known_more : (xs : List Sig) (x : Sig) → AreKnown xs → IsKnown x → AreKnow
 known_more [] x known one = (one, tt)
 known_more (y ∷ ys) x known one = (known.0, known_more ys x known.1 one)
 
-known_shifted : (tdi : Sig) (xs : List Sig) → IsKnown tdi → AreKnown xs → AreKnown (shifted tdi xs)
+pub known_shifted : (tdi : Sig) (xs : List Sig) → IsKnown tdi → AreKnown xs → AreKnown (shifted tdi xs)
 known_shifted tdi [] one known = tt
 known_shifted tdi (x ∷ xs) one known = known_more xs tdi known.1 one
 
@@ -71,7 +71,7 @@ known_either : (high : Bool) (xs ys : List Sig) → AreKnown xs → AreKnown ys 
 known_either true xs ys a b = a
 known_either false xs ys a b = b
 
-known_after : (before after : Levels) (reset risen fallen kept : List Sig) → AreKnown reset → AreKnown risen → AreKnown fallen → AreKnown kept
+pub known_after : (before after : Levels) (reset risen fallen kept : List Sig) → AreKnown reset → AreKnown risen → AreKnown fallen → AreKnown kept
     → AreKnown (bit_after before after reset risen fallen kept)
 known_after before after reset risen fallen kept r a b c =
     known_either after.trst (on_edge (edge_of before.tck after.tck) risen fallen kept) reset (known_edge (edge_of before.tck after.tck) risen fallen kept a b c) r

@@ -3,5 +3,6 @@ pub mod Added
 pub mod OpcodeAdded
 pub mod Patterns
 pub mod Known
+pub mod Legible
 pub mod Follows
 pub mod Rules

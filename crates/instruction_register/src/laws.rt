@@ -1,8 +1,10 @@
 ghost use Rattle.instruction_register.specs.Laws.{InstructionFollows, RegistersFit};
+ghost use Rattle.instruction_register.specs.Steps.{InstructionSteps, InstructionsStayLegible};
 
-use instruction_gates::{matches_tell, selections_tell, stages_follow};
+use instruction_gates::{matches_tell, selections_tell, stages_follow, stages_step};
 use netlist_laws::{contained_parts, moments_of_a_run};
 use register_gates::{constants_are_bits, steps_by_register};
+use tap_gates::step_is_the_machines;
 
 /// In every well-formed netlist that contains its cells, the instruction register is that of the test logic, and so is what the
 /// instruction in effect selects.
@@ -16,6 +18,28 @@ pub fn instruction_follows()
     constants_are_bits();
     steps_by_register();
     moments_of_a_run();
+}
+
+/// And so it is step by step, from whatever its stages hold.
+pub fn instruction_steps()
+    ensures { InstructionSteps }
+{
+    contained_parts();
+    stages_follow();
+    stages_step();
+    matches_tell();
+    selections_tell();
+    constants_are_bits();
+    steps_by_register();
+    moments_of_a_run();
+}
+
+/// The latched bits are 0 or 1 from Test-Logic-Reset on, whatever the shift stage holds there.
+pub fn instructions_stay_legible()
+    ensures { InstructionsStayLegible }
+{
+    steps_by_register();
+    step_is_the_machines();
 }
 
 /// The codes of each device that some BSDL text describes fit the register.

@@ -16,7 +16,7 @@ mod opcodes;
 mod stages;
 
 use instruction_gates::add_selections;
-pub use laws::{instruction_follows, registers_fit};
+pub use laws::{instruction_follows, instruction_steps, instructions_stay_legible, registers_fit};
 use netlist_arena::Netlist;
 use netlist_model::NetId;
 use opcodes::add_opcodes;

@@ -33,12 +33,12 @@ run_from N given other events moment same run = record {
 kept_flops : (N : NetlistView) (at : ℕ → ℕ) (state given : ℕ → Sig) → KeepsNumbers N at → SameFlops N state given → SameFlops N (λ i. state (at i)) given
 kept_flops N at state given stay same i cell kind live flop = ap state (stay i cell live) ∙ same i cell kind live flop
 
-flops_back : (N : NetlistView) (at : ℕ → ℕ) (state given : ℕ → Sig) → KeepsNumbers N at → SameFlops N (λ i. state (at i)) given → SameFlops N state given
+pub flops_back : (N : NetlistView) (at : ℕ → ℕ) (state given : ℕ → Sig) → KeepsNumbers N at → SameFlops N (λ i. state (at i)) given → SameFlops N state given
 flops_back N at state given stay same i cell kind live flop = ap state (sym (stay i cell live)) ∙ same i cell kind live flop
 
 -- A run of M' is one of M.
 
-pins_seen : CopyLaws → (M M' N : NetlistView) (to at : ℕ → ℕ) → IsRenumbering M M' to at → (w : ChipMoment) (pins : ℕ → PinSig) → SameOutside M' N w pins → SameOutside M N w (λ net. pins (to net))
+pub pins_seen : CopyLaws → (M M' N : NetlistView) (to at : ℕ → ℕ) → IsRenumbering M M' to at → (w : ChipMoment) (pins : ℕ → PinSig) → SameOutside M' N w pins → SameOutside M N w (λ net. pins (to net))
 pins_seen laws M M' N to at r w pins same = record {
   bits = λ net there bit follows. same.bits net (to there) (same_bit laws M M' N to at r net there bit) follows;
   tap = λ input net tap. same.tap input (to net) (tap_net laws M M' N to at r (tap_place input) net tap);

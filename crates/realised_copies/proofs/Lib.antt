@@ -2,3 +2,4 @@ pub mod Pins
 pub mod Beside
 pub mod Controls
 pub mod Same
+pub mod Home

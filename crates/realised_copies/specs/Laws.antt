@@ -7,6 +7,7 @@ use Rattle.netlist_images.specs.Renumbering.{IsRenumbering}
 use Rattle.bsdl_device.specs.declared.values.Device.{Device}
 use Rattle.wrapped_chip.specs.Realises.{Realises, Alone}
 use Rattle.wrapped_chip.specs.Legal.{HasControls}
+use Rattle.wrapped_chip.specs.Home.{FindsHome}
 
 -- own: the numbers of the chip's cells stay
 abbrev pub KeepsNumbers : NetlistView → (ℕ → ℕ) → Type 0
@@ -31,3 +32,12 @@ SameRealises = (M M' N : NetlistView) (B : Device) → M.ports ≡ M'.ports → 
 -- own: and is alone where the other is
 abbrev pub SameAlone : Type 0
 SameAlone = (M M' N : NetlistView) (B : Device) → M.ports ≡ M'.ports → ((i : ℕ) → cell_at M i ≡ cell_at M' i) → IsWellFormed M → Alone M B N → Alone M' B N
+
+-- own: some cell stands under each number of the chip's cells
+abbrev pub HasNumbers : NetlistView → NetlistView → Type 0
+HasNumbers M N = (i : ℕ) (cell : CellView) → cell_at N i ≡ Some cell → (other : CellView) × (cell_at M i ≡ Some other)
+
+-- own: it finds home where the other does
+abbrev pub RenumberedFindsHome : Type 0
+RenumberedFindsHome = (M M' N : NetlistView) (B : Device) (to at : ℕ → ℕ) → IsRenumbering M M' to at → IsWellFormed M → HasNumbers M N → KeepsNumbers N at
+    → FindsHome M B N → FindsHome M' B N

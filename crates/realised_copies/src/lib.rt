@@ -4,6 +4,7 @@
 #![tactic(auto)]
 
 ghost use Rattle.realised_copies.specs.Laws.{RenumberedRealises, RenumberedAlone, RenumberedControls, SameRealises, SameAlone};
+ghost use Rattle.realised_copies.specs.Laws.{RenumberedFindsHome};
 
 use netlist_images::{
     renumbered_bits, renumbered_directions, renumbered_ports, renumbered_reads, renumbered_runs,
@@ -57,4 +58,16 @@ pub fn same_is_alone()
     ensures { SameAlone }
 {
     renumbered_is_alone();
+}
+
+/// It finds home where the netlist itself does.
+pub fn renumbered_finds_home()
+    ensures { RenumberedFindsHome }
+{
+    direction_of_a_bit();
+    renumbering_turns();
+    renumbered_bits();
+    renumbered_reads();
+    renumbered_runs();
+    runs_have_images();
 }

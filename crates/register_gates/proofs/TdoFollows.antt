@@ -38,7 +38,7 @@ use Rattle.test_logic.specs.Machine.{TestLogic, Machine, IsHistory, in_effect, b
 use Rattle.tap_gates.specs.Controller.{same_state}
 use Rattle.register_bits.specs.Laws.{Carries, on_edge, bit_after}
 use Rattle.register_gates.specs.declared.tdo.TheConstants.{TDO}
-use Rattle.register_gates.specs.Tdo.{ident_feed, tdo_given, tdo_driver, tdo_cells, tdo_given_by, data_bit, Presents, TdoFollows}
+use Rattle.register_gates.specs.Tdo.{ident_feed, tdo_given, tdo_driver, tdo_cells, tdo_given_by, data_bit, Presents, TdoFollows, TdoLetsGo}
 use Rattle.register_gates.proofs.Steps.{by_register, all_along}
 
 -- the laws of what it is made of
@@ -218,3 +218,21 @@ tdo_follows by = λ first number tap instruction bypass ident boundary tdo. reco
   whole_run = λ N given events moment formed has run L levels captured machine history presents.
       run_at by N first number tap instruction bypass ident boundary tdo given events moment formed has run L levels captured machine history presents;
 }
+
+-- In Test-Logic-Reset.
+
+let_go : (a b c : Bool) (kept : Sig) → edge_of a b ≡ Some Fall → reset_or ToZero (bit c) (if is_edge Fall (bit a) (bit b) then sig_or Zero Zero else kept) ≡ Zero
+let_go true false true kept e = refl
+let_go true false false kept e = refl
+let_go true true c kept e = absurd (cc)
+let_go false true c kept e = absurd (let bad : Some Rise ≡ Some Fall = e in cc)
+let_go false false c kept e = absurd (cc)
+
+pub lets_go : PartLaws → TdoLetsGo
+lets_go by = λ first number tap instruction bypass ident boundary tdo N event before after m m' formed has settled step carries carries' shows falls.
+    let s = steps_of by N first number tap instruction bypass ident boundary tdo event m m' formed has settled step in
+    let dr : m.value tap.shift_dr.0 ≡ Zero = shows.shift_dr in
+    let ir : m.value tap.shift_ir.0 ≡ Zero = shows.shift_ir in
+    let off : m'.value (first + 1) ≡ Zero
+    = rw (s.enable_next, s.enable_before, dr, ir, carries'.reset, carries.clock, carries'.clock) (let_go before.tck after.tck after.trst (m.value (first + 1)) falls) in
+    ap (λ (x : Sig). drive (m'.value first) x) off

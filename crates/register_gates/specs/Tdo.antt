@@ -5,6 +5,7 @@ use Rattle.signal_values.specs.declared.Sig.{Sig}
 use Rattle.signal_values.specs.declared.PinSig.{PinSig}
 use Rattle.signal_values.specs.declared.PinSig.TheVariants.{HighZ}
 use Rattle.signal_values.specs.Values.{bit, drive}
+use Rattle.cell_library.specs.declared.Edge.TheVariants.{Fall}
 use Rattle.cell_library.specs.declared.Kind.TheVariants.{Bufif1}
 use Rattle.netlist_model.specs.declared.Dir.TheVariants.{Output}
 use Rattle.netlist_model.specs.declared.Name.TheVariants.{Added}
@@ -23,9 +24,10 @@ use Rattle.bsdl_device.specs.Instructions.{is_register, selected_register}
 use Rattle.test_logic.specs.declared.InstrNets.{InstrNets}
 use Rattle.test_logic.specs.declared.TapNets.{TapNets}
 use Rattle.test_logic.specs.declared.TapState.{TapState}
+use Rattle.test_logic.specs.declared.TapState.TheVariants.{TestLogicReset}
 use Rattle.test_logic.specs.declared.Levels.{Levels}
 use Rattle.test_logic.specs.Registers.{first_bit, tdo_after}
-use Rattle.test_logic.specs.Machine.{TestLogic, Machine, IsHistory, in_effect, bit_of}
+use Rattle.test_logic.specs.Machine.{TestLogic, Machine, IsHistory, in_effect, bit_of, edge_of}
 use Rattle.tap_gates.specs.Laws.{ShowsState}
 use Rattle.register_bits.specs.Laws.{Carries, bit_after}
 use Rattle.register_gates.specs.declared.tdo.TheConstants.{TDO}
@@ -101,3 +103,10 @@ pub record TdoLaws (first number : ℕ) (tap : TapNets) (instruction : InstrNets
 abbrev pub TdoFollows : Type 0
 TdoFollows = (first number : ℕ) (tap : TapNets) (instruction : InstrNets) (bypass : NetId) (ident : Option NetId) (boundary tdo : NetId)
     → TdoLaws first number tap instruction bypass ident boundary tdo
+
+-- own: a falling edge in Test-Logic-Reset lets TDO go, whatever is selected
+abbrev pub TdoLetsGo : Type 0
+TdoLetsGo = (first number : ℕ) (tap : TapNets) (instruction : InstrNets) (bypass : NetId) (ident : Option NetId) (boundary tdo : NetId) (N : NetlistView) (event : PinEvent)
+    (before after : Levels) (m m' : Moment) → IsWellFormed N → HasCells N (tdo_cells first number tap instruction bypass ident boundary tdo)
+    → IsSettled N m.pins m.state m.value → IsStep N event m m' → Carries tap.tck tap.trst before m → Carries tap.tck tap.trst after m' → ShowsState tap TestLogicReset m
+    → edge_of before.tck after.tck ≡ Some Fall → tdo_given_by first m' ≡ HighZ

@@ -1,5 +1,5 @@
 ghost use Rattle.register_gates.specs.Laws.{BypassFollows, IdentFollows};
-ghost use Rattle.register_gates.specs.Tdo.{TdoFollows};
+ghost use Rattle.register_gates.specs.Tdo.{TdoFollows, TdoLetsGo};
 ghost use Rattle.register_gates.specs.Constants.{ConstantsAreBits};
 ghost use Rattle.register_gates.specs.Steps.{AddedInTurn, StepsByRegister};
 
@@ -33,6 +33,19 @@ pub fn ident_follows()
 /// And so is TDO.
 pub fn tdo_follows()
     ensures { TdoFollows }
+{
+    contained_parts();
+    contained_part_meets();
+    contained_part_has_flops();
+    flop_starts();
+    flop_steps();
+    driver_is_found();
+    moments_of_a_run();
+}
+
+/// A falling edge of TCK in Test-Logic-Reset lets TDO go, whatever the registers hold.
+pub fn tdo_lets_go()
+    ensures { TdoLetsGo }
 {
     contained_parts();
     contained_part_meets();

@@ -21,7 +21,7 @@ pub use constants::constants_of;
 use gate_parts::{Gate, Pin, Pins, add_part, appended_count, appended_more};
 pub use laws::{
     added_in_turn, bypass_follows, constants_are_bits, ident_follows, steps_by_register,
-    tdo_follows,
+    tdo_follows, tdo_lets_go,
 };
 use netlist_arena::Netlist;
 use netlist_model::{Feed, NetId};

@@ -1,89 +1,53 @@
--- Each run of a surrounded core reads as the chip beside it.
-use Rattle.std.proofs.Common.{◌≡◌, ℕ, zero, suc, ◌≤◌, List, [], ◌∷◌, length, refl, ap, sym, ◌∙◌, Some, arith}
-use Rattle.std.specs.Prelude.{slice_get}
-use Rattle.std.proofs.Math.Path.{fun_ext}
+-- Each course of a surrounded core from a moment at which its parts hold a machine is a run of the chip from that machine, and reads as it.
+use Rattle.std.proofs.Common.{◌≡◌, ℕ, zero, suc, ◌<◌, ◌≤◌, List, [], ◌∷◌, length, refl, ap, sym, ◌∙◌, arith}
+use Rattle.std.proofs.lemmas.Option.{slice_get_within}
 use Rattle.list_laws.proofs.Lists.{slice_get_there}
 use Rattle.signal_values.specs.declared.Sig.{Sig}
 use Rattle.signal_values.specs.declared.PinSig.{PinSig}
+use Rattle.signal_values.specs.declared.PinSig.TheVariants.{HighZ}
 use Rattle.netlist_model.specs.declared.NetId.{NetId}
-use Rattle.netlist_model.specs.Lists.{NetlistView}
 use Rattle.bsdl_device.specs.Instructions.{selected_register}
 use Rattle.bsdl_device.specs.declared.entries.Register.{Register}
 use Rattle.bsdl_device.specs.declared.entries.Register.TheVariants as register
-use Rattle.bsdl_device.specs.declared.values.Device.{Device}
-use Rattle.test_logic.specs.Registers.{first_bit}
+use Rattle.test_logic.specs.declared.Levels.{Levels}
+use Rattle.test_logic.specs.Registers.{first_bit, tdo_after}
 use Rattle.test_logic.specs.Machine.{Machine, in_effect, bit_of}
-use Rattle.register_gates.specs.Tdo.{data_bit, Presents}
+use Rattle.register_bits.specs.Laws.{bit_after}
+use Rattle.register_gates.specs.Tdo.{data_bit, Presents, tdo_given_by}
 use Rattle.boundary_cells.specs.MachineRows.{bit_at}
-use Rattle.wrapped_chip.specs.Cells.{chip_reading}
-use Rattle.wrapped_chip.specs.ChipRuns.{ChipMoment, IsChipRun}
-use Rattle.wrapped_chip.specs.Laws.{SameChipMoment}
-use Rattle.wrapped_chip.specs.Suits.{IsRead}
-use Rattle.wrapped_chip.specs.Realises.{ReadsBit, ReadsTdo}
-use Rattle.wrapped_chip.specs.Beside.{RunBesideExists}
+use Rattle.wrapped_chip.specs.ChipRuns.{ChipMoment}
+use Rattle.wrapped_chip.specs.Home.{IsChipRunFrom}
+use Rattle.wrapped_chip.specs.Realises.{ReadsAsChip}
 use Rattle.surrounded_core.specs.Places.{controller_nets, selection_nets, bypass_bit, ident_bit}
-use Rattle.surrounded_core.specs.Laws.{SurroundedReads, SurroundedRealises}
-use Rattle.surrounded_core.proofs.Parts.{RunLaws, Scene, logic, levels_at, core_at, machine_at, caught_at, history, upto, back_to, carried, state_shown, instruction_followed, selected, bypass_held, ident_nearest}
+use Rattle.surrounded_core.proofs.Parts.{RunLaws, Scene, logic, levels_at, core_at, machine_at, caught_at, next_at, settled_at, carried, state_shown, instruction_followed, selected, bypass_held, ident_nearest}
 use Rattle.surrounded_core.proofs.Held.{held_always, stands_then, bit_kept}
 use Rattle.surrounded_core.proofs.Stands.{read_direction}
 
 -- The moments of M, seen as a run of the chip.
 
 abbrev pub seen_at : Scene → ℕ → ChipMoment
-seen_at r t = record { levels = levels_at r t; pins = (r.chip t).pins; machine = machine_at r t; state = (r.moment t).state; value = core_at r t }
+seen_at r t = record { levels = levels_at r t; pins = (r.outside t).pins; machine = machine_at r t; state = (r.moment t).state; value = core_at r t }
 
-below_end : {A : Type 0} (xs : List A) (t : ℕ) (x : A) → slice_get xs t ≡ Some x → suc t ≤ length xs
-below_end [] t x at = absurd (cc)
-below_end (y ∷ ys) zero x at = omega arith
-below_end (y ∷ ys) (suc t) x at = let inner : suc t ≤ length ys = below_end ys t x at in omega arith
-
-is_chip_run : RunLaws → (r : Scene) → IsChipRun r.device r.inner r.beside.start r.events (seen_at r)
+pub is_chip_run : RunLaws → (r : Scene) → IsChipRunFrom r.begun r.device r.inner r.given r.events (seen_at r)
 is_chip_run by r =
     let S = r.places in
     let core = r.around.core in
     let formed = r.around.core_formed in record {
-      start = record {
-        low = r.run.start.low;
-        machine = refl;
-        controls = r.run.start.controls;
-        settled = (stands_then by r 0 (omega arith) (held_always by r 0 (omega arith))).settled;
-        flops = by.starts r.inner r.outer S.to (λ i. i) r.beside.start (r.moment 0).value (r.moment 0).state formed core r.beside.run.start.flops;
-      };
+      machine = refl;
+      controls = r.is_outside.controls;
+      settled = (stands_then by r 0 (omega arith) (held_always by r 0 (omega arith))).settled;
+      flops = by.starts r.inner r.outer S.to (λ i. i) r.given (r.moment 0).value (r.moment 0).state formed core r.rests;
       steps = λ t event at.
-          let after : suc t ≤ length r.events = below_end r.events t event at in
-          let step = r.run.steps t event at in
-          let now = by.moments r.outer r.beside.start r.beside.there r.moment r.beside.run t (back_to r t (omega arith)) in
-          let other = now.step (back_to r (suc t) after) in record {
-            legal = step.legal;
-            levels = step.levels;
-            pins = step.pins;
+          let within : t < length r.events = slice_get_within r.events t event at in
+          let after : suc t ≤ length r.events = omega arith in
+          let next = next_at r t after in record {
+            legal = r.is_outside.legal t event at;
+            levels = r.is_outside.levels t event at;
+            pins = r.is_outside.pins t event at;
             machine = refl;
             settled = (stands_then by r (suc t) after (held_always by r (suc t) after)).settled;
-            flops = by.steps r.inner r.outer S.to (λ i. i) (r.moment t).value (r.moment (suc t)).value (r.moment t).state (r.moment (suc t)).state formed core other.2.flops;
+            flops = by.steps r.inner r.outer S.to (λ i. i) (r.moment t).value (r.moment (suc t)).value (r.moment t).state (r.moment (suc t)).state formed core next.1.flops;
           };
-    }
-
--- the chip's run is that one
-same_then : RunLaws → (r : Scene) (t : ℕ) → t ≤ length r.events → SameChipMoment r.inner (r.chip t) (seen_at r t)
-same_then by r t below =
-    by.once r.device r.inner r.given r.beside.start r.events r.chip (seen_at r) r.around.core_formed r.run (is_chip_run by r) refl (λ net. refl)
-    (λ i cell kind live is. sym (r.beside.same_flops i cell kind live is)) t below
-
--- Pins.
-
-reading_same : (B : Device) (N : NetlistView) (m m' : Machine) (pins : ℕ → PinSig) (v v' : ℕ → Sig) (net : ℕ) → m ≡ m' → ((n : ℕ) → v n ≡ v' n)
-    → chip_reading B N m pins v net ≡ chip_reading B N m' pins v' net
-reading_same B N m m' pins v v' net e f = ap (λ x. chip_reading B N x pins v net) e ∙ ap (λ (x : ℕ → Sig). chip_reading B N m' pins x net) (fun_ext f)
-
-reads_bit : RunLaws → (r : Scene) (t : ℕ) → t ≤ length r.events → (net : ℕ) → IsRead r.inner net
-    → ReadsBit r.outer r.inner (r.moment t) net (chip_reading r.device r.inner (r.chip t).machine (r.chip t).pins (r.chip t).value net)
-reads_bit by r t below net read =
-    let d = read_direction r.inner net read in
-    let same = same_then by r t below in record {
-      there = net;
-      same = bit_kept by r net d.0 d.1;
-      reads = (stands_then by r t below (held_always by r t below)).reads net read
-          ∙ sym (reading_same r.device r.inner (r.chip t).machine (machine_at r t) (r.chip t).pins (r.chip t).value (core_at r t) net same.machine same.value);
     }
 
 -- TDO.
@@ -108,7 +72,7 @@ presents : RunLaws → (r : Scene) (t : ℕ) → t ≤ length r.events
     (selected_register (in_effect (logic r) (machine_at r t))) (bit_of (selected_register (in_effect (logic r) (machine_at r t))) (machine_at r t)) (first_bit (machine_at r t).shift)
     (r.moment t)
 presents by r t below = let s = selected by r t below in record {
-  carries = carried by r t below;
+  carries = carried r t below;
   shows = state_shown by r t below;
   bypass_on = s.bypass_on;
   ident_on = s.ident_on;
@@ -116,41 +80,34 @@ presents by r t below = let s = selected by r t below in record {
   last = (instruction_followed by r t below).last;
 }
 
-reads_tdo : RunLaws → (r : Scene) (t : ℕ) → t ≤ length r.events → ReadsTdo r.outer r.inner (r.moment t) (r.chip t).machine.tdo
-reads_tdo by r t below =
+-- Readings.
+
+tdo_held : RunLaws → (r : Scene) (t : ℕ) → t ≤ length r.events → tdo_given_by r.places.driver (r.moment t) ≡ (machine_at r t).tdo
+tdo_held by r zero below = r.holds.tdo
+tdo_held by r (suc t) below =
     let S = r.places in
-    let laws = by.tdo S.driver S.driver_number (controller_nets S) (selection_nets S) (bypass_bit S) (ident_bit S) S.nearest S.tdo in record {
-      there = S.tdo.0;
-      tap = r.around.ports.tdo;
-      reads = laws.reads r.outer (r.moment t) r.around.formed r.around.registers.tdo r.around.ports.tdo_side
-          ∙ laws.whole_run r.outer r.beside.start r.beside.there r.moment r.around.formed r.around.registers.tdo r.beside.run (logic r) (levels_at r) (caught_at r) (machine_at r)
-          (history r (length r.beside.there)) (λ u h. presents by r u (upto r u h)) t (back_to r t below)
-          ∙ ap (λ (m : Machine). m.tdo) (sym (same_then by r t below).machine);
-    }
+    let before : t ≤ length r.events = omega arith in
+    let next = next_at r t below in
+    let a : Levels = levels_at r t in
+    let b : Levels = levels_at r (suc t) in
+    let machine : Machine = machine_at r t in
+    let of : Register = selected_register (in_effect (logic r) machine) in
+    let e = (by.tdo S.driver S.driver_number (controller_nets S) (selection_nets S) (bypass_bit S) (ident_bit S) S.nearest S.tdo).step r.outer next.0 machine.state of (bit_of of machine)
+    (first_bit machine.shift) a b (r.moment t) (r.moment (suc t)) r.around.formed r.around.registers.tdo (settled_at r t before) next.1 (presents by r t before) (carried r (suc t) below) in
+    e ∙ ap (λ (x : PinSig). bit_after a b HighZ x (tdo_after machine.state (bit_of of machine) (first_bit machine.shift)) x) (tdo_held by r t before)
+    ∙ sym (by.registers (logic r) a b (caught_at r t) machine).tdo
 
-pub reads_as_chip : RunLaws → SurroundedReads
-reads_as_chip by M N B S around given events chip moment run beside t below =
-    let r : Scene = record {
-      outer = M;
-      inner = N;
-      device = B;
-      places = S;
-      around = around;
-      given = given;
-      events = events;
-      chip = chip;
-      moment = moment;
-      run = run;
-      beside = beside;
-    } in
-    let same = same_then by r t below in record {
-      bits = λ net read. reads_bit by r t below net read;
-      tdo = reads_tdo by r t below;
-      kept = λ i cell kind live is. sym (same.flops i cell kind live is);
-    }
-
-pub realises : SurroundedReads → RunBesideExists → SurroundedRealises
-realises reads exists M N B S around controls = record {
-  some = λ given start events chip run same. exists M N B around.formed around.pins controls given start events chip run same;
-  each = λ given events chip moment run beside t below. reads M N B S around given events chip moment run beside t below;
+pub reads_then : RunLaws → (r : Scene) (t : ℕ) → t ≤ length r.events → ReadsAsChip r.outer r.device r.inner (r.moment t) (seen_at r t)
+reads_then by r t below = record {
+  bits = λ net read.
+      let d = read_direction r.inner net read in
+      record { there = net; same = bit_kept by r net d.0 d.1; reads = (stands_then by r t below (held_always by r t below)).reads net read };
+  tdo = let S = r.places in record {
+    there = S.tdo.0;
+    tap = r.around.ports.tdo;
+    reads = (by.tdo S.driver S.driver_number (controller_nets S) (selection_nets S) (bypass_bit S) (ident_bit S) S.nearest S.tdo).reads r.outer (r.moment t) r.around.formed
+        r.around.registers.tdo r.around.ports.tdo_side
+        ∙ tdo_held by r t below;
+  };
+  kept = λ i cell kind live is. refl;
 }

@@ -17,7 +17,7 @@ use Rattle.boundary_runs.specs.Rows.{IsRowOf, IsSteered, HoldsRow}
 use Rattle.boundary_runs.proofs.ChipRows.{kinds_long}
 use Rattle.surrounded_core.specs.Places.{selection_nets}
 use Rattle.surrounded_core.specs.Laws.{StandsAsChip, cell_of}
-use Rattle.surrounded_core.proofs.Parts.{RunLaws, Scene, logic, levels_at, core_at, machine_at, caught_at, lists_long, outside, back_to, levelled, carried, selected}
+use Rattle.surrounded_core.proofs.Parts.{RunLaws, Scene, logic, levels_at, core_at, machine_at, caught_at, lists_long, next_at, settled_at, outside_now, levelled, carried, selected}
 use Rattle.std.proofs.lemmas.Option.{slice_get_within}
 
 -- all rows are held
@@ -53,18 +53,18 @@ next_bit by r t below held place row there = by_next (slice_get r.device.cells (
     by_next None at =
         let long : length (machine_at r t).boundary ≡ length r.device.cells = boundary_long by r t in
         let end : suc place ≡ length r.device.cells = ends_there r.device.cells place row there at in
-        ap (λ (n : NetId). (r.moment t).value n.0) (r.around.rows.last place at) ∙ (levelled by r t below).tdi
+        ap (λ (n : NetId). (r.moment t).value n.0) (r.around.rows.last place at) ∙ (levelled r t below).tdi
         ∙ sym ((by.places.shifts (bit (levels_at r t).tdi) (machine_at r t).boundary place).last (omega arith))
 
 steered : RunLaws → (r : Scene) (t : ℕ) → t ≤ length r.events → AreHeld r t → (place : ℕ) (row : CellRow) → slice_get r.device.cells place ≡ Some row
     → IsSteered (selection_nets r.places).scan (r.places.next place) (logic r) (levels_at r t) (machine_at r t) place (r.moment t)
 steered by r t below held place row there =
-    by.steers (selection_nets r.places) (r.places.next place) (logic r) (levels_at r t) (machine_at r t) place (r.moment t) (carried by r t below) (selected by r t below)
+    by.steers (selection_nets r.places) (r.places.next place) (logic r) (levels_at r t) (machine_at r t) place (r.moment t) (carried r t below) (selected by r t below)
     (next_bit by r t below held place row there)
 
 is_row : RunLaws → (r : Scene) (place : ℕ) (row : CellRow) → slice_get r.device.cells place ≡ Some row → IsRowOf (logic r) place (r.places.gates place)
 is_row by r place row there =
-    (by.chip.each r.device r.inner (machine_at r 0) (r.chip 0).pins (core_at r 0) place row there).kind
+    (by.chip.each r.device r.inner (machine_at r 0) (r.outside 0).pins (core_at r 0) place row there).kind
     ∙ ap (λ k. Some k) (r.around.rows.kinds place row there)
 
 -- What stands at one moment, where all rows are held.
@@ -82,38 +82,33 @@ bit_kept by r net dir e =
     }
 
 out_at : RunLaws → (r : Scene) (t : ℕ) → t ≤ length r.events → (net : ℕ) (side : Option Dir) → direction r.inner.ports net ≡ side → follows_pin side ≡ true
-    → (r.moment t).pins net ≡ (r.chip t).pins net
+    → (r.moment t).pins net ≡ (r.outside t).pins net
 out_at by r t below net None e g = absurd (let bad : false ≡ true = g in cc)
-out_at by r t below net (Some dir) e g = (outside by r t below).bits net net (bit_kept by r net dir e) (ap follows_pin e ∙ g)
+out_at by r t below net (Some dir) e g = (outside_now r t below).bits net net (bit_kept by r net dir e) (ap follows_pin e ∙ g)
 
 modes : RunLaws → (r : Scene) (t : ℕ) → t ≤ length r.events → CarriesMode (selection_nets r.places).scan (in_effect (logic r) (machine_at r t)) (r.moment t).value
 modes by r t below = let s = selected by r t below in record { extest = s.extest; m_out = s.m_out; m_in = s.m_in; hiz = s.hiz }
 
 pub stands_then : RunLaws → (r : Scene) (t : ℕ) → t ≤ length r.events → AreHeld r t
-    → StandsAsChip r.outer r.inner r.device r.places (machine_at r t) (r.chip t).pins (r.moment t)
+    → StandsAsChip r.outer r.inner r.device r.places (machine_at r t) (r.outside t).pins (r.moment t)
 stands_then by r t below held =
-    let now = by.moments r.outer r.beside.start r.beside.there r.moment r.beside.run t (back_to r t below) in
-    by.stands r.outer r.inner r.device r.places r.around (machine_at r t) (r.chip t).pins (r.moment t) now.settled
+    by.stands r.outer r.inner r.device r.places r.around (machine_at r t) (r.outside t).pins (r.moment t) (settled_at r t below)
     (record { outside = λ net g. out_at by r t below net (direction r.inner.ports net) refl g; mode = modes by r t below; rows = held })
 
 -- The induction.
 
 pub held_always : RunLaws → (r : Scene) (t : ℕ) → t ≤ length r.events → AreHeld r t
-held_always by r zero below place row there =
-    let S = r.places in
-    (by.rows (S.gates place) (S.row place) (S.row_number place) (selection_nets S).scan (S.next place)).start r.outer r.beside.start (levels_at r 0) (r.moment 0) (logic r) place
-    r.around.formed (r.around.rows.cells place row there) r.beside.run.start (carried by r 0 below) r.run.start.low (is_row by r place row there)
+held_always by r zero below place row there = r.holds.rows place row there
 held_always by r (suc t) below place row there =
     let S = r.places in
     let before : t ≤ length r.events = omega arith in
     let held : AreHeld r t = held_always by r t before in
     let stands = stands_then by r t before held in
-    let now = by.moments r.outer r.beside.start r.beside.there r.moment r.beside.run t (back_to r t before) in
-    let event = now.step (back_to r (suc t) below) in
+    let next = next_at r t below in
     let long : length (machine_at r t).boundary ≡ length r.device.cells = boundary_long by r t in
     let less : place < length r.device.cells = slice_get_within r.device.cells place row there in
-    (by.rows (S.gates place) (S.row place) (S.row_number place) (selection_nets S).scan (S.next place)).step r.outer event.0 (levels_at r t) (levels_at r (suc t)) (r.moment t)
-    (r.moment (suc t)) (logic r) (caught_at r t) (machine_at r t) place (cell_of r.device r.inner S (machine_at r t) (r.chip t).pins (r.moment t) place row)
-    r.around.formed (r.around.rows.cells place row there) now.settled event.2 (is_row by r place row there) (omega arith)
-    (record { steered = steered by r t before held place row there; stands = stands.rows place row there }) (stands.captures place row there) (carried by r (suc t) below)
+    (by.rows (S.gates place) (S.row place) (S.row_number place) (selection_nets S).scan (S.next place)).step r.outer next.0 (levels_at r t) (levels_at r (suc t)) (r.moment t)
+    (r.moment (suc t)) (logic r) (caught_at r t) (machine_at r t) place (cell_of r.device r.inner S (machine_at r t) (r.outside t).pins (r.moment t) place row)
+    r.around.formed (r.around.rows.cells place row there) (settled_at r t before) next.1 (is_row by r place row there) (omega arith)
+    (record { steered = steered by r t before held place row there; stands = stands.rows place row there }) (stands.captures place row there) (carried r (suc t) below)
     (held place row there)

@@ -1,20 +1,20 @@
 -- The pins of a run beside a chip's have what is outside the chip's at every moment.
 use Rattle.std.proofs.Common.{◌≡◌, ℕ, zero, suc, ◌==◌, ◌≤◌, ◌⊎◌, inl, inr, Bool, true, false, List, length, refl, ap, sym, ◌∙◌, Some, arith, eqb-true, eq-eqb}
 use Rattle.list_laws.proofs.Lists.{slice_get_there}
-use Rattle.signal_values.specs.declared.Sig.{Sig}
 use Rattle.signal_values.specs.declared.PinSig.{PinSig}
 use Rattle.signal_values.specs.Values.{bit, pin_of, see}
 use Rattle.netlist_model.specs.declared.Dir.TheVariants.{Input}
 use Rattle.netlist_model.specs.Lists.{NetlistView, direction}
 use Rattle.netlist_model.specs.Settled.{follows_pin, pin_rule, IsSettled}
 use Rattle.netlist_model.specs.Runs.{Moment, PinEvent, pins_after}
-use Rattle.netlist_laws.specs.Runs.{RunHasMoments}
 use Rattle.bsdl_device.specs.declared.values.Device.{Device}
+use Rattle.tap_gates.specs.Home.{IsCourse}
 use Rattle.test_logic.specs.declared.Levels.{Levels}
 use Rattle.test_logic.specs.declared.TapInput.{TapInput}
 use Rattle.test_logic.specs.declared.TapInput.TheVariants.{Tck, Tms, Tdi, Trst}
-use Rattle.wrapped_chip.specs.ChipRuns.{ChipMoment, ChipEvent, at_pin, at_tap, IsChipLegal, chip_pins_after, levels_after, level_of, IsChipRun}
-use Rattle.wrapped_chip.specs.Realises.{SameOutside, IsSameEvent, IsRunBeside}
+use Rattle.wrapped_chip.specs.ChipRuns.{ChipMoment, ChipEvent, at_pin, at_tap, IsChipLegal, chip_pins_after, levels_after, level_of}
+use Rattle.wrapped_chip.specs.Home.{IsOutside}
+use Rattle.wrapped_chip.specs.Realises.{SameOutside, IsSameEvent, SameEvents}
 use Rattle.wrapped_chip.specs.Beside.{HasPins, of_bit, of_tap}
 use Rattle.surrounded_core.specs.Places.{Places, input_net}
 use Rattle.surrounded_core.specs.Surrounds.{Surrounds}
@@ -135,18 +135,16 @@ outside_after M N has (at_tap i level) other w w' pins pins' same is legal level
 
 -- Each moment.
 
-pub outside_always : RunHasMoments → (M N : NetlistView) (B : Device) → HasPins M N → (given : ℕ → Sig) (events : List ChipEvent) (chip : ℕ → ChipMoment) (moment : ℕ → Moment)
-    → IsChipRun B N given events chip → IsRunBeside M B N given events chip moment → (t : ℕ) → t ≤ length events → SameOutside M N (chip t) (moment t).pins
-outside_always moments M N B has given events chip moment run beside zero below = beside.same_pins
-outside_always moments M N B has given events chip moment run beside (suc t) below =
-    let count : length beside.there ≡ length events = beside.same_events.count in
+pub outside_always : (M N : NetlistView) → HasPins M N → (events : List ChipEvent) (outside : ℕ → ChipMoment) (there : List PinEvent) (moment : ℕ → Moment) → IsOutside N events outside
+    → SameOutside M N (outside 0) (moment 0).pins → SameEvents M N events there → IsCourse M there moment → (t : ℕ) → t ≤ length events → SameOutside M N (outside t) (moment t).pins
+outside_always M N has events outside there moment is same same_events course zero below = same
+outside_always M N has events outside there moment is same same_events course (suc t) below =
+    let count : length there ≡ length events = same_events.count in
     let event = slice_get_there events t (omega arith) in
-    let now = moments M beside.start beside.there moment beside.run t (omega arith) in
-    let other = now.step (omega arith) in
-    let step = run.steps t event.0 event.1 in
-    outside_after M N has event.0 other.0 (chip t) (chip (suc t)) (moment t).pins (moment (suc t)).pins
-    (outside_always moments M N B has given events chip moment run beside t (omega arith))
-    (beside.same_events.each t event.0 other.0 event.1 other.1) step.legal step.levels step.pins other.2.pins
+    let other = slice_get_there there t (omega arith) in
+    outside_after M N has event.0 other.0 (outside t) (outside (suc t)) (moment t).pins (moment (suc t)).pins
+    (outside_always M N has events outside there moment is same same_events course t (omega arith))
+    (same_events.each t event.0 other.0 event.1 other.1) (is.legal t event.0 event.1) (is.levels t event.0 event.1) (is.pins t event.0 event.1) (course.steps t other.0 other.1).pins
 
 -- What the nets of the test access port carry.
 

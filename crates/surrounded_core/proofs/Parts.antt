@@ -1,43 +1,51 @@
--- The controller and the registers beside the boundary register carry the test logic of the run at every moment.
-use Rattle.std.proofs.Common.{◌≡◌, ℕ, zero, suc, ◌≤◌, List, [], ◌∷◌, length, refl, ap, sym, ◌∙◌, Option, Some, None, arith, true, false, Bool, if◌then◌else◌}
-use Rattle.std.specs.Prelude.{find, unwrap_or}
+-- The controller and the registers beside the boundary register carry the test logic of a course at every moment, from any moment at which
+-- they hold a machine.
+use Rattle.std.proofs.Common.{◌≡◌, ℕ, zero, suc, ◌≤◌, List, [], ◌∷◌, length, refl, ap, sym, ◌∙◌, subst, Option, Some, None, arith, true, false, Bool, if◌then◌else◌}
+use Rattle.std.specs.Prelude.{find, unwrap_or, slice_get}
 use Rattle.std.specs.Option.{option_map, option_map_or}
+use Rattle.list_laws.proofs.Lists.{slice_get_there}
 use Rattle.signal_values.specs.declared.Sig.{Sig}
+use Rattle.signal_values.specs.declared.Sig.TheVariants.{Zero}
 use Rattle.signal_values.specs.Values.{bit}
 use Rattle.cell_library.specs.declared.codes.Instr.{Instr}
 use Rattle.cell_library.specs.declared.codes.Instr.TheVariants.{Extest, Sample, Preload, Bypass, Idcode, Highz, Clamp}
 use Rattle.cell_library.specs.declared.codes.Opcode.{Opcode}
 use Rattle.netlist_model.specs.Lists.{NetlistView}
-use Rattle.netlist_model.specs.Settled.{feed_value}
+use Rattle.netlist_model.specs.Settled.{feed_value, IsSettled}
 use Rattle.netlist_model.specs.Contained.{HasCells}
-use Rattle.netlist_model.specs.Runs.{Moment}
-use Rattle.netlist_laws.specs.Runs.{RunHasMoments}
+use Rattle.netlist_model.specs.Runs.{Moment, PinEvent, FlopsStart, IsStep}
 use Rattle.netlist_laws.specs.Ports.{DirectionHasBit}
 use Rattle.netlist_images.specs.Behind.{BehindStarts, BehindSteps}
 use Rattle.bsdl_device.specs.Instructions.{all_instructions, selected_register}
 use Rattle.bsdl_device.specs.declared.entries.Register.TheVariants as register
+use Rattle.bsdl_device.specs.declared.values.CellRow.{CellRow}
 use Rattle.bsdl_device.specs.declared.values.Device.{Device}
 use Rattle.test_logic.specs.declared.Levels.{Levels}
 use Rattle.test_logic.specs.declared.TapInput.TheVariants.{Tck, Tms, Tdi, Trst}
+use Rattle.test_logic.specs.declared.TapState.{TapState}
 use Rattle.test_logic.specs.Instructions.{opcode_of, is_opcode, instruction_of, bits_of}
-use Rattle.test_logic.specs.Registers.{first_bit}
-use Rattle.test_logic.specs.Machine.{Machine, TestLogic, IsHistory, reset, machine_step, in_effect, test_logic_of, code_bits}
-use Rattle.tap_gates.specs.Laws.{TapFollows, ShowsState}
-use Rattle.register_bits.specs.Laws.{Carries}
+use Rattle.test_logic.specs.Registers.{first_bit, bypass_after, ident_after}
+use Rattle.test_logic.specs.Machine.{Machine, TestLogic, machine_step, in_effect, selects, test_logic_of, code_bits, zeros}
+use Rattle.tap_gates.specs.Laws.{Carries as TapCarries, TapFollows, HoldsState, ShowsState, StepIsTheMachines}
+use Rattle.tap_gates.specs.Home.{IsCourse}
+use Rattle.register_bits.specs.Laws.{Carries, bit_after}
 use Rattle.register_gates.specs.Laws.{BypassFollows, IdentFollows}
-use Rattle.register_gates.specs.Registers.{ident_cells, ident_last}
-use Rattle.register_gates.specs.Tdo.{TdoFollows, ident_feed}
+use Rattle.register_gates.specs.Registers.{ident_cells, ident_last, ident_values}
+use Rattle.register_gates.specs.Steps.{StepsByRegister}
+use Rattle.register_gates.specs.Tdo.{TdoFollows, ident_feed, tdo_given_by}
 use Rattle.instruction_gates.specs.Selections.{Selected}
-use Rattle.instruction_register.specs.Laws.{InstructionFollows, Follows}
+use Rattle.instruction_register.specs.Laws.{Follows}
+use Rattle.instruction_register.specs.Steps.{HoldsStages, IsLegible, InstructionLaws, InstructionSteps, InstructionsStayLegible}
 use Rattle.boundary_cells.specs.MachineRows.{RowsStep}
 use Rattle.boundary_runs.specs.Laws.{RowsFollow}
 use Rattle.boundary_runs.specs.Lengths.{LengthsStay, AreLong}
+use Rattle.boundary_runs.specs.Rows.{HoldsRow}
 use Rattle.boundary_runs.specs.Selections.{SelectedSteers}
 use Rattle.boundary_runs.specs.ChipRows.{ChipRows}
 use Rattle.wrapped_chip.specs.Cells.{captured}
-use Rattle.wrapped_chip.specs.ChipRuns.{ChipMoment, ChipEvent, IsChipRun}
-use Rattle.wrapped_chip.specs.Laws.{ChipRunOnce}
-use Rattle.wrapped_chip.specs.Realises.{SameOutside, IsRunBeside}
+use Rattle.wrapped_chip.specs.ChipRuns.{ChipMoment, ChipEvent}
+use Rattle.wrapped_chip.specs.Home.{IsOutside}
+use Rattle.wrapped_chip.specs.Realises.{SameOutside, SameEvents}
 use Rattle.surrounded_core.specs.Places.{Places, controller_nets, selection_nets, bypass_bit, ident_bit}
 use Rattle.surrounded_core.specs.Surrounds.{Surrounds}
 use Rattle.surrounded_core.specs.Laws.{core_value, SurroundedStands}
@@ -47,7 +55,10 @@ use Rattle.surrounded_core.proofs.Outside.{outside_always, level_carried}
 pub record RunLaws : Type 0 where
   pub stands : SurroundedStands
   pub tap : TapFollows
-  pub instruction : InstructionFollows
+  pub state : StepIsTheMachines
+  pub instruction : InstructionSteps
+  pub legible : InstructionsStayLegible
+  pub registers : StepsByRegister
   pub bypass : BypassFollows
   pub ident : IdentFollows
   pub tdo : TdoFollows
@@ -58,60 +69,82 @@ pub record RunLaws : Type 0 where
   pub steers : SelectedSteers
   pub starts : BehindStarts
   pub steps : BehindSteps
-  pub moments : RunHasMoments
   pub bits : DirectionHasBit
-  pub once : ChipRunOnce
 
--- a run beside a run of the chip, of a netlist with the chip's core inside
+-- at a moment the parts hold what this machine holds
+pub record HoldsMachine (B : Device) (S : Places) (machine : Machine) (m : Moment) : Type 0 where
+  pub controller : HoldsState S.controller machine.state m
+  pub stages : HoldsStages S.instruction S.codes machine m
+  pub legible : IsLegible machine
+  pub bypass : m.value (bypass_bit S).0 ≡ machine.bypass
+  pub ident : (code : ℕ) → S.code ≡ Some code → ident_values m.value S.ident code ≡ machine.ident
+  pub tdo : tdo_given_by S.driver m ≡ machine.tdo
+  pub rows : (place : ℕ) (r : CellRow) → slice_get B.cells place ≡ Some r → HoldsRow (S.gates place) (S.row place) place machine m.value
+  pub long : AreLong (test_logic_of B) machine
+
+-- a course of a netlist with a chip's core inside, from a moment at which its parts hold a machine, by events at the chip's pins
 pub record Scene : Type 0 where
   pub outer : NetlistView
   pub inner : NetlistView
   pub device : Device
   pub places : Places
   pub around : Surrounds outer inner device places
-  pub given : ℕ → Sig
   pub events : List ChipEvent
-  pub chip : ℕ → ChipMoment
+  pub outside : ℕ → ChipMoment
+  pub is_outside : IsOutside inner events outside
+  pub there : List PinEvent
+  pub same_events : SameEvents outer inner events there
   pub moment : ℕ → Moment
-  pub run : IsChipRun device inner given events chip
-  pub beside : IsRunBeside outer device inner given events chip moment
+  pub same_pins : SameOutside outer inner (outside 0) (moment 0).pins
+  pub course : IsCourse outer there moment
+  pub given : ℕ → Sig
+  pub rests : FlopsStart outer given (moment 0).value (moment 0).state
+  pub begun : Machine
+  pub holds : HoldsMachine device places begun (moment 0)
 
 abbrev pub logic : Scene → TestLogic
 logic r = test_logic_of r.device
 
 abbrev pub levels_at : Scene → ℕ → Levels
-levels_at r t = (r.chip t).levels
+levels_at r t = (r.outside t).levels
 
--- The test logic of the run: its cells capture what the core's own values give them.
+-- The test logic of the course: its cells capture what the core's own values give them.
 
 abbrev pub core_at : Scene → ℕ → ℕ → Sig
 core_at r t = core_value r.inner r.places (r.moment t).value
 
 abbrev pub machine_at : Scene → ℕ → Machine
-machine_at r zero = reset (logic r)
-machine_at r (suc t) = machine_step (logic r) (levels_at r t) (levels_at r (suc t)) (captured r.device r.inner (machine_at r t) (r.chip t).pins (core_at r t)) (machine_at r t)
+machine_at r zero = r.begun
+machine_at r (suc t) = machine_step (logic r) (levels_at r t) (levels_at r (suc t)) (captured r.device r.inner (machine_at r t) (r.outside t).pins (core_at r t)) (machine_at r t)
 
 abbrev pub caught_at : Scene → ℕ → List Sig
-caught_at r t = captured r.device r.inner (machine_at r t) (r.chip t).pins (core_at r t)
-
-pub history : (r : Scene) (count : ℕ) → IsHistory (logic r) (levels_at r) (caught_at r) count (machine_at r)
-history r count = record { low = r.run.start.low; start = refl; steps = λ t h. refl }
+caught_at r t = captured r.device r.inner (machine_at r t) (r.outside t).pins (core_at r t)
 
 pub lists_long : RunLaws → (r : Scene) (t : ℕ) → AreLong (logic r) (machine_at r t)
-lists_long by r t =
-    by.lengths.along (logic r) (levels_at r) (caught_at r) t (machine_at r) (history r t)
-    (λ u h. by.chip.long r.device r.inner (machine_at r u) (r.chip u).pins (core_at r u)) t (omega arith)
+lists_long by r zero = r.holds.long
+lists_long by r (suc t) =
+    by.lengths.steps (logic r) (levels_at r t) (levels_at r (suc t)) (caught_at r t) (machine_at r t)
+    (by.chip.long r.device r.inner (machine_at r t) (r.outside t).pins (core_at r t)) (lists_long by r t)
+
+-- Its moments.
+
+back_to : (r : Scene) (t : ℕ) → t ≤ length r.events → t ≤ length r.there
+back_to r t below = let count : length r.there ≡ length r.events = r.same_events.count in omega arith
+
+pub next_at : (r : Scene) (t : ℕ) → suc t ≤ length r.events → (other : PinEvent) × IsStep r.outer other (r.moment t) (r.moment (suc t))
+next_at r t below =
+    let within : suc t ≤ length r.there = back_to r (suc t) below in
+    let other = slice_get_there r.there t (omega arith) in
+    (other.0, r.course.steps t other.0 other.1)
+
+pub settled_at : (r : Scene) (t : ℕ) → t ≤ length r.events → IsSettled r.outer (r.moment t).pins (r.moment t).state (r.moment t).value
+settled_at r zero below = r.course.settled
+settled_at r (suc t) below = (next_at r t below).1.settled
 
 -- The test access port.
 
-pub outside : RunLaws → (r : Scene) (t : ℕ) → t ≤ length r.events → SameOutside r.outer r.inner (r.chip t) (r.moment t).pins
-outside by r t below = outside_always by.moments r.outer r.inner r.device r.around.pins r.given r.events r.chip r.moment r.run r.beside t below
-
-pub upto : (r : Scene) (t : ℕ) → t ≤ length r.beside.there → t ≤ length r.events
-upto r t below = let count : length r.beside.there ≡ length r.events = r.beside.same_events.count in omega arith
-
-pub back_to : (r : Scene) (t : ℕ) → t ≤ length r.events → t ≤ length r.beside.there
-back_to r t below = let count : length r.beside.there ≡ length r.events = r.beside.same_events.count in omega arith
+pub outside_now : (r : Scene) (t : ℕ) → t ≤ length r.events → SameOutside r.outer r.inner (r.outside t) (r.moment t).pins
+outside_now r t below = outside_always r.outer r.inner r.around.pins r.events r.outside r.there r.moment r.is_outside r.same_pins r.same_events r.course t below
 
 -- each input carries its level
 pub record Levelled (S : Places) (levels : Levels) (m : Moment) : Type 0 where
@@ -120,35 +153,67 @@ pub record Levelled (S : Places) (levels : Levels) (m : Moment) : Type 0 where
   pub tdi : m.value S.tdi.0 ≡ bit levels.tdi
   pub trst : m.value S.trst.0 ≡ bit levels.trst
 
-pub levelled : RunLaws → (r : Scene) (t : ℕ) → t ≤ length r.events → Levelled r.places (levels_at r t) (r.moment t)
-levelled by r t below =
-    let now = by.moments r.outer r.beside.start r.beside.there r.moment r.beside.run t (back_to r t below) in
-    let same = outside by r t below in record {
-      tck = level_carried r.outer r.inner r.device r.places r.around (r.chip t) (r.moment t) now.settled same Tck;
-      tms = level_carried r.outer r.inner r.device r.places r.around (r.chip t) (r.moment t) now.settled same Tms;
-      tdi = level_carried r.outer r.inner r.device r.places r.around (r.chip t) (r.moment t) now.settled same Tdi;
-      trst = level_carried r.outer r.inner r.device r.places r.around (r.chip t) (r.moment t) now.settled same Trst;
-    }
+pub levelled_by : (M N : NetlistView) (B : Device) (S : Places) → Surrounds M N B S → (w : ChipMoment) (m : Moment) → IsSettled M m.pins m.state m.value → SameOutside M N w m.pins
+    → Levelled S w.levels m
+levelled_by M N B S around w m settled same = record {
+  tck = level_carried M N B S around w m settled same Tck;
+  tms = level_carried M N B S around w m settled same Tms;
+  tdi = level_carried M N B S around w m settled same Tdi;
+  trst = level_carried M N B S around w m settled same Trst;
+}
 
-pub carried : RunLaws → (r : Scene) (t : ℕ) → t ≤ length r.events → Carries r.places.tck r.places.trst (levels_at r t) (r.moment t)
-carried by r t below = let l = levelled by r t below in record { clock = l.tck; reset = l.trst }
+pub levelled : (r : Scene) (t : ℕ) → t ≤ length r.events → Levelled r.places (levels_at r t) (r.moment t)
+levelled r t below = levelled_by r.outer r.inner r.device r.places r.around (r.outside t) (r.moment t) (settled_at r t below) (outside_now r t below)
+
+pub carried_by : (S : Places) (levels : Levels) (m : Moment) → Levelled S levels m → Carries S.tck S.trst levels m
+carried_by S levels m l = record { clock = l.tck; reset = l.trst }
+
+pub moded_by : (S : Places) (levels : Levels) (m : Moment) → Levelled S levels m → TapCarries S.tck S.tms S.trst levels m
+moded_by S levels m l = record { clock = l.tck; mode = l.tms; reset = l.trst }
+
+pub carried : (r : Scene) (t : ℕ) → t ≤ length r.events → Carries r.places.tck r.places.trst (levels_at r t) (r.moment t)
+carried r t below = carried_by r.places (levels_at r t) (r.moment t) (levelled r t below)
 
 -- The controller and the instruction register.
+
+state_held : RunLaws → (r : Scene) (t : ℕ) → t ≤ length r.events → HoldsState r.places.controller (machine_at r t).state (r.moment t)
+state_held by r zero below = r.holds.controller
+state_held by r (suc t) below =
+    let S = r.places in
+    let before : t ≤ length r.events = omega arith in
+    let next = next_at r t below in
+    let held = (by.tap S.controller S.controller_number S.tck S.tms S.trst).step r.outer next.0 (machine_at r t).state (levels_at r t) (levels_at r (suc t)) (r.moment t) (r.moment (suc t))
+    r.around.formed r.around.registers.controller (settled_at r t before) next.1 (moded_by S (levels_at r t) (r.moment t) (levelled r t before))
+    (moded_by S (levels_at r (suc t)) (r.moment (suc t)) (levelled r (suc t) below)) (state_held by r t before) in
+    subst (λ (w : TapState). HoldsState S.controller w (r.moment (suc t))) (sym (by.state (logic r) (levels_at r t) (levels_at r (suc t)) (caught_at r t) (machine_at r t))) held
 
 pub state_shown : RunLaws → (r : Scene) (t : ℕ) → t ≤ length r.events → ShowsState (controller_nets r.places) (machine_at r t).state (r.moment t)
 state_shown by r t below =
     let S = r.places in
-    ((by.tap S.controller S.controller_number S.tck S.tms S.trst).whole_run r.outer r.beside.start r.beside.there r.moment r.around.formed r.around.registers.controller r.beside.run
-    (logic r) (levels_at r) (caught_at r) (machine_at r) (history r (length r.beside.there))
-    (λ u h. let l = levelled by r u (upto r u h) in record { clock = l.tck; mode = l.tms; reset = l.trst }) t (back_to r t below)).1
+    (by.tap S.controller S.controller_number S.tck S.tms S.trst).shows (machine_at r t).state (r.moment t) (state_held by r t below)
+
+instruction_laws : RunLaws → (r : Scene) → InstructionLaws r.places.instruction r.places.instruction_number (controller_nets r.places) r.places.tdi r.places.codes r.outer (logic r)
+instruction_laws by r =
+    let S = r.places in
+    by.instruction S.instruction S.instruction_number (controller_nets S) S.tdi S.codes r.outer (logic r) r.around.formed r.around.registers.instruction r.around.codes.codes r.around.codes.fit
+
+stages_held : RunLaws → (r : Scene) (t : ℕ) → t ≤ length r.events → HoldsStages r.places.instruction r.places.codes (machine_at r t) (r.moment t)
+stages_held by r zero below = r.holds.stages
+stages_held by r (suc t) below =
+    let before : t ≤ length r.events = omega arith in
+    let next = next_at r t below in
+    (instruction_laws by r).step next.0 (levels_at r t) (levels_at r (suc t)) (caught_at r t) (machine_at r t) (r.moment t) (r.moment (suc t)) (settled_at r t before) next.1
+    (record { carries = carried r t before; shows = state_shown by r t before; data_in = (levelled r t before).tdi }) (carried r (suc t) below) (stages_held by r t before)
+
+legible_always : RunLaws → (r : Scene) (t : ℕ) → IsLegible (machine_at r t)
+legible_always by r zero = r.holds.legible
+legible_always by r (suc t) =
+    (by.legible r.places.codes (logic r) r.around.codes.codes).step (levels_at r t) (levels_at r (suc t)) (caught_at r t) (machine_at r t) (legible_always by r t)
 
 pub instruction_followed : RunLaws → (r : Scene) (t : ℕ) → t ≤ length r.events
     → Follows r.places.instruction (controller_nets r.places) r.places.tdi r.places.codes (logic r) (machine_at r t) (r.moment t)
 instruction_followed by r t below =
-    let S = r.places in
-    by.instruction S.instruction S.instruction_number (controller_nets S) S.tdi S.codes r.outer r.beside.start r.beside.there r.moment r.around.formed r.around.registers.instruction
-    r.beside.run (logic r) (levels_at r) (caught_at r) (machine_at r) (history r (length r.beside.there)) r.around.codes.codes r.around.codes.fit
-    (λ u h. record { carries = carried by r u (upto r u h); shows = state_shown by r u (upto r u h); data_in = (levelled by r u (upto r u h)).tdi }) t (back_to r t below)
+    (instruction_laws by r).tells (machine_at r t) (r.moment t) (settled_at r t below) (state_shown by r t below) (legible_always by r t).latched (stages_held by r t below)
 
 pub selected : RunLaws → (r : Scene) (t : ℕ) → t ≤ length r.events → Selected (selection_nets r.places) (in_effect (logic r) (machine_at r t)) (machine_at r t).state (r.moment t)
 selected by r t below = (instruction_followed by r t below).selected
@@ -156,32 +221,49 @@ selected by r t below = (instruction_followed by r t below).selected
 -- The bypass register and the identification register.
 
 pub bypass_held : RunLaws → (r : Scene) (t : ℕ) → t ≤ length r.events → (r.moment t).value (bypass_bit r.places).0 ≡ (machine_at r t).bypass
-bypass_held by r t below =
+bypass_held by r zero below = r.holds.bypass
+bypass_held by r (suc t) below =
     let S = r.places in
-    (by.bypass S.bypass S.bypass_number (controller_nets S) (selection_nets S).bypass_on S.tdi).whole_run r.outer r.beside.start r.beside.there r.moment r.around.formed
-    r.around.registers.bypass r.beside.run (logic r) (levels_at r) (caught_at r) (machine_at r) (history r (length r.beside.there))
-    (λ u h. record {
-      carries = carried by r u (upto r u h);
-      shows = state_shown by r u (upto r u h);
-      selection = (selected by r u (upto r u h)).bypass_on;
-      data_in = (levelled by r u (upto r u h)).tdi;
-    }) t (back_to r t below)
+    let before : t ≤ length r.events = omega arith in
+    let next = next_at r t below in
+    let a : Levels = levels_at r t in
+    let b : Levels = levels_at r (suc t) in
+    let machine : Machine = machine_at r t in
+    let on : Bool = selects (logic r) machine register.Bypass in
+    let e = (by.bypass S.bypass S.bypass_number (controller_nets S) (selection_nets S).bypass_on S.tdi).step r.outer next.0 machine.state on a b (r.moment t) (r.moment (suc t))
+    r.around.formed r.around.registers.bypass (settled_at r t before) next.1
+    (record { carries = carried r t before; shows = state_shown by r t before; selection = (selected by r t before).bypass_on; data_in = (levelled r t before).tdi })
+    (carried r (suc t) below) in
+    e ∙ ap (λ (x : Sig). bit_after a b Zero (bypass_after on machine.state (bit a.tdi) x) x x) (bypass_held by r t before)
+    ∙ sym (by.registers (logic r) a b (caught_at r t) machine).bypass
 
-ident_with : RunLaws → (r : Scene) (t : ℕ) → t ≤ length r.events → (code : ℕ) → (logic r).code ≡ bits_of 32 code
+ident_held : RunLaws → (r : Scene) (t : ℕ) → t ≤ length r.events → (code : ℕ) → r.places.code ≡ Some code → (logic r).code ≡ bits_of 32 code
+    → HasCells r.outer (ident_cells r.places.ident r.places.ident_number (controller_nets r.places) (selection_nets r.places).ident_on r.places.tdi code)
+    → ident_values (r.moment t).value r.places.ident code ≡ (machine_at r t).ident
+ident_held by r zero below code there is has = r.holds.ident code there
+ident_held by r (suc t) below code there is has =
+    let S = r.places in
+    let before : t ≤ length r.events = omega arith in
+    let next = next_at r t below in
+    let a : Levels = levels_at r t in
+    let b : Levels = levels_at r (suc t) in
+    let machine : Machine = machine_at r t in
+    let on : Bool = selects (logic r) machine register.DeviceId in
+    let e = (by.ident S.ident S.ident_number (controller_nets S) (selection_nets S).ident_on S.tdi code).step r.outer next.0 machine.state on a b (r.moment t) (r.moment (suc t))
+    r.around.formed has (settled_at r t before) next.1
+    (record { carries = carried r t before; shows = state_shown by r t before; selection = (selected by r t before).ident_on; data_in = (levelled r t before).tdi })
+    (carried r (suc t) below) in
+    let after : List Sig → List Sig → List Sig = λ c xs. bit_after a b (zeros c) (ident_after on c machine.state (bit a.tdi) xs) xs xs in
+    e ∙ ap (λ (c : List Sig). after c (ident_values (r.moment t).value S.ident code)) (sym is)
+    ∙ ap (λ (xs : List Sig). after (logic r).code xs) (ident_held by r t before code there is has)
+    ∙ sym (by.registers (logic r) a b (caught_at r t) machine).ident
+
+ident_with : RunLaws → (r : Scene) (t : ℕ) → t ≤ length r.events → (code : ℕ) → r.places.code ≡ Some code → (logic r).code ≡ bits_of 32 code
     → HasCells r.outer (ident_cells r.places.ident r.places.ident_number (controller_nets r.places) (selection_nets r.places).ident_on r.places.tdi code)
     → (r.moment t).value (ident_last r.places.ident r.places.tdi code).0 ≡ first_bit (machine_at r t).ident
-ident_with by r t below code is has =
+ident_with by r t below code there is has =
     let S = r.places in
-    let laws = by.ident S.ident S.ident_number (controller_nets S) (selection_nets S).ident_on S.tdi code in
-    laws.last (r.moment t)
-    ∙ ap first_bit (laws.whole_run r.outer r.beside.start r.beside.there r.moment r.around.formed has r.beside.run (logic r) (levels_at r) (caught_at r) (machine_at r)
-    (history r (length r.beside.there)) is
-    (λ u h. record {
-      carries = carried by r u (upto r u h);
-      shows = state_shown by r u (upto r u h);
-      selection = (selected by r u (upto r u h)).ident_on;
-      data_in = (levelled by r u (upto r u h)).tdi;
-    }) t (back_to r t below))
+    (by.ident S.ident S.ident_number (controller_nets S) (selection_nets S).ident_on S.tdi code).last (r.moment t) ∙ ap first_bit (ident_held by r t below code there is has)
 
 -- IDCODE is in effect only where it has an opcode
 finds : (p : Instr → Bool) (xs : List Instr) (i : Instr) → find p xs ≡ Some i → p i ≡ true
@@ -222,4 +304,4 @@ ident_nearest by r t below device = by_code r.places.code refl r.around.register
         let none : opcode_of r.device.opcodes Idcode ≡ None = r.around.codes.identified (sym r.around.codes.code ∙ e) in
         let found : is_opcode (machine_at r t).latched (opcode_of r.device.opcodes Idcode) ≡ true = idcode_has_opcode r.device.opcodes (machine_at r t).latched idcode in
         absurd (let bad : false ≡ true = sym (ap (is_opcode (machine_at r t).latched) none) ∙ found in cc)
-    by_code (Some code) e has = ident_with by r t below code (ap code_bits (sym r.around.codes.code ∙ e)) has
+    by_code (Some code) e has = ident_with by r t below code e (ap code_bits (sym r.around.codes.code ∙ e)) has

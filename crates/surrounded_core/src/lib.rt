@@ -1,20 +1,24 @@
 // A core with a device's test logic around it: specs/Places.antt and specs/Surrounds.antt say where each part stands in the netlist,
-// specs/Sites.antt what each row of the boundary register takes and gives, and specs/Laws.antt that the whole behaves as the wrapped chip.
+// specs/Sites.antt what each row of the boundary register takes and gives, specs/Laws.antt that the whole behaves as the wrapped chip,
+// and specs/Home.antt that it finds home.
 // IEEE Std 1149.1-2001: test logic architecture, boundary-scan register; the laws are own.
 #![tactic(auto)]
 
 ghost use Rattle.surrounded_core.specs.Laws.{SurroundedStands, SurroundedReads, SurroundedRealises};
+ghost use Rattle.surrounded_core.specs.Home.{SurroundedFindsHome};
 
 use boundary_cells::{bidir_cells_follow, rows_step_as_bits};
 use boundary_runs::{chip_rows, lengths_stay, rows_follow, selected_steers};
-use instruction_register::instruction_follows;
+use instruction_register::{instruction_steps, instructions_stay_legible};
 use netlist_images::{
     nested_behind_meets, nested_behind_starts, nested_behind_steps, operands_are_given,
 };
-use netlist_laws::{bit_of_a_direction, direction_of_a_bit, found_driver_drives, moments_of_a_run};
-use register_gates::{bypass_follows, ident_follows, tdo_follows};
-use tap_gates::tap_follows;
-use wrapped_chip::{one_chip_run, some_run_beside};
+use netlist_laws::{bit_of_a_direction, direction_of_a_bit, found_driver_drives};
+use register_gates::{
+    bypass_follows, constants_are_bits, ident_follows, steps_by_register, tdo_follows, tdo_lets_go,
+};
+use tap_gates::{step_is_the_machines, tap_finds_home, tap_follows};
+use wrapped_chip::{one_chip_run, outside_goes_on, some_run_beside};
 
 /// At a moment at which the rows hold what the test logic has in their places, the core's values, the rows and the readings are the chip's.
 pub fn surrounded_core_stands()
@@ -41,13 +45,15 @@ pub fn surrounded_core_reads()
     lengths_stay();
     selected_steers();
     tap_follows();
-    instruction_follows();
+    step_is_the_machines();
+    instruction_steps();
+    instructions_stay_legible();
+    steps_by_register();
     bypass_follows();
     ident_follows();
     tdo_follows();
     nested_behind_starts();
     nested_behind_steps();
-    moments_of_a_run();
     bit_of_a_direction();
     one_chip_run();
 }
@@ -58,4 +64,31 @@ pub fn surrounded_core_realises()
 {
     surrounded_core_reads();
     some_run_beside();
+}
+
+/// And it finds home from whatever its test logic holds.
+pub fn surrounded_core_finds_home()
+    ensures { SurroundedFindsHome }
+{
+    surrounded_core_stands();
+    rows_follow();
+    rows_step_as_bits();
+    chip_rows();
+    lengths_stay();
+    selected_steers();
+    tap_follows();
+    step_is_the_machines();
+    tap_finds_home();
+    instruction_steps();
+    instructions_stay_legible();
+    steps_by_register();
+    constants_are_bits();
+    bypass_follows();
+    ident_follows();
+    tdo_follows();
+    tdo_lets_go();
+    nested_behind_starts();
+    nested_behind_steps();
+    bit_of_a_direction();
+    outside_goes_on();
 }

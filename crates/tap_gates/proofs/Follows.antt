@@ -42,11 +42,11 @@ pub record PartLaws : Type 0 where
   pub moments : RunHasMoments
 
 -- the flip-flop of a state
-abbrev reset_to : TapState → ResetTo
+abbrev pub reset_to : TapState → ResetTo
 reset_to TestLogicReset = ToOne
 reset_to _ = ToZero
 
-abbrev flop_kind : TapState → FlopKind
+abbrev pub flop_kind : TapState → FlopKind
 flop_kind s = record { edge = Rise; reset = reset_to s }
 
 abbrev flop_gate : TapState → Gate
@@ -70,7 +70,7 @@ flop_there PauseIr = refl
 flop_there Exit2Ir = refl
 flop_there UpdateIr = refl
 
-reset_low : (s : TapState) (x : Sig) → reset_or (reset_to s) Zero x ≡ bit (same_state s TestLogicReset)
+pub reset_low : (s : TapState) (x : Sig) → reset_or (reset_to s) Zero x ≡ bit (same_state s TestLogicReset)
 reset_low TestLogicReset x = refl
 reset_low RunTestIdle x = refl
 reset_low SelectDrScan x = refl
@@ -88,7 +88,7 @@ reset_low PauseIr x = refl
 reset_low Exit2Ir x = refl
 reset_low UpdateIr x = refl
 
-reset_high : (s : TapState) (x : Sig) → reset_or (reset_to s) One x ≡ x
+pub reset_high : (s : TapState) (x : Sig) → reset_or (reset_to s) One x ≡ x
 reset_high TestLogicReset x = refl
 reset_high RunTestIdle x = refl
 reset_high SelectDrScan x = refl
@@ -106,7 +106,7 @@ reset_high PauseIr x = refl
 reset_high Exit2Ir x = refl
 reset_high UpdateIr x = refl
 
-flop_at : PartLaws → (N : NetlistView) (first number : ℕ) (tck tms trst : NetId) → IsWellFormed N → HasCells N (tap_cells first number tck tms trst) → (s : TapState)
+pub flop_at : PartLaws → (N : NetlistView) (first number : ℕ) (tck tms trst : NetId) → IsWellFormed N → HasCells N (tap_cells first number tck tms trst) → (s : TapState)
     → FlopOn N (flop_kind s) (Net (record { 0 = first + (17 + place s) }) ∷ Net tck ∷ Net trst ∷ []) (first + place s)
 flop_at by N first number tck tms trst formed has s = by.flops N CONTROLLER (tap_given tck tms trst) first number formed has (place s) (flop_gate s) (flop_kind s) (flop_there s) refl
 

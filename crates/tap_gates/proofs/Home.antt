@@ -1,22 +1,26 @@
 -- From any bits: with TMS at 1 each state that a flip-flop stands for comes nearer to Test-Logic-Reset, and no state leads there too.
 use Rattle.std.proofs.Common.{◌≡◌, ℕ, zero, suc, ◌+◌, ◌<◌, ◌≤◌, ◌⊎◌, Bool, true, false, not, ◌&&◌, ◌||◌, if◌then◌else◌, List, [], ◌∷◌, length, Some, refl, sym, ap, ◌∙◌, inl, inr, arith}
 use Rattle.std.specs.Prelude.{slice_get}
+use Rattle.signal_values.specs.declared.Sig.{Sig}
 use Rattle.signal_values.specs.Values.{bit}
+use Rattle.cell_library.specs.Flops.{reset_or}
+use Rattle.cell_library.specs.Gates.{flop_of}
+use Rattle.cell_library.specs.Laws.{IsKnown}
 use Rattle.netlist_model.specs.declared.NetId.{NetId}
 use Rattle.netlist_model.specs.Lists.{NetlistView}
 use Rattle.netlist_model.specs.Settled.{IsSettled}
 use Rattle.netlist_model.specs.Formed.{IsWellFormed}
 use Rattle.netlist_model.specs.Contained.{HasCells}
-use Rattle.netlist_model.specs.Runs.{Moment, PinEvent}
+use Rattle.netlist_model.specs.Runs.{Moment, PinEvent, IsStart}
 use Rattle.test_logic.specs.declared.TapState.{TapState}
 use Rattle.test_logic.specs.declared.TapState.TheVariants.{TestLogicReset, RunTestIdle, SelectDrScan, CaptureDr, ShiftDr, Exit1Dr, PauseDr, Exit2Dr, UpdateDr, SelectIrScan, CaptureIr, ShiftIr, Exit1Ir, PauseIr, Exit2Ir, UpdateIr}
 use Rattle.test_logic.specs.declared.Levels.{Levels}
 use Rattle.test_logic.specs.Rises.{is_rise, rises, RisesWithOnes}
-use Rattle.tap_gates.specs.Controller.{tap_cells, same_state}
+use Rattle.tap_gates.specs.Controller.{tap_cells, same_state, state_net}
 use Rattle.tap_gates.specs.Laws.{Carries}
-use Rattle.tap_gates.specs.Home.{IsCourse, HoldsBits as HoldsSomeBits, TapFindsHome}
+use Rattle.tap_gates.specs.Home.{AreGivenBits, IsCourse, HoldsBits as HoldsSomeBits, TapFindsHome}
 use Rattle.tap_gates.proofs.NextBits.{HoldsBits, is_none, none_of, next_bits}
-use Rattle.tap_gates.proofs.Follows.{PartLaws, bits_step, step_bits}
+use Rattle.tap_gates.proofs.Follows.{PartLaws, reset_to, flop_kind, reset_low, reset_high, flop_at, bits_step, step_bits}
 
 -- how many rising edges lead from a state to Test-Logic-Reset, with TMS at 1
 abbrev far : TapState → ℕ
@@ -281,8 +285,24 @@ along by N first number tck tms trst events moment levels formed has course held
       near = near_then now.bits (levels t) (levels (suc t)) (rises levels t) now.near (λ e. ones t (omega arith) e);
     }
 
+-- at a start
+known_bit : (s : TapState) (b : Bool) (x : Sig) → IsKnown x → IsKnown (reset_or (reset_to s) (bit b) x)
+known_bit s true x known = record { known = known.known; same = reset_high s x ∙ known.same }
+known_bit s false x known = record { known = same_state s TestLogicReset; same = reset_low s x }
+
+start_bit : PartLaws → (N : NetlistView) (first number : ℕ) (tck tms trst : NetId) (given : ℕ → Sig) (levels : Levels) (m : Moment) → IsWellFormed N
+    → HasCells N (tap_cells first number tck tms trst) → IsStart N given m → Carries tck tms trst levels m → AreGivenBits N first given → (s : TapState)
+    → IsKnown (m.value (state_net first s).0)
+start_bit by N first number tck tms trst given levels m formed has start carried bits s =
+    let on = flop_at by N first number tck tms trst formed has s in
+    let h : m.value (state_net first s).0 ≡ reset_or (reset_to s) (m.value trst.0) (given on.has.number) = by.starts N _ _ (state_net first s).0 on given m start in
+    let known = bits s on.has.number (record on.cell { name = on.has.name }) (flop_kind s) on.has.live (ap flop_of on.kind_is) on.output in
+    let bit_known = known_bit s levels.trst (given on.has.number) known in
+    record { known = bit_known.known; same = h ∙ ap (λ (x : Sig). reset_or (reset_to s) x (given on.has.number)) carried.reset ∙ bit_known.same }
+
 pub finds_home : PartLaws → TapFindsHome
 finds_home by first number tck tms trst = record {
+  starts = λ N given levels m formed has start carried bits. record { each = λ s. start_bit by N first number tck tms trst given levels m formed has start carried bits s };
   home = λ N events moment levels formed has course held carried t below ones many.
       let now = along by N first number tck tms trst events moment levels formed has course held carried t below ones in
       record { each = λ s. now.held.each s ∙ ap bit (at_home (rises levels t) now.bits now.near many s) };

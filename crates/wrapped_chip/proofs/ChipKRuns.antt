@@ -4,7 +4,6 @@ use Rattle.std.specs.Prelude.{Some, None, slice_get}
 use Rattle.signal_values.specs.declared.Sig.TheVariants.{Unknown}
 use Rattle.signal_values.specs.declared.PinSig.{PinSig}
 use Rattle.signal_values.specs.declared.PinSig.TheVariants.{Zero, One, HighZ}
-use Rattle.cell_library.specs.declared.Kind.TheVariants.{And, Not}
 use Rattle.cell_library.specs.Gates.{flop_of}
 use Rattle.cell_library.specs.declared.FlopKind.{FlopKind}
 use Rattle.cell_library.specs.declared.codes.BoundaryKind.TheVariants.{Bc1}

@@ -19,7 +19,8 @@ use Rattle.wrapped_chip.specs.Cells.{captured}
 use Rattle.wrapped_chip.specs.ChipRuns.{ChipMoment, ChipEvent, at_pin, at_tap, levels_after, chip_pins_after, IsChipSettled, IsChipStep, IsChipRun}
 use Rattle.wrapped_chip.specs.Laws.{IsRepeat, SameChipMoment, ChipRepeats}
 use Rattle.wrapped_chip.proofs.Chips.{event_at, moment_same}
-use Rattle.wrapped_chip.proofs.Known.{run_settled}
+use Rattle.wrapped_chip.specs.Home.{IsChipRunFrom}
+use Rattle.wrapped_chip.proofs.Known.{from_reset, run_settled}
 use Rattle.std.proofs.lemmas.Option.{slice_get_within}
 
 -- while TRST is 0 the test logic is in reset
@@ -36,12 +37,16 @@ abbrev pub FlopsRest : NetlistView → ChipMoment → Type 0
 FlopsRest N w = (i : ℕ) (cell : CellView) (kind : FlopKind) → cell_at N i ≡ Some cell → flop_of cell.kind ≡ Some kind
     → w.state i ≡ flop_start kind (feed_values w.value cell.feeds) (w.state i)
 
-pub run_rests : (B : Device) (N : NetlistView) (given : ℕ → Sig) (events : List ChipEvent) (chip : ℕ → ChipMoment) → IsChipRun B N given events chip
+pub rests_from : (begun : Machine) (B : Device) (N : NetlistView) (given : ℕ → Sig) (events : List ChipEvent) (chip : ℕ → ChipMoment) → IsChipRunFrom begun B N given events chip
     → (t : ℕ) → t ≤ length events → FlopsRest N (chip t)
-run_rests B N given events chip run zero h i cell kind live flop = rest_of kind.reset _ _ _ (run.start.flops.each i cell kind live flop)
-run_rests B N given events chip run (suc t) h i cell kind live flop =
+rests_from begun B N given events chip run zero h i cell kind live flop = rest_of kind.reset _ _ _ (run.flops.each i cell kind live flop)
+rests_from begun B N given events chip run (suc t) h i cell kind live flop =
     let e = event_at events t (omega arith) in
     rest_of kind.reset _ _ _ ((run.steps t e.0 e.1).flops.each i cell kind live flop)
+
+run_rests : (B : Device) (N : NetlistView) (given : ℕ → Sig) (events : List ChipEvent) (chip : ℕ → ChipMoment) → IsChipRun B N given events chip
+    → (t : ℕ) → t ≤ length events → FlopsRest N (chip t)
+run_rests B N given events chip run t h = rests_from (reset (test_logic_of B)) B N given events chip (from_reset B N given events chip run) t h
 
 repeat_levels : (event : ChipEvent) (w : ChipMoment) → IsRepeat event w → levels_after w.levels event ≡ w.levels
 repeat_levels (at_pin event) w e = refl

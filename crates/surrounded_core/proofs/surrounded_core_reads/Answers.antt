@@ -1,4 +1,4 @@
-use Rattle.surrounded_core.proofs.Along.{reads_as_chip}
+use Rattle.surrounded_core.proofs.PowerUps.{reads_as_chip}
 use Rattle.surrounded_core.proofs.surrounded_core_reads.Goals as goal
 
 pub returns : goal.returns
@@ -6,7 +6,10 @@ returns c =
     reads_as_chip (record {
       stands = c.surrounded_core_stands.ensures;
       tap = c.tap_follows.ensures;
-      instruction = c.instruction_follows.ensures;
+      state = c.step_is_the_machines.ensures;
+      instruction = c.instruction_steps.ensures;
+      legible = c.instructions_stay_legible.ensures;
+      registers = c.steps_by_register.ensures;
       bypass = c.bypass_follows.ensures;
       ident = c.ident_follows.ensures;
       tdo = c.tdo_follows.ensures;
@@ -17,7 +20,5 @@ returns c =
       steers = c.selected_steers.ensures;
       starts = c.nested_behind_starts.ensures;
       steps = c.nested_behind_steps.ensures;
-      moments = c.moments_of_a_run.ensures;
       bits = c.bit_of_a_direction.ensures;
-      once = c.one_chip_run.ensures;
-    })
+    }) c.one_chip_run.ensures
