@@ -3,7 +3,7 @@ BSDL file says something else."""
 import os, re, sys
 
 from bridge import bench, bridged, simulated
-from chips import Module, keep, run, text_of
+from chips import Module, keep, text_of
 from script_trials import demo, most_rows, refusals, script, small_chips
 
 NEEDS = ("openocd", "iverilog", "vvp")
