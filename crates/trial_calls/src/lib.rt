@@ -13,5 +13,3 @@ mod netlists;
 mod outside;
 #[cfg(test)]
 mod remembered;
-#[cfg(test)]
-mod room;
