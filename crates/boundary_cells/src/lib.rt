@@ -1,6 +1,20 @@
 // Boundary cells as gates: a shift bit, the update bit behind it, and the multiplexer that gives the core or the pin its value.
 // Contracts cite specs/Cells.antt for the cells, and specs/Laws.antt for what they do in every netlist that contains them.
 // IEEE Std 1149.1-2001: boundary-scan register, the annex on BSDL (the cells BC_1, BC_2, BC_4 and BC_7).
+//
+// - `add_observe_cell`, `add_input_cell`, `add_output_cell`, `add_control_cell`, `add_bidir_cell` append exactly
+//   the cell's gates, the last of them onto the net that is to carry what the cell gives, and answer the net of
+//   the shift bit, the first that is new; the update bit is on the third net after it. Other nets that were free
+//   stay free. They can't refuse.
+// - In every well-formed netlist that contains the gates (`observe_cells_follow`, `input_cells_follow`,
+//   `output_cells_follow`, `control_cells_follow`, `bidir_cells_follow`): where TRST is 0 both bits are 0; a
+//   rising edge of TCK takes what a cell of this kind captures under the instruction in effect, or shifts or
+//   keeps; a falling edge takes the shift bit into the update bit, or keeps; and at each moment the net carries
+//   what the cell gives the core or the driver in the instruction's mode.
+// - Each place of the test logic's boundary register steps as these bits do (`rows_step_as_bits`).
+// | cell | gates | nets | |---|---|---| | BC_4 | 3 | 3 | | BC_1 at an input or output | 6 | 5 | | BC_2 at an
+// output | 7 | 6 | | control cell, BC_1 | 7 | 6 | | control cell, BC_2 | 8 | 7 | | BC_7 | 8 | 7 |
+// By the contract of these calls and six law functions.
 #![tactic(auto)]
 
 ghost use Rattle.std.specs.Prelude.{◌≡◌, ◌≢◌, ℕ, ◌+◌, ◌<◌, ◌≤◌, ◌^◌, length, IsTrue};

@@ -1,6 +1,13 @@
 // What the strings of a BSDL file's sections hold, read into entries.
 // The contract of `read_contents` cites `HasContents` and `IsContentsFault` of bsdl_device; specs/Reading.antt reads each section.
 // IEEE Std 1149.1-2001: the annex on BSDL.
+//
+// - `read_contents`: on success the strings of each section, joined, hold the contents that are given, and no
+//   others.
+// - A refusal, but for want of memory, names the first section in the order of the file whose strings hold what
+//   they can't; at its first string word the fault is told.
+// - A law: the strings of a file hold one list of contents at most.
+// By the contract of `read_contents` and a law function.
 #![tactic(auto)]
 
 mod cut;

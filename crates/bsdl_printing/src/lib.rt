@@ -1,6 +1,11 @@
 // The canonical text of a device.
 // Contracts cite `canonical_device`, `IsDevice` and `SpellsText` of bsdl_device's specs/.
 // IEEE Std 1149.1-2001: the annex on BSDL; the layout is own.
+//
+// - `print_device` gives exactly the canonical text of the device, for every value of the type `Device`, or
+//   answers want of memory. Where the device keeps `IsDevice`, the text spells it; just those devices are spelled
+//   by some text.
+// By the contract of `print_device`.
 #![tactic(auto)]
 
 mod boundary;

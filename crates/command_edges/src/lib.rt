@@ -3,6 +3,15 @@
 // `run_task` cites specs/Tasks.antt: what any command comes to.
 // Commands cite specs/Spelled.antt and specs/Ends.antt too.
 // Own: no chapter of a standard speaks of it.
+//
+// - A task (`specs/Tasks.antt`) is what a command reads, writes and puts, what it makes of the texts, which faults
+//   stand in them, and when none does. `Finishes`, `Stands` and `Completes` say of any task that the command came
+//   to its end, which fault stands, and that it comes to its end or wants memory where none does; `Keeps` says
+//   what stays whatever comes of it.
+// - `read_all`, `write_all`: all texts of a list of names, in order, up to the first that can't be read or
+//   written; `put_text` puts one.
+// - `run_task` runs whatever makes texts of texts (a `TextCommand`) and meets its task.
+// By the contract of these calls.
 #![tactic(auto)]
 
 mod reading;

@@ -2,6 +2,8 @@
 // comes of it.
 // Its task stands in specs/Demonstrations.antt, which stands on insertions' specs/Insertions.antt.
 // Own: no chapter of a standard speaks of it.
+//
+// By the contract of `make`.
 #![tactic(auto)]
 
 mod demo_texts;

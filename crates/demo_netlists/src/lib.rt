@@ -1,6 +1,13 @@
 // Laws on the demonstration netlists: each is a tree that some text spells, and can be linked. There is no code.
 // specs/Laws.antt has the statements, over the definitions of demo_chips, verilog_tree and link_model.
 // IEEE Std 1364-2001: gate-level modelling, data types; the netlists are own.
+//
+// - `demo_is_a_tree`: the netlist is a tree that some text spells.
+// - `demo_can_be_linked`: it can be linked, so no fault stands in it: no name stands twice, each bit that is read
+//   or driven is declared, each net has the one driver that it must have, no gates read in a loop, and clocks and
+//   clears are inputs.
+// - `demo_has_its_cells`: whatever it is linked to has `100 + 10 * n` gates, 32 flip-flops and 16 outputs.
+// By the contract of three law functions.
 #![tactic(auto)]
 
 ghost use Rattle.demo_netlists.specs.Laws.{DemoCanBeLinked, DemoHasItsCells, DemoIsATree};

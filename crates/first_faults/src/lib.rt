@@ -1,6 +1,11 @@
 // The first fault along a list, the first name that came before, and the place where each key first stands.
 // Contracts cite specs/First.antt and specs/Repeated.antt.
 // Own: no chapter of a standard speaks of it.
+//
+// - `first_repeated` answers the first name of a list that came before in it, and none exactly where no name
+//   stands twice.
+// - `first_places` is a table that gives each key the place where it first stands.
+// By the contract of `first_repeated` and `first_places`.
 #![tactic(auto)]
 
 mod places;

@@ -1,6 +1,25 @@
 // Parts of a chip, each a constant table of gates, and the call that adds one to a netlist.
 // Contracts cite specs/Parts.antt for the cells of a table and specs/Appended.antt for what was added.
 // Own: tables of gates in the terms of IEEE Std 1364-2001's gate level modelling.
+//
+// - `add_part` appends a net and a cell for each gate, in the order of the table, each cell on the net of its
+//   place, with its kind, its operands in order and its number as name; the ports, nets and cells before stay; it
+//   uses exactly as many spare nets and cells and can't refuse; it answers the first new net, and the last one's
+//   number fits too.
+// - `add_driver` appends one cell in the same way, on a net that is there and that nothing drives; other free nets
+//   stay free.
+// - What was appended is contained in the netlist, and in every netlist that only grows from it
+//   (`appended_is_there`, `appended_grows`, `growth_keeps`). What is added twice is added as one
+//   (`appended_more`). Free nets stay free where nothing that is added drives them, and where a part is added on
+//   later nets (`free_net_stays`, `part_leaves_free_nets`).
+// - By its place in the table each gate gives its net its value in a well-formed netlist that contains the part,
+//   under any rule for pins (`contained_part_meets`), and is a flip-flop on its net where its kind is one
+//   (`contained_part_has_flops`).
+// - The net of a contained flip-flop has at a start the cleared or preset value where RN or SN is 0, else the one
+//   that was given for that flip-flop; a step takes it to the next value (`flop_starts`, `flop_steps`).
+// - A table of levels, checked by one computation, numbers the gates of a part so that each reads smaller numbers
+//   (`levels_number`).
+// By the contract of `add_part`, `add_driver` and its laws.
 #![tactic(auto)]
 
 ghost use Rattle.std.specs.Prelude.{◌≡◌, ◌≢◌, ℕ, ◌+◌, ◌<◌, ◌≤◌, ◌^◌, [], ◌∷◌, length, IsTrue, Some};

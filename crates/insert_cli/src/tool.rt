@@ -85,7 +85,8 @@ pub fn run_tool<S: Shelf, O: Sink>(
         (shelf_seen S.tells S.held S.written S.faults shelf.old shelf.new)
         (sink_seen O.given O.faults out.old out.new) result }
 
-    // A check of the netlist and of the BSDL text that an insertion wrote, by the program of that device, never misses.
+    // A check of a netlist that keeps another's ports and cells and realises its chip, by the program of that chip's device,
+    // never misses, however the texts are spelled.
     ensures meets { MissesNothing words.now
         (shelf_seen S.tells S.held S.written S.faults shelf.old shelf.new) result }
 {

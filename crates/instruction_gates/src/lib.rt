@@ -1,6 +1,15 @@
 // The instruction register as gates: the opcode that is latched, whether it is an instruction's, and what is selected.
 // Contracts cite specs/: Latches, Matches and Selections have the cells, and what they do in every netlist that contains them.
 // IEEE Std 1149.1-2001: instruction register.
+//
+// - `add_stages`, `add_latches`, `add_match` and `add_selections` append exactly their cells: 1 + 6n, 3n, 2n an
+//   opcode, and 9, for n bits.
+// - At each moment of a run the shift stage and the latched opcode are the test logic's, for any length
+//   (`stages_follow`); where the latched bits are known, the match of an opcode is whether it is latched
+//   (`matches_tell`); from these come the selected register, the modes and the nets of the boundary register, of
+//   the instruction in effect (`selections_tell`).
+// - An event takes the two stages to those of the test logic after it, whatever they held (`stages_step`).
+// By the contract of the four calls and their laws.
 #![tactic(auto)]
 
 ghost use Rattle.std.specs.Prelude.{◌≡◌};

@@ -2,6 +2,26 @@
 // Contracts cite specs/Register.antt for the cells and the nets, and specs/Laws.antt for what they do in every netlist that contains
 // them.
 // IEEE Std 1149.1-2001: instruction register, instructions.
+//
+// - `add_instruction` appends exactly the register's cells and answers its nets, by definitions over the codes;
+//   for n bits it takes 10 + 6n cells and nets, and 2n for each opcode but that of BYPASS, so at most 10 + 18n. It
+//   can't refuse. An instruction without an opcode takes none.
+// - In every well-formed netlist that contains the cells, at each moment of a run whose nets carry the levels of
+//   the test access port and the controller's state (`instruction_follows`): the shift stage and the latched
+//   opcode are the test logic's, with the bit nearest TDO on the net that was answered; and the nets of the
+//   selected register, of the boundary register's capture, shift and update, of EXTEST and of the modes are those
+//   of the instruction in effect, for any history.
+// - The codes of each device that some BSDL text describes fit the register (`registers_fit`): patterns as long as
+//   it is, and no opcode twice but that of SAMPLE and PRELOAD.
+// - So it is of the whole register, step by step, from whatever its stages hold (`instruction_steps`); from Test-
+//   Logic-Reset with reset's opcode on the latched bits are 0 or 1, whatever the shift stage holds there, since it
+//   captures before it is latched (`instructions_stay_legible`).
+// By the contract of `add_instruction` and two law functions.
+// What the test logic's gates take, for n bits of the instruction register, and what is set aside for them:
+// | call | cells | nets | set aside | |---|---|---|---| | `add_tap` | 44 | 44 | 140 | | `add_instruction` | at
+// most 10 + 18n | the same | 100 + 64n | | `add_bypass` | 5 | 5 | 10 | | `add_ident` | 98 | 98 | 130 | | `add_tdo`
+// | 7 | 6 | 20 | | `add_port_nets` | 0 | 5 | 10 | | each boundary cell | 3 to 8 | 3 to 7 | 24 | | all together | |
+// | 410 + 64n, and 24 a boundary cell |
 #![tactic(auto)]
 
 ghost use Rattle.std.specs.Prelude.{◌≡◌, ◌+◌, ◌*◌, ◌<◌, ◌≤◌, length};

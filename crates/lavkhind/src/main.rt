@@ -1,6 +1,8 @@
 // The program: runs the command that its arguments are, over the machine's files and standard output.
 // Its work is `run_tool` of insert_cli, whose contract says what each status means; here are only the two adapters.
 // Own: the exit statuses are the numbers of `Status`, and 7 where the system refuses the program its words.
+//
+// Proved: that it is safe and comes to its end; no clause says what it does.
 #![tactic(auto)]
 
 use edge_io::{FileShelf, OutSink};

@@ -1,6 +1,12 @@
 // Texts of lines: the lines of a text, the words of a line, and the lines that are skipped, read from the front and written.
 // Contracts cite specs/Words.antt (lines, words, kept lines), specs/Forms.antt (lines by their words) and specs/Rows.antt.
 // Own: no chapter of a standard speaks of it.
+//
+// - `LineReader` goes through the kept lines of a text with their numbers; `after_key` and `one_word` to
+//   `four_words` see exactly the lines of that form; `put_two` to `put_five` write a line of so many words.
+// - The kept lines of a text are rows of words, and such rows, where they are written, read back.
+// By the contract of `LineReader`, `next_word`, `one_word` to `four_words`, `put_two` to `put_five` and two law
+// functions.
 #![tactic(auto)]
 
 mod forms;

@@ -1,6 +1,13 @@
 // The netlist of a module in an arena, with a table of its names.
 // Contracts cite `denoted`, `IsNamed` and `names_of` of the link model: the netlist is the one that the module denotes.
 // IEEE Std 1364-2001: modules and ports, data types, gate-level modelling.
+//
+// - `build`, for a module whose text and drivers have no fault, and for its nets and cells, answers the netlist
+//   that the module denotes: ports, nets and cells with the right names, indexes, ranges, directions, operands and
+//   outputs.
+// - The live cells have the numbers from 0 on without gaps.
+// - The table has the names of ports, wires and items, in the order of the text.
+// By the contract of `build`.
 #![tactic(auto)]
 
 ghost use Rattle.std.specs.Prelude.{◌≡◌, IfOk, None, length};

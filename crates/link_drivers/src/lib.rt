@@ -1,6 +1,13 @@
 // Whether each net of a module has the drivers that it may have, and the first fault where one has not.
 // Contracts cite `driver_fault` of the link model; specs/Drivers.antt has what holds where there is none.
 // IEEE Std 1364-2001: data types, gate-level modelling; what three-state nets may do is own.
+//
+// - `find_driver_fault` answers the first fault of drivers, or none exactly where none stands: two drivers, a
+//   driven input, a missing driver, a three-state gate on a wire, a read three-state output, an inout without a
+//   three-state driver, in this order and within each in the order of nets.
+// - A law: where none stands, no cell drives an input, no net has two drivers, outputs, inouts and read wires have
+//   a driver, and three-state gates drive only outputs that nothing reads, and inouts.
+// By the contract of `find_driver_fault` and a law function.
 #![tactic(auto)]
 
 ghost use Rattle.std.specs.Prelude.{◌≡◌, IfOk, length};

@@ -1,6 +1,14 @@
 // A table of names, each once, under numbers in the order of first use.
 // Contracts cite specs/Names.antt: the table is its list of names, in bytes.
 // Own: no chapter of a standard speaks of it; that a name has one meaning in a module is IEEE Std 1364-2001's.
+//
+// - A new table is empty, and `reserve` changes no name.
+// - `enter` puts a new name at the end and leaves a known one where it is; the number that it answers is that of
+//   the name.
+// - After a refusal the table is as before.
+// - `find` answers the number of a name exactly where it is there; `text` answers the bytes of a number.
+// - `len` and `is_empty` are those of the list, and no name stands twice.
+// By the contract of its calls.
 #![tactic(auto)]
 
 ghost use Rattle.std.specs.Prelude.{◌≡◌, ◌↔◌, ◌<◌, [], IsTrue, length, slice_get, Some, None, IfOk, IfSome, OnOk, OnErr};

@@ -1,6 +1,24 @@
 // An arena that holds a netlist: adding ports, nets and cells, moving what is connected, and looking.
 // Contracts cite specs/Arena.antt, specs/Adds.antt and specs/Moves.antt: each call is its substitution on the lists.
 // IEEE Std 1364-2001: module instances and ports, gate level modelling; the numbering and the room are own.
+//
+// - `add_net`, `add_port_bit`, `add_port`: the lists with one element more at the end; the answer is the count
+//   before.
+// - `add_cell`, `add_wide_cell`: one cell more, under a number that no live cell had, and that is the count of
+//   cells where there were no gaps; every other cell stays.
+// - `connect`, `move_readers`, `move_driver`: exactly that substitution on the lists, and all else stays.
+//   `remove_cell`: the cell is gone, its output undriven, the others keep their numbers.
+// - Each adding call takes exactly its spare numbers, no other call but `reserve` changes them, and calls without
+//   a Result can't refuse. A refusal leaves lists, spare numbers and walks as they were.
+// - `reserve` answers TooMany exactly where present plus asked passes 262,144 cells, 524,288 nets or 4,096 port
+//   bits, the first in this order; where it is Ok the spare numbers are at least what was asked.
+// - `driver` says what drives a net. `first_reader` and `next_reader` visit each operand on the net once and no
+//   other. The other looking calls answer what the lists hold.
+// - `copy`, where Ok, has the same lists and spare numbers. A walk that was begun goes on after a `reserve`, and
+//   in a copy.
+// - At all times each port has a net for each bit, each named net is there, and no net has two drivers
+//   (`is_laid_out`).
+// By the contract of its calls.
 #![tactic(auto)]
 
 ghost use Rattle.std.specs.Prelude.{◌≡◌, [], length};

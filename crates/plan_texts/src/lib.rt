@@ -1,6 +1,15 @@
 // Pin plans: the lines that spell one, its first fault, and its canonical text.
 // Contracts cite specs/Grammar.antt (what bytes spell), specs/Faults.antt (the first fault) and specs/Canonical.antt.
 // IEEE Std 1149.1-2001: instruction register, device identification register. The form of the lines is own.
+//
+// - `read_plan` answers a plan only where the bytes spell it: its lines in their order, each of its form, and no
+//   rule on instructions and on the identification code broken.
+// - `PlanLine` tells the first line that can't stand there: some plan begins with the kept lines before it, and
+//   none with that line too (rules may be broken in either); where the plan ends too early, it is the line after
+//   the last. Where no line is at fault, the first rule that is broken is told, with its word.
+// - `print_plan`: the canonical text, which spells the plan.
+// - A law: bytes spell one plan, or have one fault, and not both.
+// By the contract of `read_plan`, `print_plan` and a law function.
 #![tactic(auto)]
 
 mod fault;

@@ -1,6 +1,20 @@
 // A netlist that keeps another's ports and cells and realises its chip, checked by the program of the device: no expectation is missed.
 // What `insert` wrote is such a netlist. specs/Laws.antt has the statements, specs/Texts.antt what they speak of. Its functions are laws.
 // IEEE Std 1149.1-2001: test access port, the annex on BSDL; plans and programs are own.
+//
+// - Laws over texts in any spelling: the netlist's text spells a netlist that keeps the ports and cells of one
+//   that a plan fits, with the plan's test access port behind the ports, and that behaves as that one wrapped in
+//   the plan's device; the BSDL text spells that device (`BelongTogether`).
+// - `netlists_have_chips`: a link view that keeps and realises has the device's ports, and the chip that the
+//   device makes of the core.
+// - `insertions_belong_together`: what `insert` writes are such texts; and the text that `vectors` writes spells
+//   the device's program.
+// - `texts_have_chips`: whatever is read of such texts has that chip. `texts_agree`: its ports agree with the
+//   device's.
+// - `programs_are_legal_there`: the lines of the device's program are legal for it.
+// - `texts_miss_nothing`, `written_programs_miss_nothing`: the verdict on the script of that program misses no
+//   expectation; nor does that on the script of any text of events that spells the program.
+// By the contract of its law functions.
 #![tactic(auto)]
 
 ghost use Rattle.program_checks.specs.Laws.{NetlistsHaveChips, InsertionsBelongTogether, ProgramTextsSpellPrograms, TextsHaveChips};

@@ -1,6 +1,20 @@
 // The chip that a device's test logic makes of a netlist meets the device's program, and so does each netlist that realises the chip.
 // specs/Laws.antt has the statements, over the definitions of wrapped_chip and scan_programs. Its functions are laws.
 // IEEE Std 1149.1-2001: test access port, boundary-scan register; programs are own.
+//
+// - `chip_meets_program`: in each run of the chip by the program's starts and sets, from any flip-flops, each
+//   expectation reads its value at its moment: TDO, or the bit of an output or inout that the expectation names.
+// - `realising_meets_program`, `netlist_meets_program`: so it does in each run beside such a run of a netlist that
+//   realises the chip; and in each run of that netlist by the program, whatever its flip-flops hold at the start.
+// - `program_names_pins`: each start of a program is of a bit of an input or inout, with the value that its port
+//   starts with, and each set of an input of the test access port.
+// - `some_program_run`, `some_run_beside_program`, `some_run_by_program`: there are such runs from any flip-flops.
+// - `plans_stand_around`: the device of a plan that fits a netlist stands around it: each cell but a control cell
+//   is the first at its bit, the ports that both have go the same way, and no two inputs of the test access port
+//   have one name.
+// - `fitting_plans_meet_programs`: so each netlist that realises the chip of a plan that fits meets the program,
+//   with no other premise.
+// By the contract of its law functions.
 #![tactic(auto)]
 
 ghost use Rattle.program_runs.specs.Laws.{ProgramNamesPins, ChipMeetsProgram, RealisingMeetsProgram, ProgramRunExists, RunBesideProgramExists, NetlistMeetsProgram, ProgramRunThereExists, PlansStandAround, FittingPlansMeetPrograms};

@@ -1,6 +1,10 @@
 // A netlist with its nets and cells numbered anew, or with the same ports and live cells, behaves as the wrapped chip where the netlist
 // itself does (wrapped_chip). Laws only.
 // Own. For IEEE Std 1149.1-2001 see wrapped_chip.
+//
+// - So it goes to a netlist with the same ports and, by their numbers, the same live cells (`same_realises`,
+//   `same_is_alone`); and that it finds home goes through new numbers too (`renumbered_finds_home`).
+// By the contract of five law functions.
 #![tactic(auto)]
 
 ghost use Rattle.realised_copies.specs.Laws.{RenumberedRealises, RenumberedAlone, RenumberedControls, SameRealises, SameAlone};

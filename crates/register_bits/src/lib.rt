@@ -1,6 +1,13 @@
 // One bit of a register as gates: a bit of a shift stage, and one that is held behind it.
 // Contracts cite specs/Bits.antt for the cells and specs/Laws.antt for what they do in every netlist that contains them.
 // IEEE Std 1149.1-2001: instruction register, test data registers.
+//
+// - `add_shift_bit`, `add_held_bit` and `add_shift_chain` append exactly their cells and use just so much room: 3,
+//   2, and 3 for each bit.
+// - In every well-formed netlist that contains the cells: where TRST is 0 the bits are cleared, or preset; a
+//   rising edge of TCK captures, shifts or keeps, a falling edge loads or keeps, as the nets that steer say; a
+//   chain moves as its list does, with TDI at the end.
+// By the contract of these calls and three law functions.
 #![tactic(auto)]
 
 ghost use Rattle.std.specs.Prelude.{◌≡◌, ◌+◌, ◌<◌, ◌≤◌, ◌^◌, length};

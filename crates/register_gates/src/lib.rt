@@ -1,6 +1,15 @@
 // The bypass register, the identification register and TDO as gates.
 // Contracts cite specs/Registers.antt for the cells and specs/Laws.antt for what they do in every netlist that contains them.
 // IEEE Std 1149.1-2001: test data registers, bypass register, device identification register, test access port.
+//
+// - `add_bypass` (5 cells), `add_ident` (98) and `add_tdo` (7, the last of them onto TDO's own net) append exactly
+//   their cells and can't refuse.
+// - In every well-formed netlist that contains the cells, at each moment of a run whose nets carry the levels of
+//   the test access port, the controller's state and the selections: the bypass bit and the identification bits
+//   are the test logic's, and what drives TDO is its TDO, high impedance outside the shift states
+//   (`bypass_follows`, `ident_follows`, `tdo_follows`).
+// - A falling edge of TCK in Test-Logic-Reset lets TDO go, whatever the registers hold (`tdo_lets_go`).
+// By the contract of the three calls and their laws.
 #![tactic(auto)]
 
 ghost use Rattle.std.specs.Prelude.{◌≡◌, ◌+◌, ◌<◌, ◌≤◌, length};

@@ -1,6 +1,17 @@
 // Signal values: 0, 1 and unknown inside a chip, and high impedance besides at a pin.
 // The contracts cite specs/Values.antt and, for the laws, specs/Knowledge.antt.
 // IEEE Std 1364-2001, the chapter on gate level modelling; reading high impedance as unknown is own.
+//
+// - `not`, `and`, `or`, `xor`, `mux`, `see`, `pin_of`, `join` and `drive` each give the value of their table, for
+//   every pair or triple of values.
+// - `show` gives the letter `0`, `1`, `x` or `z`; `read_sig` reads `0 1 x X z Z` and no other byte.
+// - Each operation gives at most as much knowledge for less known operands (`operations_keep_order`).
+// - Known operands give the known results of Boolean logic; a 0 decides `and`, a 1 decides `or`; under a known
+//   select a multiplexer gives that operand (`known_operands_decide`).
+// - Drivers may be joined in any order and grouping; an equal or an idle one adds nothing
+//   (`join_is_a_meeting_of_drivers`).
+// - The letter of a value reads back as that value (`letters_read_back`).
+// By the contract of its functions and four law functions.
 #![tactic(auto)]
 
 ghost use Rattle.std.specs.Prelude.{◌≡◌};

@@ -1,6 +1,10 @@
 // The command that simulates: reads a netlist and events, and puts what the events' run on the netlist puts.
 // Its task stands in specs/Tasks.antt, over specs/Simulations.antt and specs/Faults.antt.
 // IEEE Std 1364-2001 for the netlist; the texts of events and what a run puts are own.
+//
+// - At its end the text of the events' run was put, and the status tells whether an expectation isn't met; a fault
+//   stands in the texts, or a front of that text was put.
+// By the contract of `simulate` and a law function.
 #![tactic(auto)]
 
 mod laws;

@@ -2,6 +2,15 @@
 // which they read, and the directions of nets. Laws only: specs/Cells.antt, specs/Sizes.antt, specs/Logic.antt and
 // specs/Directions.antt have the statements; what each part's cells read stands for any test of nets in proofs/.
 // IEEE Std 1149.1-2001: test logic architecture; the laws are own.
+//
+// - Each live cell is one of the core behind its boundary cells, under its own number, or one of a part of the
+//   test logic, by its place in that part, and each of these is there.
+// - How many cells and nets the parts have, and so the number of the first cell of each; the whole has no gaps
+//   (`stitched_has_counts`).
+// - What the gates read and drive stands in proofs/, for any test of nets.
+// - The nets of the core keep their directions, those of the test access port have theirs, and no other net has
+//   one (`stitched_directions`).
+// By the contract of nine law functions.
 #![tactic(auto)]
 
 ghost use Rattle.stitch_cells.specs.Sizes.{StitchedHasCounts};

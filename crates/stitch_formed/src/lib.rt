@@ -1,6 +1,12 @@
 // The netlist with the test logic built in (stitch_model) is well formed, where a plan fits a netlist without gaps. Laws only;
 // specs/Laws.antt has the statements.
 // IEEE Std 1149.1-2001: test logic architecture; the laws are own.
+//
+// - Its ports, drivers and readers are those of a well-formed netlist: counts of operands, one driver for each net
+//   at most, drivers of outputs, inouts and of what is read, and where three-state gates stand
+//   (`stitched_has_drivers`).
+// - With the order and the cones of `stitch_ranks` it is well formed (`stitched_is_formed`).
+// By the contract of its law functions.
 #![tactic(auto)]
 
 ghost use Rattle.stitch_formed.specs.Laws.{StitchedHasDrivers, StitchedIsFormed};

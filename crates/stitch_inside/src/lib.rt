@@ -1,6 +1,13 @@
 // The stitched netlist inside: the core nests in it behind its boundary cells, and the device's test logic stands around the core.
 // specs/Inner.antt says which net stands for a net of the core, specs/Places.antt where the parts stand, specs/Laws.antt that they do.
 // IEEE Std 1149.1-2001: test logic architecture, boundary-scan register; the laws are own.
+//
+// - The core nests in it with its drivers behind boundary cells; a net to which nothing gives a value, and which
+//   nothing reads, stands past all nets (`stitched_nests`).
+// - The device's test logic stands around the core: ports, codes, controller, registers, and for each row of the
+//   plan what its cell takes from the core and gives to the pin or the core, whatever its kind
+//   (`stitched_surrounds`).
+// By the contract of two law functions.
 #![tactic(auto)]
 
 ghost use Rattle.stitch_inside.specs.Laws.{StitchedNests, StitchedSurrounds};

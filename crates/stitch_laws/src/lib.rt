@@ -1,6 +1,17 @@
 // Laws of the netlist with the test logic built in (stitch_model): what it keeps of the core, and where its parts stand.
 // Each function has nothing to do; specs/Laws.antt has the statements.
 // IEEE Std 1149.1-2001: test logic architecture, boundary-scan register; the laws are own.
+//
+// - Of a netlist without gaps it has the ports and, under its number, each cell with its kind and its name
+//   (`stitched_keeps`).
+// - It contains the cells of each part: of the controller, the instruction, bypass and identification register,
+//   each row of the boundary register as gates of a row of its kind (with the driver that HIGHZ adds), and TDO;
+//   each with its first net, the number of its first cell, and the next bit towards TDI, which is the first net of
+//   the row after it and TDI for the last row (`stitched_holds_its_parts`).
+// - Each cell of the core stands under its number by the nets on the core's side of its boundary cells, but for
+//   the operands of drivers with a control cell; no two nets of the core become one, and a net that no row moves
+//   stays (`stitched_holds_the_core`).
+// By the contract of three law functions.
 #![tactic(auto)]
 
 ghost use Rattle.stitch_laws.specs.Laws.{StitchedHoldsParts, StitchedHoldsTheCore, StitchedKeeps};

@@ -1,6 +1,15 @@
 // The names of the netlist with the test logic built in: how many names and how much room they take, and laws on them. Each
 // function has nothing to do, and its contract cites a statement in specs/.
 // IEEE Std 1149.1-2001: test access port; IEEE Std 1364-2001: hierarchical names.
+//
+// - Where the names of the test access port are entered, each name keeps its number, none stands twice, and they
+//   are all there, under one number each (`tap_names_are_entered`).
+// - Of a plan that fits a netlist that is laid out and without gaps, the netlist with the test logic is well named
+//   by that table (`stitched_is_named`), and so is each netlist with the same ports, nets and live cells
+//   (`same_is_named`).
+// - None of its original names begins with the plan's prefix (`stitched_has_free_prefix`).
+// - The cells and nets that are added are no more than `room` says (`stitched_fits_room`).
+// By the contract of four law functions.
 #![tactic(auto)]
 
 ghost use Rattle.stitch_names.specs.Laws.{StitchedHasFreePrefix, StitchedIsNamed, TapNamesAreEntered};

@@ -1,6 +1,12 @@
 // What numbers the nets of the netlist with the test logic built in (stitch_model), and what clocks, clears and presets there.
 // Each function has nothing to do; specs/Laws.antt has the statements.
 // IEEE Std 1149.1-2001: test logic architecture, boundary-scan register; the laws are own.
+//
+// - Its nets can be numbered so that each gate's stands above those that it reads (`stitched_is_ordered`), and the
+//   cones of its clocks, clears and presets hold input bits, constants and gates only (`stitched_has_cones`).
+// - It has the netlist's pins and those of the test access port, each on one net (`stitched_has_pins`), and its
+//   control ports are exactly the netlist's, TCK and TRST (`stitched_has_controls`).
+// By the contract of four law functions.
 #![tactic(auto)]
 
 ghost use Rattle.stitch_ranks.specs.Laws.{StitchedIsOrdered, StitchedHasCones, StitchedHasControls, StitchedHasPins};

@@ -1,6 +1,12 @@
 // What stands at each row of the boundary register of a plan that fits: the net of its bit and that net's direction, its driver, and
 // its control cell. Laws only; specs/Rows.antt has the statements.
 // IEEE Std 1149.1-2001: boundary-scan register (provision of cells, control cells); the laws are own.
+//
+// - Each row is that of an input, of an output that is always driven (with or without a driver that HIGHZ adds),
+//   of an output or an inout that a three-state gate drives, or a control cell; a driver's row names a control
+//   cell, before which the core gives the driver's control operand (`rows_stand_somewhere`).
+// - No two rows stand at one net, and each net of a port bit has one (`rows_stand_once`, `nets_have_rows`).
+// By the contract of three law functions.
 #![tactic(auto)]
 
 ghost use Rattle.stitch_rows.specs.Rows.{RowsStandSomewhere, RowsStandOnce, NetsHaveRows};

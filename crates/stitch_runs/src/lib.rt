@@ -1,6 +1,14 @@
 // The law of the insertion: the stitched netlist behaves as the original wrapped in the plan's device, and as the original alone.
 // specs/Laws.antt has the statements, over the definitions of stitch_model and wrapped_chip.
 // IEEE Std 1149.1-2001: test logic architecture, instructions; the laws are own.
+//
+// - Where the stitched netlist is well formed and has the chip's pins and control ports, it realises the wrapped
+//   chip of the plan's device, and behaves as the netlist alone while a transparent instruction is in effect
+//   (`stitched_realises`, `stitched_is_alone`).
+// - So it does for each plan that fits a netlist without gaps whose named nets are there, with no other premise
+//   (`fitting_plans_realise`, `fitting_plans_are_alone`), and the control ports are the netlist's, TCK and TRST
+//   (`fitting_plans_have_controls`).
+// By the contract of five law functions.
 #![tactic(auto)]
 
 ghost use Rattle.stitch_runs.specs.Laws.{StitchedRealises, StitchedIsAlone, FittingPlansRealise, FittingPlansAreAlone};

@@ -1,6 +1,15 @@
 // The netlist with the test logic built in, written as Verilog: laws that tie the text to the netlist. Each function has nothing
 // to do, and its contract cites a statement in specs/Laws.antt.
 // IEEE Std 1364-2001: modules and ports, hierarchical names.
+//
+// - It can be written with the plan's prefix (`stitched_can_be_written`). Where preparing found room, it has no
+//   more cells, nets and port bits than a module may have (`stitched_keeps_limits`).
+// - The module's text spells it and no other, no fault stands in it, and it has one netlist. That keeps the ports
+//   and the cells of the first netlist, by the bytes of their names, with the test access port behind the ports,
+//   and has five port bits more (`stitched_is_written`).
+// - That netlist is the stitched one with its nets numbered anew; each cell keeps its number
+//   (`stitched_is_renumbered`).
+// By the contract of four law functions.
 #![tactic(auto)]
 
 ghost use Rattle.stitch_texts.specs.Laws.{StitchedCanBeWritten, StitchedIsRenumbered, StitchedIsWritten, StitchedKeepsLimits};

@@ -2,6 +2,18 @@
 // specs/Sites.antt what each row of the boundary register takes and gives, specs/Laws.antt that the whole behaves as the wrapped chip,
 // and specs/Home.antt that it finds home.
 // IEEE Std 1149.1-2001: test logic architecture, boundary-scan register; the laws are own.
+//
+// - At a moment at which each row holds what the test logic has in its place, the core's own values are the chip's
+//   valuation, each row is handed and captures what stands at its cell in the chip, and each output and inout bit
+//   reads as the chip's (`surrounded_core_stands`).
+// - Beside each run of the chip, each run of the netlist reads as the chip at every moment, TDO as the test
+//   logic's, and its first flip-flops hold the core's (`surrounded_core_reads`): the controller and the registers
+//   by their whole runs, the rows in one induction together, since what they capture comes from the core and what
+//   the core has from them. The moments of the netlist are a run of the chip, and the chip has one run only.
+// - So it realises the chip (`surrounded_core_realises`).
+// - Its proofs run from any moment at which the parts hold a machine: a power-up is one such moment
+//   (`surrounded_core_reads`), and the falling edge after five ones another (`surrounded_core_finds_home`).
+// By the contract of three law functions.
 #![tactic(auto)]
 
 ghost use Rattle.surrounded_core.specs.Laws.{SurroundedStands, SurroundedReads, SurroundedRealises};

@@ -1,6 +1,10 @@
 // Texts and lists, as public records hold them: bytes and items that contracts see as lists, and want of memory as an error.
 // The contracts say it of lists; specs/Places.antt says where the bytes of a text lie.
 // Own: no chapter of a standard speaks of it.
+//
+// - `Text`, `Row`: each call adds, empties or shows just what its name says, and room that is made changes
+//   nothing; where memory is refused nothing has changed. A text of up to 14 bytes takes no allocation.
+// By the contract of `Text` and `Row`.
 #![tactic(auto)]
 
 pub mod row;

@@ -1,6 +1,19 @@
 // The words of structural Verilog: their kinds, their spelling, and lists of them as a parser reads them.
 // The contracts cite `WordText` and `front` (specs/Words.antt), and `reserved_of` and `spelling_of` (specs/Keywords.antt);
 // specs/Pieces.antt is the word grammar. IEEE Std 1364-2001: lexical conventions, and the annex on key words.
+//
+// - `reserved_of` gives the key word that a table in the definitions gives for these bytes; `Reserved::spelling`
+//   and `Symbol::byte` give the bytes of the tables.
+// - A law: the table has each reserved word for its own bytes, and for no others.
+// - `is_letter`, `is_name_byte`, `is_simple_name` are their definitions.
+// - `Words` is a list of words, each with its place and length in the text, and the text's length: each push adds
+//   one word at the end (a simple name that is a key word is added as that), and where memory is refused nothing
+//   has changed.
+// - The looks of `Words` (`len`, `end`, `place_of`, `reserved_at`, `number_at`, `constant_at`, `symbol_at`,
+//   `name_at`) answer what the list holds.
+// - `WordReader` is the words that are left: a look doesn't change it, and a take takes one word exactly where it
+//   is of the kind that was asked for.
+// By the contract of `reserved_of` and a law function, `Words`, `WordReader`.
 #![tactic(auto)]
 
 pub mod keywords;

@@ -1,6 +1,8 @@
 // Trees of structural Verilog modules, what words spell them, and their canonical text.
 // Contracts above cite `SpellsModule`, `SpellsText`, `IsTree` and `canonical` of specs/.
 // IEEE Std 1364-2001: modules and ports, data types, gate-level modelling, continuous assignments.
+//
+// Proved: nothing by itself; the crates above prove their calls against these definitions.
 #![tactic(auto)]
 
 pub mod tree;

@@ -1,6 +1,13 @@
 // How the netlist behaves that is written with its test logic: as the wrapped chip of the plan's device, and as the netlist alone.
 // Each function has nothing to do, and its contract cites a statement in specs/Laws.antt.
 // IEEE Std 1149.1-2001: test logic architecture.
+//
+// - Of a plan that fits a netlist: in each netlist that the written text tells, through any legal events every pin
+//   reads as the netlist's wrapped in the test logic of the plan's device, and the core's flip-flops hold what
+//   they hold there (`written_realises`); and while the instruction in effect is transparent every pin reads as
+//   the netlist's alone (`written_is_alone`). Its control ports are the netlist's, TCK and TRST
+//   (`written_has_controls`).
+// By the contract of three law functions.
 #![tactic(auto)]
 
 ghost use Rattle.written_runs.specs.Laws.{WrittenRealises, WrittenIsAlone, WrittenHasControls};
