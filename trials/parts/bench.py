@@ -17,6 +17,17 @@ def played(room, bsdl, events, netlist, *more):
     return run(["vvp", "-n", simulation])
 
 
+def apart(room, netlist):
+    """The netlist with its inner vectors as single wires: Icarus takes minutes over a vector of thousands of bits that gates drive one by one."""
+    text = text_of(netlist)
+    for left, right, name in re.findall(r"^  wire \[(\d+):(\d+)\] (\w+);$", text, re.M):
+        low, high = sorted((int(left), int(right)))
+        single = "\n".join(f"  wire \\{name}[{number}] ;" for number in range(low, high + 1))
+        text = text.replace(f"  wire [{left}:{right}] {name};", single)
+        text = re.sub(rf"(?<![\\\w]){name}\[(\d+)\]", rf"\\{name}[\1] ", text)
+    return keep(os.path.join(room, "apart.v"), text)
+
+
 def spoiled(room, netlist):
     """The netlist with an inserted flip-flop that isn't cleared by TRST, but whose D is stuck: it is unknown at first, and then 0."""
     text, count = re.subn(r"(DFFR bs_c\d+ \(\.D\()\w+(\).*)", r"\g<1>1'b0\2", text_of(netlist), count=1)
@@ -44,7 +55,7 @@ def tried(program, room):
     yield f"a spoiled counter: the bench misses what `check` misses, {said.strip().split()[-1]} expectations"
     netlist, bsdl = demo(program, room, 999)
     run([program, "vectors", bsdl, vectors])
-    yield f"demo 999: {played(room, bsdl, vectors, netlist, '--module', 'demo').strip()}"
+    yield f"demo 999: {played(room, bsdl, vectors, apart(room, netlist), '--module', 'demo').strip()}"
     bsdl = most_rows(room)
     script("long_program", bsdl, long)
     front = keep(os.path.join(room, "front.events"), "".join(text_of(long).splitlines(True)[:FRONT]))
