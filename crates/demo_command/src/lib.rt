@@ -11,3 +11,4 @@ mod demonstrating;
 mod laws;
 
 pub use demonstrating::Demo;
+pub use insert_command::Insert;

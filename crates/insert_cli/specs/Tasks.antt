@@ -3,7 +3,7 @@ use Rattle.std.specs.Prelude.{ℕ, List}
 use Rattle.command_edges.specs.Tasks.{Task}
 use Rattle.convert_command.specs.Tasks.{convert_task}
 use Rattle.sim_command.specs.Tasks.{sim_task}
-use Rattle.insert_command.specs.Tasks.{insert_task}
+use Rattle.demo_command.specs.InsertTasks.{insert_task}
 use Rattle.vectors_command.specs.Tasks.{vectors_task}
 use Rattle.check_command.specs.Tasks.{check_task}
 use Rattle.demo_command.specs.Demonstrations.{demo_task}
