@@ -34,7 +34,7 @@ use Rattle.stitch_names.specs.Prepared.{prepared, with_tap_names, AreTapNames}
 use Rattle.insertion_inputs.specs.Stitch.{CanStitch, IsStitched}
 use Rattle.written_runs.specs.Written.{IsStitchedOf, WritesStitched}
 use Rattle.written_runs.specs.TextLaws.{IsStitching, StitchedCanBeWritten, StitchedIsWritten}
-use Rattle.written_runs.specs.Laws.{WrittenRealises, WrittenIsAlone, WrittenHasControls}
+use Rattle.written_runs.specs.Laws.{WrittenRealises, WrittenIsAlone, WrittenHasControls, WrittenFindsHome, WrittenIsAloneFromHome}
 use Rattle.insertions.specs.declared.written_texts.Inserted.{Inserted}
 use Rattle.insertions.specs.Insertions.{IsNetlistText, IsDeviceText, IsInsertion, IsInsertionText, with_test_logic}
 use Rattle.insertions.proofs.Trees.{tree_is}
@@ -120,17 +120,17 @@ device_kept text before readied p f d made = subst IsDevice (sym made.device_is)
 -- The whole.
 
 -- what it does
-insertion_does : SpelledOnce → StitchedIsWritten → WrittenRealises → WrittenIsAlone → WrittenHasControls → (net text verilog bsdl report : List ℕ) (before after : LinkedView) (p : Plan) (f : Fitted) (d : Device) → (is : IsNetlistOf net before)
+insertion_does : SpelledOnce → StitchedIsWritten → WrittenRealises → WrittenIsAlone → WrittenHasControls → WrittenFindsHome → WrittenIsAloneFromHome → (net text verilog bsdl report : List ℕ) (before after : LinkedView) (p : Plan) (f : Fitted) (d : Device) → (is : IsNetlistOf net before)
     → (s : IsStitching is.tree before p f after) → IsLaidOut after.arena.lists → SpellsPlan text p → d ≡ device_of before p s.fits.seen → IsNetlistText after p.prefix verilog → IsDeviceText d bsdl
     → report ≡ report_of (bit_count after.arena.lists.ports) f.kept d → IsInsertion net text verilog bsdl report
-insertion_does once law realise single steer net text verilog bsdl report before after p f d is s laid_after spelled device_is out device told =
+insertion_does once law realise single steer find stay net text verilog bsdl report before after p f d is s laid_after spelled device_is out device told =
     let w : WritesStitched before p out.tree = law is.tree before p f after s out.tree out.is out.writes in
-    written_made once realise single steer net text verilog bsdl report before after p f d is s laid_after spelled device_is out device told w w.linked.0 w.linked.1
+    written_made once realise single steer find stay net text verilog bsdl report before after p f d is s laid_after spelled device_is out device told w w.linked.0 w.linked.1
   where
-    written_made : SpelledOnce → WrittenRealises → WrittenIsAlone → WrittenHasControls → (net text verilog bsdl report : List ℕ) (before after : LinkedView) (p : Plan) (f : Fitted) (d : Device) → (is : IsNetlistOf net before)
+    written_made : SpelledOnce → WrittenRealises → WrittenIsAlone → WrittenHasControls → WrittenFindsHome → WrittenIsAloneFromHome → (net text verilog bsdl report : List ℕ) (before after : LinkedView) (p : Plan) (f : Fitted) (d : Device) → (is : IsNetlistOf net before)
         → (s : IsStitching is.tree before p f after) → IsLaidOut after.arena.lists → SpellsPlan text p → d ≡ device_of before p s.fits.seen → (out : IsNetlistText after p.prefix verilog) → IsDeviceText d bsdl
         → report ≡ report_of (bit_count after.arena.lists.ports) f.kept d → WritesStitched before p out.tree → (written : LinkedView) → IsLinkOf out.tree written → IsInsertion net text verilog bsdl report
-    written_made once realise single steer net text verilog bsdl report before after p f d is s laid_after spelled device_is out device told w written links =
+    written_made once realise single steer find stay net text verilog bsdl report before after p f d is s laid_after spelled device_is out device told w written links =
         let bits : bit_count after.arena.lists.ports ≡ bit_count written.arena.lists.ports = five_more before after f s.is ∙ sym (w.bits written links) in
         let kept : f.kept ≡ cell_count before.arena.lists = ap (λ (g : Fitted). g.kept) s.fits.is in
         record {
@@ -158,6 +158,8 @@ insertion_does once law realise single steer net text verilog bsdl report before
           realises = realise is.tree before p f after s laid_after out.tree out.writes written links;
           alone = single is.tree before p f after s laid_after out.tree out.writes written links;
           controls = steer is.tree before p f after s laid_after out.tree out.writes written links;
+          finds_home = find is.tree before p f after s laid_after out.tree out.writes written links;
+          alone_from_home = stay is.tree before p f after s laid_after out.tree out.writes written links;
         }
 
 -- the tree that was written, in the words of what was fitted
@@ -166,12 +168,12 @@ written_tree : (m : Module) (before after : LinkedView) (p : Plan) (f : Fitted) 
 written_tree m before after p f s title tree is =
     is ∙ tree_is before after s.is.names f p.prefix title s.is.table s.is.same ∙ ap (λ (g : Fitted). tree_of (with_test_logic before s.is.names g) p.prefix) s.fits.is
 
-pub insertion_made : SpelledOnce → StitchedIsWritten → WrittenRealises → WrittenIsAlone → WrittenHasControls → (net text verilog bsdl report : List ℕ) (before after : LinkedView) (p : Plan) (f : Fitted) (d : Device) → (is : IsNetlistOf net before)
+pub insertion_made : SpelledOnce → StitchedIsWritten → WrittenRealises → WrittenIsAlone → WrittenHasControls → WrittenFindsHome → WrittenIsAloneFromHome → (net text verilog bsdl report : List ℕ) (before after : LinkedView) (p : Plan) (f : Fitted) (d : Device) → (is : IsNetlistOf net before)
     → (s : IsStitching is.tree before p f after) → after.module_name ≡ before.module_name → IsLaidOut after.arena.lists → SpellsPlan text p → d ≡ device_of before p s.fits.seen → IsNetlistText after p.prefix verilog
     → IsDeviceText d bsdl → report ≡ report_of (bit_count after.arena.lists.ports) f.kept d → IsInsertionText net text verilog bsdl report
 unfolding insertion_does
-insertion_made once law realise single steer net text verilog bsdl report before after p f d is s title laid_after spelled device_is out device told = record {
-  is = insertion_does once law realise single steer net text verilog bsdl report before after p f d is s laid_after spelled device_is out device told;
+insertion_made once law realise single steer find stay net text verilog bsdl report before after p f d is s title laid_after spelled device_is out device told = record {
+  is = insertion_does once law realise single steer find stay net text verilog bsdl report before after p f d is s laid_after spelled device_is out device told;
   names = s.is.names;
   names_are = subst (λ (g : Fitted). AreTapNames (with_tap_names g before.names) g s.is.names) s.fits.is s.is.are;
   written_is = written_tree is.tree before after p f s title out.tree out.tree_is;
@@ -189,14 +191,14 @@ device_told law (Ok text) d is told =
 device_told law (Err e) d is told = tt
 
 -- so it is of whatever was written, where memory lasted
-pub insertions_made : {E : Type 0} → SpelledOnce → StitchedIsWritten → WrittenRealises → WrittenIsAlone → WrittenHasControls → (net text : List ℕ) (r : Result Inserted E) (before readied after : LinkedView) (p : Plan) (f : Fitted) (d : Device)
+pub insertions_made : {E : Type 0} → SpelledOnce → StitchedIsWritten → WrittenRealises → WrittenIsAlone → WrittenHasControls → WrittenFindsHome → WrittenIsAloneFromHome → (net text : List ℕ) (r : Result Inserted E) (before readied after : LinkedView) (p : Plan) (f : Fitted) (d : Device)
     → IsNetlistOf net before → IsLaidOut before.arena.lists → IsLaidOut after.arena.lists → IsFittingAs text before p f d readied → IsStitched readied after f
     → IfOk r (λ made. IsNetlistText after p.prefix made.verilog) → IfOk r (λ made. IsDeviceText d made.bsdl)
     → IfOk r (λ made. made.report ≡ report_of (bit_count after.arena.lists.ports) f.kept d) → IfOk r (λ made. IsInsertionText net text made.verilog made.bsdl made.report)
-insertions_made once law realise single steer net text (Ok made) before readied after p f d is laid laid_after fitting built out device told =
+insertions_made once law realise single steer find stay net text (Ok made) before readied after p f d is laid laid_after fitting built out device told =
     let stitched = stitched_of before readied after f fitting.prepares.after_is built in
     let same = stitching_fits net text before readied after p f d is laid fitting stitched in
-    insertion_made once law realise single steer net text made.verilog made.bsdl made.report before after p f d is (stitching net text before readied after p f d is laid fitting stitched)
+    insertion_made once law realise single steer find stay net text made.verilog made.bsdl made.report before after p f d is (stitching net text before readied after p f d is laid fitting stitched)
     (title_kept before readied after f fitting.prepares.after_is built) laid_after fitting.spells
     (fitting.device_is ∙ sym (ap (λ (fits : IsFitted before p f). device_of before p fits.seen) same)) out device told
-insertions_made once law realise single steer net text (Err e) before readied after p f d is laid laid_after fitting built out device told = tt
+insertions_made once law realise single steer find stay net text (Err e) before readied after p f d is laid laid_after fitting built out device told = tt

@@ -23,6 +23,7 @@ use Rattle.plan_fitting.specs.Fits.{Fits}
 use Rattle.plan_fitting.specs.Devices.{fitted_of, device_of}
 use Rattle.wrapped_chip.specs.Realises.{Keeps, Realises, Alone}
 use Rattle.wrapped_chip.specs.Legal.{HasControls}
+use Rattle.wrapped_chip.specs.Home.{FindsHome, AloneFromHome}
 use Rattle.insertion_report.specs.Reports.{report_of}
 use Rattle.insertion_inputs.specs.Inputs.{IsNetlistOf, IsFittingAs}
 use Rattle.stitch_model.specs.declared.TapNames.{TapNames}
@@ -53,6 +54,7 @@ pub record IsDeviceText (device : Device) (text : List ℕ) : Type 0 where
 -- that keeps the first one's ports and cells, with the test access port. The BSDL text is the canonical text of the plan's device,
 -- which it spells alone. The report is on that device. The written netlist behaves as the first one wrapped in that device's test
 -- logic, and as the first one alone while a transparent instruction is in effect; its control ports are the first one's, TCK and TRST.
+-- Five ones on TMS lead it there from whatever its test logic holds.
 pub record IsInsertion (net plan verilog bsdl report : List ℕ) : Type 0 where
   pub tree : Module
   pub spells : SpellsText net tree
@@ -81,6 +83,11 @@ pub record IsInsertion (net plan verilog bsdl report : List ℕ) : Type 0 where
   -- and it takes events where the netlist and the test access port do; what clocks, clears or presets in it are the netlist's own control
   -- ports, TCK and TRST
   pub controls : HasControls written.arena.lists linked.arena.lists
+  -- and from whatever its test logic holds, each added flip-flop 0 or 1, it finds home, with TRST at any level: once TCK has risen five
+  -- times with TMS at 1 and falls, every pin reads as the netlist's wrapped in the device's test logic, from Test-Logic-Reset on with what
+  -- the registers then hold, and as the netlist's alone while a transparent instruction is in effect
+  pub finds_home : FindsHome written.arena.lists (device_of linked wanted fits.seen) linked.arena.lists
+  pub alone_from_home : AloneFromHome written.arena.lists (device_of linked wanted fits.seen) linked.arena.lists
 
 -- The whole, byte by byte.
 

@@ -14,8 +14,8 @@ use plan_texts::texts_of_plans_are_spelled_or_at_fault;
 use std::alloc::Global;
 use texts::{OutOfMemory, Text};
 use written_runs::{
-    stitched_can_be_written, stitched_is_written, written_has_controls, written_is_alone,
-    written_realises,
+    stitched_can_be_written, stitched_is_written, written_finds_home, written_has_controls,
+    written_is_alone, written_is_alone_from_home, written_realises,
 };
 
 // Builds the test logic into the netlist that a plan was fitted to, and writes the texts.
@@ -38,6 +38,8 @@ fn write_stitched(
     written_realises();
     written_is_alone();
     written_has_controls();
+    written_finds_home();
+    written_is_alone_from_home();
     stitch(linked, &fitting.fitted);
     linked.netlist().is_laid_out();
     write_texts(alloc, linked, fitting)

@@ -5,8 +5,8 @@
 // - `insert_texts` gives, of a text that spells one netlist and one that spells one plan, which fits it: the
 //   canonical text of a module that it alone spells, in which no fault stands and which tells one netlist; that
 //   keeps the first one's ports, with the test access port behind them, and its cells' places, kinds and names,
-//   behaves as `written_runs` says, and has the control ports that it says; the canonical text of the plan's
-//   device, which it alone spells; and the report.
+//   behaves as `written_runs` says, has the control ports that it says, and finds home; the canonical text of the
+//   plan's device, which it alone spells; and the report.
 // - The module is exactly the tree of the netlist with the test logic built in, gate by gate as `stitch_model`
 //   says, under the module's own name; added nets and cells are named by the plan's prefix.
 // - Else it tells the first fault that stands in the two texts.

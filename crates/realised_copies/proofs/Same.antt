@@ -6,7 +6,7 @@ use Rattle.netlist_model.specs.declared.Feed.TheVariants.{Net, Const}
 use Rattle.netlist_model.specs.Lists.{PortView, CellView, NetlistView, cell_at}
 use Rattle.netlist_images.specs.Nested.{renamed_net, renamed_feed, renamed_cell}
 use Rattle.netlist_images.specs.Renumbering.{ArePortImages, IsCopied, IsRenumbering}
-use Rattle.realised_copies.specs.Laws.{RenumberedRealises, RenumberedAlone, SameRealises, SameAlone}
+use Rattle.realised_copies.specs.Laws.{RenumberedRealises, RenumberedAlone, RenumberedFindsHome, SameRealises, SameAlone, SameFindsHome}
 
 -- the same number
 abbrev itself : ℕ → ℕ
@@ -56,3 +56,6 @@ same_realises copies M M' N B ports cells formed realises = copies M M' N B itse
 
 pub same_is_alone : RenumberedAlone → SameAlone
 same_is_alone copies M M' N B ports cells formed alone = copies M M' N B itself itself (numbered_anew M M' ports cells) formed (λ i cell live. refl) alone
+
+pub same_finds_home : RenumberedFindsHome → SameFindsHome
+same_finds_home copies M M' N B ports cells formed has finds = copies M M' N B itself itself (numbered_anew M M' ports cells) formed has (λ i cell live. refl) finds

@@ -41,3 +41,8 @@ HasNumbers M N = (i : ℕ) (cell : CellView) → cell_at N i ≡ Some cell → (
 abbrev pub RenumberedFindsHome : Type 0
 RenumberedFindsHome = (M M' N : NetlistView) (B : Device) (to at : ℕ → ℕ) → IsRenumbering M M' to at → IsWellFormed M → HasNumbers M N → KeepsNumbers N at
     → FindsHome M B N → FindsHome M' B N
+
+-- own: so does one with the same ports and cells
+abbrev pub SameFindsHome : Type 0
+SameFindsHome = (M M' N : NetlistView) (B : Device) → M.ports ≡ M'.ports → ((i : ℕ) → cell_at M i ≡ cell_at M' i) → IsWellFormed M → HasNumbers M N
+    → FindsHome M B N → FindsHome M' B N

@@ -3,12 +3,12 @@
 // Own. For IEEE Std 1149.1-2001 see wrapped_chip.
 //
 // - So it goes to a netlist with the same ports and, by their numbers, the same live cells (`same_realises`,
-//   `same_is_alone`); and that it finds home goes through new numbers too (`renumbered_finds_home`).
-// By the contract of five law functions.
+//   `same_is_alone`); and that it finds home goes both ways too (`renumbered_finds_home`, `same_finds_home`).
+// By the contract of its law functions.
 #![tactic(auto)]
 
 ghost use Rattle.realised_copies.specs.Laws.{RenumberedRealises, RenumberedAlone, RenumberedControls, SameRealises, SameAlone};
-ghost use Rattle.realised_copies.specs.Laws.{RenumberedFindsHome};
+ghost use Rattle.realised_copies.specs.Laws.{RenumberedFindsHome, SameFindsHome};
 
 use netlist_images::{
     renumbered_bits, renumbered_directions, renumbered_ports, renumbered_reads, renumbered_runs,
@@ -74,4 +74,11 @@ pub fn renumbered_finds_home()
     renumbered_reads();
     renumbered_runs();
     runs_have_images();
+}
+
+/// So does one with the same ports and live cells.
+pub fn same_finds_home()
+    ensures { SameFindsHome }
+{
+    renumbered_finds_home();
 }

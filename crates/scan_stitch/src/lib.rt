@@ -10,7 +10,9 @@
 // - `stitch` leaves a linked netlist with the ports, the nets and the live cells of `stitched`; names and the
 //   module's name stay. Through any legal events it behaves as the netlist before, wrapped in the test logic of
 //   the device of what was fitted (`Realises`), and as the netlist before alone while a transparent instruction is
-//   in effect (`Alone`). It can't refuse after `prepare`, and takes no memory.
+//   in effect (`Alone`); from whatever its test logic holds it finds home, and is alone from there on while a
+//   transparent instruction is in effect (`FindsHome`, `AloneFromHome`). It can't refuse after `prepare`, and
+//   takes no memory.
 // - A law: the bits of what was fitted are bits of its own ports, and of the netlist's.
 // - A law: what was fitted to a netlist without gaps can be built into it (`fitted_can_be_stitched`).
 // By the contract of `device_of_fit`, `room`, `prepare`, `stitch`, `stitch_netlist` and two law functions.

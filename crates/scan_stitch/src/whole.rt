@@ -1,5 +1,6 @@
 // The whole: the netlist of a linked one, rewritten.
 
+ghost use Rattle.wrapped_chip.specs.Home.{AloneFromHome, FindsHome};
 ghost use Rattle.wrapped_chip.specs.Realises.{Alone, Realises};
 ghost use Rattle.plan_fitting.specs.Devices.{device_of_fitted};
 ghost use Rattle.scan_stitch.specs.Stitch.{CanStitch, IsStitched};
@@ -8,12 +9,15 @@ use crate::names::tap_names;
 use crate::stitching::stitch_netlist;
 use draft_laws::grown_is_formed;
 use netlist_link::Linked;
+use plan_devices::plans_suit_netlists;
 use plan_fitting::Fitted;
-use realised_copies::{same_is_alone, same_realises};
+use realised_copies::{same_finds_home, same_is_alone, same_realises};
 use stitch_formed::stitched_is_formed;
+use stitch_laws::stitched_keeps;
 use stitch_names::{same_is_named, stitched_is_named, tap_names_are_entered};
 use stitch_ready::fitted_can_stand_behind;
-use stitch_runs::{fitting_plans_are_alone, fitting_plans_realise};
+use stitch_runs::{fitting_plans_are_alone, fitting_plans_find_home, fitting_plans_realise};
+use wrapped_chip::home_is_alone;
 
 /// Builds the test logic of a plan into the prepared netlist that it was fitted to. It takes no memory.
 pub fn stitch(linked: &mut Linked, fitted: &Fitted)
@@ -23,6 +27,9 @@ pub fn stitch(linked: &mut Linked, fitted: &Fitted)
     // while a transparent instruction is in effect.
     ensures realises { Realises linked.new.arena.lists (device_of_fitted fitted.now) linked.old.arena.lists }
     ensures alone { Alone linked.new.arena.lists (device_of_fitted fitted.now) linked.old.arena.lists }
+    // From whatever the flip-flops of its test logic hold, 0 or 1 each, five ones on TMS lead it there, with TRST at any level.
+    ensures finds_home { FindsHome linked.new.arena.lists (device_of_fitted fitted.now) linked.old.arena.lists }
+    ensures alone_from_home { AloneFromHome linked.new.arena.lists (device_of_fitted fitted.now) linked.old.arena.lists }
 {
     tap_names_are_entered();
     grown_is_formed();
@@ -32,8 +39,13 @@ pub fn stitch(linked: &mut Linked, fitted: &Fitted)
     fitted_can_stand_behind();
     fitting_plans_realise();
     fitting_plans_are_alone();
+    fitting_plans_find_home();
+    stitched_keeps();
     same_realises();
     same_is_alone();
+    same_finds_home();
+    plans_suit_netlists();
+    home_is_alone();
     linked.netlist().is_laid_out();
     let names = tap_names(linked, fitted);
     let mut draft = linked.begin_draft();

@@ -1,5 +1,5 @@
 -- A netlist and rows that fit it, as the conditions need them.
-use Rattle.std.proofs.Common.{◌≡◌, ◌⊎◌, inl, inr, ℕ, ◌<◌, Bool, true, false, List, [], length, refl, sym, ap, ◌∙◌, Option, Some}
+use Rattle.std.proofs.Common.{◌≡◌, ◌⊎◌, inl, inr, ℕ, ◌<◌, Bool, true, false, List, length, refl, sym, ap, ◌∙◌, Option, Some}
 use Rattle.std.specs.Prelude.{slice_get, ◌&&◌, option_and_then}
 use Rattle.std.proofs.lemmas.Bool.{eq-eqb}
 use Rattle.list_laws.proofs.Tests.{both_true}

@@ -6,7 +6,6 @@ use Rattle.list_laws.proofs.Options.{some_same}
 use Rattle.cell_library.specs.declared.Kind.{Kind}
 use Rattle.cell_library.specs.declared.Kind.TheVariants.{Bufif0, Bufif1}
 use Rattle.cell_library.specs.Gates.{is_three_state, Takes}
-use Rattle.netlist_model.specs.declared.Dir.TheVariants.{Output}
 use Rattle.netlist_model.specs.declared.NetId.{NetId}
 use Rattle.netlist_model.specs.declared.Feed.{Feed}
 use Rattle.netlist_model.specs.Lists.{CellView, NetlistView, cell_at, Drives, Reads}
@@ -21,7 +20,6 @@ use Rattle.stitch_model.specs.Sides.{is_driven, drives, core_side, core_cell}
 use Rattle.stitch_model.specs.Stitched.{boundary_at, stitched}
 use Rattle.stitch_rows.specs.Rows.{StandsAt, at_observed, at_input, at_output, at_added, at_driver, at_inout, at_control, HasGate}
 use Rattle.stitch_cells.proofs.Cells.{has_cells}
-use Rattle.stitch_cells.proofs.Counts.{counts}
 use Rattle.stitch_cells.proofs.Tables.{feeds_at}
 use Rattle.stitch_formed.proofs.Context.{FitsWell, net_number}
 use Rattle.stitch_formed.proofs.Outputs.{output_of}

@@ -11,3 +11,4 @@ pub mod Laid
 pub mod Bufifs
 pub mod Readers
 pub mod Formed
+pub mod Added

@@ -8,7 +8,7 @@ use Rattle.list_laws.proofs.Lists.{slice_get-append_left, slice_get-append_right
 use Rattle.list_laws.proofs.Options.{some_same}
 use Rattle.cell_library.specs.declared.codes.BoundaryKind.{BoundaryKind}
 use Rattle.cell_library.specs.declared.codes.BoundaryKind.TheVariants.{Bc1, Bc2, Bc4, Bc7}
-use Rattle.netlist_model.specs.declared.Dir.TheVariants.{Input, Output, Inout}
+use Rattle.netlist_model.specs.declared.Dir.TheVariants.{Input, Inout}
 use Rattle.netlist_model.specs.declared.NetId.{NetId}
 use Rattle.netlist_model.specs.declared.Feed.{Feed}
 use Rattle.netlist_model.specs.declared.Feed.TheVariants.{Net, Const}

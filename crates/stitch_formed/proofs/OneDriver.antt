@@ -3,7 +3,7 @@ use Rattle.std.proofs.Common.{◌≡◌, inl, inr, ℕ, zero, suc, ◌+◌, ◌-
 use Rattle.std.specs.Prelude.{slice_get}
 use Rattle.std.proofs.lemmas.Bool.{cases_lt}
 use Rattle.list_laws.proofs.Options.{some_same}
-use Rattle.netlist_model.specs.declared.Dir.TheVariants.{Input, Output}
+use Rattle.netlist_model.specs.declared.Dir.TheVariants.{Input}
 use Rattle.netlist_model.specs.Lists.{CellView, NetlistView, direction, Drives}
 use Rattle.plan_fitting.specs.declared.fitted.FitRow.{FitRow}
 use Rattle.plan_fitting.specs.declared.fitted.Fitted.{Fitted}

@@ -1,7 +1,7 @@
 -- Drivers by the place of their nets: among the core's, at TDO, between the core and its boundary cells, or in a part of the test logic.
 use Rattle.std.proofs.Common.{◌≡◌, inl, inr, ℕ, ◌+◌, ◌<◌, true, length, refl, sym, ap, subst, ◌∙◌, arith, Option, Some}
 use Rattle.std.specs.Prelude.{slice_get, unwrap_or, ◌≢◌}
-use Rattle.netlist_model.specs.declared.Dir.TheVariants.{Input, Output, Inout}
+use Rattle.netlist_model.specs.declared.Dir.TheVariants.{Output}
 use Rattle.netlist_model.specs.declared.NetId.{NetId}
 use Rattle.netlist_model.specs.Lists.{CellView, NetlistView, cell_count, direction, Drives}
 use Rattle.plan_fitting.specs.declared.fitted.FitRow.{FitRow}

@@ -1,6 +1,6 @@
 -- The netlist with the test logic built in is well formed.
 -- IEEE Std 1149.1-2001: test logic architecture; the conditions are those of netlist_model.
-use Rattle.std.specs.Prelude.{◌≡◌, ◌≢◌, ℕ, ◌⊎◌, true, List, length, Some, None}
+use Rattle.std.specs.Prelude.{◌≡◌, ◌≢◌, ℕ, ◌+◌, ◌<◌, ◌⊎◌, true, List, length, Some, None}
 use Rattle.cell_library.specs.Gates.{is_three_state, Takes}
 use Rattle.netlist_model.specs.declared.NetId.{NetId}
 use Rattle.netlist_model.specs.declared.Dir.TheVariants.{Input, Output, Inout}
@@ -13,7 +13,8 @@ use Rattle.plan_fitting.specs.Devices.{fitted_of}
 use Rattle.plan_fitting.specs.Pins.{PinSeen}
 use Rattle.plan_devices.specs.Fitting.{IsFitting}
 use Rattle.stitch_model.specs.declared.TapNames.{TapNames}
-use Rattle.stitch_model.specs.Stitched.{stitched}
+use Rattle.stitch_model.specs.Logic.{logic_size}
+use Rattle.stitch_model.specs.Stitched.{first_net, stitched}
 
 -- the conditions of a well-formed netlist on ports, drivers and readers: all but the order of gates and the cones
 pub record HasDrivers (N : NetlistView) : Type 0 where
@@ -39,3 +40,9 @@ StitchedHasDrivers = (L : LinkedView) (p : Plan) (seen : List PinSeen) (names : 
 abbrev pub StitchedIsFormed : Type 0
 StitchedIsFormed = (L : LinkedView) (p : Plan) (seen : List PinSeen) (names : TapNames) → IsFitting L p seen → IsLaidOut L.arena.lists → IsDense L.arena.lists
     → IsWellFormed (stitched L.arena.lists names (fitted_of L p seen))
+
+-- the cells on the nets of the controller and of the registers beside the boundary register are none of the netlist's own
+abbrev pub StitchedLogicIsAdded : Type 0
+StitchedLogicIsAdded = (L : LinkedView) (p : Plan) (seen : List PinSeen) (names : TapNames) → IsFitting L p seen → IsLaidOut L.arena.lists → IsDense L.arena.lists
+    → (i j : ℕ) (cell : CellView) → j < logic_size (fitted_of L p seen)
+    → Drives (stitched L.arena.lists names (fitted_of L p seen)) i cell (first_net L.arena.lists (fitted_of L p seen) + j) → cell_at L.arena.lists i ≡ None

@@ -8,6 +8,7 @@ use Rattle.netlist_link.specs.Linked.{LinkedView}
 use Rattle.wrapped_chip.specs.Realises.{Realises, Alone}
 use Rattle.wrapped_chip.specs.Beside.{HasPins}
 use Rattle.wrapped_chip.specs.Legal.{HasControls}
+use Rattle.wrapped_chip.specs.Home.{FindsHome}
 use Rattle.plan_texts.specs.declared.plan.Plan.{Plan}
 use Rattle.plan_fitting.specs.Pins.{PinSeen}
 use Rattle.plan_fitting.specs.Devices.{fitted_of, device_of}
@@ -43,3 +44,8 @@ FittingPlansAreAlone = (L : LinkedView) (p : Plan) (seen : List PinSeen) (names 
 abbrev pub FittingPlansHaveControls : Type 0
 FittingPlansHaveControls = (L : LinkedView) (p : Plan) (seen : List PinSeen) (names : TapNames) → IsFitting L p seen → IsLaidOut L.arena.lists → IsDense L.arena.lists
     → HasControls (stitched L.arena.lists names (fitted_of L p seen)) L.arena.lists
+
+-- from whatever the test logic holds it finds home, and reads as the chip from there on
+abbrev pub FittingPlansFindHome : Type 0
+FittingPlansFindHome = (L : LinkedView) (p : Plan) (seen : List PinSeen) (names : TapNames) → IsFitting L p seen → IsLaidOut L.arena.lists → IsDense L.arena.lists
+    → FindsHome (stitched L.arena.lists names (fitted_of L p seen)) (device_of L p seen) L.arena.lists

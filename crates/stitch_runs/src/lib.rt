@@ -8,17 +8,20 @@
 // - So it does for each plan that fits a netlist without gaps whose named nets are there, with no other premise
 //   (`fitting_plans_realise`, `fitting_plans_are_alone`), and the control ports are the netlist's, TCK and TRST
 //   (`fitting_plans_have_controls`).
-// By the contract of five law functions.
+// - From whatever its test logic holds, each added flip-flop 0 or 1, five rising edges of TCK with TMS at 1 and a
+//   falling edge lead it to that chip in Test-Logic-Reset (`fitting_plans_find_home`).
+// By the contract of six law functions.
 #![tactic(auto)]
 
 ghost use Rattle.stitch_runs.specs.Laws.{StitchedRealises, StitchedIsAlone, FittingPlansRealise, FittingPlansAreAlone};
-ghost use Rattle.stitch_runs.specs.Laws.{FittingPlansHaveControls};
+ghost use Rattle.stitch_runs.specs.Laws.{FittingPlansHaveControls, FittingPlansFindHome};
 
 use plan_devices::plans_suit_netlists;
 pub use stitch_formed::stitched_is_formed;
+use stitch_formed::stitched_logic_is_added;
 use stitch_inside::stitched_surrounds;
 use stitch_ranks::{stitched_has_controls, stitched_has_pins};
-use surrounded_core::surrounded_core_realises;
+use surrounded_core::{surrounded_core_finds_home, surrounded_core_realises};
 use wrapped_chip::realising_is_being_alone;
 
 /// Every pin of the stitched netlist reads as the chip that the plan's device makes of the netlist.
@@ -63,4 +66,15 @@ pub fn fitting_plans_have_controls()
     ensures { FittingPlansHaveControls }
 {
     stitched_has_controls();
+}
+
+/// From whatever the test logic holds, five rising edges of TCK with TMS at 1 and a falling edge lead home.
+pub fn fitting_plans_find_home()
+    ensures { FittingPlansFindHome }
+{
+    stitched_surrounds();
+    stitched_is_formed();
+    stitched_has_pins();
+    stitched_logic_is_added();
+    surrounded_core_finds_home();
 }

@@ -2,27 +2,28 @@
 use Rattle.std.proofs.Common.{sym, subst}
 use Rattle.list_laws.proofs.Options.{is_there}
 use Rattle.verilog_tree.specs.declared.tree.Module.{Module}
-use Rattle.netlist_model.specs.Lists.{CellView, NetlistView, cell_at}
+use Rattle.netlist_model.specs.Lists.{NetlistView, cell_at}
 use Rattle.netlist_model.specs.Formed.{IsLaidOut, IsWellFormed}
 use Rattle.netlist_link.specs.Linked.{LinkedView}
 use Rattle.netlist_link.specs.Links.{IsLinkOf}
 use Rattle.netlist_unlink.specs.Renumbered.{IsWrittenAs}
 use Rattle.wrapped_chip.specs.Realises.{Realises, Alone}
 use Rattle.wrapped_chip.specs.Legal.{HasControls}
-use Rattle.realised_copies.specs.Laws.{KeepsNumbers, RenumberedRealises, RenumberedAlone, RenumberedControls}
+use Rattle.wrapped_chip.specs.Home.{FindsHome, HomeIsAlone}
+use Rattle.realised_copies.specs.Laws.{KeepsNumbers, RenumberedRealises, RenumberedAlone, RenumberedControls, RenumberedFindsHome}
 use Rattle.plan_texts.specs.declared.plan.Plan.{Plan}
 use Rattle.plan_fitting.specs.declared.fitted.Fitted.{Fitted}
-use Rattle.plan_fitting.specs.Devices.{fitted_of, device_of}
+use Rattle.plan_fitting.specs.Devices.{device_of}
 use Rattle.plan_devices.specs.Fitting.{IsFitting}
-use Rattle.plan_devices.specs.Laws.{FittedIsFitting}
+use Rattle.plan_devices.specs.Laws.{FittedIsFitting, PlansSuitNetlists}
 use Rattle.stitch_model.specs.declared.TapNames.{TapNames}
 use Rattle.stitch_model.specs.Stitched.{stitched}
 use Rattle.stitch_laws.specs.Laws.{StitchedKeeps}
 use Rattle.stitch_texts.specs.Laws.{IsStitching, StitchedIsRenumbered}
 use Rattle.stitch_texts.specs.Written.{IsNumberedAnew}
 use Rattle.stitch_runs.specs.FormedLaws.{StitchedIsFormed}
-use Rattle.stitch_runs.specs.Laws.{FittingPlansRealise, FittingPlansAreAlone, FittingPlansHaveControls}
-use Rattle.written_runs.specs.Laws.{WrittenRealises, WrittenIsAlone, WrittenHasControls}
+use Rattle.stitch_runs.specs.Laws.{FittingPlansRealise, FittingPlansAreAlone, FittingPlansHaveControls, FittingPlansFindHome}
+use Rattle.written_runs.specs.Laws.{WrittenRealises, WrittenIsAlone, WrittenHasControls, WrittenFindsHome, WrittenIsAloneFromHome}
 
 -- what is known of it on the way
 record Steps (L : LinkedView) (p : Plan) (f : Fitted) (names : TapNames) (M : NetlistView) : Type 0 where
@@ -69,3 +70,19 @@ written_has_controls fitting renumbered controls copies m L p f after s laid tre
     copies (stitched L.arena.lists names f) written.arena.lists L.arena.lists anew.to anew.at anew.is
     (subst (λ (g : Fitted). HasControls (stitched L.arena.lists names g) L.arena.lists) (sym s.fits.is)
     (controls L p s.fits.seen names fits s.laid s.linked.dense))
+
+pub written_finds_home : FittedIsFitting → StitchedIsFormed → StitchedIsRenumbered → StitchedKeeps → FittingPlansFindHome → RenumberedFindsHome → WrittenFindsHome
+written_finds_home fitting formed renumbered keeps finds copies m L p f after s laid tree writes written link =
+    let fits : IsFitting L p s.fits.seen = fitting m L p f s.tree s.linked s.plan s.fits in
+    let names = s.is.names in
+    let t = steps fitting formed renumbered keeps m L p f after s laid tree writes written link in
+    let kept = keeps L.arena.lists names f s.linked.dense in
+    copies (stitched L.arena.lists names f) written.arena.lists L.arena.lists (device_of L p s.fits.seen) t.anew.to t.anew.at t.anew.is t.formed
+    (λ i cell live. let k = kept.cells i cell live in (k.found, k.there)) t.stay
+    (subst (λ (g : Fitted). FindsHome (stitched L.arena.lists names g) (device_of L p s.fits.seen) L.arena.lists) (sym s.fits.is)
+    (finds L p s.fits.seen names fits s.laid s.linked.dense))
+
+pub written_is_alone_from_home : FittedIsFitting → PlansSuitNetlists → HomeIsAlone → WrittenIsAloneFromHome
+written_is_alone_from_home fitting suit alone m L p f after s laid tree writes written link =
+    let fits : IsFitting L p s.fits.seen = fitting m L p f s.tree s.linked s.plan s.fits in
+    alone written.arena.lists (device_of L p s.fits.seen) L.arena.lists fits.formed (suit L p s.fits.seen fits)

@@ -8,6 +8,7 @@ use Rattle.netlist_link.specs.Links.{IsLinkOf}
 use Rattle.netlist_unlink.specs.Renumbered.{IsWrittenAs}
 use Rattle.wrapped_chip.specs.Realises.{Realises, Alone}
 use Rattle.wrapped_chip.specs.Legal.{HasControls}
+use Rattle.wrapped_chip.specs.Home.{FindsHome, AloneFromHome}
 use Rattle.plan_texts.specs.declared.plan.Plan.{Plan}
 use Rattle.plan_fitting.specs.declared.fitted.Fitted.{Fitted}
 use Rattle.plan_fitting.specs.Devices.{device_of}
@@ -30,3 +31,15 @@ abbrev pub WrittenHasControls : Type 0
 WrittenHasControls = (m : Module) (L : LinkedView) (p : Plan) (f : Fitted) (after : LinkedView) (s : IsStitching m L p f after) → IsLaidOut after.arena.lists
     → (tree : Module) → IsWrittenAs after p.prefix tree → (written : LinkedView) → IsLinkOf tree written
     → HasControls written.arena.lists L.arena.lists
+
+-- and from whatever its test logic holds it finds home
+abbrev pub WrittenFindsHome : Type 0
+WrittenFindsHome = (m : Module) (L : LinkedView) (p : Plan) (f : Fitted) (after : LinkedView) (s : IsStitching m L p f after) → IsLaidOut after.arena.lists
+    → (tree : Module) → IsWrittenAs after p.prefix tree → (written : LinkedView) → IsLinkOf tree written
+    → FindsHome written.arena.lists (device_of L p s.fits.seen) L.arena.lists
+
+-- and is alone from there on while the instruction in effect is transparent
+abbrev pub WrittenIsAloneFromHome : Type 0
+WrittenIsAloneFromHome = (m : Module) (L : LinkedView) (p : Plan) (f : Fitted) (after : LinkedView) (s : IsStitching m L p f after) → IsLaidOut after.arena.lists
+    → (tree : Module) → IsWrittenAs after p.prefix tree → (written : LinkedView) → IsLinkOf tree written
+    → AloneFromHome written.arena.lists (device_of L p s.fits.seen) L.arena.lists

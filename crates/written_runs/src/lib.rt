@@ -7,19 +7,26 @@
 //   they hold there (`written_realises`); and while the instruction in effect is transparent every pin reads as
 //   the netlist's alone (`written_is_alone`). Its control ports are the netlist's, TCK and TRST
 //   (`written_has_controls`).
-// By the contract of three law functions.
+// - From whatever its test logic holds, each added flip-flop 0 or 1, five rising edges of TCK with TMS at 1 and a
+//   falling edge lead it to that chip in Test-Logic-Reset (`written_finds_home`), and it is the netlist alone from
+//   there on while a transparent instruction is in effect (`written_is_alone_from_home`).
+// By the contract of five law functions.
 #![tactic(auto)]
 
-ghost use Rattle.written_runs.specs.Laws.{WrittenRealises, WrittenIsAlone, WrittenHasControls};
+ghost use Rattle.written_runs.specs.Laws.{WrittenRealises, WrittenIsAlone, WrittenHasControls, WrittenFindsHome, WrittenIsAloneFromHome};
 
-use plan_devices::fitted_is_fitting;
-use realised_copies::{renumbered_has_controls, renumbered_is_alone, renumbered_realises};
+use plan_devices::{fitted_is_fitting, plans_suit_netlists};
+use realised_copies::{
+    renumbered_finds_home, renumbered_has_controls, renumbered_is_alone, renumbered_realises,
+};
 use stitch_laws::stitched_keeps;
 use stitch_runs::{
-    fitting_plans_are_alone, fitting_plans_have_controls, fitting_plans_realise, stitched_is_formed,
+    fitting_plans_are_alone, fitting_plans_find_home, fitting_plans_have_controls,
+    fitting_plans_realise, stitched_is_formed,
 };
 use stitch_texts::stitched_is_renumbered;
 pub use stitch_texts::{stitched_can_be_written, stitched_is_written};
+use wrapped_chip::home_is_alone;
 
 /// Every pin of the written netlist reads as the chip that the plan's device makes of the netlist.
 pub fn written_realises()
@@ -53,4 +60,25 @@ pub fn written_has_controls()
     fitting_plans_have_controls();
     stitched_is_renumbered();
     renumbered_has_controls();
+}
+
+/// From whatever its test logic holds it finds home.
+pub fn written_finds_home()
+    ensures { WrittenFindsHome }
+{
+    fitted_is_fitting();
+    fitting_plans_find_home();
+    stitched_is_formed();
+    stitched_is_renumbered();
+    stitched_keeps();
+    renumbered_finds_home();
+}
+
+/// And it is alone from there on while the instruction in effect is transparent.
+pub fn written_is_alone_from_home()
+    ensures { WrittenIsAloneFromHome }
+{
+    fitted_is_fitting();
+    plans_suit_netlists();
+    home_is_alone();
 }

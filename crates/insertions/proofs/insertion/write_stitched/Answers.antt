@@ -26,6 +26,6 @@ pub returns : goal.returns
 returns c = λ net text before is laid fitting.
     let made = c.args.fitting.now in
     let laid_after = subst (λ (a : ArenaView). IsLaidOut a.lists) c.netlist.ensures.netlist c.is_laid_out.ensures.laid_out in
-    insertions_made c.texts_of_plans_are_spelled_or_at_fault.ensures.once c.stitched_is_written.ensures c.written_realises.ensures c.written_is_alone.ensures c.written_has_controls.ensures net text c.write_texts.result
+    insertions_made c.texts_of_plans_are_spelled_or_at_fault.ensures.once c.stitched_is_written.ensures c.written_realises.ensures c.written_is_alone.ensures c.written_has_controls.ensures c.written_finds_home.ensures c.written_is_alone_from_home.ensures net text c.write_texts.result
     before c.args.linked.now c.stitch.new.linked made.plan made.fitted made.device is laid laid_after fitting c.stitch.ensures.stitched
     c.write_texts.ensures.netlist c.write_texts.ensures.bsdl c.write_texts.ensures.report

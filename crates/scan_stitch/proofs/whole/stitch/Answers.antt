@@ -1,6 +1,7 @@
 use Rattle.std.proofs.Common.{◌≡◌, List, length, sym, ◌∙◌, ap, subst, arith}
 use Rattle.netlist_model.specs.Formed.{IsLaidOut}
 use Rattle.netlist_model.specs.Lists.{NetlistView}
+use Rattle.wrapped_chip.specs.Home.{FindsHome, AloneFromHome}
 use Rattle.wrapped_chip.specs.Realises.{Realises, Alone}
 use Rattle.plan_fitting.specs.Devices.{device_of_fitted}
 use Rattle.netlist_arena.specs.Arena.{ArenaView}
@@ -8,7 +9,7 @@ use Rattle.stitch_model.specs.Stitched.{stitched}
 use Rattle.stitch_names.specs.Same.{IsSameNetlist}
 use Rattle.scan_stitch.specs.Stitching.{CanBeStitched, HasStitchRoom}
 use Rattle.scan_stitch.proofs.Known.{names_entered, can_of, room_made, fits_room_at, named_of, formed_of}
-use Rattle.scan_stitch.proofs.Runs.{realises_of, alone_of}
+use Rattle.scan_stitch.proofs.Runs.{realises_of, alone_of, home_of, alone_home_of}
 use Rattle.scan_stitch.proofs.whole.stitch.Goals as goal
 
 pub tap_names-names-requires : goal.tap_names-names-requires
@@ -89,3 +90,19 @@ returns-clause-alone c =
     let S : ArenaView → Type 0 = λ A. Alone A.lists (device_of_fitted c.args.fitted.now) c.args.linked.now.arena.lists in
     subst S (sym c.close.ensures.netlist)
     (alone_of c.stitched_is_formed.ensures c.fitting_plans_are_alone.ensures c.same_is_alone.ensures c.args.linked.now c.args.fitted.now c.tap_names-names.result c.stitch_netlist.new.netlist.lists c.requires laid made)
+
+pub returns-clause-finds_home : goal.returns-clause-finds_home
+returns-clause-finds_home c =
+    let P : ArenaView → Type 0 = λ A. IsLaidOut A.lists in
+    let laid = subst P c.netlist.ensures.netlist c.is_laid_out.ensures.laid_out in
+    let same = c.netlist_mut.ensures.netlist ∙ c.begin_draft-draft.ensures.draft in
+    let R : ArenaView → Type 0 = λ A. IsSameNetlist c.stitch_netlist.new.netlist.lists (stitched A.lists c.tap_names-names.result c.args.fitted.now) in
+    let made = subst R same c.stitch_netlist.ensures.stitched in
+    let S : ArenaView → Type 0 = λ A. FindsHome A.lists (device_of_fitted c.args.fitted.now) c.args.linked.now.arena.lists in
+    subst S (sym c.close.ensures.netlist)
+    (home_of c.stitched_is_formed.ensures c.stitched_keeps.ensures c.fitting_plans_find_home.ensures c.same_finds_home.ensures c.args.linked.now c.args.fitted.now c.tap_names-names.result
+    c.stitch_netlist.new.netlist.lists c.requires laid made)
+
+pub returns-clause-alone_from_home : goal.returns-clause-alone_from_home
+returns-clause-alone_from_home c =
+    alone_home_of c.plans_suit_netlists.ensures c.home_is_alone.ensures c.args.linked.now c.args.fitted.now _ c.requires
