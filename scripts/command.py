@@ -9,6 +9,14 @@ class Fault(Exception):
     """What is wrong with the input, in a line."""
 
 
+class Refusal(Fault):
+    """The program refuses its input; `line` is the fault's line, or empty where it put none."""
+
+    def __init__(self, command, line, status):
+        super().__init__(f"lavkhind {command} refuses: {line or f'status {status}'} (see the faults in docs/MANUAL.md)")
+        self.line, self.status = line, status
+
+
 def text_of(path):
     try:
         with open(path, encoding="latin-1", newline="") as file:
@@ -35,14 +43,13 @@ def add_program(words):
 
 
 def said(program, *words):
-    """What the program prints; a Fault has its last line where it refuses."""
+    """What the program prints; where it refuses, a Refusal has its last line."""
     try:
         done = subprocess.run([program, *words], stdin=subprocess.DEVNULL, stdout=subprocess.PIPE, text=True, encoding="latin-1")
     except OSError as error:
         raise Fault(f"{program}: can't be run ({error.strerror})") from None
     if done.returncode not in (0, 6):
-        last = done.stdout.strip().split("\n")[-1]
-        raise Fault(f"lavkhind {words[0]} refuses: {last or f'status {done.returncode}'} (see the faults in docs/MANUAL.md)")
+        raise Refusal(words[0], done.stdout.strip().split("\n")[-1], done.returncode)
     return done.stdout
 
 

@@ -1,0 +1,88 @@
+"""Plans that scripts/draft_plan drafts are taken by `insert`, and what comes of them does what its BSDL file says."""
+import os, re, sys
+
+from chips import keep, run, text_of
+from script_trials import SCRIPTS, SMALL, demo, refusals, script
+
+NEEDS = ()
+# Ports with names of every sort, and a clear that comes through a gate; what stands behind each bit in its plan.
+NAMES = r"""module \my-chip (input in, input [2:0] \bus , inout out, output clock, input CLK, input clk, input \a[0] , output [0:0] y, output \Y_ );
+  wire n, r;
+  buf (n, in);
+  bufif1 (out, n, in);
+  and g (clock, in, \bus [0], \a[0] , out);
+  or TCK (r, \bus [0], \bus [2]);
+  buf bs_y (y[0], 1'b0);
+  MUX2 B (.A(in), .B(\bus [1]), .S(\bus [1]), .Y(\Y_ ));
+  DFFR f (.D(n), .CK(clk), .RN(r), .Q());
+endmodule
+"""
+CELLS = {"in": "BC_1", "bus[2]": "BC_4", "bus[1]": "BC_1", "bus[0]": "BC_4", "out": "BC_7", "clock": "BC_1", "CLK": "BC_1", "clk": "BC_4"}
+CELLS.update({"a[0]": "BC_1", "y[0]": "BC_1", "Y_": "BC_1"})
+BARRED = ("in", "bus", "out", "clk", "a[0]", "Y_")
+
+
+def cells_of(plan):
+    return dict(re.findall(r"^pin (\S+) \S+ (BC_\d)$", plan, re.M))
+
+
+def taken(program, room, name, netlist):
+    """The draft of a netlist, of which `insert` makes a chip that does what its file says."""
+    plan, *made = (os.path.join(room, end) for end in ("draft.plan", "draft.v", "draft.bsd", "draft.events"))
+    keep(plan, script("draft_plan", netlist, "--program", program))
+    run([program, "insert", netlist, plan, *made[:2]])
+    run([program, "vectors", *made[1:]])
+    said = run([program, "check", *made]).strip()
+    if not re.fullmatch(r"done \d+ 0", said):
+        sys.exit(f"{name}: {said}")
+    return text_of(plan), said
+
+
+def names(program, room):
+    """What is drafted of the module with the names: each cell, and a comment at each port that is refused."""
+    netlist, plan = keep(os.path.join(room, "names.v"), NAMES), os.path.join(room, "names.plan")
+    keep(plan, run([sys.executable, os.path.join(SCRIPTS, "draft_plan"), netlist, "--program", program], (1,)))
+    text = text_of(plan)
+    if cells_of(text) != CELLS:
+        sys.exit(f"the cells are {cells_of(text)}")
+    told = re.findall(r"^# (\S+): .*`insert` refuses this port", text, re.M)
+    if tuple(told) != BARRED or "# clock: a word that BSDL reserves" not in text:
+        sys.exit(f"comments stand at {told}")
+    outputs = [os.path.join(room, end) for end in ("names.out.v", "names.bsd")]
+    said = run([program, "insert", netlist, plan, *outputs], (1,))
+    # With other names in both texts `insert` takes it.
+    for number, name in enumerate(BARRED):
+        spelled = r"\\" + re.escape(name) + " " if name in ("bus", "a[0]", "Y_") else rf"\b{re.escape(name)}\b(?! \()"
+        keep(netlist, re.sub(spelled, f"q{number} ", text_of(netlist)))
+        keep(plan, re.sub(rf"(?m)^pin {re.escape(name)}(?=[ \[])", f"pin q{number}", text_of(plan)))
+    run([program, "insert", netlist, plan, *outputs])
+    return f"a module with names of every sort: {said.strip()}; with other names in their place it is taken"
+
+
+def tried(program, room):
+    for folder, name in SMALL:
+        plan, said = taken(program, room, name, os.path.join(folder, name + ".v"))
+        kinds = sorted(cells_of(plan).values())
+        yield f"{name}: {', '.join(f'{kinds.count(kind)} of {kind}' for kind in sorted(set(kinds)))}; {said}"
+        if name == "counter8" and cells_of(plan) != cells_of(text_of(os.path.join(folder, name + ".plan"))):
+            sys.exit("the counter has other cells than in its own plan")
+    yield names(program, room)
+    large, _ = demo(program, room, 9999)
+    kinds = cells_of(taken(program, room, "demo 9999", large)[0])
+    yield f"demo 9999 with test logic, to which more is added: BC_4 at {', '.join(bit for bit, kind in kinds.items() if kind == 'BC_4')}"
+    text = text_of(os.path.join(SMALL[0][0], "counter8.v"))
+    wrong = {"no file": [os.path.join(room, "missing")], "a folder": [room], "no word": []}
+    for what, changed in spoiled(text).items():
+        wrong[what] = [keep(os.path.join(room, f"{what.replace(' ', '_')}.v"), changed), "--program", program]
+    wrong["no program"] = [os.path.join(SMALL[0][0], "counter8.v"), "--program", os.path.join(room, "missing")]
+    yield refusals("draft_plan", wrong)
+
+
+def spoiled(text):
+    """The counter, spoiled."""
+    texts = {"a text that is cut off": text[: len(text) // 2], "no words": "", "a plan": "plan 1\n"}
+    texts["a cell that is not there"] = text.replace("DFFR", "DFFRX")
+    texts["an output without a driver"] = text.replace("bufif1 z0 (q[0], c[0], oe), ", "bufif1 ")
+    texts["a loop"] = text.replace("xor x0 (d[0], c[0], en)", "xor x0 (d[0], d[0], en)")
+    texts["a module without ports"] = "module m ();\nendmodule\n"
+    return texts
