@@ -22,7 +22,8 @@ class Netlist:
                 sys.exit(f"{path} has {len(modules)} modules: {', '.join(modules)}; flatten them")
             name = next(iter(modules))
         self.name, self.ports, self.cells = name, modules[name]["ports"], modules[name]["cells"]
-        self.front = next(it for it in ("n", "n_", "net_", "yosys_net_") if not any(re.fullmatch(rf"({it}|g|f)\d+", port) for port in self.ports))
+        # Nets, gates and flip-flops are n, g and f with a number, behind what no port's name has there.
+        self.front = next(it for it in ("_" * count for count in range(257)) if not any(re.fullmatch(rf"{it}[ngf]\d+", port) for port in self.ports))
         self.three_states = {cell["connections"]["Y"][0]: cell for cell in self.cells.values() if cell["type"] == "$_TBUF_"}
         # Each bit of yosys by the words of its net: an input's or inout's, or else the first output's. Another output of the net is fed besides.
         self.nets, self.fed = {}, []
@@ -53,28 +54,28 @@ class Netlist:
                 sys.exit("a net is let go always; drive it, or let synthesis drop it")
             return "1'b1" if bit == "1" else "1'b0"
         if bit not in self.nets:
-            self.nets[bit] = f"{self.front}{bit}"
+            self.nets[bit] = f"{self.front}n{bit}"
             self.wires.append(self.nets[bit])
         return self.nets[bit]
 
     def item(self, number, cell):
         kind = cell["type"]
         pins = {pin: self.net(bits[0]) for pin, bits in cell["connections"].items()}
+        gate, flop = f"{self.front}g{number}", f"{self.front}f{number}"
         if kind in GATES:
-            return f"  {GATES[kind]} g{number} ({pins['Y']}, {pins['A']}, {pins['B']});"
+            return f"  {GATES[kind]} {gate} ({pins['Y']}, {pins['A']}, {pins['B']});"
         if kind == "$_NOT_":
-            return f"  not g{number} ({pins['Y']}, {pins['A']});"
+            return f"  not {gate} ({pins['Y']}, {pins['A']});"
         if kind == "$_BUF_":
-            return f"  buf g{number} ({pins['Y']}, {pins['A']});"
+            return f"  buf {gate} ({pins['Y']}, {pins['A']});"
         if kind == "$_TBUF_":
-            return f"  bufif1 g{number} ({pins['Y']}, {pins['A']}, {pins['E']});"
+            return f"  bufif1 {gate} ({pins['Y']}, {pins['A']}, {pins['E']});"
         if kind == "$_MUX_":
-            return f"  MUX2 g{number} (.A({pins['A']}), .B({pins['B']}), .S({pins['S']}), .Y({pins['Y']}));"
+            return f"  MUX2 {gate} (.A({pins['A']}), .B({pins['B']}), .S({pins['S']}), .Y({pins['Y']}));"
         if kind not in FLOPS:
             sys.exit(f"{kind} is no cell of the netlist language")
-        flop = FLOPS[kind]
-        forcing = f", {FORCING[flop]}({pins['R']})" if flop in FORCING else ""
-        return f"  {flop} f{number} (.D({pins['D']}), .CK({pins['C']}){forcing}, .Q({pins['Q']}));"
+        forcing = f", {FORCING[FLOPS[kind]]}({pins['R']})" if FLOPS[kind] in FORCING else ""
+        return f"  {FLOPS[kind]} {flop} (.D({pins['D']}), .CK({pins['C']}){forcing}, .Q({pins['Q']}));"
 
     def feed(self, word, bit):
         """What gives an output the net of another port; what is let go can't be read, so it is driven once more."""
