@@ -76,6 +76,38 @@ def spoiled_files(program, room, text):
     return f"{len(SPOILED)} changes of the counter's BSDL file: the entry and the rule are told each time"
 
 
+# Words of a BSDL file that may take one another's place.
+ALIKE = (
+    "BC_1 BC_2 BC_4 BC_7",
+    "input output2 output3 bidir clock control",
+    "clk rn en oe q TCK TMS TDI TDO TRST VDD GND counter8 DIP24",
+    "0 1",
+    " ".join(map(str, range(34))),
+    "1111 0000 0001 0010 0011 0100 111 10001",
+    "EXTEST SAMPLE PRELOAD BYPASS IDCODE HIGHZ CLAMP INTEST BOUNDARY DEVICE_ID",
+    "in out inout linkage",
+)
+
+
+def changed_words(program, room, text):
+    """Words changed by chance for others alike: what the program refuses by a rule, or within a string, is told, and nothing is of what it takes."""
+    path, chance, counts = os.path.join(room, "changed.bsd"), random.Random(2), [0, 0]
+    spots = [(found, words.split()) for found in re.finditer(r"\w+", text) for words in ALIKE if found[0] in words.split()]
+    for _ in range(CHANGES):
+        found, words = chance.choice(spots)
+        keep(path, text[: found.start()] + chance.choice(words) + text[found.end() :])
+        done = subprocess.run([program, "showbsdl", path, os.path.join(room, "out.bsd")], capture_output=True, text=True)
+        said = done.stdout.split()
+        is_rule = said[:1] == ["BsdlMeaning"] or (said[:1] == ["BsdlSyntax"] and text_of(path)[int(said[1])] == '"')
+        starts = [match.start() for match in re.finditer(r"(?m)^  (?:attribute|constant|port)\b", text_of(path))]
+        places = [int(said[2 if said[0] == "BsdlMeaning" else 1])] if said else [start + 2 for start in starts]
+        told = any(len(list(shown(path, place))) == 2 for place in (places if is_rule else places[:1] if said else chance.sample(places, 3)))
+        if told != is_rule:
+            sys.exit(f"{found[0]} in line {text.count(chr(10), 0, found.start()) + 1} changed: {said}, and {'a rule' if told else 'no rule'} is told")
+        counts[is_rule] += 1
+    return f"{CHANGES} words of it changed for others alike: of {counts[1]} the rule is told, and of {counts[0]} none"
+
+
 def changed_bytes(program, room, command, path):
     """Bytes changed by chance: the place is the byte that the program tells."""
     text, spoiled, out = text_of(path), os.path.join(room, "spoiled"), os.path.join(room, "out")
@@ -139,6 +171,7 @@ def tried(program, room):
     for command, path in (("canon", counter), ("canon", first), ("showbsdl", bsdl)):
         yield changed_bytes(program, room, command, path)
     yield spoiled_files(program, room, text_of(bsdl))
+    yield changed_words(program, room, text_of(bsdl))
     yield most(room, program)
     yield loop(program, room)
     for netlist in (counter, first, demo(program, room, 9999)[0]):
