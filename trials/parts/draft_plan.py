@@ -71,7 +71,7 @@ def tried(program, room):
     kinds = cells_of(taken(program, room, "demo 9999", large)[0])
     yield f"demo 9999 with test logic, to which more is added: BC_4 at {', '.join(bit for bit, kind in kinds.items() if kind == 'BC_4')}"
     text = text_of(os.path.join(SMALL[0][0], "counter8.v"))
-    wrong = {"no file": [os.path.join(room, "missing")], "a folder": [room], "no word": []}
+    wrong = {"no file": [os.path.join(room, "missing"), "--program", program], "a folder": [room, "--program", program], "no word": []}
     for what, changed in spoiled(text).items():
         wrong[what] = [keep(os.path.join(room, f"{what.replace(' ', '_')}.v"), changed), "--program", program]
     wrong["no program"] = [os.path.join(SMALL[0][0], "counter8.v"), "--program", os.path.join(room, "missing")]
