@@ -8,8 +8,12 @@ mod answers;
 #[cfg(test)]
 mod calls;
 #[cfg(test)]
+mod home;
+#[cfg(test)]
 mod netlists;
 #[cfg(test)]
 mod outside;
 #[cfg(test)]
 mod remembered;
+#[cfg(test)]
+mod room;

@@ -9,7 +9,7 @@ use netlist_model::{CellId, Feed, Name, NetId, Reader};
 use std::test::Fail;
 
 // The operand at a place, if it is there.
-fn operand(netlist: &Netlist, cell: CellId, place: u32) -> Option<Feed>
+pub(crate) fn operand(netlist: &Netlist, cell: CellId, place: u32) -> Option<Feed>
     ensures { IfSome result (λ feed. feed_at netlist.now.lists cell.0 place ≡ Some feed) }
 {
     if netlist.is_live(cell) && place < netlist.feed_count(cell) {
