@@ -46,6 +46,7 @@ file = record {
   opcodes = record { entity = codes "counter8"; strings = (codes "BYPASS (1111)," ∷ codes "EXTEST (0000)," ∷ codes "SAMPLE (0001)," ∷ codes "PRELOAD (0001)," ∷ codes "IDCODE (0010)," ∷ codes "HIGHZ (0011)," ∷ codes "CLAMP (0100)" ∷ []) };
   capture = record { entity = codes "counter8"; strings = (codes "0001" ∷ []) };
   idcode = Some (record { entity = codes "counter8"; strings = (codes "0001" ∷ codes "0000000000000001" ∷ codes "00000000001" ∷ codes "1" ∷ []) });
+  usercode = None;
   access = record { entity = codes "counter8"; strings = (codes "BOUNDARY (EXTEST, SAMPLE, PRELOAD)," ∷ codes "BYPASS (BYPASS, HIGHZ, CLAMP)," ∷ codes "DEVICE_ID (IDCODE)" ∷ []) };
   boundary_length = record { entity = codes "counter8"; value = 13 };
   boundary = record { entity = codes "counter8"; strings = (codes "0 (BC_4, clk, clock, X)," ∷ codes "1 (BC_4, rn, input, X)," ∷ codes "2 (BC_1, en, input, X)," ∷ codes "3 (BC_1, oe, input, X)," ∷ codes "4 (BC_1, q(7), output3, X, 5, 0, Z)," ∷ codes "5 (BC_1, *, control, 0)," ∷ codes "6 (BC_1, q(6), output3, X, 5, 0, Z)," ∷ codes "7 (BC_1, q(5), output3, X, 5, 0, Z)," ∷ codes "8 (BC_1, q(4), output3, X, 5, 0, Z)," ∷ codes "9 (BC_1, q(3), output3, X, 5, 0, Z)," ∷ codes "10 (BC_1, q(2), output3, X, 5, 0, Z)," ∷ codes "11 (BC_1, q(1), output3, X, 5, 0, Z)," ∷ codes "12 (BC_1, q(0), output3, X, 5, 0, Z)" ∷ []) };
@@ -70,6 +71,7 @@ contents = record {
   opcodes = opcodes;
   capture = record { len = 4; value = 1 };
   idcode = Some 268439555;
+  usercode = None;
   access = access;
   rows = rows;
 }
@@ -99,6 +101,7 @@ device = record {
   opcodes = device_opcodes;
   capture = record { len = 4; value = 1 };
   idcode = Some 268439555;
+  usercode = None;
   cells = device_cells;
 }
 
@@ -118,6 +121,7 @@ holds = record {
   opcodes = record { filled = refl; hold = (refl, (refl, (refl, (refl, (refl, (refl, (refl, (refl, (refl, (refl, (refl, (refl, (refl, (refl, (refl, (refl, (refl, (refl, (refl, (refl, (refl, (refl, (refl, (refl, (refl, (refl, (refl, (refl, (refl, (refl, (refl, (refl, (refl, (refl, tt)))))))))))))))))))))))))))))))))) };
   capture = (refl, tt);
   idcode = (refl, tt);
+  usercode = tt;
   access = record { is = record { filled = refl; instructions = refl }; hold = (refl, (refl, (refl, (refl, (refl, (refl, (refl, (refl, (refl, (refl, (refl, (refl, (refl, (refl, (refl, (refl, (refl, (refl, (refl, (refl, (refl, (refl, tt)))))))))))))))))))))) };
   rows = record { filled = refl; hold = (refl, (refl, (refl, (refl, (refl, (refl, (refl, (refl, (refl, (refl, (refl, (refl, (refl, (refl, (refl, (refl, (refl, (refl, (refl, (refl, (refl, (refl, (refl, (refl, (refl, (refl, (refl, (refl, (refl, (refl, (refl, (refl, (refl, (refl, (refl, (refl, (refl, (refl, (refl, (refl, (refl, (refl, (refl, (refl, (refl, (refl, (refl, (refl, (refl, (refl, (refl, (refl, (refl, (refl, (refl, (refl, (refl, (refl, (refl, (refl, (refl, (refl, (refl, (refl, (refl, (refl, (refl, (refl, (refl, (refl, (refl, (refl, (refl, (refl, (refl, (refl, (refl, (refl, (refl, (refl, (refl, (refl, (refl, (refl, (refl, (refl, (refl, (refl, (refl, (refl, (refl, (refl, (refl, (refl, (refl, (refl, (refl, (refl, (refl, (refl, (refl, (refl, (refl, (refl, (refl, (refl, (refl, (refl, (refl, (refl, (refl, (refl, (refl, (refl, (refl, (refl, (refl, (refl, (refl, (refl, (refl, (refl, (refl, (refl, (refl, (refl, (refl, (refl, (refl, (refl, (refl, (refl, (refl, (refl, (refl, (refl, (refl, (refl, (refl, (refl, (refl, (refl, (refl, (refl, (refl, (refl, (refl, (refl, (refl, (refl, (refl, (refl, (refl, (refl, (refl, (refl, (refl, (refl, (refl, (refl, (refl, (refl, (refl, (refl, (refl, (refl, (refl, (refl, (refl, (refl, (refl, (refl, (refl, (refl, (refl, (refl, (refl, (refl, (refl, (refl, (refl, (refl, (refl, (refl, (refl, (refl, (refl, (refl, (refl, (refl, (refl, (refl, (refl, (refl, (refl, (refl, (refl, (refl, (refl, (refl, (refl, (refl, (refl, (refl, (refl, (refl, (refl, (refl, (refl, (refl, (refl, (refl, (refl, (refl, tt)))))))))))))))))))))))))))))))))))))))))))))))))))))))))))))))))))))))))))))))))))))))))))))))))))))))))))))))))))))))))))))))))))))))))))))))))))))))))))))))))))))))))))))))))))))))))))))))))))))))))))))))))))))) };
 }

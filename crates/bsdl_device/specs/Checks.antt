@@ -1,6 +1,6 @@
 -- When a file that is rightly written can't be meant: one test for each rule, and one for each kind of fault. Rules on rows stand apart.
 -- IEEE Std 1149.1-2001: the annex on BSDL; instruction register; device identification register. The limits are own.
-use Rattle.std.specs.Prelude.{ℕ, ◌-◌, ◌/◌, ◌%◌, ◌^◌, ◌==◌, ◌&&◌, ◌||◌, not, nat_lt, Bool, true, false, List, [], ◌∷◌, length, map, count_by, Option, Some, None, is_none}
+use Rattle.std.specs.Prelude.{ℕ, ◌-◌, ◌/◌, ◌%◌, ◌^◌, ◌==◌, ◌&&◌, ◌||◌, not, nat_lt, Bool, true, false, List, [], ◌∷◌, ◌++◌, length, map, count_by, Option, Some, None, is_none}
 use Rattle.std.specs.List.{flat_map, list_any}
 use Rattle.std.specs.Option.{option_map_or}
 use Rattle.bsdl_lexicon.specs.Names.{is_same_name}
@@ -51,7 +51,8 @@ has_too_many_bits f = nat_lt 4096 (port_bits (declared_ports f))
 abbrev pub entities_named : File → List (List ℕ)
 entities_named f =
     f.conformance_entity ∷ f.pin_map_entity ∷ f.length.entity ∷ f.opcodes.entity ∷ f.capture.entity
-    ∷ f.access.entity ∷ f.boundary_length.entity ∷ f.boundary.entity ∷ f.end ∷ option_map_or (λ (a : StringAttribute). a.entity ∷ []) f.idcode []
+    ∷ f.access.entity ∷ f.boundary_length.entity ∷ f.boundary.entity ∷ f.end
+    ∷ (option_map_or (λ (a : StringAttribute). a.entity ∷ []) f.idcode [] ++ option_map_or (λ (a : StringAttribute). a.entity ∷ []) f.usercode [])
 
 abbrev pub names_other_entity : File → Bool
 names_other_entity f = list_any (λ name. not (is_same_name name f.entity)) (entities_named f)
@@ -164,6 +165,12 @@ idcode_stands_alone c = option_map_or (λ _. not (has_instruction c.opcodes inst
 
 abbrev pub idcode_fails : Contents → Bool
 idcode_fails c = idcode_stands_alone c || option_map_or code_is_barred c.idcode false
+
+-- there is a usercode without USERCODE or USERCODE without one, or USERCODE without IDCODE
+abbrev pub usercode_fails : Contents → Bool
+usercode_fails c =
+    option_map_or (λ _. not (has_instruction c.opcodes instr.Usercode)) c.usercode (has_instruction c.opcodes instr.Usercode)
+    || (has_instruction c.opcodes instr.Usercode && not (has_instruction c.opcodes instr.Idcode))
 
 -- Register access.
 

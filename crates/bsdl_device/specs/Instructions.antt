@@ -16,13 +16,14 @@ instruction_word instr.Preload = codes "PRELOAD"
 instruction_word instr.Idcode = codes "IDCODE"
 instruction_word instr.Highz = codes "HIGHZ"
 instruction_word instr.Clamp = codes "CLAMP"
+instruction_word instr.Usercode = codes "USERCODE"
 
 -- a name is this instruction's
 abbrev pub names_instruction : Instr → List ℕ → Bool
 names_instruction i name = is_same_name name (instruction_word i)
 
 abbrev pub all_instructions : List Instr
-all_instructions = instr.Bypass ∷ instr.Extest ∷ instr.Sample ∷ instr.Preload ∷ instr.Idcode ∷ instr.Highz ∷ instr.Clamp ∷ []
+all_instructions = instr.Bypass ∷ instr.Extest ∷ instr.Sample ∷ instr.Preload ∷ instr.Idcode ∷ instr.Highz ∷ instr.Clamp ∷ instr.Usercode ∷ []
 
 -- those that each device has
 abbrev pub required_instructions : List Instr
@@ -41,6 +42,7 @@ selected_register instr.Bypass = register.Bypass
 selected_register instr.Highz = register.Bypass
 selected_register instr.Clamp = register.Bypass
 selected_register instr.Idcode = register.DeviceId
+selected_register instr.Usercode = register.DeviceId
 
 abbrev pub is_register : Register → Register → Bool
 is_register register.Boundary register.Boundary = true
@@ -59,4 +61,5 @@ is_instruction instr.Preload instr.Preload = true
 is_instruction instr.Idcode instr.Idcode = true
 is_instruction instr.Highz instr.Highz = true
 is_instruction instr.Clamp instr.Clamp = true
+is_instruction instr.Usercode instr.Usercode = true
 is_instruction _ _ = false

@@ -64,6 +64,7 @@ pub struct Contents {
     pub opcodes: Row<OpcodeEntry>,
     pub capture: Bits,
     pub idcode: Option<u32>,
+    pub usercode: Option<u32>,
     pub access: Row<AccessEntry>,
     pub rows: Row<RowEntry>,
 }

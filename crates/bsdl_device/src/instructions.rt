@@ -7,7 +7,7 @@ use crate::entries::Register;
 use cell_library::Instr;
 
 /// The instructions of the profile, in the order in which one is looked for.
-pub const INSTRUCTIONS: [Instr; 7] = [
+pub const INSTRUCTIONS: [Instr; 8] = [
     Instr::Bypass,
     Instr::Extest,
     Instr::Sample,
@@ -15,6 +15,7 @@ pub const INSTRUCTIONS: [Instr; 7] = [
     Instr::Idcode,
     Instr::Highz,
     Instr::Clamp,
+    Instr::Usercode,
 ];
 
 /// Those that each device has, in the order in which a missing one is told.
@@ -37,6 +38,7 @@ pub fn instruction_word(instruction: Instr) -> &'static [u8]
         Instr::Idcode => b"IDCODE",
         Instr::Highz => b"HIGHZ",
         Instr::Clamp => b"CLAMP",
+        Instr::Usercode => b"USERCODE",
     }
 }
 
@@ -53,6 +55,7 @@ pub fn is_instruction(first: Instr, second: Instr) -> bool
             | (Instr::Idcode, Instr::Idcode)
             | (Instr::Highz, Instr::Highz)
             | (Instr::Clamp, Instr::Clamp)
+            | (Instr::Usercode, Instr::Usercode)
     )
 }
 
@@ -63,6 +66,6 @@ pub fn selected_register(instruction: Instr) -> Register
     match instruction {
         Instr::Extest | Instr::Sample | Instr::Preload => Register::Boundary,
         Instr::Bypass | Instr::Highz | Instr::Clamp => Register::Bypass,
-        Instr::Idcode => Register::DeviceId,
+        Instr::Idcode | Instr::Usercode => Register::DeviceId,
     }
 }

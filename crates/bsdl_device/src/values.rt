@@ -85,5 +85,6 @@ pub struct Device {
     pub opcodes: Row<Opcode>,
     pub capture: Bits,
     pub idcode: Option<u32>,
+    pub usercode: Option<u32>,
     pub cells: Row<CellRow>,
 }

@@ -78,6 +78,7 @@ pub struct File {
     pub opcodes: StringAttribute,
     pub capture: StringAttribute,
     pub idcode: Option<StringAttribute>,
+    pub usercode: Option<StringAttribute>,
     pub access: StringAttribute,
     pub boundary_length: IntegerAttribute,
     pub boundary: StringAttribute,

@@ -1,6 +1,6 @@
 ghost use Rattle.bsdl_files.specs.Sections.{integer_attribute_at, string_attribute_at, registers_at};
 ghost use Rattle.bsdl_files.specs.Parsing.{Gives, GivesAs};
-ghost use Rattle.bsdl_files.specs.Rests.{entity_after, strings_after, code_and_access_at, access_at, register_pair};
+ghost use Rattle.bsdl_files.specs.Rests.{entity_after, strings_after, user_and_access_at, access_at, user_registers_at, code_and_user_at, user_alone_at, user_pair, register_pair};
 ghost use Rattle.bsdl_files.specs.Marks.{patterns};
 
 use crate::fault::ParseFault;
@@ -76,50 +76,93 @@ pub fn string_attribute(
     )
 }
 
-/// The identification register's code, if there is one, and how the registers are accessed.
+/// The identification register's code and usercode, where there are any, and how the registers are accessed.
 #[derive(Drop)]
 pub struct RegisterAttributes {
     pub idcode: Option<StringAttribute>,
+    pub usercode: Option<StringAttribute>,
     pub access: StringAttribute,
 }
 
+// The usercode and how the registers are accessed.
+#[derive(Drop)]
+struct UserAttributes {
+    usercode: Option<StringAttribute>,
+    access: StringAttribute,
+}
+
 // Both attributes, behind the kind of the first.
-fn code_and_access(alloc: Global, reader: &mut BsdlReader) -> Result<RegisterAttributes, ParseFault>
-    ensures { GivesAs register_pair result reader.new (code_and_access_at reader.old) }
+fn user_and_access(alloc: Global, reader: &mut BsdlReader) -> Result<UserAttributes, ParseFault>
+    ensures { GivesAs user_pair result reader.new (user_and_access_at reader.old) }
 {
-    let idcode = strings_attribute_after(alloc, reader, &[Mark::Key(b"of")])?;
-    marks(
-        reader,
-        &[Mark::Key(b"attribute"), Mark::Key(b"REGISTER_ACCESS")],
-    )?;
+    let usercode = strings_attribute_after(alloc, reader, &[Mark::Key(b"of")])?;
+    marks(reader, &[Mark::Key(b"attribute")])?;
+    marks(reader, &[Mark::Key(b"REGISTER_ACCESS")])?;
     let access = strings_attribute_after(alloc, reader, &[Mark::Key(b"of")])?;
-    Ok(RegisterAttributes {
-        idcode: Some(idcode),
+    Ok(UserAttributes {
+        usercode: Some(usercode),
         access,
     })
 }
 
 // How the registers are accessed, behind the key word that begins the attribute.
-fn access_alone(alloc: Global, reader: &mut BsdlReader) -> Result<RegisterAttributes, ParseFault>
-    ensures { GivesAs register_pair result reader.new (access_at reader.old) }
+fn access_alone(alloc: Global, reader: &mut BsdlReader) -> Result<UserAttributes, ParseFault>
+    ensures { GivesAs user_pair result reader.new (access_at reader.old) }
 {
     marks(reader, &[Mark::Key(b"REGISTER_ACCESS")])?;
     let access = strings_attribute_after(alloc, reader, &[Mark::Key(b"of")])?;
-    Ok(RegisterAttributes {
-        idcode: None,
+    Ok(UserAttributes {
+        usercode: None,
         access,
     })
 }
 
-/// The identification register, which may be left out, and register access.
+// The usercode, which may be left out, and register access, behind the key word that begins the first attribute.
+fn user_registers(alloc: Global, reader: &mut BsdlReader) -> Result<UserAttributes, ParseFault>
+    ensures { GivesAs user_pair result reader.new (user_registers_at reader.old) }
+{
+    if reader.take_key(b"USERCODE_REGISTER") {
+        user_and_access(alloc, reader)
+    } else {
+        access_alone(alloc, reader)
+    }
+}
+
+// The code and what follows, behind the kind of the first attribute.
+fn code_and_user(alloc: Global, reader: &mut BsdlReader) -> Result<RegisterAttributes, ParseFault>
+    ensures { GivesAs register_pair result reader.new (code_and_user_at reader.old) }
+{
+    let idcode = strings_attribute_after(alloc, reader, &[Mark::Key(b"of")])?;
+    marks(reader, &[Mark::Key(b"attribute")])?;
+    let user = user_registers(alloc, reader)?;
+    Ok(RegisterAttributes {
+        idcode: Some(idcode),
+        usercode: user.usercode,
+        access: user.access,
+    })
+}
+
+// What follows alone, behind the key word that begins the attribute.
+fn user_alone(alloc: Global, reader: &mut BsdlReader) -> Result<RegisterAttributes, ParseFault>
+    ensures { GivesAs register_pair result reader.new (user_alone_at reader.old) }
+{
+    let user = user_registers(alloc, reader)?;
+    Ok(RegisterAttributes {
+        idcode: None,
+        usercode: user.usercode,
+        access: user.access,
+    })
+}
+
+/// The identification register's attributes, each of which may be left out, and register access.
 #[tactic(auto, unfolding(crate::specs::Sections::registers_at))]
 pub fn registers(alloc: Global, reader: &mut BsdlReader) -> Result<RegisterAttributes, ParseFault>
     ensures { GivesAs register_pair result reader.new (registers_at reader.old) }
 {
     marks(reader, &[Mark::Key(b"attribute")])?;
     if reader.take_key(b"IDCODE_REGISTER") {
-        code_and_access(alloc, reader)
+        code_and_user(alloc, reader)
     } else {
-        access_alone(alloc, reader)
+        user_alone(alloc, reader)
     }
 }

@@ -254,6 +254,7 @@ pub fn file(alloc: Global, reader: &mut BsdlReader) -> Result<File, ParseFault>
         opcodes: instruction.opcodes,
         capture: instruction.capture,
         idcode: registers.idcode,
+        usercode: registers.usercode,
         access: registers.access,
         boundary_length: boundary.length,
         boundary: boundary.rows,

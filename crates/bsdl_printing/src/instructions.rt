@@ -65,6 +65,17 @@ fn put_idcode(text: &mut Text, entity: &[u8], idcode: Option<u32>) -> Result<(),
     put_code(text, code)
 }
 
+#[tactic(auto, unfolding(bsdl_device::specs::Canonical::usercode_text))]
+fn put_usercode(text: &mut Text, entity: &[u8], usercode: Option<u32>) -> Result<(), OutOfMemory>
+    ensures { OnOk result (text.new ≡ text.old ++ text_of.usercode_text entity.now usercode) }
+{
+    let Some(code) = usercode else {
+        return Ok(());
+    };
+    put_attribute(text, b"\";\n", b"USERCODE_REGISTER", entity, b"\n    \"")?;
+    put_bits(text, 32, code)
+}
+
 #[tactic(auto, unfolding(bsdl_device::specs::Canonical::has_opcode))]
 fn has_opcode(opcodes: &[Opcode], instr: Instr) -> bool
     ensures { result ≡ text_of.has_opcode opcodes.now instr }
@@ -108,12 +119,25 @@ fn put_instructions(text: &mut Text, opcodes: &[Opcode], list: &[Instr]) -> Resu
     put_more_instructions(text, opcodes, more)
 }
 
+// The instructions of the identification register behind IDCODE.
+#[tactic(auto, unfolding(bsdl_device::specs::Canonical::user_access_text))]
+fn user_access(opcodes: &[Opcode]) -> &'static [u8]
+    ensures { result.now ≡ text_of.user_access_text opcodes.now }
+{
+    if has_opcode(opcodes, Instr::Usercode) {
+        b", USERCODE"
+    } else {
+        b""
+    }
+}
+
 #[tactic(auto, unfolding(bsdl_device::specs::Canonical::device_id_text))]
 fn put_device_id(text: &mut Text, opcodes: &[Opcode]) -> Result<(), OutOfMemory>
     ensures { OnOk result (text.new ≡ text.old ++ text_of.device_id_text opcodes.now) }
 {
     if has_opcode(opcodes, Instr::Idcode) {
-        return put_all(text, &[b"),\" &\n    \"DEVICE_ID (IDCODE"]);
+        let user = user_access(opcodes);
+        return put_all(text, &[b"),\" &\n    \"DEVICE_ID (IDCODE", user]);
     }
     Ok(())
 }
@@ -147,7 +171,7 @@ fn put_access(text: &mut Text, opcodes: &[Opcode]) -> Result<(), OutOfMemory>
     put_device_id(text, opcodes)
 }
 
-/// Adds the instruction register, the code where there is one, and register access.
+/// Adds the instruction register, the code and the usercode where there are any, and register access.
 #[tactic(auto, unfolding(bsdl_device::specs::Canonical::registers_text))]
 pub fn put_registers(text: &mut Text, device: &Device) -> Result<(), OutOfMemory>
     ensures { OnOk result (text.new ≡ text.old ++ text_of.registers_text device.now) }
@@ -160,6 +184,7 @@ pub fn put_registers(text: &mut Text, device: &Device) -> Result<(), OutOfMemory
     put_attribute(text, b"\";\n", b"INSTRUCTION_CAPTURE", entity, b" \"")?;
     put_pattern(text, device.capture)?;
     put_idcode(text, entity, device.idcode)?;
+    put_usercode(text, entity, device.usercode)?;
     put_attribute(text, b"\";\n", b"REGISTER_ACCESS", entity, b"\n    \"")?;
     put_access(text, device.opcodes.as_slice())
 }

@@ -1,6 +1,7 @@
 -- The words at which wrong contents are told, by the first words of their sections.
-use Rattle.std.proofs.Common.{◌≡◌, ℕ, ◌+◌, refl}
+use Rattle.std.proofs.Common.{◌≡◌, ℕ, ◌+◌, length, refl}
 use Rattle.bsdl_device.specs.declared.written.File.{File}
+use Rattle.bsdl_device.specs.Shape.{code_words}
 use Rattle.bsdl_contents.specs.declared.fault.HeldSection.{HeldSection}
 use Rattle.bsdl_contents.specs.declared.fault.HeldSection.TheVariants as section
 use Rattle.bsdl_checks.specs.Counts.{first_word}
@@ -22,6 +23,10 @@ pub contents_word-idcode : (f : File) → contents_word f section.Idcode ≡ fir
 unfolding contents_word first_word
 contents_word-idcode f = refl
 
+pub contents_word-usercode : (f : File) → contents_word f section.Usercode ≡ first_word f 13 + length (code_words f) + 7
+unfolding contents_word first_word
+contents_word-usercode f = refl
+
 pub contents_word-access : (f : File) → contents_word f section.Access ≡ first_word f 14 + 7
 unfolding contents_word first_word
 contents_word-access f = refl
@@ -30,4 +35,4 @@ pub contents_word-rows : (f : File) → contents_word f section.Rows ≡ first_w
 unfolding contents_word first_word
 contents_word-rows f = refl
 
-pub ruleset contents_words = (contents_word-pin_map, contents_word-opcodes, contents_word-capture, contents_word-idcode, contents_word-access, contents_word-rows)
+pub ruleset contents_words = (contents_word-pin_map, contents_word-opcodes, contents_word-capture, contents_word-idcode, contents_word-usercode, contents_word-access, contents_word-rows)

@@ -58,6 +58,7 @@ all_right f c h faults.PinMap = (c.pin_map, h.pin_map)
 all_right f c h faults.Opcodes = (c.opcodes, h.opcodes)
 all_right f c h faults.Capture = (c.capture, h.capture)
 all_right f c h faults.Idcode = (c.idcode, h.idcode)
+all_right f c h faults.Usercode = (c.usercode, h.usercode)
 all_right f c h faults.Access = (c.access, h.access)
 all_right f c h faults.Rows = (c.rows, h.rows)
 

@@ -19,6 +19,7 @@ pub fn string_word(file: &File, section: HeldSection) -> u64
         HeldSection::Opcodes => sections::opcode_word(file) + 7,
         HeldSection::Capture => sections::capture_word(file) + 7,
         HeldSection::Idcode => sections::idcode_word(file) + 7,
+        HeldSection::Usercode => sections::usercode_word(file) + 7,
         HeldSection::Access => sections::access_word(file) + 7,
         HeldSection::Rows => sections::boundary_word(file) + 7,
     }
