@@ -93,8 +93,8 @@ reads_capture strings = reads_section Free capture_words (HoldCapture strings) s
 reads_code : (strings : List (List ℕ)) → Reads (λ code. HoldIdcode (Some (record { entity = []; strings = strings })) (Some code)) (section_at reading.code_at strings)
 reads_code strings = reads_section Free idcode_words (λ code. HoldIdcode (Some (record { entity = []; strings = strings })) (Some code)) strings code_law tt (λ c k h. h) (λ c h. (tt, h))
 
-reads_idcode : (a : Option StringAttribute) → Reads (HoldIdcode a) (reading.optional_code_at a)
-reads_idcode None = record { sound = none_sound; complete = none_complete }
+reads_optional : (a : Option StringAttribute) → Reads (HoldIdcode a) (reading.optional_code_at a)
+reads_optional None = record { sound = none_sound; complete = none_complete }
   where
     none_sound : (x : Option ℕ) → Some None ≡ Some x → HoldIdcode None x
     none_sound None h = tt
@@ -103,7 +103,7 @@ reads_idcode None = record { sound = none_sound; complete = none_complete }
     none_complete : (x : Option ℕ) → HoldIdcode None x → Some None ≡ Some x
     none_complete None h = refl
     none_complete (Some c) h = absurd h
-reads_idcode (Some a) = record { sound = λ x h. some_sound (section_at reading.code_at a.strings) refl x h; complete = some_complete }
+reads_optional (Some a) = record { sound = λ x h. some_sound (section_at reading.code_at a.strings) refl x h; complete = some_complete }
   where
     some_sound : (o : Option ℕ) → section_at reading.code_at a.strings ≡ o → (x : Option ℕ) → option_map reading.something o ≡ Some x → HoldIdcode (Some a) x
     some_sound None e x h = absurd (cc)
@@ -131,19 +131,20 @@ wrong_at : {X : Type 0} {holds : X → Type 0} (read : Option X) → Reads holds
 wrong_at {X} read r e (x, h) = let never : None ≡ Some x = sym e ∙ r.complete x h in absurd (cc)
 
 pub contents_sound : (f : File) (c : Contents) → contents_at f ≡ Ok c → HasContents f c
-contents_sound f c h = go (section_at reading.pin_map_at f.pin_map) (section_at reading.opcodes_at f.opcodes.strings) (section_at reading.bits_at f.capture.strings) (reading.optional_code_at f.idcode) (section_at reading.accesses_at f.access.strings) (section_at reading.rows_at f.boundary.strings) (reads_pin_map f.pin_map) (reads_opcodes f.opcodes.strings) (reads_capture f.capture.strings) (reads_idcode f.idcode) (reads_access f.access.strings) (reads_rows f.boundary.strings) h
+contents_sound f c h = go (section_at reading.pin_map_at f.pin_map) (section_at reading.opcodes_at f.opcodes.strings) (section_at reading.bits_at f.capture.strings) (reading.optional_code_at f.idcode) (reading.optional_code_at f.usercode) (section_at reading.accesses_at f.access.strings) (section_at reading.rows_at f.boundary.strings) (reads_pin_map f.pin_map) (reads_opcodes f.opcodes.strings) (reads_capture f.capture.strings) (reads_optional f.idcode) (reads_optional f.usercode) (reads_access f.access.strings) (reads_rows f.boundary.strings) h
   where
-    go : (p : Option (List PinEntry)) (o : Option (List OpcodeEntry)) (k : Option Bits) (i : Option (Option ℕ)) (a : Option (List AccessEntry)) (r : Option (List RowEntry)) → Reads (HoldPinMap f.pin_map) p → Reads (HoldOpcodes f.opcodes.strings) o → Reads (HoldCapture f.capture.strings) k → Reads (HoldIdcode f.idcode) i → Reads (HoldAccess f.access.strings) a → Reads (HoldRows f.boundary.strings) r → contents_from p o k i a r ≡ Ok c → HasContents f c
-    go None o k i a r rp ro rk ri ra rr h = absurd (cc)
-    go (Some p) None k i a r rp ro rk ri ra rr h = absurd (cc)
-    go (Some p) (Some o) None i a r rp ro rk ri ra rr h = absurd (cc)
-    go (Some p) (Some o) (Some k) None a r rp ro rk ri ra rr h = absurd (cc)
-    go (Some p) (Some o) (Some k) (Some i) None r rp ro rk ri ra rr h = absurd (cc)
-    go (Some p) (Some o) (Some k) (Some i) (Some a) None rp ro rk ri ra rr h = absurd (cc)
-    go (Some p) (Some o) (Some k) (Some i) (Some a) (Some r) rp ro rk ri ra rr h =
-        let d : Contents = record { pin_map = p; opcodes = o; capture = k; idcode = i; access = a; rows = r } in
+    go : (p : Option (List PinEntry)) (o : Option (List OpcodeEntry)) (k : Option Bits) (i u : Option (Option ℕ)) (a : Option (List AccessEntry)) (r : Option (List RowEntry)) → Reads (HoldPinMap f.pin_map) p → Reads (HoldOpcodes f.opcodes.strings) o → Reads (HoldCapture f.capture.strings) k → Reads (HoldIdcode f.idcode) i → Reads (HoldIdcode f.usercode) u → Reads (HoldAccess f.access.strings) a → Reads (HoldRows f.boundary.strings) r → contents_from p o k i u a r ≡ Ok c → HasContents f c
+    go None o k i u a r rp ro rk ri ru ra rr h = absurd (cc)
+    go (Some p) None k i u a r rp ro rk ri ru ra rr h = absurd (cc)
+    go (Some p) (Some o) None i u a r rp ro rk ri ru ra rr h = absurd (cc)
+    go (Some p) (Some o) (Some k) None u a r rp ro rk ri ru ra rr h = absurd (cc)
+    go (Some p) (Some o) (Some k) (Some i) None a r rp ro rk ri ru ra rr h = absurd (cc)
+    go (Some p) (Some o) (Some k) (Some i) (Some u) None r rp ro rk ri ru ra rr h = absurd (cc)
+    go (Some p) (Some o) (Some k) (Some i) (Some u) (Some a) None rp ro rk ri ru ra rr h = absurd (cc)
+    go (Some p) (Some o) (Some k) (Some i) (Some u) (Some a) (Some r) rp ro rk ri ru ra rr h =
+        let d : Contents = record { pin_map = p; opcodes = o; capture = k; idcode = i; usercode = u; access = a; rows = r } in
         let same : d ≡ c = cc in
-        let there : HasContents f d = record { pin_map = rp.sound p refl; opcodes = ro.sound o refl; capture = rk.sound k refl; idcode = ri.sound i refl; access = ra.sound a refl; rows = rr.sound r refl } in
+        let there : HasContents f d = record { pin_map = rp.sound p refl; opcodes = ro.sound o refl; capture = rk.sound k refl; idcode = ri.sound i refl; usercode = ru.sound u refl; access = ra.sound a refl; rows = rr.sound r refl } in
         subst (λ (x : Contents). HasContents f x) same there
 
 pub contents_complete : (f : File) (c : Contents) → HasContents f c → contents_at f ≡ Ok c
@@ -151,9 +152,10 @@ contents_complete f c h =
     rw ((reads_pin_map f.pin_map).complete c.pin_map h.pin_map)
     (rw ((reads_opcodes f.opcodes.strings).complete c.opcodes h.opcodes)
     (rw ((reads_capture f.capture.strings).complete c.capture h.capture)
-    (rw ((reads_idcode f.idcode).complete c.idcode h.idcode)
+    (rw ((reads_optional f.idcode).complete c.idcode h.idcode)
+    (rw ((reads_optional f.usercode).complete c.usercode h.usercode)
     (rw ((reads_access f.access.strings).complete c.access h.access)
-    (rw ((reads_rows f.boundary.strings).complete c.rows h.rows) refl)))))
+    (rw ((reads_rows f.boundary.strings).complete c.rows h.rows) refl))))))
 
 pub one_contents : HoldOneContents
 one_contents f c other h k =
@@ -169,29 +171,32 @@ record FirstWrong (f : File) (s : faults.StringSection) : Type 0 where
 
 pub contents_wrong : (f : File) (s : faults.StringSection) → contents_at f ≡ Err s → faults.IsContentsFault f (faults.string_word f s)
 contents_wrong f s h =
-    let w = go (section_at reading.pin_map_at f.pin_map) (section_at reading.opcodes_at f.opcodes.strings) (section_at reading.bits_at f.capture.strings) (reading.optional_code_at f.idcode) (section_at reading.accesses_at f.access.strings) (section_at reading.rows_at f.boundary.strings) (reads_pin_map f.pin_map) (reads_opcodes f.opcodes.strings) (reads_capture f.capture.strings) (reads_idcode f.idcode) (reads_access f.access.strings) (reads_rows f.boundary.strings) h in
+    let w = go (section_at reading.pin_map_at f.pin_map) (section_at reading.opcodes_at f.opcodes.strings) (section_at reading.bits_at f.capture.strings) (reading.optional_code_at f.idcode) (reading.optional_code_at f.usercode) (section_at reading.accesses_at f.access.strings) (section_at reading.rows_at f.boundary.strings) (reads_pin_map f.pin_map) (reads_opcodes f.opcodes.strings) (reads_capture f.capture.strings) (reads_optional f.idcode) (reads_optional f.usercode) (reads_access f.access.strings) (reads_rows f.boundary.strings) h in
     record { before = w.before; section = s; behind = w.behind; order = w.order; right = w.right; wrong = w.wrong; there = refl }
   where
     First : faults.StringSection → Type 0
     First t = FirstWrong f t
 
-    go : (p : Option (List PinEntry)) (o : Option (List OpcodeEntry)) (k : Option Bits) (i : Option (Option ℕ)) (a : Option (List AccessEntry)) (r : Option (List RowEntry)) → Reads (HoldPinMap f.pin_map) p → Reads (HoldOpcodes f.opcodes.strings) o → Reads (HoldCapture f.capture.strings) k → Reads (HoldIdcode f.idcode) i → Reads (HoldAccess f.access.strings) a → Reads (HoldRows f.boundary.strings) r → contents_from p o k i a r ≡ Err s → FirstWrong f s
-    go None o k i a r rp ro rk ri ra rr h =
+    go : (p : Option (List PinEntry)) (o : Option (List OpcodeEntry)) (k : Option Bits) (i u : Option (Option ℕ)) (a : Option (List AccessEntry)) (r : Option (List RowEntry)) → Reads (HoldPinMap f.pin_map) p → Reads (HoldOpcodes f.opcodes.strings) o → Reads (HoldCapture f.capture.strings) k → Reads (HoldIdcode f.idcode) i → Reads (HoldIdcode f.usercode) u → Reads (HoldAccess f.access.strings) a → Reads (HoldRows f.boundary.strings) r → contents_from p o k i u a r ≡ Err s → FirstWrong f s
+    go None o k i u a r rp ro rk ri ru ra rr h =
         let same : faults.PinMap ≡ s = cc in
-        subst First same (record { before = []; behind = faults.Opcodes ∷ faults.Capture ∷ faults.Idcode ∷ faults.Access ∷ faults.Rows ∷ []; order = refl; right = tt; wrong = wrong_at None rp refl })
-    go (Some p) None k i a r rp ro rk ri ra rr h =
+        subst First same (record { before = []; behind = faults.Opcodes ∷ faults.Capture ∷ faults.Idcode ∷ faults.Usercode ∷ faults.Access ∷ faults.Rows ∷ []; order = refl; right = tt; wrong = wrong_at None rp refl })
+    go (Some p) None k i u a r rp ro rk ri ru ra rr h =
         let same : faults.Opcodes ≡ s = cc in
-        subst First same (record { before = faults.PinMap ∷ []; behind = faults.Capture ∷ faults.Idcode ∷ faults.Access ∷ faults.Rows ∷ []; order = refl; right = ((p, rp.sound p refl), tt); wrong = wrong_at None ro refl })
-    go (Some p) (Some o) None i a r rp ro rk ri ra rr h =
+        subst First same (record { before = faults.PinMap ∷ []; behind = faults.Capture ∷ faults.Idcode ∷ faults.Usercode ∷ faults.Access ∷ faults.Rows ∷ []; order = refl; right = ((p, rp.sound p refl), tt); wrong = wrong_at None ro refl })
+    go (Some p) (Some o) None i u a r rp ro rk ri ru ra rr h =
         let same : faults.Capture ≡ s = cc in
-        subst First same (record { before = faults.PinMap ∷ faults.Opcodes ∷ []; behind = faults.Idcode ∷ faults.Access ∷ faults.Rows ∷ []; order = refl; right = ((p, rp.sound p refl), ((o, ro.sound o refl), tt)); wrong = wrong_at None rk refl })
-    go (Some p) (Some o) (Some k) None a r rp ro rk ri ra rr h =
+        subst First same (record { before = faults.PinMap ∷ faults.Opcodes ∷ []; behind = faults.Idcode ∷ faults.Usercode ∷ faults.Access ∷ faults.Rows ∷ []; order = refl; right = ((p, rp.sound p refl), ((o, ro.sound o refl), tt)); wrong = wrong_at None rk refl })
+    go (Some p) (Some o) (Some k) None u a r rp ro rk ri ru ra rr h =
         let same : faults.Idcode ≡ s = cc in
-        subst First same (record { before = faults.PinMap ∷ faults.Opcodes ∷ faults.Capture ∷ []; behind = faults.Access ∷ faults.Rows ∷ []; order = refl; right = ((p, rp.sound p refl), ((o, ro.sound o refl), ((k, rk.sound k refl), tt))); wrong = wrong_at None ri refl })
-    go (Some p) (Some o) (Some k) (Some i) None r rp ro rk ri ra rr h =
+        subst First same (record { before = faults.PinMap ∷ faults.Opcodes ∷ faults.Capture ∷ []; behind = faults.Usercode ∷ faults.Access ∷ faults.Rows ∷ []; order = refl; right = ((p, rp.sound p refl), ((o, ro.sound o refl), ((k, rk.sound k refl), tt))); wrong = wrong_at None ri refl })
+    go (Some p) (Some o) (Some k) (Some i) None a r rp ro rk ri ru ra rr h =
+        let same : faults.Usercode ≡ s = cc in
+        subst First same (record { before = faults.PinMap ∷ faults.Opcodes ∷ faults.Capture ∷ faults.Idcode ∷ []; behind = faults.Access ∷ faults.Rows ∷ []; order = refl; right = ((p, rp.sound p refl), ((o, ro.sound o refl), ((k, rk.sound k refl), ((i, ri.sound i refl), tt)))); wrong = wrong_at None ru refl })
+    go (Some p) (Some o) (Some k) (Some i) (Some u) None r rp ro rk ri ru ra rr h =
         let same : faults.Access ≡ s = cc in
-        subst First same (record { before = faults.PinMap ∷ faults.Opcodes ∷ faults.Capture ∷ faults.Idcode ∷ []; behind = faults.Rows ∷ []; order = refl; right = ((p, rp.sound p refl), ((o, ro.sound o refl), ((k, rk.sound k refl), ((i, ri.sound i refl), tt)))); wrong = wrong_at None ra refl })
-    go (Some p) (Some o) (Some k) (Some i) (Some a) None rp ro rk ri ra rr h =
+        subst First same (record { before = faults.PinMap ∷ faults.Opcodes ∷ faults.Capture ∷ faults.Idcode ∷ faults.Usercode ∷ []; behind = faults.Rows ∷ []; order = refl; right = ((p, rp.sound p refl), ((o, ro.sound o refl), ((k, rk.sound k refl), ((i, ri.sound i refl), ((u, ru.sound u refl), tt))))); wrong = wrong_at None ra refl })
+    go (Some p) (Some o) (Some k) (Some i) (Some u) (Some a) None rp ro rk ri ru ra rr h =
         let same : faults.Rows ≡ s = cc in
-        subst First same (record { before = faults.PinMap ∷ faults.Opcodes ∷ faults.Capture ∷ faults.Idcode ∷ faults.Access ∷ []; behind = []; order = refl; right = ((p, rp.sound p refl), ((o, ro.sound o refl), ((k, rk.sound k refl), ((i, ri.sound i refl), ((a, ra.sound a refl), tt))))); wrong = wrong_at None rr refl })
-    go (Some p) (Some o) (Some k) (Some i) (Some a) (Some r) rp ro rk ri ra rr h = absurd (cc)
+        subst First same (record { before = faults.PinMap ∷ faults.Opcodes ∷ faults.Capture ∷ faults.Idcode ∷ faults.Usercode ∷ faults.Access ∷ []; behind = []; order = refl; right = ((p, rp.sound p refl), ((o, ro.sound o refl), ((k, rk.sound k refl), ((i, ri.sound i refl), ((u, ru.sound u refl), ((a, ra.sound a refl), tt)))))); wrong = wrong_at None rr refl })
+    go (Some p) (Some o) (Some k) (Some i) (Some u) (Some a) (Some r) rp ro rk ri ru ra rr h = absurd (cc)

@@ -30,6 +30,7 @@ section_of section.PinMap = faults.PinMap
 section_of section.Opcodes = faults.Opcodes
 section_of section.Capture = faults.Capture
 section_of section.Idcode = faults.Idcode
+section_of section.Usercode = faults.Usercode
 section_of section.Access = faults.Access
 section_of section.Rows = faults.Rows
 

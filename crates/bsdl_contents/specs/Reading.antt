@@ -223,16 +223,17 @@ optional_code_at None = Some None
 optional_code_at (Some a) = option_map something (section_at code_at a.strings)
 
 -- The contents that sections hold, or the first that holds none.
-abbrev pub contents_from : Option (List PinEntry) → Option (List OpcodeEntry) → Option Bits → Option (Option ℕ) → Option (List AccessEntry) → Option (List RowEntry) → Result Contents faults.StringSection
-contents_from None o k i a r = Err faults.PinMap
-contents_from (Some p) None k i a r = Err faults.Opcodes
-contents_from (Some p) (Some o) None i a r = Err faults.Capture
-contents_from (Some p) (Some o) (Some k) None a r = Err faults.Idcode
-contents_from (Some p) (Some o) (Some k) (Some i) None r = Err faults.Access
-contents_from (Some p) (Some o) (Some k) (Some i) (Some a) None = Err faults.Rows
-contents_from (Some p) (Some o) (Some k) (Some i) (Some a) (Some r) = Ok (record { pin_map = p; opcodes = o; capture = k; idcode = i; access = a; rows = r })
+abbrev pub contents_from : Option (List PinEntry) → Option (List OpcodeEntry) → Option Bits → Option (Option ℕ) → Option (Option ℕ) → Option (List AccessEntry) → Option (List RowEntry) → Result Contents faults.StringSection
+contents_from None o k i u a r = Err faults.PinMap
+contents_from (Some p) None k i u a r = Err faults.Opcodes
+contents_from (Some p) (Some o) None i u a r = Err faults.Capture
+contents_from (Some p) (Some o) (Some k) None u a r = Err faults.Idcode
+contents_from (Some p) (Some o) (Some k) (Some i) None a r = Err faults.Usercode
+contents_from (Some p) (Some o) (Some k) (Some i) (Some u) None r = Err faults.Access
+contents_from (Some p) (Some o) (Some k) (Some i) (Some u) (Some a) None = Err faults.Rows
+contents_from (Some p) (Some o) (Some k) (Some i) (Some u) (Some a) (Some r) = Ok (record { pin_map = p; opcodes = o; capture = k; idcode = i; usercode = u; access = a; rows = r })
 
 abbrev pub contents_at : File → Result Contents faults.StringSection
 contents_at f =
     contents_from (section_at pin_map_at f.pin_map) (section_at opcodes_at f.opcodes.strings) (section_at bits_at f.capture.strings)
-    (optional_code_at f.idcode) (section_at accesses_at f.access.strings) (section_at rows_at f.boundary.strings)
+    (optional_code_at f.idcode) (optional_code_at f.usercode) (section_at accesses_at f.access.strings) (section_at rows_at f.boundary.strings)

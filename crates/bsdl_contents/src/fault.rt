@@ -40,6 +40,7 @@ pub enum HeldSection {
     Opcodes,
     Capture,
     Idcode,
+    Usercode,
     Access,
     Rows,
 }

@@ -25,9 +25,13 @@ fn contents(alloc: Global, file: &File) -> Result<Contents, ContentsFault>
         Ok(bits) => bits,
         Err(fault) => return Err(fault.at(HeldSection::Capture)),
     };
-    let idcode = match sections::idcode(alloc, &file.idcode) {
+    let idcode = match sections::optional_code(alloc, &file.idcode) {
         Ok(code) => code,
         Err(fault) => return Err(fault.at(HeldSection::Idcode)),
+    };
+    let usercode = match sections::optional_code(alloc, &file.usercode) {
+        Ok(code) => code,
+        Err(fault) => return Err(fault.at(HeldSection::Usercode)),
     };
     let access = match sections::accesses(alloc, file.access.strings.as_slice()) {
         Ok(entries) => entries,
@@ -42,6 +46,7 @@ fn contents(alloc: Global, file: &File) -> Result<Contents, ContentsFault>
         opcodes,
         capture,
         idcode,
+        usercode,
         access,
         rows,
     })

@@ -72,7 +72,10 @@ fn code(alloc: Global, strings: &[Text]) -> Result<u32, PartFault>
 }
 
 /// The code where there is the attribute, and none elsewhere.
-pub fn idcode(alloc: Global, attribute: &Option<StringAttribute>) -> Result<Option<u32>, PartFault>
+pub fn optional_code(
+    alloc: Global,
+    attribute: &Option<StringAttribute>,
+) -> Result<Option<u32>, PartFault>
     ensures { Tells result (reading.optional_code_at attribute.now) }
 {
     match attribute {
