@@ -3,3 +3,4 @@ pub mod Latches
 pub mod Matches
 pub mod Selections
 pub mod Stages
+pub mod Copies

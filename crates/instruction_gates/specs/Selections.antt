@@ -6,7 +6,7 @@ use Rattle.signal_values.specs.Values.{bit}
 use Rattle.cell_library.specs.declared.codes.Bits.{Bits}
 use Rattle.cell_library.specs.declared.codes.Opcode.{Opcode}
 use Rattle.cell_library.specs.declared.codes.Instr.{Instr}
-use Rattle.cell_library.specs.declared.codes.Instr.TheVariants.{Extest, Sample, Preload, Idcode, Highz, Clamp}
+use Rattle.cell_library.specs.declared.codes.Instr.TheVariants.{Extest, Sample, Preload, Idcode, Highz, Clamp, Usercode}
 use Rattle.netlist_model.specs.declared.NetId.{NetId}
 use Rattle.netlist_model.specs.declared.Feed.{Feed}
 use Rattle.netlist_model.specs.declared.Feed.TheVariants.{Net}
@@ -22,7 +22,7 @@ use Rattle.test_logic.specs.declared.InstrNets.{InstrNets}
 use Rattle.test_logic.specs.declared.TapNets.{TapNets}
 use Rattle.test_logic.specs.declared.TapState.{TapState}
 use Rattle.test_logic.specs.declared.TapState.TheVariants.{CaptureDr, ShiftDr, UpdateDr}
-use Rattle.test_logic.specs.Instructions.{mode_of, is_extest, pattern, opcode_of, is_opcode, instruction_of}
+use Rattle.test_logic.specs.Instructions.{mode_of, is_extest, is_usercode, pattern, opcode_of, is_opcode, instruction_of}
 use Rattle.tap_gates.specs.Controller.{same_state}
 use Rattle.tap_gates.specs.Laws.{ShowsState}
 use Rattle.instruction_gates.specs.declared.selections.Matched.{Matched}
@@ -30,20 +30,22 @@ use Rattle.instruction_gates.specs.declared.selections.TheConstants.{SELECTIONS}
 
 -- own: what is handed in
 abbrev pub selections_given : TapNets → Matched → List Feed
-selections_given tap matched = matched.extest ∷ matched.sample ∷ matched.preload ∷ matched.idcode ∷ matched.highz ∷ matched.clamp
+selections_given tap matched = matched.extest ∷ matched.sample ∷ matched.preload ∷ matched.idcode ∷ matched.highz ∷ matched.clamp ∷ matched.usercode
     ∷ Net tap.capture_dr ∷ Net tap.shift_dr ∷ Net tap.update_dr ∷ []
 
 -- own: the cells, from this cell number on, on the nets from `first` on
 abbrev pub selections_cells : ℕ → ℕ → TapNets → Matched → List CellView
 selections_cells first number tap matched = part_cells SELECTIONS (selections_given tap matched) first number
 
--- own: the nets that are handed on
+-- own: the nets that are handed on; the latched opcode is copied onto those behind them
 abbrev pub selection_nets : ℕ → TapNets → NetId → InstrNets
 selection_nets first tap last = record {
   last = last;
   bypass_on = record { 0 = first + 1 };
   ident_on = record { 0 = first + 2 };
+  user_on = record { 0 = first + 9 };
   boundary_on = record { 0 = first };
+  opcode = record { 0 = first + 10 };
   scan = record {
     tck = tap.tck;
     trst = tap.trst;
@@ -65,6 +67,7 @@ pub record Tells (matched : Matched) (named : Instr → Bool) (m : Moment) : Typ
   pub idcode : feed_value m.value matched.idcode ≡ bit (named Idcode)
   pub highz : feed_value m.value matched.highz ≡ bit (named Highz)
   pub clamp : feed_value m.value matched.clamp ≡ bit (named Clamp)
+  pub usercode : feed_value m.value matched.usercode ≡ bit (named Usercode)
 
 abbrev pub is_sampling : Instr → Bool
 is_sampling Sample = true
@@ -83,6 +86,7 @@ pub record AreApart (opcodes : List Opcode) : Type 0 where
 pub record Selected (nets : InstrNets) (i : Instr) (w : TapState) (m : Moment) : Type 0 where
   pub bypass_on : m.value nets.bypass_on.0 ≡ bit (is_register register.Bypass (selected_register i))
   pub ident_on : m.value nets.ident_on.0 ≡ bit (is_register register.DeviceId (selected_register i))
+  pub user_on : m.value nets.user_on.0 ≡ bit (is_usercode i)
   pub boundary_on : m.value nets.boundary_on.0 ≡ bit (is_register register.Boundary (selected_register i))
   pub capture : m.value nets.scan.capture.0 ≡ bit (is_register register.Boundary (selected_register i) && same_state CaptureDr w)
   pub shift : m.value nets.scan.shift.0 ≡ bit (is_register register.Boundary (selected_register i) && same_state ShiftDr w)

@@ -1,3 +1,4 @@
+ghost use Rattle.instruction_gates.specs.Copies.{CopiesTell};
 ghost use Rattle.instruction_gates.specs.Latches.{LatchesFollow};
 ghost use Rattle.instruction_gates.specs.Matches.{MatchesTell};
 ghost use Rattle.instruction_gates.specs.Selections.{SelectionsTell};
@@ -20,6 +21,14 @@ pub fn latches_follow()
 /// And what tells whether an opcode is latched tells so, where the latched bits are known.
 pub fn matches_tell()
     ensures { MatchesTell }
+{
+    contained_parts();
+    contained_part_meets();
+}
+
+/// And the copies carry what is latched.
+pub fn copies_tell()
+    ensures { CopiesTell }
 {
     contained_parts();
     contained_part_meets();

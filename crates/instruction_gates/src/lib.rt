@@ -2,27 +2,32 @@
 // Contracts cite specs/: Latches, Matches and Selections have the cells, and what they do in every netlist that contains them.
 // IEEE Std 1149.1-2001: instruction register.
 //
-// - `add_stages`, `add_latches`, `add_match` and `add_selections` append exactly their cells: 1 + 6n, 3n, 2n an
-//   opcode, and 9, for n bits.
+// - `add_stages`, `add_latches`, `add_match`, `add_selections` and `add_copies` append exactly their cells: 1 + 6n,
+//   3n, 2n an opcode, 10, and n, for n bits.
 // - At each moment of a run the shift stage and the latched opcode are the test logic's, for any length
 //   (`stages_follow`); where the latched bits are known, the match of an opcode is whether it is latched
 //   (`matches_tell`); from these come the selected register, the modes and the nets of the boundary register, of
-//   the instruction in effect (`selections_tell`).
+//   the instruction in effect, and whether it is USERCODE (`selections_tell`).
+// - The copies carry the latched opcode on nets one behind another, bit 0 first (`copies_tell`).
 // - An event takes the two stages to those of the test logic after it, whatever they held (`stages_step`).
-// By the contract of the four calls and their laws.
+// By the contract of the five calls and their laws.
 #![tactic(auto)]
 
 ghost use Rattle.std.specs.Prelude.{◌≡◌};
 ghost use Rattle.instruction_gates.specs.Rows.{is_one};
 
+mod copies;
 mod latches;
 mod laws;
 mod matches;
 mod selections;
 mod stages;
 
+pub use copies::{COPY, add_copies};
 pub use latches::{LOADED, Latching, add_latches};
-pub use laws::{latches_follow, matches_tell, selections_tell, stages_follow, stages_step};
+pub use laws::{
+    copies_tell, latches_follow, matches_tell, selections_tell, stages_follow, stages_step,
+};
 pub use matches::{EQUAL_BIT, add_match};
 use netlist_model::Feed;
 pub use selections::{Matched, SELECTIONS, add_selections};

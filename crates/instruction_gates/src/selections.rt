@@ -23,22 +23,23 @@ pub struct Matched {
     pub idcode: Feed,
     pub highz: Feed,
     pub clamp: Feed,
+    pub usercode: Feed,
 }
 
-/// What is selected. Handed in are whether the opcodes of EXTEST, SAMPLE, PRELOAD, IDCODE, HIGHZ and CLAMP are latched, and
+/// What is selected. Handed in are whether the opcodes of EXTEST, SAMPLE, PRELOAD, IDCODE, HIGHZ, CLAMP and USERCODE are latched, and
 /// Capture-DR, Shift-DR and Update-DR.
-pub const SELECTIONS: [Gate; 9] = [
+pub const SELECTIONS: [Gate; 10] = [
     Gate {
         kind: Kind::Or,
         pins: Pins::Three(Pin::Given(0), Pin::Given(1), Pin::Given(2)),
     }, // 0: the boundary register
     Gate {
         kind: Kind::Nor,
-        pins: Pins::Two(Pin::Own(0), Pin::Given(3)),
+        pins: Pins::Two(Pin::Own(0), Pin::Own(2)),
     }, // 1: the bypass register, where no other is
     Gate {
-        kind: Kind::Buf,
-        pins: Pins::One(Pin::Given(3)),
+        kind: Kind::Or,
+        pins: Pins::Two(Pin::Given(3), Pin::Given(6)),
     }, // 2: the identification register
     Gate {
         kind: Kind::Buf,
@@ -54,20 +55,24 @@ pub const SELECTIONS: [Gate; 9] = [
     }, // 5: outputs are inactive
     Gate {
         kind: Kind::And,
-        pins: Pins::Two(Pin::Own(0), Pin::Given(6)),
+        pins: Pins::Two(Pin::Own(0), Pin::Given(7)),
     }, // 6: the boundary register captures
     Gate {
         kind: Kind::And,
-        pins: Pins::Two(Pin::Own(0), Pin::Given(7)),
+        pins: Pins::Two(Pin::Own(0), Pin::Given(8)),
     }, // 7: it shifts
     Gate {
         kind: Kind::And,
-        pins: Pins::Two(Pin::Own(0), Pin::Given(8)),
+        pins: Pins::Two(Pin::Own(0), Pin::Given(9)),
     }, // 8: it updates
+    Gate {
+        kind: Kind::Buf,
+        pins: Pins::One(Pin::Given(6)),
+    }, // 9: USERCODE
 ];
 
 /// Adds to a dense netlist what the instruction in effect selects, and answers its nets, with the bit of the shift stage nearest TDO.
-/// It takes 9 cells and nets of the room that is there.
+/// It takes 10 cells and nets of the room that is there; the nets of the opcode are those behind them, for `add_copies`.
 pub fn add_selections(
     netlist: &mut Netlist,
     tap: &TapNets,
@@ -75,12 +80,12 @@ pub fn add_selections(
     last: NetId,
 ) -> InstrNets
     requires dense { IsDense netlist.old.lists }
-    requires nets { 9 ≤ netlist.old.spare.nets }
-    requires cells { 9 ≤ netlist.old.spare.cells }
+    requires nets { 10 ≤ netlist.old.spare.nets }
+    requires cells { 10 ≤ netlist.old.spare.cells }
     requires given { AreFeedsBelow (length netlist.old.lists.nets)
         (selections_given tap.now matched.now) }
     ensures nets { result ≡ selection_nets (length netlist.old.lists.nets) tap.now last }
-    ensures added { Appended netlist.old netlist.new 9
+    ensures added { Appended netlist.old netlist.new 10
         (selections_cells (length netlist.old.lists.nets) (cell_count netlist.old.lists) tap.now matched.now) }
     ensures dense { IsDense netlist.new.lists }
 {
@@ -91,6 +96,7 @@ pub fn add_selections(
         matched.idcode,
         matched.highz,
         matched.clamp,
+        matched.usercode,
         Feed::Net(tap.capture_dr),
         Feed::Net(tap.shift_dr),
         Feed::Net(tap.update_dr),
@@ -100,7 +106,9 @@ pub fn add_selections(
         last,
         bypass_on: NetId(first + 1),
         ident_on: NetId(first + 2),
+        user_on: NetId(first + 9),
         boundary_on: NetId(first),
+        opcode: NetId(first + 10),
         scan: ScanNets {
             tck: tap.tck,
             trst: tap.trst,

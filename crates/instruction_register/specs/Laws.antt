@@ -20,6 +20,7 @@ use Rattle.test_logic.specs.Registers.{first_bit}
 use Rattle.test_logic.specs.Machine.{TestLogic, Machine, AreCodes, IsHistory, in_effect}
 use Rattle.tap_gates.specs.Laws.{ShowsState}
 use Rattle.register_bits.specs.Laws.{Carries}
+use Rattle.instruction_gates.specs.Copies.{row_values}
 use Rattle.instruction_gates.specs.Selections.{AreApart, Selected}
 use Rattle.instruction_register.specs.Register.{instruction_cells, instruction_nets, held_shift, held_opcode}
 
@@ -41,10 +42,11 @@ pub record IsFed (tap : TapNets) (tdi : NetId) (levels : Levels) (w : TapState) 
   pub shows : ShowsState tap w m
   pub data_in : m.value tdi.0 ≡ bit levels.tdi
 
--- own: its two stages hold what the test logic holds, and its nets tell what the instruction in effect selects
+-- own: its two stages hold what the test logic holds, and its nets carry the latched opcode and tell what the instruction in effect selects
 pub record Follows (first : ℕ) (tap : TapNets) (tdi : NetId) (codes : Codes) (L : TestLogic) (machine : Machine) (m : Moment) : Type 0 where
   pub shift : held_shift m.value first codes ≡ machine.shift
   pub latched : held_opcode m.value first codes ≡ machine.latched
+  pub opcode : row_values m.value (instruction_nets first tap tdi codes).opcode.0 codes.length ≡ machine.latched
   pub last : m.value (instruction_nets first tap tdi codes).last.0 ≡ first_bit machine.shift
   pub selected : Selected (instruction_nets first tap tdi codes) (in_effect L machine) machine.state m
 

@@ -4,7 +4,7 @@ use Rattle.std.specs.Prelude.{ℕ, ◌+◌, ◌*◌, false, List, [], ◌∷◌,
 use Rattle.signal_values.specs.declared.Sig.{Sig}
 use Rattle.cell_library.specs.declared.codes.Bits.{Bits}
 use Rattle.cell_library.specs.declared.codes.Instr.{Instr}
-use Rattle.cell_library.specs.declared.codes.Instr.TheVariants.{Extest, Sample, Preload, Idcode, Highz, Clamp}
+use Rattle.cell_library.specs.declared.codes.Instr.TheVariants.{Extest, Sample, Preload, Idcode, Highz, Clamp, Usercode}
 use Rattle.netlist_model.specs.declared.NetId.{NetId}
 use Rattle.netlist_model.specs.declared.Feed.{Feed}
 use Rattle.netlist_model.specs.declared.Feed.TheVariants.{Const}
@@ -17,6 +17,7 @@ use Rattle.test_logic.specs.Instructions.{opcode_of}
 use Rattle.register_bits.specs.Chains.{chain_last}
 use Rattle.register_gates.specs.Constants.{constant_bits}
 use Rattle.instruction_gates.specs.declared.selections.Matched.{Matched}
+use Rattle.instruction_gates.specs.Copies.{copies_cells}
 use Rattle.instruction_gates.specs.Matches.{match_before, matches_cells}
 use Rattle.instruction_gates.specs.Selections.{selections_cells, selection_nets}
 use Rattle.instruction_gates.specs.Stages.{stages_cells, shift_list, latched_list}
@@ -57,7 +58,7 @@ opcode_told first codes i = told_with first codes (opcode_of codes.opcodes i)
 
 -- own: whose opcodes are told, in this order; BYPASS is in effect where no other is
 abbrev pub matched_instructions : List Instr
-matched_instructions = Extest ∷ Sample ∷ Preload ∷ Idcode ∷ Highz ∷ Clamp ∷ []
+matched_instructions = Extest ∷ Sample ∷ Preload ∷ Idcode ∷ Highz ∷ Clamp ∷ Usercode ∷ []
 
 abbrev pub opcodes_size : Codes → List Instr → ℕ
 opcodes_size codes [] = 0
@@ -75,6 +76,7 @@ opcodes_told first codes =
     let idcode : ℕ = preload + opcode_size codes Preload in
     let highz : ℕ = idcode + opcode_size codes Idcode in
     let clamp : ℕ = highz + opcode_size codes Highz in
+    let usercode : ℕ = clamp + opcode_size codes Clamp in
     record {
       extest = opcode_told first codes Extest;
       sample = opcode_told sample codes Sample;
@@ -82,6 +84,7 @@ opcodes_told first codes =
       idcode = opcode_told idcode codes Idcode;
       highz = opcode_told highz codes Highz;
       clamp = opcode_told clamp codes Clamp;
+      usercode = opcode_told usercode codes Usercode;
     }
 
 -- own: what is told is constant, or stands on nets with numbers below this one
@@ -92,6 +95,7 @@ pub record AreToldBelow (nets : ℕ) (matched : Matched) : Type 0 where
   pub idcode : IsFeedBelow nets matched.idcode
   pub highz : IsFeedBelow nets matched.highz
   pub clamp : IsFeedBelow nets matched.clamp
+  pub usercode : IsFeedBelow nets matched.usercode
 
 -- The whole register.
 
@@ -102,16 +106,20 @@ opcodes_from first codes = first + stages_size codes
 abbrev pub selections_from : ℕ → Codes → ℕ
 selections_from first codes = opcodes_from first codes + opcodes_size codes matched_instructions
 
+abbrev pub copies_from : ℕ → Codes → ℕ
+copies_from first codes = selections_from first codes + 10
+
 -- own: how many nets and cells it takes
 abbrev pub instruction_size : Codes → ℕ
-instruction_size codes = stages_size codes + (opcodes_size codes matched_instructions + 9)
+instruction_size codes = stages_size codes + (opcodes_size codes matched_instructions + (10 + codes.length))
 
 -- own: its cells, from this cell number on, on the nets from `first` on
 abbrev pub instruction_cells : ℕ → ℕ → TapNets → NetId → Codes → List CellView
 instruction_cells first number tap tdi codes =
     stages_cells first number tap tdi (pattern_bits codes codes.capture) (pattern_bits codes codes.reset)
     ++ (opcodes_cells (opcodes_from first codes) (opcodes_from number codes) (latches_from first codes) codes matched_instructions
-    ++ selections_cells (selections_from first codes) (selections_from number codes) tap (opcodes_told (opcodes_from first codes) codes))
+    ++ (selections_cells (selections_from first codes) (selections_from number codes) tap (opcodes_told (opcodes_from first codes) codes)
+    ++ copies_cells (copies_from first codes) (copies_from number codes) (latches_from first codes) codes.length))
 
 -- own: the nets that it hands on
 abbrev pub instruction_nets : ℕ → TapNets → NetId → Codes → InstrNets

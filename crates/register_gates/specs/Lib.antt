@@ -1,4 +1,5 @@
 pub mod Constants
+pub mod Choices
 pub mod Registers
 pub mod Steps
 pub mod Laws

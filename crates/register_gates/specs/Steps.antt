@@ -13,7 +13,7 @@ use Rattle.bsdl_device.specs.Instructions.{selected_register}
 use Rattle.test_logic.specs.declared.Levels.{Levels}
 use Rattle.test_logic.specs.Instructions.{reset_opcode}
 use Rattle.test_logic.specs.Registers.{first_bit, shifted_after, bypass_after, ident_after, latched_after, tdo_after}
-use Rattle.test_logic.specs.Machine.{TestLogic, Machine, zeros, in_effect, selects, bit_of, machine_step}
+use Rattle.test_logic.specs.Machine.{TestLogic, Machine, zeros, in_effect, selects, bit_of, captured_code, machine_step}
 use Rattle.register_bits.specs.Laws.{bit_after}
 
 pub record RegistersStep (L : TestLogic) (before after : Levels) (captured : List Sig) (m : Machine) : Type 0 where
@@ -24,7 +24,7 @@ pub record RegistersStep (L : TestLogic) (before after : Levels) (captured : Lis
   pub bypass : (machine_step L before after captured m).bypass
       ≡ bit_after before after Zero (bypass_after (selects L m register.Bypass) m.state (bit before.tdi) m.bypass) m.bypass m.bypass
   pub ident : (machine_step L before after captured m).ident
-      ≡ bit_after before after (zeros L.code) (ident_after (selects L m register.DeviceId) L.code m.state (bit before.tdi) m.ident) m.ident m.ident
+      ≡ bit_after before after (zeros L.code) (ident_after (selects L m register.DeviceId) (captured_code (in_effect L m) L) m.state (bit before.tdi) m.ident) m.ident m.ident
   pub tdo : (machine_step L before after captured m).tdo
       ≡ bit_after before after HighZ m.tdo (tdo_after m.state (bit_of (selected_register (in_effect L m)) m) (first_bit m.shift)) m.tdo
 

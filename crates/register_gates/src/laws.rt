@@ -1,5 +1,6 @@
-ghost use Rattle.register_gates.specs.Laws.{BypassFollows, IdentFollows};
+ghost use Rattle.register_gates.specs.Laws.{BypassFollows, DataFollows, IdentFollows};
 ghost use Rattle.register_gates.specs.Tdo.{TdoFollows, TdoLetsGo};
+ghost use Rattle.register_gates.specs.Choices.{ChoicesAreBits};
 ghost use Rattle.register_gates.specs.Constants.{ConstantsAreBits};
 ghost use Rattle.register_gates.specs.Steps.{AddedInTurn, StepsByRegister};
 
@@ -20,13 +21,22 @@ pub fn bypass_follows()
     moments_of_a_run();
 }
 
-/// And so is the identification register.
+/// A register of any length captures what it is fed, shifts or keeps, as the test logic says.
+pub fn data_registers_follow()
+    ensures { DataFollows }
+{
+    contained_parts();
+    contained_part_meets();
+    chains_follow();
+}
+
+/// The identification register is that of the test logic.
 pub fn ident_follows()
     ensures { IdentFollows }
 {
     contained_parts();
     contained_part_meets();
-    chains_follow();
+    data_registers_follow();
     moments_of_a_run();
 }
 
@@ -59,6 +69,11 @@ pub fn tdo_lets_go()
 /// Constants have the values of their bits, and are as many.
 pub fn constants_are_bits()
     ensures { ConstantsAreBits }
+{}
+
+/// The bits of two numbers have the values of the one that is chosen, and are as many.
+pub fn choices_are_bits()
+    ensures { ChoicesAreBits }
 {}
 
 /// What each register of the test logic holds after a step.

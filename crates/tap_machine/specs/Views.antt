@@ -28,7 +28,7 @@ nearest register.Bypass d = d.bypass
 nearest register.DeviceId d = first_bit d.ident.items
 
 abbrev pub logic_of : Logic → definition.TestLogic
-logic_of l = record { opcodes = l.opcodes.items; capture = l.capture.items; code = l.code.items; kinds = l.kinds.items }
+logic_of l = record { opcodes = l.opcodes.items; capture = l.capture.items; code = l.code.items; user = l.user.items; kinds = l.kinds.items }
 
 abbrev pub holds_of : Held → definition.Machine
 holds_of h = record {
@@ -49,10 +49,11 @@ latched_and_updated L selected m = record m {
   update = updated_after (is_register register.Boundary selected) L.kinds m.state m.boundary m.update;
 }
 
--- the opcode kept for reset is the right one, and as long as the instruction register
+-- the opcode kept for reset is the right one, and as long as the instruction register; the usercode is as long as the code
 pub record IsLogic (l : Logic) : Type 0 where
   pub reset_is : l.reset_opcode.items ≡ reset_opcode l.opcodes.items
   pub reset_fits : length l.reset_opcode.items ≡ length l.capture.items
+  pub user_fits : length l.user.items ≡ length l.code.items
 
 -- the registers have their lengths, and the instruction kept is the one in effect
 pub record IsHeld (l : Logic) (h : Held) : Type 0 where

@@ -103,6 +103,10 @@ impl Held {
             (holds_of self.old) }
     {
         let selected = selected_register(self.instruction);
+        let code = match self.instruction {
+            Instr::Usercode => &logic.user,
+            _ => &logic.code,
+        };
         act(
             ir_action(self.state),
             self.shift.as_mut_slice(),
@@ -110,7 +114,7 @@ impl Held {
             tdi,
         );
         self.data
-            .rise(selected, self.state, tdi, logic.code.as_slice(), captured);
+            .rise(selected, self.state, tdi, code.as_slice(), captured);
         self.state = state_after(self.state, tms);
     }
 

@@ -1,7 +1,7 @@
 // What a device fixes of its test logic.
 
-ghost use Rattle.std.specs.Prelude.{◌≡◌, map, IfOk};
-ghost use Rattle.test_logic.specs.Machine.{code_bits, test_logic_of};
+ghost use Rattle.std.specs.Prelude.{◌≡◌, length, map, IfOk};
+ghost use Rattle.test_logic.specs.Machine.{code_bits, user_bits, test_logic_of};
 ghost use Rattle.tap_machine.specs.Views.{LatchesWhole, IsLogic, logic_of};
 
 use crate::opcodes::reset_opcode;
@@ -19,8 +19,9 @@ pub struct Logic {
     // The pattern that the instruction register captures, and the opcode that reset latches.
     pub capture: Vec<Sig>,
     pub reset_opcode: Vec<Sig>,
-    // The code of the identification register, if there is one.
+    // The code of the identification register, if there is one, and what it captures under USERCODE.
     pub code: Vec<Sig>,
+    pub user: Vec<Sig>,
     pub kinds: Vec<BoundaryKind>,
 }
 
@@ -30,6 +31,21 @@ fn code_of(alloc: Global, idcode: Option<u32>) -> Result<Vec<Sig>, OutOfMemory>
     match idcode {
         Some(code) => bits_of(alloc, 32, code),
         None => Ok(Vec::new(alloc)),
+    }
+}
+
+fn user_of(
+    alloc: Global,
+    idcode: Option<u32>,
+    usercode: Option<u32>,
+) -> Result<Vec<Sig>, OutOfMemory>
+    ensures bits { IfOk result (λ bits. bits.items ≡ user_bits idcode usercode) }
+    ensures len { IfOk result (λ bits. length bits.items ≡ length (code_bits idcode)) }
+{
+    match (idcode, usercode) {
+        (None, _) => Ok(Vec::new(alloc)),
+        (Some(_), Some(user)) => bits_of(alloc, 32, user),
+        (Some(code), None) => bits_of(alloc, 32, code),
     }
 }
 
@@ -53,6 +69,7 @@ impl Logic {
             capture: pattern(alloc, device.capture)?,
             reset_opcode: reset_opcode(alloc, opcodes)?,
             code: code_of(alloc, device.idcode)?,
+            user: user_of(alloc, device.idcode, device.usercode)?,
             kinds: kinds_of(alloc, device.cells.as_slice())?,
         })
     }

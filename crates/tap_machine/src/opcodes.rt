@@ -18,7 +18,9 @@ pub fn mode_of(instruction: Instr) -> Mode
     let (takes_updates, hiz) = match instruction {
         Instr::Extest | Instr::Clamp => (true, false),
         Instr::Highz => (true, true),
-        Instr::Sample | Instr::Preload | Instr::Bypass | Instr::Idcode => (false, false),
+        Instr::Sample | Instr::Preload | Instr::Bypass | Instr::Idcode | Instr::Usercode => {
+            (false, false)
+        }
     };
     Mode {
         m_out: takes_updates,
