@@ -91,6 +91,7 @@ fn put_together(
       linkage = linkage;
       codes = codes;
       idcode = plan.now.idcode;
+      usercode = plan.now.usercode;
       kept = kept;
     } }
 {
@@ -108,6 +109,7 @@ fn put_together(
         linkage,
         codes,
         idcode: plan.idcode,
+        usercode: plan.usercode,
         kept,
     }
 }

@@ -78,6 +78,7 @@ opcode i value = record { instr = i; bits = record { len = 2; value = value } }
 
 abbrev pub plan_of : List PinLine → Plan
 plan_of lines = record {
+  version = 1;
   entity = codes "chip";
   «package» = codes "DIP";
   prefix = codes "bs_";
@@ -91,6 +92,7 @@ plan_of lines = record {
   capture = record { len = 2; value = 1 };
   opcodes = opcode Extest 0 ∷ opcode Sample 1 ∷ opcode Preload 1 ∷ opcode Bypass 3 ∷ [];
   idcode = None;
+  usercode = None;
   control = Bc1;
   pins = lines;
   linkage = [];

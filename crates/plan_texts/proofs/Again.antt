@@ -10,11 +10,12 @@ use Rattle.std.proofs.lemmas.List.Elements.{All-nil, All-cons, All-head, All-tai
 use Rattle.list_laws.proofs.Tests.{both_true, not_false}
 use Rattle.list_laws.proofs.Options.{or_else-parts, found}
 use Rattle.cell_library.specs.declared.codes.Instr.{Instr}
+use Rattle.cell_library.specs.declared.codes.Instr.TheVariants as instr
 use Rattle.bsdl_lexicon.specs.Bytes.{is_digit}
-use Rattle.bsdl_device.specs.Instructions.{instruction_word, all_instructions}
+use Rattle.bsdl_device.specs.Instructions.{instruction_word}
 use Rattle.bsdl_device.specs.Canonical.{bits_text, pattern_text}
 use Rattle.bsdl_device.specs.Runs.{is_integer, value_after}
-use Rattle.bsdl_device.specs.Checks.{has_other_length}
+use Rattle.bsdl_device.specs.Checks.{has_instruction, has_other_length}
 use Rattle.bsdl_device.specs.declared.entries.OpcodeEntry.{OpcodeEntry}
 use Rattle.line_texts.specs.Words.{is_line_end, is_blank_byte, kept_lines}
 use Rattle.line_texts.specs.Rows.{IsWordByte, IsWord, IsRow, rows_text}
@@ -24,34 +25,35 @@ use Rattle.line_texts.proofs.Rows.{IsNumberedRow}
 use Rattle.plan_texts.specs.declared.fault.PlanFault.TheVariants as fault
 use Rattle.plan_texts.specs.declared.plan.Plan.{Plan}
 use Rattle.plan_texts.specs.declared.written.Written.{Written}
-use Rattle.plan_texts.specs.Forms.{is_length, bits_of}
-use Rattle.plan_texts.specs.Rules.{instruction_of, known, twice_fault, opcode_fault, groups_misfit, code_of, idcode_fails, idcode_fault, unknown_fault, rule_fault}
-use Rattle.plan_texts.specs.Meaning.{typed, plan_of}
-use Rattle.plan_texts.specs.Grammar.{PlanSource, OpcodeWords, GroupWords, SpellsPlan, IsOpcode, AreGroups, AreGroupsIf, IsSource, keyed, tap_words, opcode_words, idcode_words, idcode_rows, code_rows, plan_rows, entry_of, groups_of, written_of}
-use Rattle.plan_texts.specs.Canonical.{opcode_row, code_row, code_rows_of, canonical_rows, canonical_plan, IsPlan}
+use Rattle.plan_texts.specs.Forms.{is_version, is_length, bits_of}
+use Rattle.plan_texts.specs.Rules.{instructions_of, instruction_of, known, twice_fault, opcode_fault, groups_misfit, code_of, idcode_fails, idcode_fault, usercode_fails, usercode_fault, unknown_fault, rule_fault}
+use Rattle.plan_texts.specs.Meaning.{typed, value_of, plan_of}
+use Rattle.plan_texts.specs.Grammar.{PlanSource, OpcodeWords, GroupWords, SpellsPlan, IsOpcode, AreGroups, AreGroupsIf, IsUserIf, IsSource, keyed, tap_words, opcode_words, idcode_words, idcode_rows, user_rows, code_rows, plan_rows, entry_of, groups_of, written_of}
+use Rattle.plan_texts.specs.Canonical.{opcode_row, code_row, code_rows_of, user_rows_of, version_word, canonical_rows, canonical_plan, IsPlan}
 use Rattle.plan_texts.proofs.Digits.{decimal_all_digits, decimal_some, decimal_value, decimal_is_length, pattern_back, pattern_below, pattern_group, low_bits}
 
 -- a known opcode line is written from what it means
-opcode_again : (o : OpcodeWords) → IsOpcode o → (i : Instr) → instruction_of o.name ≡ Some i
+opcode_again : (profile : List Instr) (o : OpcodeWords) → IsOpcode o → (i : Instr) → instruction_of profile o.name ≡ Some i
     → opcode_row (record { instr = i; bits = bits_of o.bits }) ≡ opcode_words o
-opcode_again o is i e =
-    let name : o.name ≡ instruction_word i = (bytes_decides o.name (instruction_word i)).0 (found (λ (j : Instr). bytes_eq o.name (instruction_word j)) all_instructions i e) in
+opcode_again profile o is i e =
+    let name : o.name ≡ instruction_word i = (bytes_decides o.name (instruction_word i)).0 (found (λ (j : Instr). bytes_eq o.name (instruction_word j)) profile i e) in
     ap (λ (w : List ℕ). codes "opcode" ∷ w ∷ pattern_text (bits_of o.bits) ∷ []) (sym name)
     ∙ ap (λ (w : List ℕ). codes "opcode" ∷ o.name ∷ w ∷ []) (pattern_back o.bits is.bits)
 
-opcodes_again : (os : List OpcodeWords) → All IsOpcode os → first_in unknown_fault (map entry_of os) ≡ None → map opcode_row (filter_map typed (map entry_of os)) ≡ map opcode_words os
-opcodes_again [] each none = refl
-opcodes_again (o ∷ os) each none =
-    let t = or_else-parts (unknown_fault (entry_of o)) (first_in unknown_fault (map entry_of os)) none in
-    by (instruction_of o.name) refl t.0 (opcodes_again os (All-tail IsOpcode o os each) t.1)
+opcodes_again : (profile : List Instr) (os : List OpcodeWords) → All IsOpcode os → first_in (unknown_fault profile) (map entry_of os) ≡ None
+    → map opcode_row (filter_map (typed profile) (map entry_of os)) ≡ map opcode_words os
+opcodes_again profile [] each none = refl
+opcodes_again profile (o ∷ os) each none =
+    let t = or_else-parts (unknown_fault profile (entry_of o)) (first_in (unknown_fault profile) (map entry_of os)) none in
+    by (instruction_of profile o.name) refl t.0 (opcodes_again profile os (All-tail IsOpcode o os each) t.1)
   where
-    by : (found : Option Instr) → instruction_of o.name ≡ found → (if is_some found then None else Some (fault.PlanInstruction o.name)) ≡ None
-        → map opcode_row (filter_map typed (map entry_of os)) ≡ map opcode_words os
-        → map opcode_row (filter_map typed (entry_of o ∷ map entry_of os)) ≡ opcode_words o ∷ map opcode_words os
+    by : (found : Option Instr) → instruction_of profile o.name ≡ found → (if is_some found then None else Some (fault.PlanInstruction o.name)) ≡ None
+        → map opcode_row (filter_map (typed profile) (map entry_of os)) ≡ map opcode_words os
+        → map opcode_row (filter_map (typed profile) (entry_of o ∷ map entry_of os)) ≡ opcode_words o ∷ map opcode_words os
     by None e hidden more = absurd (cc)
     by (Some i) e hidden more =
-        let first : typed (entry_of o) ≡ Some (record { instr = i; bits = bits_of o.bits }) = ap (λ (f : Option Instr). option_map (λ j. record { instr = j; bits = bits_of o.bits }) f) e in
-        rw first (ap (λ (w : List (List ℕ)). w ∷ map opcode_row (filter_map typed (map entry_of os))) (opcode_again o (All-head IsOpcode o os each) i e)
+        let first : typed profile (entry_of o) ≡ Some (record { instr = i; bits = bits_of o.bits }) = ap (λ (f : Option Instr). option_map (λ j. record { instr = j; bits = bits_of o.bits }) f) e in
+        rw first (ap (λ (w : List (List ℕ)). w ∷ map opcode_row (filter_map (typed profile) (map entry_of os))) (opcode_again profile o (All-head IsOpcode o os each) i e)
         ∙ ap (λ (l : List (List (List ℕ))). opcode_words o ∷ l) more)
 
 right_length : (n : ℕ) (w : List ℕ) → has_other_length n (bits_of w) ≡ false → length w ≡ n
@@ -110,6 +112,32 @@ codes_again opcodes (Some g) are none =
     let fails : idcode_fails opcodes (Some (groups_of g)) ≡ false = failing (idcode_fails opcodes (Some (groups_of g))) none in
     ap (λ (w : List (List ℕ)). w ∷ []) (code_again g are (no_three _ (groups_misfit (groups_of g)) _ fails))
 
+failing_user : (t : Bool) → (if t then Some fault.PlanUsercode else None) ≡ None → t ≡ false
+failing_user true h = absurd (cc)
+failing_user false h = refl
+
+last_of : (a b d : Bool) → (not a || not b || d) ≡ false → d ≡ false
+last_of true true false h = refl
+last_of false b d h = absurd (cc)
+last_of true false d h = absurd (cc)
+last_of true true true h = absurd (cc)
+
+user_again : (version : ℕ) (opcodes : List OpcodeEntry) (u : Option (List ℕ)) → IsUserIf version u → usercode_fault version opcodes (option_map bits_of u) ≡ None
+    → user_rows_of (option_map value_of (option_map bits_of u)) ≡ user_rows u
+user_again version opcodes None is none = refl
+user_again version opcodes (Some bits) is none =
+    let fails : usercode_fails opcodes (Some (bits_of bits)) ≡ false
+    = sym (ap (λ (t : Bool). t && usercode_fails opcodes (Some (bits_of bits))) is.1) ∙ failing_user (version == 2 && usercode_fails opcodes (Some (bits_of bits))) none in
+    let long : length bits ≡ 32 = right_length 32 bits (last_of (has_instruction opcodes instr.Usercode) (has_instruction opcodes instr.Idcode) (has_other_length 32 (bits_of bits)) fails) in
+    ap (λ (w : List ℕ). keyed (codes "usercode") w ∷ []) (pattern_group bits 32 is.0 long)
+
+version_again : (word : List ℕ) → is_version word ≡ true → version_word (value_after 10 0 word) ≡ word
+version_again word h = by (bytes_eq word (codes "1")) refl h
+  where
+    by : (t : Bool) → bytes_eq word (codes "1") ≡ t → (t || bytes_eq word (codes "2")) ≡ true → version_word (value_after 10 0 word) ≡ word
+    by true e h = let one : word ≡ codes "1" = (bytes_decides word (codes "1")).0 e in ap (λ (w : List ℕ). version_word (value_after 10 0 w)) one ∙ sym one
+    by false e h = let two : word ≡ codes "2" = (bytes_decides word (codes "2")).0 h in ap (λ (w : List ℕ). version_word (value_after 10 0 w)) two ∙ sym two
+
 -- the source with its length as it is printed
 printed : PlanSource → PlanSource
 printed s = record s { length = decimal (value_after 10 0 s.length) }
@@ -118,13 +146,18 @@ rows_are : (s : PlanSource) → IsSource s → rule_fault (written_of s) ≡ Non
 unfolding printed
 rows_are s is rules =
     let entries = map entry_of s.opcodes in
+    let v : ℕ = value_after 10 0 s.version in
+    let profile : List Instr = instructions_of v in
     let a = or_else-parts (twice_fault entries) _ rules in
-    let b = or_else-parts (opcode_fault (value_after 10 0 s.length) (bits_of s.capture) (known entries)) _ a.1 in
-    let d = or_else-parts (idcode_fault (known entries) (option_map groups_of s.idcode)) (first_in unknown_fault entries) b.1 in
-    let opcodes : map opcode_row (filter_map typed entries) ≡ map opcode_words s.opcodes = opcodes_again s.opcodes is.opcodes d.1 in
-    let code : code_rows_of (option_map code_of (option_map groups_of s.idcode)) ≡ idcode_rows s.idcode = codes_again (known entries) s.idcode is.idcode d.0 in
+    let b = or_else-parts (opcode_fault (value_after 10 0 s.length) (bits_of s.capture) (known profile entries)) _ a.1 in
+    let d = or_else-parts (idcode_fault (known profile entries) (option_map groups_of s.idcode)) _ b.1 in
+    let f = or_else-parts (usercode_fault v (known profile entries) (option_map bits_of s.usercode)) (first_in (unknown_fault profile) entries) d.1 in
+    let opcodes : map opcode_row (filter_map (typed profile) entries) ≡ map opcode_words s.opcodes = opcodes_again profile s.opcodes is.opcodes f.1 in
+    let code : code_rows_of (option_map code_of (option_map groups_of s.idcode)) ≡ idcode_rows s.idcode = codes_again (known profile entries) s.idcode is.idcode d.0 in
+    let user : user_rows_of (option_map value_of (option_map bits_of s.usercode)) ≡ user_rows s.usercode = user_again v (known profile entries) s.usercode is.usercode f.0 in
+    let version : version_word v ≡ s.version = version_again s.version is.version in
     let capture : pattern_text (bits_of s.capture) ≡ s.capture = pattern_back s.capture is.capture in
-    rw (capture, opcodes, code) refl
+    rw (version, capture, opcodes, code, user) refl
 
 length_within : (w : List ℕ) → is_length w ≡ true → (2 ≤ value_after 10 0 w) × (value_after 10 0 w ≤ 32)
 length_within w h =
@@ -138,6 +171,7 @@ printed_is s is =
     let n : ℕ = value_after 10 0 s.length in
     let within = length_within s.length is.length in
     record {
+      version = is.version;
       entity = is.entity;
       «package» = is.«package»;
       prefix = is.prefix;
@@ -152,6 +186,7 @@ printed_is s is =
       some = is.some;
       opcodes = is.opcodes;
       idcode = is.idcode;
+      usercode = is.usercode;
       control = is.control;
       pins = is.pins;
       linkage = is.linkage;
@@ -206,7 +241,7 @@ printed_rows : (s : PlanSource) → IsSource s → All IsRow (plan_rows s) → A
 unfolding printed
 printed_rows s is all =
     other_row
-    (keyed (codes "plan") (codes "1") ∷ keyed (codes "entity") s.entity ∷ keyed (codes "package") s.«package» ∷ keyed (codes "prefix") s.prefix
+    (keyed (codes "plan") s.version ∷ keyed (codes "entity") s.entity ∷ keyed (codes "package") s.«package» ∷ keyed (codes "prefix") s.prefix
     ∷ tap_words (codes "tck") s.tck ∷ tap_words (codes "tms") s.tms ∷ tap_words (codes "tdi") s.tdi ∷ tap_words (codes "tdo") s.tdo ∷ tap_words (codes "trst") s.trst
     ∷ keyed (codes "clock") s.clock ∷ [])
     (keyed (codes "length") s.length) (keyed (codes "length") (decimal (value_after 10 0 s.length))) (keyed (codes "capture") s.capture ∷ code_rows s) all

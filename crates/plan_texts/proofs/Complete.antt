@@ -1,6 +1,6 @@
 -- The lines of a plan that is written so are read so.
 use Rattle.std.proofs.Common.{◌≡◌, ◌≢◌, ℕ, List, [], ◌∷◌, ◌++◌, map, Option, Some, None, codes, refl, sym, ap, ◌∙◌}
-use Rattle.std.specs.Prelude.{All}
+use Rattle.std.specs.Prelude.{All, ◌==◌, Bool, true, false, if◌then◌else◌, option_and_then}
 use Rattle.std.specs.Option.{option_map}
 use Rattle.std.proofs.lemmas.List.Elements.{All-head, All-tail}
 use Rattle.cell_library.specs.declared.codes.BoundaryKind.{BoundaryKind}
@@ -10,11 +10,11 @@ use Rattle.plan_texts.specs.declared.plan.TapLine.{TapLine}
 use Rattle.plan_texts.specs.declared.plan.PinLine.{PinLine}
 use Rattle.plan_texts.specs.declared.written.Codes.{Codes}
 use Rattle.plan_texts.specs.declared.written.Pins.{Pins}
-use Rattle.plan_texts.specs.Forms.{is_name, is_prefix, is_clock, bits_of, version_line, word_line, length_line, capture_line, tap_line, opcode_line, idcode_line, control_line, pin_line}
-use Rattle.plan_texts.specs.Reading.{Rows, Read, done, front, rest_if, line_at, put_first, many_at, some_of, linkage_line, ended, names_at, tap_at, registers_at, codes_at, pins_at, written_at}
-use Rattle.plan_texts.specs.Grammar.{PlanSource, OpcodeWords, GroupWords, keyed, tap_words, opcode_words, idcode_words, idcode_rows, pin_words, plan_rows, IsTapLine, IsOpcode, AreGroupsIf, IsPinLine, IsSource, entry_of, groups_of, written_of}
-use Rattle.plan_texts.proofs.Parts.{goes_on, names_second, names_third, tap_second, tap_third, tap_fourth, tap_fifth, registers_second, registers_third, codes_second, written_second, written_third, written_fourth, written_fifth, written_sixth}
-use Rattle.plan_texts.proofs.Views.{tap_sees, opcode_sees, idcode_sees, control_sees, pin_sees, word_sees, length_sees, bits_sees}
+use Rattle.plan_texts.specs.Forms.{is_name, is_prefix, is_clock, bits_of, version_line, word_line, length_line, capture_line, tap_line, opcode_line, idcode_line, user_line, control_line, pin_line, bits_if, word_behind}
+use Rattle.plan_texts.specs.Reading.{Rows, Read, done, front, rest_if, line_at, code_left, user_left, put_first, many_at, some_of, linkage_line, ended, names_at, tap_at, registers_at, codes_at, pins_at, written_at}
+use Rattle.plan_texts.specs.Grammar.{PlanSource, OpcodeWords, GroupWords, keyed, tap_words, opcode_words, idcode_words, idcode_rows, user_rows, pin_words, plan_rows, IsTapLine, IsOpcode, AreGroupsIf, IsUserIf, IsPinLine, IsSource, entry_of, groups_of, written_of}
+use Rattle.plan_texts.proofs.Parts.{goes_on, names_second, names_third, names_fourth, tap_second, tap_third, tap_fourth, tap_fifth, registers_second, registers_third, codes_second, written_third, written_fourth, written_fifth, written_sixth}
+use Rattle.plan_texts.proofs.Views.{tap_sees, opcode_sees, idcode_sees, control_sees, pin_sees, word_sees, version_sees, length_sees, user_sees, bits_sees}
 
 -- the words of rows
 abbrev pub words : Rows → List (List (List ℕ))
@@ -33,20 +33,25 @@ line_reads view (row ∷ rows) first rest x e h =
     (rows, ap (λ o. (o, rest_if o (row ∷ rows))) (ap view same ∙ h), more)
 
 names_read : (s : PlanSource) → IsSource s → (rows : Rows) (rest : List (List (List ℕ)))
-    → words rows ≡ keyed (codes "entity") s.entity ∷ keyed (codes "package") s.«package» ∷ keyed (codes "prefix") s.prefix ∷ rest
+    → words rows ≡ keyed (codes "plan") s.version ∷ keyed (codes "entity") s.entity ∷ keyed (codes "package") s.«package» ∷ keyed (codes "prefix") s.prefix ∷ rest
     → Reads names_at rows (written_of s).names rest
 unfolding names_at
 names_read s is rows rest e =
-    let a = line_reads (word_line (codes "entity") is_name) rows (keyed (codes "entity") s.entity) (keyed (codes "package") s.«package» ∷ keyed (codes "prefix") s.prefix ∷ rest) s.entity
-    e (word_sees is_name s.entity is.entity) in
+    let v : ℕ = value_after 10 0 s.version in
+    let z = line_reads version_line rows (keyed (codes "plan") s.version)
+    (keyed (codes "entity") s.entity ∷ keyed (codes "package") s.«package» ∷ keyed (codes "prefix") s.prefix ∷ rest) v e (version_sees s.version is.version) in
+    let a = line_reads (word_line (codes "entity") is_name) z.0 (keyed (codes "entity") s.entity) (keyed (codes "package") s.«package» ∷ keyed (codes "prefix") s.prefix ∷ rest) s.entity
+    z.2 (word_sees is_name s.entity is.entity) in
     let b = line_reads (word_line (codes "package") is_name) a.0 (keyed (codes "package") s.«package») (keyed (codes "prefix") s.prefix ∷ rest) s.«package»
     a.2 (word_sees is_name s.«package» is.«package») in
     let d = line_reads (word_line (codes "prefix") is_prefix) b.0 (keyed (codes "prefix") s.prefix) rest s.prefix b.2 (word_sees is_prefix s.prefix is.prefix) in (
       d.0,
-      goes_on (line_at (word_line (codes "entity") is_name) rows) s.entity a.0 names_second (Some (written_of s).names, d.0) a.1
-          (goes_on (line_at (word_line (codes "package") is_name) a.0) s.«package» b.0 (names_third s.entity) (Some (written_of s).names, d.0) b.1
-          (goes_on (line_at (word_line (codes "prefix") is_prefix) b.0) s.prefix d.0 (λ z n. done (record { entity = s.entity; «package» = s.«package»; prefix = z }) n)
-          (Some (written_of s).names, d.0) d.1 refl)),
+      goes_on (line_at version_line rows) v z.0 names_second (Some (written_of s).names, d.0) z.1
+          (goes_on (line_at (word_line (codes "entity") is_name) z.0) s.entity a.0 (names_third v) (Some (written_of s).names, d.0) a.1
+          (goes_on (line_at (word_line (codes "package") is_name) a.0) s.«package» b.0 (names_fourth v s.entity) (Some (written_of s).names, d.0) b.1
+          (goes_on (line_at (word_line (codes "prefix") is_prefix) b.0) s.prefix d.0
+          (λ z n. done (record { version = v; entity = s.entity; «package» = s.«package»; prefix = z }) n)
+          (Some (written_of s).names, d.0) d.1 refl))),
       d.2,
     )
 
@@ -118,45 +123,79 @@ many_reads view spell value P sees (x ∷ xs) each (row ∷ rows) rest e none =
       t.2,
     )
 
-idcode_read : (g : Option GroupWords) → AreGroupsIf g → (c : BoundaryKind) (rows : Rows) (rest : List (List (List ℕ))) → words rows ≡ idcode_rows g ++ (keyed (codes "control") (cell_word c) ∷ rest)
-    → (front idcode_line rows ≡ option_map groups_of g) × (words (rest_if (front idcode_line rows) rows) ≡ keyed (codes "control") (cell_word c) ∷ rest)
-idcode_read None are c [] rest e = absurd (cc)
-idcode_read None are c (row ∷ rows) rest e =
-    let same : row.1 ≡ keyed (codes "control") (cell_word c) = cc in
-    let none : idcode_line row.1 ≡ None = ap idcode_line same in
-    (none, ap (λ o. words (rest_if o (row ∷ rows))) none ∙ e)
-idcode_read (Some g) are c [] rest e = absurd (cc)
-idcode_read (Some g) are c (row ∷ rows) rest e =
+idcode_read : (g : Option GroupWords) → AreGroupsIf g → (rows : Rows) (rest : List (List (List ℕ))) → words rows ≡ idcode_rows g ++ rest → NotFirst idcode_line rest
+    → (front idcode_line rows ≡ option_map groups_of g) × (words (code_left rows) ≡ rest)
+idcode_read None are [] rest e none = (refl, e)
+idcode_read None are (row ∷ rows) [] e none = absurd (cc)
+idcode_read None are (row ∷ rows) (first ∷ rest) e none =
+    let same : row.1 ≡ first = cc in
+    let nothing : idcode_line row.1 ≡ None = ap idcode_line same ∙ none in
+    (nothing, ap (λ o. words (rest_if o (row ∷ rows))) nothing ∙ e)
+idcode_read (Some g) are [] rest e none = absurd (cc)
+idcode_read (Some g) are (row ∷ rows) rest e none =
     let same : row.1 ≡ idcode_words g = cc in
-    let more : words rows ≡ keyed (codes "control") (cell_word c) ∷ rest = cc in
+    let more : words rows ≡ rest = cc in
     let some : idcode_line row.1 ≡ Some (groups_of g) = ap idcode_line same ∙ idcode_sees g are in
     (some, ap (λ o. words (rest_if o (row ∷ rows))) some ∙ more)
 
-no_opcode : (g : Option GroupWords) (c : BoundaryKind) (rest : List (List (List ℕ))) → NotFirst opcode_line (idcode_rows g ++ (keyed (codes "control") (cell_word c) ∷ rest))
-no_opcode None c rest = refl
-no_opcode (Some g) c rest = refl
+user_read : (version : ℕ) (u : Option (List ℕ)) → IsUserIf version u → (rows : Rows) (rest : List (List (List ℕ))) → words rows ≡ user_rows u ++ rest → NotFirst (user_line version) rest
+    → (front (user_line version) rows ≡ option_map bits_of u) × (words (rest_if (front (user_line version) rows) rows) ≡ rest)
+user_read version None is [] rest e none = (refl, e)
+user_read version None is (row ∷ rows) [] e none = absurd (cc)
+user_read version None is (row ∷ rows) (first ∷ rest) e none =
+    let same : row.1 ≡ first = cc in
+    let nothing : user_line version row.1 ≡ None = ap (user_line version) same ∙ none in
+    (nothing, ap (λ o. words (rest_if o (row ∷ rows))) nothing ∙ e)
+user_read version (Some u) is [] rest e none = absurd (cc)
+user_read version (Some u) is (row ∷ rows) rest e none =
+    let same : row.1 ≡ keyed (codes "usercode") u = cc in
+    let more : words rows ≡ rest = cc in
+    let some : user_line version row.1 ≡ Some (bits_of u) = ap (user_line version) same ∙ user_sees version u is.0 is.1 in
+    (some, ap (λ o. words (rest_if o (row ∷ rows))) some ∙ more)
+
+no_opcode : (g : Option GroupWords) (u : Option (List ℕ)) (c : BoundaryKind) (rest : List (List (List ℕ)))
+    → NotFirst opcode_line (idcode_rows g ++ (user_rows u ++ (keyed (codes "control") (cell_word c) ∷ rest)))
+no_opcode None None c rest = refl
+no_opcode None (Some u) c rest = refl
+no_opcode (Some g) u c rest = refl
+
+no_idcode : (u : Option (List ℕ)) (c : BoundaryKind) (rest : List (List (List ℕ))) → NotFirst idcode_line (user_rows u ++ (keyed (codes "control") (cell_word c) ∷ rest))
+no_idcode None c rest = refl
+no_idcode (Some u) c rest = refl
+
+-- a line of the control cells is no usercode
+pub no_user : (version : ℕ) (c : BoundaryKind) → user_line version (keyed (codes "control") (cell_word c)) ≡ None
+no_user version c = by (version == 2)
+  where
+    by : (t : Bool) → (if t then option_and_then bits_if (word_behind (codes "usercode") (keyed (codes "control") (cell_word c))) else None) ≡ None
+    by true = refl
+    by false = refl
 
 some_reads : (xs : List OpcodeWords) (left : Rows) → xs ≢ [] → some_of (map entry_of xs, left) ≡ (Some (map entry_of xs), left)
 some_reads [] left h = absurd (h refl)
 some_reads (x ∷ xs) left h = refl
 
 codes_read : (s : PlanSource) → IsSource s → (rows : Rows) (rest : List (List (List ℕ)))
-    → words rows ≡ map opcode_words s.opcodes ++ (idcode_rows s.idcode ++ (keyed (codes "control") (cell_word s.control) ∷ rest))
-    → Reads codes_at rows (written_of s).codes rest
+    → words rows ≡ map opcode_words s.opcodes ++ (idcode_rows s.idcode ++ (user_rows s.usercode ++ (keyed (codes "control") (cell_word s.control) ∷ rest)))
+    → Reads (codes_at (value_after 10 0 s.version)) rows (written_of s).codes rest
 unfolding codes_at
 codes_read s is rows rest e =
-    let behind = idcode_rows s.idcode ++ (keyed (codes "control") (cell_word s.control) ∷ rest) in
-    let a = many_reads opcode_line opcode_words entry_of IsOpcode opcode_sees s.opcodes is.opcodes rows behind e
-    (no_opcode s.idcode s.control rest) in
-    let b = idcode_read s.idcode is.idcode s.control a.0 rest a.2 in
-    let d = line_reads control_line (rest_if (front idcode_line a.0) a.0) (keyed (codes "control") (cell_word s.control)) rest s.control b.1 (control_sees s.control is.control) in
+    let v : ℕ = value_after 10 0 s.version in
+    let control = keyed (codes "control") (cell_word s.control) ∷ rest in
+    let a = many_reads opcode_line opcode_words entry_of IsOpcode opcode_sees s.opcodes is.opcodes rows (idcode_rows s.idcode ++ (user_rows s.usercode ++ control)) e
+    (no_opcode s.idcode s.usercode s.control rest) in
+    let b = idcode_read s.idcode is.idcode a.0 (user_rows s.usercode ++ control) a.2 (no_idcode s.usercode s.control rest) in
+    let u = user_read v s.usercode is.usercode (code_left a.0) control b.1 (no_user v s.control) in
+    let d = line_reads control_line (user_left v a.0) (keyed (codes "control") (cell_word s.control)) rest s.control u.1 (control_sees s.control is.control) in
     let some : some_of (many_at opcode_line rows) ≡ (Some (map entry_of s.opcodes), a.0) = ap some_of a.1 ∙ some_reads s.opcodes a.0 is.some in
     let whole : Codes = (written_of s).codes in (
       d.0,
-      goes_on (some_of (many_at opcode_line rows)) (map entry_of s.opcodes) a.0 codes_second (Some whole, d.0) some
-          (goes_on (line_at control_line (rest_if (front idcode_line a.0) a.0)) s.control d.0
-          (λ control n. done (record { opcodes = map entry_of s.opcodes; idcode = front idcode_line a.0; control = control }) n) (Some whole, d.0) d.1
-          (ap (λ g. (Some (let c : Codes = record { opcodes = map entry_of s.opcodes; idcode = g; control = s.control } in c), d.0)) b.0)),
+      goes_on (some_of (many_at opcode_line rows)) (map entry_of s.opcodes) a.0 (codes_second v) (Some whole, d.0) some
+          (goes_on (line_at control_line (user_left v a.0)) s.control d.0
+          (λ control n. done (record { opcodes = map entry_of s.opcodes; idcode = front idcode_line a.0; usercode = front (user_line v) (code_left a.0); control = control }) n)
+          (Some whole, d.0) d.1
+          (ap (λ g. (Some (let c : Codes = record { opcodes = map entry_of s.opcodes; idcode = g; usercode = front (user_line v) (code_left a.0); control = s.control } in c), d.0)) b.0
+          ∙ ap (λ g. (Some (let c : Codes = record { opcodes = map entry_of s.opcodes; idcode = option_map groups_of s.idcode; usercode = g; control = s.control } in c), d.0)) u.0)),
       d.2,
     )
 
@@ -195,21 +234,18 @@ pub source_reads : (s : PlanSource) → IsSource s → (rows : Rows) → words r
 unfolding written_at
 source_reads s is rows e =
     let from_pins = map pin_words s.pins ++ map (tap_words (codes "linkage")) s.linkage in
-    let from_codes = map opcode_words s.opcodes ++ (idcode_rows s.idcode ++ (keyed (codes "control") (cell_word s.control) ∷ from_pins)) in
+    let from_codes = map opcode_words s.opcodes ++ (idcode_rows s.idcode ++ (user_rows s.usercode ++ (keyed (codes "control") (cell_word s.control) ∷ from_pins))) in
     let from_registers = keyed (codes "clock") s.clock ∷ keyed (codes "length") s.length ∷ keyed (codes "capture") s.capture ∷ from_codes in
     let from_tap = tap_words (codes "tck") s.tck ∷ tap_words (codes "tms") s.tms ∷ tap_words (codes "tdi") s.tdi ∷ tap_words (codes "tdo") s.tdo ∷ tap_words (codes "trst") s.trst ∷ from_registers in
-    let from_names = keyed (codes "entity") s.entity ∷ keyed (codes "package") s.«package» ∷ keyed (codes "prefix") s.prefix ∷ from_tap in
-    let a = line_reads version_line rows (keyed (codes "plan") (codes "1")) from_names tt e refl in
-    let b = names_read s is a.0 from_tap a.2 in
+    let b = names_read s is rows from_tap e in
     let d = tap_read s is b.0 from_registers b.2 in
     let f = registers_read s is d.0 from_codes d.2 in
     let g = codes_read s is f.0 from_pins f.2 in
     let h = pins_read s is g.0 g.2 in
-    goes_on (line_at version_line rows) tt a.0 written_second (Some (written_of s), []) a.1
-    (goes_on (names_at a.0) (written_of s).names b.0 written_third (Some (written_of s), []) b.1
+    goes_on (names_at rows) (written_of s).names b.0 written_third (Some (written_of s), []) b.1
     (goes_on (tap_at b.0) (written_of s).tap d.0 (written_fourth (written_of s).names) (Some (written_of s), []) d.1
     (goes_on (registers_at d.0) (written_of s).registers f.0 (written_fifth (written_of s).names (written_of s).tap) (Some (written_of s), []) f.1
-    (goes_on (codes_at f.0) (written_of s).codes g.0 (written_sixth (written_of s).names (written_of s).tap (written_of s).registers) (Some (written_of s), []) g.1
+    (goes_on (codes_at (written_of s).names.version f.0) (written_of s).codes g.0 (written_sixth (written_of s).names (written_of s).tap (written_of s).registers) (Some (written_of s), []) g.1
     (goes_on (pins_at g.0) (written_of s).pins []
     (λ pins n. done (record { names = (written_of s).names; tap = (written_of s).tap; registers = (written_of s).registers; codes = (written_of s).codes; pins = pins }) n)
-    (Some (written_of s), []) h refl)))))
+    (Some (written_of s), []) h refl))))

@@ -8,3 +8,4 @@ pub mod Printed
 pub mod Digits
 pub mod Again
 pub mod Stops
+pub mod First

@@ -16,12 +16,12 @@ use Rattle.plan_texts.specs.declared.written.Codes.{Codes}
 use Rattle.plan_texts.specs.declared.written.CodeGroups.{CodeGroups}
 use Rattle.plan_texts.specs.declared.written.Pins.{Pins}
 use Rattle.plan_texts.specs.declared.written.Written.{Written}
-use Rattle.plan_texts.specs.Forms.{is_name, is_prefix, is_clock, is_length, bits_of, version_line, word_line, length_line, capture_line, tap_line, opcode_line, idcode_line, control_line, pin_line}
-use Rattle.plan_texts.specs.Reading.{Rows, Read, done, after, front, rest_if, line_at, put_first, many_at, some_of, linkage_line, ended, names_at, tap_at, registers_at, codes_at, pins_at, written_at}
-use Rattle.plan_texts.specs.Grammar.{PlanSource, OpcodeWords, GroupWords, keyed, tap_words, opcode_words, idcode_rows, pin_words, plan_rows, IsTapLine, IsOpcode, AreGroupsIf, IsControl, IsPinLine, IsSource, entry_of, groups_of, written_of}
+use Rattle.plan_texts.specs.Forms.{is_name, is_prefix, is_clock, is_length, is_version, bits_of, version_line, word_line, length_line, capture_line, tap_line, opcode_line, idcode_line, user_line, control_line, pin_line}
+use Rattle.plan_texts.specs.Reading.{Rows, Read, done, after, front, rest_if, line_at, code_left, user_left, put_first, many_at, some_of, linkage_line, ended, names_at, tap_at, registers_at, codes_at, pins_at, written_at}
+use Rattle.plan_texts.specs.Grammar.{PlanSource, OpcodeWords, GroupWords, keyed, tap_words, opcode_words, idcode_rows, user_rows, pin_words, plan_rows, IsTapLine, IsOpcode, AreGroupsIf, IsUserIf, IsControl, IsPinLine, IsSource, entry_of, groups_of, written_of}
 use Rattle.plan_texts.proofs.Complete.{words}
-use Rattle.plan_texts.proofs.Parts.{names_second, names_third, tap_second, tap_third, tap_fourth, tap_fifth, registers_second, registers_third, codes_second, written_second, written_third, written_fourth, written_fifth, written_sixth}
-use Rattle.plan_texts.proofs.Views.{version_seen, word_seen, length_seen, capture_seen, tap_seen, opcode_seen, idcode_seen, control_seen, pin_seen}
+use Rattle.plan_texts.proofs.Parts.{names_second, names_third, names_fourth, tap_second, tap_third, tap_fourth, tap_fifth, registers_second, registers_third, codes_second, written_third, written_fourth, written_fifth, written_sixth}
+use Rattle.plan_texts.proofs.Views.{version_seen, word_seen, length_seen, capture_seen, tap_seen, opcode_seen, idcode_seen, user_seen, control_seen, pin_seen}
 
 pub pair_first : {A B : Type 0} (a x : A) (b y : B) → ◌≡◌ {A = A × B} (a, b) (x, y) → a ≡ x
 pair_first {A = A} {B = B} a x b y e = ap (λ (p : A × B). p.0) e
@@ -62,7 +62,10 @@ tap_line_sound key rows left line e =
     (l.2 ∙ ap (λ (w : List (List ℕ)). w ∷ words left) v.0, v.1)
 
 pub record NamesSound (rows left : Rows) (n : Names) : Type 0 where
-  pub lines : words rows ≡ keyed (codes "entity") n.entity ∷ keyed (codes "package") n.«package» ∷ keyed (codes "prefix") n.prefix ∷ words left
+  pub version_word : List ℕ
+  pub version : is_version version_word ≡ true
+  pub version_is : value_after 10 0 version_word ≡ n.version
+  pub lines : words rows ≡ keyed (codes "plan") version_word ∷ keyed (codes "entity") n.entity ∷ keyed (codes "package") n.«package» ∷ keyed (codes "prefix") n.prefix ∷ words left
   pub entity : is_name n.entity ≡ true
   pub «package» : is_name n.«package» ≡ true
   pub prefix : is_prefix n.prefix ≡ true
@@ -70,16 +73,23 @@ pub record NamesSound (rows left : Rows) (n : Names) : Type 0 where
 names_sound : (rows left : Rows) (n : Names) → names_at rows ≡ (Some n, left) → NamesSound rows left n
 unfolding names_at
 names_sound rows left n e =
-    let a = after_sound (line_at (word_line (codes "entity") is_name) rows) names_second n left e in
-    let b = after_sound (line_at (word_line (codes "package") is_name) a.1) (names_third a.0) n left a.3 in
-    let d = after_sound (line_at (word_line (codes "prefix") is_prefix) b.1) (λ z l. done (record { entity = a.0; «package» = b.0; prefix = z }) l) n left b.3 in
-    let m = made (let x : Names = record { entity = a.0; «package» = b.0; prefix = d.0 } in x) n d.1 left d.3 in
-    let p = word_sound (codes "entity") is_name rows a.1 a.0 a.2 in
+    let z = after_sound (line_at version_line rows) names_second n left e in
+    let a = after_sound (line_at (word_line (codes "entity") is_name) z.1) (names_third z.0) n left z.3 in
+    let b = after_sound (line_at (word_line (codes "package") is_name) a.1) (names_fourth z.0 a.0) n left a.3 in
+    let d = after_sound (line_at (word_line (codes "prefix") is_prefix) b.1) (λ x l. done (record { version = z.0; entity = a.0; «package» = b.0; prefix = x }) l) n left b.3 in
+    let lv = line_sound version_line rows z.0 z.1 z.2 in
+    let v = version_seen lv.0 z.0 lv.1 in
+    let m = made (let x : Names = record { version = z.0; entity = a.0; «package» = b.0; prefix = d.0 } in x) n d.1 left d.3 in
+    let p = word_sound (codes "entity") is_name z.1 a.1 a.0 a.2 in
     let q = word_sound (codes "package") is_name a.1 b.1 b.0 b.2 in
     let r = word_sound (codes "prefix") is_prefix b.1 d.1 d.0 d.2 in
     subst (λ (l : Rows). NamesSound rows l n) m.1
     (subst (λ (x : Names). NamesSound rows d.1 x) m.0 (record {
-      lines = p.0 ∙ ap (λ l. keyed (codes "entity") a.0 ∷ l) (q.0 ∙ ap (λ l. keyed (codes "package") b.0 ∷ l) r.0);
+      version_word = v.0;
+      version = v.2;
+      version_is = v.3;
+      lines = lv.2 ∙ ap (λ x. x ∷ words z.1) v.1
+          ∙ ap (λ l. keyed (codes "plan") v.0 ∷ l) (p.0 ∙ ap (λ l. keyed (codes "entity") a.0 ∷ l) (q.0 ∙ ap (λ l. keyed (codes "package") b.0 ∷ l) r.0));
       entity = p.1;
       «package» = q.1;
       prefix = r.1;
@@ -182,16 +192,31 @@ not_none : (os : List OpcodeWords) (m : List OpcodeEntry × Rows) (xs : List Opc
 not_none os ([], rows) xs left e same = let no : None ≡ Some xs = pair_first None (Some xs) rows left e in absurd (cc)
 not_none os (x ∷ ys, rows) xs left e same = λ none. let no : [] ≡ x ∷ ys = sym (ap (map entry_of) none) ∙ same in cc
 
-pub record CodesSound (rows left : Rows) (c : Codes) : Type 0 where
+pub record CodesSound (version : ℕ) (rows left : Rows) (c : Codes) : Type 0 where
   pub opcodes : List OpcodeWords
   pub idcode : Option GroupWords
-  pub lines : words rows ≡ map opcode_words opcodes ++ (idcode_rows idcode ++ (keyed (codes "control") (cell_word c.control) ∷ words left))
+  pub usercode : Option (List ℕ)
+  pub lines : words rows ≡ map opcode_words opcodes ++ (idcode_rows idcode ++ (user_rows usercode ++ (keyed (codes "control") (cell_word c.control) ∷ words left)))
   pub some : opcodes ≢ []
   pub are_opcodes : All IsOpcode opcodes
   pub are_groups : AreGroupsIf idcode
+  pub is_user : IsUserIf version usercode
   pub is_control : IsControl c.control
   pub opcodes_are : map entry_of opcodes ≡ c.opcodes
   pub idcode_is : option_map groups_of idcode ≡ c.idcode
+  pub usercode_is : option_map bits_of usercode ≡ c.usercode
+
+user_sound : (version : ℕ) (rows : Rows) → (u : Option (List ℕ)) × IsUserIf version u × (option_map bits_of u ≡ front (user_line version) rows)
+    × (words rows ≡ user_rows u ++ words (rest_if (front (user_line version) rows) rows))
+user_sound version [] = (None, tt, refl, refl)
+user_sound version (row ∷ rows) = by (user_line version row.1) refl
+  where
+    by : (o : Option Bits) → user_line version row.1 ≡ o → (u : Option (List ℕ)) × IsUserIf version u × (option_map bits_of u ≡ o)
+        × (words (row ∷ rows) ≡ user_rows u ++ words (rest_if o (row ∷ rows)))
+    by None e = (None, tt, refl, refl)
+    by (Some bits) e =
+        let v = user_seen version row.1 bits e in
+        (Some v.0, (v.2, v.3), ap (λ (x : Bits). Some x) v.4, ap (λ (w : List (List ℕ)). w ∷ words rows) v.1)
 
 idcode_sound : (rows : Rows) → (g : Option GroupWords) × AreGroupsIf g × (option_map groups_of g ≡ front idcode_line rows)
     × (words rows ≡ idcode_rows g ++ words (rest_if (front idcode_line rows) rows))
@@ -205,29 +230,35 @@ idcode_sound (row ∷ rows) = by (idcode_line row.1) refl
         let v = idcode_seen row.1 groups e in
         (Some v.0, v.1, ap (λ (x : CodeGroups). Some x) v.3, ap (λ (w : List (List ℕ)). w ∷ words rows) v.2)
 
-codes_sound : (rows left : Rows) (c : Codes) → codes_at rows ≡ (Some c, left) → CodesSound rows left c
+codes_sound : (version : ℕ) (rows left : Rows) (c : Codes) → codes_at version rows ≡ (Some c, left) → CodesSound version rows left c
 unfolding codes_at
-codes_sound rows left c e =
-    let a = after_sound (some_of (many_at opcode_line rows)) codes_second c left e in
-    let b = after_sound (line_at control_line (rest_if (front idcode_line a.1) a.1)) (λ control l. done (record { opcodes = a.0; idcode = front idcode_line a.1; control = control }) l) c left a.3 in
-    let m = made (let x : Codes = record { opcodes = a.0; idcode = front idcode_line a.1; control = b.0 } in x) c b.1 left b.3 in
+codes_sound version rows left c e =
+    let a = after_sound (some_of (many_at opcode_line rows)) (codes_second version) c left e in
+    let b = after_sound (line_at control_line (user_left version a.1))
+    (λ control l. done (record { opcodes = a.0; idcode = front idcode_line a.1; usercode = front (user_line version) (code_left a.1); control = control }) l) c left a.3 in
+    let m = made (let x : Codes = record { opcodes = a.0; idcode = front idcode_line a.1; usercode = front (user_line version) (code_left a.1); control = b.0 } in x) c b.1 left b.3 in
     let s = some_sound (many_at opcode_line rows) a.0 a.1 a.2 in
     let o = many_sound opcode_line opcode_words entry_of IsOpcode opcode_seen rows in
     let i = idcode_sound a.1 in
-    let lk = line_sound control_line (rest_if (front idcode_line a.1) a.1) b.0 b.1 b.2 in
+    let u = user_sound version (code_left a.1) in
+    let lk = line_sound control_line (user_left version a.1) b.0 b.1 b.2 in
     let k = control_seen lk.0 b.0 lk.1 in
-    subst (λ (l : Rows). CodesSound rows l c) m.1
-    (subst (λ (x : Codes). CodesSound rows b.1 x) m.0 (record {
+    subst (λ (l : Rows). CodesSound version rows l c) m.1
+    (subst (λ (x : Codes). CodesSound version rows b.1 x) m.0 (record {
       opcodes = o.0;
       idcode = i.0;
+      usercode = u.0;
       lines = o.3 ∙ ap (λ (l : Rows). map opcode_words o.0 ++ words l) s.1
-          ∙ ap (λ l. map opcode_words o.0 ++ l) (i.3 ∙ ap (λ l. idcode_rows i.0 ++ l) (lk.2 ∙ ap (λ w. w ∷ words b.1) k.0));
+          ∙ ap (λ l. map opcode_words o.0 ++ l) (i.3 ∙ ap (λ l. idcode_rows i.0 ++ l)
+          (u.3 ∙ ap (λ l. user_rows u.0 ++ l) (lk.2 ∙ ap (λ w. w ∷ words b.1) k.0)));
       some = not_none o.0 (many_at opcode_line rows) a.0 a.1 a.2 o.1;
       are_opcodes = o.2;
       are_groups = i.1;
+      is_user = u.1;
       is_control = k.1;
       opcodes_are = o.1 ∙ s.0;
       idcode_is = i.2;
+      usercode_is = u.2;
     }))
 
 pub record PinsSound (rows left : Rows) (p : Pins) : Type 0 where
@@ -277,21 +308,19 @@ pub record HasSource (rows : Rows) (w : Written) : Type 0 where
 pub written_sound : (rows left : Rows) (w : Written) → written_at rows ≡ (Some w, left) → HasSource rows w
 unfolding written_at
 written_sound rows left w e =
-    let a = after_sound (line_at version_line rows) written_second w left e in
-    let b = after_sound (names_at a.1) written_third w left a.3 in
+    let b = after_sound (names_at rows) written_third w left e in
     let d = after_sound (tap_at b.1) (written_fourth b.0) w left b.3 in
     let f = after_sound (registers_at d.1) (written_fifth b.0 d.0) w left d.3 in
-    let g = after_sound (codes_at f.1) (written_sixth b.0 d.0 f.0) w left f.3 in
+    let g = after_sound (codes_at b.0.version f.1) (written_sixth b.0 d.0 f.0) w left f.3 in
     let h = after_sound (pins_at g.1) (λ pins l. done (record { names = b.0; tap = d.0; registers = f.0; codes = g.0; pins = pins }) l) w left g.3 in
     let m = made (let x : Written = record { names = b.0; tap = d.0; registers = f.0; codes = g.0; pins = h.0 } in x) w h.1 left h.3 in
-    let lv = line_sound version_line rows a.0 a.1 a.2 in
-    let v = version_seen lv.0 a.0 lv.1 in
-    let n = names_sound a.1 b.1 b.0 b.2 in
+    let n = names_sound rows b.1 b.0 b.2 in
     let t = tap_sound b.1 d.1 d.0 d.2 in
     let r = registers_sound d.1 f.1 f.0 f.2 in
-    let c = codes_sound f.1 g.1 g.0 g.2 in
+    let c = codes_sound b.0.version f.1 g.1 g.0 g.2 in
     let p = pins_sound g.1 h.1 h.0 h.2 in
     let s : PlanSource = record {
+      version = n.version_word;
       entity = b.0.entity;
       «package» = b.0.«package»;
       prefix = b.0.prefix;
@@ -305,18 +334,19 @@ written_sound rows left w e =
       capture = r.capture_word;
       opcodes = c.opcodes;
       idcode = c.idcode;
+      usercode = c.usercode;
       control = g.0.control;
       pins = h.0.pins;
       linkage = h.0.linkage;
     } in
     record {
       source = s;
-      lines = lv.2 ∙ ap (λ x. x ∷ words a.1) v ∙ ap (λ l. keyed (codes "plan") (codes "1") ∷ l)
-          (n.lines ∙ ap (λ l. keyed (codes "entity") b.0.entity ∷ keyed (codes "package") b.0.«package» ∷ keyed (codes "prefix") b.0.prefix ∷ l)
+      lines = n.lines ∙ ap (λ l. keyed (codes "plan") n.version_word ∷ keyed (codes "entity") b.0.entity ∷ keyed (codes "package") b.0.«package» ∷ keyed (codes "prefix") b.0.prefix ∷ l)
           (t.lines ∙ ap (λ l. tap_words (codes "tck") d.0.tck ∷ tap_words (codes "tms") d.0.tms ∷ tap_words (codes "tdi") d.0.tdi ∷ tap_words (codes "tdo") d.0.tdo ∷ tap_words (codes "trst") d.0.trst ∷ l)
           (r.lines ∙ ap (λ l. keyed (codes "clock") f.0.clock ∷ keyed (codes "length") r.length_word ∷ keyed (codes "capture") r.capture_word ∷ l)
-          (c.lines ∙ ap (λ l. map opcode_words c.opcodes ++ (idcode_rows c.idcode ++ (keyed (codes "control") (cell_word g.0.control) ∷ l))) p.lines))));
+          (c.lines ∙ ap (λ l. map opcode_words c.opcodes ++ (idcode_rows c.idcode ++ (user_rows c.usercode ++ (keyed (codes "control") (cell_word g.0.control) ∷ l)))) p.lines)));
       forms = record {
+        version = n.version;
         entity = n.entity;
         «package» = n.«package»;
         prefix = n.prefix;
@@ -331,12 +361,13 @@ written_sound rows left w e =
         some = c.some;
         opcodes = c.are_opcodes;
         idcode = c.are_groups;
+        usercode = subst (λ (k : ℕ). IsUserIf k c.usercode) (sym n.version_is) c.is_user;
         control = c.is_control;
         pins = p.pins;
         linkage = p.linkage;
       };
-      written_is = same_written s w b.0 d.0 f.0 g.0 h.0 refl refl (same_registers f.0 r.length_word r.capture_word r.length_is r.capture_is)
-          (same_codes g.0 c.opcodes c.idcode c.opcodes_are c.idcode_is) refl m.0;
+      written_is = same_written s w b.0 d.0 f.0 g.0 h.0 (same_names b.0 n.version_word n.version_is) refl (same_registers f.0 r.length_word r.capture_word r.length_is r.capture_is)
+          (same_codes g.0 c.opcodes c.idcode c.usercode c.opcodes_are c.idcode_is c.usercode_is) refl m.0;
     }
   where
     same_registers : (r : Registers) (length capture : List ℕ) → value_after 10 0 length ≡ r.length → bits_of capture ≡ r.capture
@@ -345,11 +376,17 @@ written_sound rows left w e =
         ap (λ (n : ℕ). (let x : Registers = record { clock = r.clock; length = n; capture = bits_of capture } in x)) e
         ∙ ap (λ (b : Bits). (let x : Registers = record { clock = r.clock; length = r.length; capture = b } in x)) f
 
-    same_codes : (c : Codes) (opcodes : List OpcodeWords) (idcode : Option GroupWords) → map entry_of opcodes ≡ c.opcodes → option_map groups_of idcode ≡ c.idcode
-        → (let x : Codes = record { opcodes = map entry_of opcodes; idcode = option_map groups_of idcode; control = c.control } in x) ≡ c
-    same_codes c opcodes idcode e f =
-        ap (λ (l : List OpcodeEntry). (let x : Codes = record { opcodes = l; idcode = option_map groups_of idcode; control = c.control } in x)) e
-        ∙ ap (λ (o : Option CodeGroups). (let x : Codes = record { opcodes = c.opcodes; idcode = o; control = c.control } in x)) f
+    same_names : (n : Names) (version : List ℕ) → value_after 10 0 version ≡ n.version
+        → (let x : Names = record { version = value_after 10 0 version; entity = n.entity; «package» = n.«package»; prefix = n.prefix } in x) ≡ n
+    same_names n version e = ap (λ (v : ℕ). (let x : Names = record { version = v; entity = n.entity; «package» = n.«package»; prefix = n.prefix } in x)) e
+
+    same_codes : (c : Codes) (opcodes : List OpcodeWords) (idcode : Option GroupWords) (usercode : Option (List ℕ)) → map entry_of opcodes ≡ c.opcodes → option_map groups_of idcode ≡ c.idcode
+        → option_map bits_of usercode ≡ c.usercode
+        → (let x : Codes = record { opcodes = map entry_of opcodes; idcode = option_map groups_of idcode; usercode = option_map bits_of usercode; control = c.control } in x) ≡ c
+    same_codes c opcodes idcode usercode e f g =
+        ap (λ (l : List OpcodeEntry). (let x : Codes = record { opcodes = l; idcode = option_map groups_of idcode; usercode = option_map bits_of usercode; control = c.control } in x)) e
+        ∙ ap (λ (o : Option CodeGroups). (let x : Codes = record { opcodes = c.opcodes; idcode = o; usercode = option_map bits_of usercode; control = c.control } in x)) f
+        ∙ ap (λ (o : Option Bits). (let x : Codes = record { opcodes = c.opcodes; idcode = c.idcode; usercode = o; control = c.control } in x)) g
 
     same_written : (s : PlanSource) (w : Written) (n : Names) (t : TapLines) (r : Registers) (c : Codes) (p : Pins) → (written_of s).names ≡ n → (written_of s).tap ≡ t
         → (written_of s).registers ≡ r → (written_of s).codes ≡ c → (written_of s).pins ≡ p

@@ -3,16 +3,17 @@
 use Rattle.std.proofs.Common.{◌≡◌, ℕ, List, [], ◌∷◌, ◌++◌, length, drop, Option, Some, None, codes, refl, sym, ap, ◌∙◌, subst, append_assoc, zero, suc}
 use Rattle.cell_library.specs.declared.codes.BoundaryKind.TheVariants as kind
 use Rattle.bsdl_device.specs.declared.entries.OpcodeEntry.{OpcodeEntry}
+use Rattle.cell_library.specs.declared.codes.Bits.{Bits}
 use Rattle.plan_texts.specs.declared.plan.TapLine.{TapLine}
 use Rattle.plan_texts.specs.declared.plan.PinLine.{PinLine}
 use Rattle.plan_texts.specs.declared.written.CodeGroups.{CodeGroups}
 use Rattle.plan_texts.specs.declared.written.Pins.{Pins}
 use Rattle.plan_texts.specs.declared.written.Written.{Written}
-use Rattle.plan_texts.specs.Forms.{is_name, is_prefix, is_clock, version_line, word_line, length_line, capture_line, tap_line, opcode_line, idcode_line, control_line, pin_line}
-use Rattle.plan_texts.specs.Reading.{Rows, Read, done, after, front, rest_if, line_at, put_first, many_at, some_of, linkage_line, ended, names_at, tap_at, registers_at, codes_at, pins_at, written_at}
+use Rattle.plan_texts.specs.Forms.{is_name, is_prefix, is_clock, version_line, word_line, length_line, capture_line, tap_line, opcode_line, idcode_line, user_line, control_line, pin_line}
+use Rattle.plan_texts.specs.Reading.{Rows, Read, done, after, front, rest_if, line_at, put_first, many_at, some_of, code_left, user_left, linkage_line, ended, names_at, tap_at, registers_at, codes_at, pins_at, written_at}
 use Rattle.plan_texts.specs.Grammar.{keyed}
-use Rattle.plan_texts.proofs.Complete.{words, NotFirst, many_none, no_rows}
-use Rattle.plan_texts.proofs.Parts.{names_second, names_third, tap_second, tap_third, tap_fourth, tap_fifth, registers_second, registers_third, codes_second, written_second, written_third, written_fourth, written_fifth, written_sixth}
+use Rattle.plan_texts.proofs.Complete.{words, NotFirst, many_none, no_rows, no_user}
+use Rattle.plan_texts.proofs.Parts.{names_second, names_third, names_fourth, tap_second, tap_third, tap_fourth, tap_fifth, registers_second, registers_third, codes_second, written_third, written_fourth, written_fifth, written_sixth}
 use Rattle.plan_texts.proofs.Sound.{pair_first, pair_second}
 
 -- lines by their words
@@ -291,7 +292,7 @@ pins_law h = record {
         stopped rows left m.1 n.1 m.0 n.0 (many_split pin_line rows) (many_split linkage_line m.1) refl refl
         (ended_at (record { pins = m.0; linkage = n.0 }) h n.1 left (ap (λ r. after r (λ p l. done (h p) l)) (sym (pins_of rows m.1 n.1 m.0 n.0 refl refl)) ∙ e))
 
--- The opcodes, the identification code or none, and the control cells.
+-- The opcodes, the identification code or none, the usercode or none, and the control cells.
 
 -- one line or none
 optional_law : {X : Type 0} (R : Lines → Type 0) (view : List (List ℕ) → Option X) (next : Option X → Rows → Read Written)
@@ -423,19 +424,29 @@ some_law {X = X} view a x sees next laws = record {
 abbrev IsBehindCodes : Lines → Type 0
 IsBehindCodes ws = NotFirst idcode_line ws × NotFirst opcode_line ws
 
-behind_end : (ws : Lines) → AtEnd ws → IsBehindCodes ws
-behind_end ws none = subst IsBehindCodes (sym none) (tt, tt)
+-- nor by a usercode
+abbrev IsBehindUser : ℕ → Lines → Type 0
+IsBehindUser version ws = NotFirst (user_line version) ws × IsBehindCodes ws
 
-control_law : (opcodes : List OpcodeEntry) → LawAt AtEnd (NotFirst opcode_line) (λ rows. codes_second opcodes rows)
-control_law opcodes next laws =
-    law_same (NotFirst opcode_line) (λ rows. second (front idcode_line rows) (rest_if (front idcode_line rows) rows)) (λ rows. after (codes_second opcodes rows) next)
-    (λ rows. after_again (line_at control_line (rest_if (front idcode_line rows) rows)) (λ control b. done (record { opcodes = opcodes; idcode = front idcode_line rows; control = control }) b) next)
+behind_end : (version : ℕ) (ws : Lines) → AtEnd ws → IsBehindUser version ws
+behind_end version ws none = subst (IsBehindUser version) (sym none) (tt, tt, tt)
+
+control_law : (version : ℕ) (opcodes : List OpcodeEntry) → LawAt AtEnd (NotFirst opcode_line) (λ rows. codes_second version opcodes rows)
+control_law version opcodes next laws =
+    law_same (NotFirst opcode_line) (λ rows. second (front idcode_line rows) (code_left rows)) (λ rows. after (codes_second version opcodes rows) next)
+    (λ rows. after_again (line_at control_line (user_left version rows))
+    (λ control b. done (record { opcodes = opcodes; idcode = front idcode_line rows; usercode = front (user_line version) (code_left rows); control = control }) b) next)
     (optional_law (NotFirst opcode_line) idcode_line second (λ idcode.
-    line_law AtEnd IsBehindCodes control_line (keyed (codes "control") (codes "BC_1")) kind.Bc1 refl (λ ws. (refl, refl)) behind_end
-    (λ control b. next (record { opcodes = opcodes; idcode = idcode; control = control }) b) (λ control. laws (record { opcodes = opcodes; idcode = idcode; control = control }))))
+    optional_law IsBehindCodes (user_line version) (third idcode) (λ usercode.
+    line_law AtEnd (IsBehindUser version) control_line (keyed (codes "control") (codes "BC_1")) kind.Bc1 refl (λ ws. (no_user version kind.Bc1, refl, refl)) (behind_end version)
+    (λ control b. next (record { opcodes = opcodes; idcode = idcode; usercode = usercode; control = control }) b)
+    (λ control. laws (record { opcodes = opcodes; idcode = idcode; usercode = usercode; control = control })))))
   where
+    third : Option CodeGroups → Option Bits → Rows → Read Written
+    third idcode usercode rows = after (line_at control_line rows) (λ control b. next (record { opcodes = opcodes; idcode = idcode; usercode = usercode; control = control }) b)
+
     second : Option CodeGroups → Rows → Read Written
-    second idcode rows = after (line_at control_line rows) (λ control b. next (record { opcodes = opcodes; idcode = idcode; control = control }) b)
+    second idcode rows = third idcode (front (user_line version) rows) (rest_if (front (user_line version) rows) rows)
 
 -- The whole plan.
 
@@ -451,11 +462,12 @@ any_tap key sees = any_line (tap_line key) (key ∷ codes "a" ∷ codes "1" ∷ 
 names_law : LawAt Any Any names_at
 unfolding names_at
 names_law =
-    at_after Any Any Any (λ rows. line_at (word_line (codes "entity") is_name) rows) names_second (any_line (word_line (codes "entity") is_name) (keyed (codes "entity") (codes "a")) (codes "a") refl) (λ entity.
-    at_after Any Any Any (λ rows. line_at (word_line (codes "package") is_name) rows) (names_third entity) (any_line (word_line (codes "package") is_name) (keyed (codes "package") (codes "a")) (codes "a") refl) (λ name.
-    at_after Any Any Any (λ rows. line_at (word_line (codes "prefix") is_prefix) rows) (λ prefix l. done (record { entity = entity; «package» = name; prefix = prefix }) l)
+    at_after Any Any Any (λ rows. line_at version_line rows) names_second (any_line version_line (keyed (codes "plan") (codes "1")) 1 refl) (λ version.
+    at_after Any Any Any (λ rows. line_at (word_line (codes "entity") is_name) rows) (names_third version) (any_line (word_line (codes "entity") is_name) (keyed (codes "entity") (codes "a")) (codes "a") refl) (λ entity.
+    at_after Any Any Any (λ rows. line_at (word_line (codes "package") is_name) rows) (names_fourth version entity) (any_line (word_line (codes "package") is_name) (keyed (codes "package") (codes "a")) (codes "a") refl) (λ name.
+    at_after Any Any Any (λ rows. line_at (word_line (codes "prefix") is_prefix) rows) (λ prefix l. done (record { version = version; entity = entity; «package» = name; prefix = prefix }) l)
     (any_line (word_line (codes "prefix") is_prefix) (keyed (codes "prefix") (codes "a")) (codes "a") refl) (λ prefix.
-    at_done Any (record { entity = entity; «package» = name; prefix = prefix }))))
+    at_done Any (record { version = version; entity = entity; «package» = name; prefix = prefix })))))
 
 taps_law : LawAt Any Any tap_at
 unfolding tap_at
@@ -476,19 +488,18 @@ registers_law =
     (any_line capture_line (keyed (codes "capture") (codes "1")) (record { len = 1; value = 1 }) refl) (λ capture.
     at_done Any (record { clock = clock; length = length; capture = capture }))))
 
-codes_law : LawAt AtEnd Any codes_at
+codes_law : (version : ℕ) → LawAt AtEnd Any (codes_at version)
 unfolding codes_at
-codes_law =
-    at_after AtEnd (NotFirst opcode_line) Any (λ rows. some_of (many_at opcode_line rows)) codes_second
+codes_law version =
+    at_after AtEnd (NotFirst opcode_line) Any (λ rows. some_of (many_at opcode_line rows)) (codes_second version)
     (some_law opcode_line (codes "opcode" ∷ codes "a" ∷ codes "1" ∷ []) (record { name = codes "a"; bits = record { len = 1; value = 1 } }) refl)
-    (λ opcodes. control_law opcodes)
+    (λ opcodes. control_law version opcodes)
 
 pub written_law : Law Any written_at
 unfolding written_at
 written_law =
-    any_line version_line (keyed (codes "plan") (codes "1")) tt refl written_second (λ x.
     names_law written_third (λ names.
     taps_law (written_fourth names) (λ tap.
     registers_law (written_fifth names tap) (λ registers.
-    codes_law (written_sixth names tap registers) (λ parts.
-    pins_law (λ pins. record { names = names; tap = tap; registers = registers; codes = parts; pins = pins }))))))
+    codes_law names.version (written_sixth names tap registers) (λ parts.
+    pins_law (λ pins. record { names = names; tap = tap; registers = registers; codes = parts; pins = pins })))))

@@ -50,6 +50,7 @@ IsFault bytes (fault.PlanLine line) = HasFault bytes (fault.PlanLine line)
 IsFault bytes (fault.PlanTwice word) = HasFault bytes (fault.PlanTwice word)
 IsFault bytes (fault.PlanOpcode word) = HasFault bytes (fault.PlanOpcode word)
 IsFault bytes fault.PlanIdcode = HasFault bytes fault.PlanIdcode
+IsFault bytes fault.PlanUsercode = HasFault bytes fault.PlanUsercode
 IsFault bytes (fault.PlanInstruction word) = HasFault bytes (fault.PlanInstruction word)
 IsFault bytes fault.OutOfMemory = Unit {0}
 

@@ -1,6 +1,6 @@
--- The rules on a plan's instructions and its identification code, and the first that is broken.
+-- The rules on a plan's instructions, its identification code and its usercode, and the first that is broken.
 -- IEEE Std 1149.1-2001: instruction register; device identification register.
-use Rattle.std.specs.Prelude.{ℕ, ◌+◌, ◌*◌, ◌%◌, ◌^◌, ◌==◌, ◌||◌, not, Bool, List, [], ◌∷◌, ◌++◌, map, filter, find, codes, Option, Some, None, is_some, if◌then◌else◌}
+use Rattle.std.specs.Prelude.{ℕ, ◌+◌, ◌*◌, ◌%◌, ◌^◌, ◌==◌, ◌&&◌, ◌||◌, not, Bool, List, [], ◌∷◌, ◌++◌, map, filter, find, codes, Option, Some, None, is_some, if◌then◌else◌}
 use Rattle.std.specs.List.{list_any}
 use Rattle.std.specs.Option.{option_map}
 use Rattle.std.specs.Str.{bytes_eq}
@@ -17,16 +17,24 @@ use Rattle.plan_texts.specs.declared.fault.PlanFault.TheVariants as fault
 use Rattle.plan_texts.specs.declared.written.CodeGroups.{CodeGroups}
 use Rattle.plan_texts.specs.declared.written.Written.{Written}
 
--- the instruction of a name, byte for byte
-abbrev pub instruction_of : List ℕ → Option Instr
-instruction_of name = find (λ i. bytes_eq name (instruction_word i)) all_instructions
+-- the instructions of version 1
+abbrev pub first_instructions : List Instr
+first_instructions = instr.Bypass ∷ instr.Extest ∷ instr.Sample ∷ instr.Preload ∷ instr.Idcode ∷ instr.Highz ∷ instr.Clamp ∷ []
 
-abbrev pub is_known : OpcodeEntry → Bool
-is_known o = is_some (instruction_of o.name)
+-- version 2 has them all
+abbrev pub instructions_of : ℕ → List Instr
+instructions_of version = if version == 2 then all_instructions else first_instructions
+
+-- the instruction of a name among these, byte for byte
+abbrev pub instruction_of : List Instr → List ℕ → Option Instr
+instruction_of profile name = find (λ i. bytes_eq name (instruction_word i)) profile
+
+abbrev pub is_known : List Instr → OpcodeEntry → Bool
+is_known profile o = is_some (instruction_of profile o.name)
 
 -- those of the profile's instructions
-abbrev pub known : List OpcodeEntry → List OpcodeEntry
-known opcodes = filter is_known opcodes
+abbrev pub known : List Instr → List OpcodeEntry → List OpcodeEntry
+known profile opcodes = filter (is_known profile) opcodes
 
 abbrev pub names_of : List OpcodeEntry → List (List ℕ)
 names_of opcodes = map (λ (o : OpcodeEntry). o.name) opcodes
@@ -75,14 +83,30 @@ idcode_fails opcodes (Some g) = not (has_instruction opcodes instr.Idcode) || gr
 abbrev pub idcode_fault : List OpcodeEntry → Option CodeGroups → Option PlanFault
 idcode_fault opcodes groups = if idcode_fails opcodes groups then Some fault.PlanIdcode else None
 
+-- a usercode without USERCODE or USERCODE without one, USERCODE without IDCODE, or a usercode of other than 32 bits
+abbrev pub usercode_fails : List OpcodeEntry → Option Bits → Bool
+usercode_fails opcodes None = has_instruction opcodes instr.Usercode
+usercode_fails opcodes (Some bits) =
+    not (has_instruction opcodes instr.Usercode) || not (has_instruction opcodes instr.Idcode) || has_other_length 32 bits
+
+-- in version 2 alone
+abbrev pub usercode_fault : ℕ → List OpcodeEntry → Option Bits → Option PlanFault
+usercode_fault version opcodes user = if version == 2 && usercode_fails opcodes user then Some fault.PlanUsercode else None
+
 -- the instruction isn't of the profile
-abbrev pub unknown_fault : OpcodeEntry → Option PlanFault
-unknown_fault o = if is_known o then None else Some (fault.PlanInstruction o.name)
+abbrev pub unknown_fault : List Instr → OpcodeEntry → Option PlanFault
+unknown_fault profile o = if is_known profile o then None else Some (fault.PlanInstruction o.name)
+
+-- the first rule that is broken, by a profile and by what a usercode breaks
+abbrev pub fault_by : List Instr → Option PlanFault → Written → Option PlanFault
+fault_by profile user w =
+    or_else (twice_fault w.codes.opcodes)
+    (or_else (opcode_fault w.registers.length w.registers.capture (known profile w.codes.opcodes))
+    (or_else (idcode_fault (known profile w.codes.opcodes) w.codes.idcode)
+    (or_else user (first_in (unknown_fault profile) w.codes.opcodes))))
 
 -- the first rule that is broken
 abbrev pub rule_fault : Written → Option PlanFault
 rule_fault w =
-    or_else (twice_fault w.codes.opcodes)
-    (or_else (opcode_fault w.registers.length w.registers.capture (known w.codes.opcodes))
-    (or_else (idcode_fault (known w.codes.opcodes) w.codes.idcode)
-    (first_in unknown_fault w.codes.opcodes)))
+    let profile : List Instr = instructions_of w.names.version in
+    fault_by profile (usercode_fault w.names.version (known profile w.codes.opcodes) w.codes.usercode) w

@@ -16,6 +16,9 @@ pub enum PlanFault {
     /// The identification code can't be one, or stands without its instruction, or the instruction without it.
     #[error("an identification code that can't be one")]
     PlanIdcode,
+    /// A usercode without its instruction or the instruction without it, or without IDCODE, or of other than 32 bits.
+    #[error("a usercode that can't be one")]
+    PlanUsercode,
     /// The instruction isn't of the profile.
     #[error("an instruction that isn't of the profile")]
     PlanInstruction { word: Text },

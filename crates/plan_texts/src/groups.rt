@@ -5,8 +5,8 @@ ghost use Rattle.plan_texts.specs.Reading.{Gives, line_at, front, rest_if, many_
 
 use crate::fault::LineFault;
 use crate::lines::{
-    capture_line, clock_line, control_line, idcode_line, is_version, length_line, name_line,
-    opcode_line, pin_line, prefix_line, tap_line,
+    capture_line, clock_line, control_line, idcode_line, length_line, name_line, opcode_line,
+    pin_line, prefix_line, tap_line, user_line, version_line,
 };
 use crate::plan::{PinLine, TapLine};
 use crate::written::{CodeGroups, Codes, Names, Pins, Registers, TapLines, Written};
@@ -16,18 +16,18 @@ use line_texts::LineReader;
 use std::alloc::Global;
 use texts::{OutOfMemory, Row, Text};
 
-fn read_version(reader: &mut LineReader<'_>) -> Result<(), LineFault>
+fn read_version(reader: &mut LineReader<'_>) -> Result<u32, LineFault>
     ensures gives { Gives result reader.new.rows (line_at forms.version_line reader.old.rows) }
     ensures end { reader.new.end ≡ reader.old.end }
 {
     let Some(line) = reader.line() else {
         return Err(LineFault::Line);
     };
-    if !is_version(line) {
+    let Some(version) = version_line(line) else {
         return Err(LineFault::Line);
-    }
+    };
     reader.pass();
-    Ok(())
+    Ok(version)
 }
 
 fn read_name(alloc: Global, reader: &mut LineReader<'_>, key: &[u8]) -> Result<Text, LineFault>
@@ -65,10 +65,12 @@ fn read_names(alloc: Global, reader: &mut LineReader<'_>) -> Result<Names, LineF
     ensures gives { Gives result reader.new.rows (names_at reader.old.rows) }
     ensures end { reader.new.end ≡ reader.old.end }
 {
+    let version = read_version(reader)?;
     let entity = read_name(alloc, reader, b"entity")?;
     let package = read_name(alloc, reader, b"package")?;
     let prefix = read_prefix(alloc, reader)?;
     Ok(Names {
+        version,
         entity,
         package,
         prefix,
@@ -222,6 +224,21 @@ fn take_idcode(reader: &mut LineReader<'_>) -> Option<CodeGroups>
     Some(groups)
 }
 
+fn take_usercode(reader: &mut LineReader<'_>, version: u32) -> Option<Bits>
+    ensures found { result ≡ front (forms.user_line version) reader.old.rows }
+    ensures rows { reader.new.rows ≡ rest_if result reader.old.rows }
+    ensures end { reader.new.end ≡ reader.old.end }
+{
+    let Some(line) = reader.line() else {
+        return None;
+    };
+    let Some(bits) = user_line(version, line) else {
+        return None;
+    };
+    reader.pass();
+    Some(bits)
+}
+
 fn read_control(reader: &mut LineReader<'_>) -> Result<BoundaryKind, LineFault>
     ensures gives { Gives result reader.new.rows (line_at forms.control_line reader.old.rows) }
     ensures end { reader.new.end ≡ reader.old.end }
@@ -237,8 +254,8 @@ fn read_control(reader: &mut LineReader<'_>) -> Result<BoundaryKind, LineFault>
 }
 
 #[tactic(auto, unfolding(crate::specs::Reading::codes_at))]
-fn read_codes(alloc: Global, reader: &mut LineReader<'_>) -> Result<Codes, LineFault>
-    ensures gives { Gives result reader.new.rows (codes_at reader.old.rows) }
+fn read_codes(alloc: Global, reader: &mut LineReader<'_>, version: u32) -> Result<Codes, LineFault>
+    ensures gives { Gives result reader.new.rows (codes_at version reader.old.rows) }
     ensures end { reader.new.end ≡ reader.old.end }
 {
     let opcodes = read_opcodes(alloc, reader)?;
@@ -246,10 +263,12 @@ fn read_codes(alloc: Global, reader: &mut LineReader<'_>) -> Result<Codes, LineF
         return Err(LineFault::Line);
     }
     let idcode = take_idcode(reader);
+    let usercode = take_usercode(reader, version);
     let control = read_control(reader)?;
     Ok(Codes {
         opcodes,
         idcode,
+        usercode,
         control,
     })
 }
@@ -331,11 +350,10 @@ pub fn read_written(alloc: Global, reader: &mut LineReader<'_>) -> Result<Writte
     ensures gives { Gives result reader.new.rows (written_at reader.old.rows) }
     ensures end { reader.new.end ≡ reader.old.end }
 {
-    read_version(reader)?;
     let names = read_names(alloc, reader)?;
     let tap = read_tap_lines(alloc, reader)?;
     let registers = read_registers(alloc, reader)?;
-    let codes = read_codes(alloc, reader)?;
+    let codes = read_codes(alloc, reader, names.version)?;
     let pins = read_pins(alloc, reader)?;
     Ok(Written {
         names,

@@ -3,13 +3,16 @@
 // IEEE Std 1149.1-2001: instruction register, device identification register. The form of the lines is own.
 //
 // - `read_plan` answers a plan only where the bytes spell it: its lines in their order, each of its form, and no
-//   rule on instructions and on the identification code broken.
+//   rule on instructions, on the identification code and on the usercode broken. The first line tells the version,
+//   1 or 2; version 2 alone has USERCODE and the line `usercode`.
 // - `PlanLine` tells the first line that can't stand there: some plan begins with the kept lines before it, and
 //   none with that line too (rules may be broken in either); where the plan ends too early, it is the line after
 //   the last. Where no line is at fault, the first rule that is broken is told, with its word.
 // - `print_plan`: the canonical text, which spells the plan.
 // - A law: bytes spell one plan, or have one fault, and not both.
-// By the contract of `read_plan`, `print_plan` and a law function.
+// - A law: a text whose first line is `plan 1` spells exactly the plans of version 1 by itself (specs/First.antt): its
+//   lines, its seven instructions and its rules, with version 1 and no usercode.
+// By the contracts of `read_plan`, `print_plan` and two law functions.
 #![tactic(auto)]
 
 mod fault;
@@ -26,7 +29,7 @@ mod rules;
 mod written;
 
 pub use fault::PlanFault;
-pub use laws::texts_of_plans_are_spelled_or_at_fault;
+pub use laws::{first_version_stays, texts_of_plans_are_spelled_or_at_fault};
 pub use plan::{PinLine, Plan, TapLine};
 pub use printing::print_plan;
 pub use reading::read_plan;

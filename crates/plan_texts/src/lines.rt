@@ -1,10 +1,12 @@
 // What a line of a plan is seen as.
-ghost use Rattle.std.specs.Prelude.{◌≡◌, MatchOption, Some, None, codes, is_some};
+ghost use Rattle.std.specs.Prelude.{◌≡◌, MatchOption, Some, None, codes};
 ghost use Rattle.line_texts.specs.Words.{words_of};
 ghost use Rattle.first_faults.specs.Repeated.{bytes_of};
 ghost use Rattle.plan_texts.specs.Forms as forms;
 
-use crate::forms::{bits_of, cell_named, is_clock, is_name, is_pin, is_prefix, length_of};
+use crate::forms::{
+    bits_of, cell_named, is_clock, is_name, is_pin, is_prefix, length_of, version_of,
+};
 use crate::written::CodeGroups;
 use cell_library::{Bits, BoundaryKind};
 use line_texts::{after_key, four_words, one_word, three_words, two_words};
@@ -19,13 +21,13 @@ fn word_behind<'a>(key: &[u8], line: &'a [u8]) -> Option<&'a [u8]>
     }
 }
 
-/// `plan 1`
-pub fn is_version(line: &[u8]) -> bool
-    ensures { result ≡ is_some (forms.version_line (words_of line.now)) }
+/// `plan 1` or `plan 2`
+pub fn version_line(line: &[u8]) -> Option<u32>
+    ensures { result ≡ forms.version_line (words_of line.now) }
 {
     match word_behind(b"plan", line) {
-        None => false,
-        Some(word) => word == b"1".as_slice(),
+        None => None,
+        Some(word) => version_of(word),
     }
 }
 
@@ -136,6 +138,19 @@ pub fn idcode_line(line: &[u8]) -> Option<CodeGroups>
     match four_words(rest) {
         None => None,
         Some((a, b, c, d)) => groups_of(a, b, c, d),
+    }
+}
+
+/// `usercode BITS`, in version 2 alone.
+pub fn user_line(version: u32, line: &[u8]) -> Option<Bits>
+    ensures { result ≡ forms.user_line version (words_of line.now) }
+{
+    if version != 2 {
+        return None;
+    }
+    match word_behind(b"usercode", line) {
+        None => None,
+        Some(word) => bits_of(word),
     }
 }
 

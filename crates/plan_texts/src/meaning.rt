@@ -10,14 +10,14 @@ use crate::plan::Plan;
 use crate::rules::code_of;
 use crate::written::{CodeGroups, Codes, Names, Pins, Registers, TapLines, Written};
 use bsdl_device::OpcodeEntry;
-use cell_library::Opcode;
+use cell_library::{Bits, Opcode};
 use std::alloc::Global;
 use texts::{OutOfMemory, Row};
 
-fn typed(opcode: &OpcodeEntry) -> Option<Opcode>
-    ensures { result ≡ meaning.typed opcode.now }
+fn typed(version: u32, opcode: &OpcodeEntry) -> Option<Opcode>
+    ensures { result ≡ meaning.typed (rules.instructions_of version) opcode.now }
 {
-    match instruction_of(opcode.name.as_bytes()) {
+    match instruction_of(version, opcode.name.as_bytes()) {
         None => None,
         Some(instr) => Some(Opcode {
             instr,
@@ -26,12 +26,17 @@ fn typed(opcode: &OpcodeEntry) -> Option<Opcode>
     }
 }
 
-fn typed_opcodes(alloc: Global, opcodes: &[OpcodeEntry]) -> Result<Row<Opcode>, OutOfMemory>
-    ensures { IfOk result (λ list. list ≡ filter_map meaning.typed opcodes.now) }
+fn typed_opcodes(
+    alloc: Global,
+    version: u32,
+    opcodes: &[OpcodeEntry],
+) -> Result<Row<Opcode>, OutOfMemory>
+    ensures { IfOk result (λ list. list
+        ≡ filter_map (meaning.typed (rules.instructions_of version)) opcodes.now) }
 {
     let mut list = Row::new(alloc);
     for opcode in opcodes {
-        if let Some(opcode) = typed(opcode) {
+        if let Some(opcode) = typed(version, opcode) {
             list.push(opcode)?;
         }
     }
@@ -47,12 +52,26 @@ fn idcode_of(groups: Option<CodeGroups>) -> Option<u32>
     }
 }
 
+fn usercode_of(bits: Option<Bits>) -> Option<u32>
+    ensures { result ≡ option_map meaning.value_of bits }
+{
+    match bits {
+        None => None,
+        Some(bits) => Some(bits.value),
+    }
+}
+
 /// The plan of what is written.
 pub fn plan_of(alloc: Global, written: Written) -> Result<Plan, OutOfMemory>
     ensures { IfOk result (λ plan. plan ≡ meaning.plan_of written) }
 {
-    let opcodes = typed_opcodes(alloc, written.codes.opcodes.as_slice())?;
+    let opcodes = typed_opcodes(
+        alloc,
+        written.names.version,
+        written.codes.opcodes.as_slice(),
+    )?;
     let idcode = idcode_of(written.codes.idcode);
+    let usercode = usercode_of(written.codes.usercode);
     let Written {
         names,
         tap,
@@ -61,6 +80,7 @@ pub fn plan_of(alloc: Global, written: Written) -> Result<Plan, OutOfMemory>
         pins,
     } = written;
     Ok(Plan {
+        version: names.version,
         entity: names.entity,
         package: names.package,
         prefix: names.prefix,
@@ -74,6 +94,7 @@ pub fn plan_of(alloc: Global, written: Written) -> Result<Plan, OutOfMemory>
         capture: registers.capture,
         opcodes,
         idcode,
+        usercode,
         control: codes.control,
         pins: pins.pins,
         linkage: pins.linkage,

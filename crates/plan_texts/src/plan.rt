@@ -19,6 +19,8 @@ pub struct PinLine {
 /// What is to be built into a netlist: the device's names and pins, its instructions, and a boundary cell for each pin line.
 #[derive(Drop)]
 pub struct Plan {
+    /// 1 or 2; version 2 has USERCODE besides.
+    pub version: u32,
     pub entity: Text,
     /// The name of the pin map.
     pub package: Text,
@@ -39,6 +41,8 @@ pub struct Plan {
     pub opcodes: Row<Opcode>,
     /// The identification code: version in bits 31 to 28, part in 27 to 12, manufacturer in 11 to 1, and bit 0.
     pub idcode: Option<u32>,
+    /// What the identification register captures under USERCODE.
+    pub usercode: Option<u32>,
     /// The kind of the control cells.
     pub control: BoundaryKind,
     pub pins: Row<PinLine>,

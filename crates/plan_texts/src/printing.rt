@@ -46,13 +46,19 @@ fn put_tap(text: &mut Text, key: &[u8], line: &TapLine) -> Result<(), OutOfMemor
     put_three(text, key, line.name.as_bytes(), line.pin.as_bytes())
 }
 
+fn version_word(version: u32) -> &'static [u8]
+    ensures { result.now ≡ canonical.version_word version }
+{
+    if version == 2 { b"2" } else { b"1" }
+}
+
 fn put_names(text: &mut Text, plan: &Plan) -> Result<(), OutOfMemory>
-    ensures { OnOk result (text.new ≡ text.old ++ row_text (grammar.keyed (codes "plan") (codes "1"))
+    ensures { OnOk result (text.new ≡ text.old ++ row_text (grammar.keyed (codes "plan") (canonical.version_word plan.now.version))
         ++ row_text (grammar.keyed (codes "entity") plan.now.entity)
         ++ row_text (grammar.keyed (codes "package") plan.now.«package»)
         ++ row_text (grammar.keyed (codes "prefix") plan.now.prefix)) }
 {
-    put_two(text, b"plan", b"1")?;
+    put_two(text, b"plan", version_word(plan.version))?;
     put_two(text, b"entity", plan.entity.as_bytes())?;
     put_two(text, b"package", plan.package.as_bytes())?;
     put_two(text, b"prefix", plan.prefix.as_bytes())
@@ -140,6 +146,19 @@ fn put_idcode(alloc: Global, text: &mut Text, idcode: Option<u32>) -> Result<(),
     }
 }
 
+#[tactic(auto, using(crate::proofs::Printed::append_none))]
+fn put_usercode(alloc: Global, text: &mut Text, usercode: Option<u32>) -> Result<(), OutOfMemory>
+    ensures { OnOk result (text.new ≡ text.old ++ rows_text (canonical.user_rows_of usercode)) }
+{
+    match usercode {
+        None => Ok(()),
+        Some(code) => {
+            let bits = bits_word(alloc, 32, code)?;
+            put_two(text, b"usercode", bits.as_bytes())
+        }
+    }
+}
+
 fn put_pins(text: &mut Text, pins: &[PinLine]) -> Result<(), OutOfMemory>
     ensures { OnOk result (text.new ≡ text.old ++ rows_text (map grammar.pin_words pins.now)) }
 {
@@ -171,6 +190,7 @@ fn put_plan(alloc: Global, text: &mut Text, plan: &Plan) -> Result<(), OutOfMemo
     put_head(alloc, text, plan)?;
     put_opcodes(alloc, text, plan.opcodes.as_slice())?;
     put_idcode(alloc, text, plan.idcode)?;
+    put_usercode(alloc, text, plan.usercode)?;
     put_two(text, b"control", cell_word(plan.control))?;
     put_pins(text, plan.pins.as_slice())?;
     put_linkage(text, plan.linkage.as_slice())

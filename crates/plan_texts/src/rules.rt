@@ -1,4 +1,4 @@
-// The rules on a plan's instructions and its identification code.
+// The rules on a plan's instructions, its identification code and its usercode.
 ghost use Rattle.std.specs.Prelude.{◌≡◌, [], IfOk};
 ghost use Rattle.std.specs.List.{list_any};
 ghost use Rattle.bsdl_device.specs.Checks as check;
@@ -40,10 +40,10 @@ fn find_twice(alloc: Global, opcodes: &[OpcodeEntry]) -> Result<Option<PlanFault
     }
 }
 
-fn is_known(opcode: &OpcodeEntry) -> bool
-    ensures { result ≡ rules.is_known opcode.now }
+fn is_known(version: u32, opcode: &OpcodeEntry) -> bool
+    ensures { result ≡ rules.is_known (rules.instructions_of version) opcode.now }
 {
-    instruction_of(opcode.name.as_bytes()).is_some()
+    instruction_of(version, opcode.name.as_bytes()).is_some()
 }
 
 fn copy_of(alloc: Global, opcode: &OpcodeEntry) -> Result<OpcodeEntry, OutOfMemory>
@@ -55,13 +55,17 @@ fn copy_of(alloc: Global, opcode: &OpcodeEntry) -> Result<OpcodeEntry, OutOfMemo
     })
 }
 
-// Those of the profile's instructions; where none stands twice, there are seven at most.
-fn known(alloc: Global, opcodes: &[OpcodeEntry]) -> Result<Row<OpcodeEntry>, OutOfMemory>
-    ensures { IfOk result (λ list. list ≡ rules.known opcodes.now) }
+// Those of the profile's instructions; where none stands twice, there are eight at most.
+fn known(
+    alloc: Global,
+    version: u32,
+    opcodes: &[OpcodeEntry],
+) -> Result<Row<OpcodeEntry>, OutOfMemory>
+    ensures { IfOk result (λ list. list ≡ rules.known (rules.instructions_of version) opcodes.now) }
 {
     let mut list = Row::new(alloc);
     for opcode in opcodes {
-        if is_known(opcode) {
+        if is_known(version, opcode) {
             list.push(copy_of(alloc, opcode)?)?;
         }
     }
@@ -178,11 +182,40 @@ fn idcode_fault(opcodes: &[OpcodeEntry], groups: Option<CodeGroups>) -> Option<P
     }
 }
 
-fn find_unknown(alloc: Global, opcodes: &[OpcodeEntry]) -> Result<Option<PlanFault>, OutOfMemory>
-    ensures { IfOk result (λ found. found ≡ first_in rules.unknown_fault opcodes.now) }
+fn usercode_fault(
+    version: u32,
+    opcodes: &[OpcodeEntry],
+    usercode: Option<Bits>,
+) -> Option<PlanFault>
+    ensures { result ≡ rules.usercode_fault version opcodes.now usercode }
+{
+    if version != 2 {
+        return None;
+    }
+    let reads = has_instruction(opcodes, Instr::Usercode);
+    let fails = match usercode {
+        None => reads,
+        Some(bits) => {
+            !reads || !has_instruction(opcodes, Instr::Idcode) || has_other_length(32, bits)
+        }
+    };
+    if fails {
+        Some(PlanFault::PlanUsercode)
+    } else {
+        None
+    }
+}
+
+fn find_unknown(
+    alloc: Global,
+    version: u32,
+    opcodes: &[OpcodeEntry],
+) -> Result<Option<PlanFault>, OutOfMemory>
+    ensures { IfOk result (λ found. found
+        ≡ first_in (rules.unknown_fault (rules.instructions_of version)) opcodes.now) }
 {
     for opcode in opcodes {
-        if !is_known(opcode) {
+        if !is_known(version, opcode) {
             let word = Text::from_bytes(alloc, opcode.name.as_bytes())?;
             return Ok(Some(PlanFault::PlanInstruction { word }));
         }
@@ -199,7 +232,8 @@ pub fn find_rule_fault(alloc: Global, written: &Written) -> Result<Option<PlanFa
         Some(fault) => return Ok(Some(fault)),
         None => {}
     }
-    let known = known(alloc, opcodes)?;
+    let version = written.names.version;
+    let known = known(alloc, version, opcodes)?;
     let registers = &written.registers;
     match opcode_fault(alloc, registers.length, registers.capture, known.as_slice())? {
         Some(fault) => return Ok(Some(fault)),
@@ -209,5 +243,9 @@ pub fn find_rule_fault(alloc: Global, written: &Written) -> Result<Option<PlanFa
         Some(fault) => return Ok(Some(fault)),
         None => {}
     }
-    find_unknown(alloc, opcodes)
+    match usercode_fault(version, known.as_slice(), written.codes.usercode) {
+        Some(fault) => return Ok(Some(fault)),
+        None => {}
+    }
+    find_unknown(alloc, version, opcodes)
 }

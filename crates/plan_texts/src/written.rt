@@ -4,9 +4,10 @@ use bsdl_device::OpcodeEntry;
 use cell_library::{Bits, BoundaryKind};
 use texts::{Row, Text};
 
-/// The lines `entity`, `package` and `prefix`.
+/// The lines `plan`, `entity`, `package` and `prefix`.
 #[derive(Drop)]
 pub struct Names {
+    pub version: u32,
     pub entity: Text,
     pub package: Text,
     pub prefix: Text,
@@ -39,11 +40,12 @@ pub struct CodeGroups {
     pub mark: Bits,
 }
 
-/// The lines `opcode`, whose instructions may be unknown, `idcode` and `control`.
+/// The lines `opcode`, whose instructions may be unknown, `idcode`, `usercode` and `control`.
 #[derive(Drop)]
 pub struct Codes {
     pub opcodes: Row<OpcodeEntry>,
     pub idcode: Option<CodeGroups>,
+    pub usercode: Option<Bits>,
     pub control: BoundaryKind,
 }
 

@@ -1,5 +1,5 @@
 -- The stitched netlist has the device's test logic around the core.
-use Rattle.std.proofs.Common.{◌≡◌, ℕ, suc, ◌+◌, ◌<◌, ◌||◌, Bool, true, false, List, [], ◌∷◌, length, drop, refl, ap, sym, ◌∙◌, subst, Option, Some, None, arith}
+use Rattle.std.proofs.Common.{◌≡◌, ℕ, suc, ◌+◌, ◌<◌, ◌||◌, not, Bool, true, false, IsTrue, List, [], ◌∷◌, length, drop, refl, ap, sym, ◌∙◌, subst, Option, Some, None, arith}
 use Rattle.std.specs.Prelude.{slice_get, option_and_then, find, is_some}
 use Rattle.std.specs.List.{list_any}
 use Rattle.std.specs.Option.{option_map}
@@ -21,7 +21,8 @@ use Rattle.netlist_laws.specs.Ports.{BitHasDirection}
 use Rattle.netlist_link.specs.Linked.{LinkedView}
 use Rattle.netlist_link.specs.PinWords.{pin_at}
 use Rattle.bsdl_device.specs.declared.values.CellRow.{CellRow}
-use Rattle.bsdl_device.specs.Instructions.{instruction_word, names_instruction, is_instruction}
+use Rattle.bsdl_device.specs.declared.entries.Register.TheVariants as register
+use Rattle.bsdl_device.specs.Instructions.{instruction_word, names_instruction, is_instruction, selected_register}
 use Rattle.bsdl_device.specs.Checks.{has_instruction, lacks_instruction}
 use Rattle.bsdl_device.specs.Canonical.{has_opcode}
 use Rattle.bsdl_device.specs.IsDevice.{opcode_entries, IsInstructionRegister}
@@ -111,6 +112,7 @@ named_bypass instr.Preload = refl
 named_bypass instr.Idcode = refl
 named_bypass instr.Highz = refl
 named_bypass instr.Clamp = refl
+named_bypass instr.Usercode = refl
 
 entry_of_bypass : (opcodes : List Opcode) → has_instruction (opcode_entries opcodes) instr.Bypass ≡ list_any (λ (o : Opcode). is_instruction instr.Bypass o.instr) opcodes
 entry_of_bypass [] = refl
@@ -141,10 +143,26 @@ bypass_of opcodes all =
     let found = found_any (λ (o : Opcode). is_instruction instr.Bypass o.instr) opcodes (sym (entry_of_bypass opcodes) ∙ there) in
     (found.0.bits, ap (option_map (λ (o : Opcode). o.bits)) found.1)
 
-no_code : (opcodes : List Opcode) (code : Option ℕ) → has_opcode opcodes instr.Idcode ≡ is_some code → code ≡ None → opcode_of opcodes instr.Idcode ≡ None
+no_opcode : (opcodes : List Opcode) (i : Instr) → has_opcode opcodes i ≡ false → opcode_of opcodes i ≡ None
 unfolding has_opcode
-no_code opcodes code same none =
-    ap (option_map (λ (o : Opcode). o.bits)) (none_any (λ (o : Opcode). is_instruction instr.Idcode o.instr) opcodes (same ∙ ap (λ (c : Option ℕ). is_some c) none))
+no_opcode opcodes i lacks = ap (option_map (λ (o : Opcode). o.bits)) (none_any (λ (o : Opcode). is_instruction i o.instr) opcodes lacks)
+
+no_usercode : (user code : Option ℕ) → IsTrue (not (is_some user) || is_some code) → code ≡ None → is_some user ≡ false
+no_usercode None code beside none = refl
+no_usercode (Some user) None beside none = absurd (cc)
+no_usercode (Some user) (Some code) beside none = absurd (cc)
+
+-- without a code the opcodes lack what selects the identification register
+no_code : (opcodes : List Opcode) (user code : Option ℕ) → has_opcode opcodes instr.Idcode ≡ is_some code → has_opcode opcodes instr.Usercode ≡ is_some user
+    → IsTrue (not (is_some user) || is_some code) → code ≡ None → (i : Instr) → selected_register i ≡ register.DeviceId → opcode_of opcodes i ≡ None
+no_code opcodes user code same same' beside none instr.Idcode device = no_opcode opcodes instr.Idcode (same ∙ ap (λ (c : Option ℕ). is_some c) none)
+no_code opcodes user code same same' beside none instr.Usercode device = no_opcode opcodes instr.Usercode (same' ∙ no_usercode user code beside none)
+no_code opcodes user code same same' beside none instr.Bypass device = absurd (cc)
+no_code opcodes user code same same' beside none instr.Extest device = absurd (cc)
+no_code opcodes user code same same' beside none instr.Sample device = absurd (cc)
+no_code opcodes user code same same' beside none instr.Preload device = absurd (cc)
+no_code opcodes user code same same' beside none instr.Highz device = absurd (cc)
+no_code opcodes user code same same' beside none instr.Clamp device = absurd (cc)
 
 register_of : OpcodesKeepTheRules → (L : LinkedView) (p : Plan) (seen : List PinSeen) → IsFitting L p seen → IsInstructionRegister p.length p.opcodes p.capture
 register_of rules L p seen fits =
@@ -169,11 +187,13 @@ has_codes : OpcodesKeepTheRules → CodesAreTheDevices → RegistersFit → (L :
     → HasCodes (device_of L p seen) (places_of L.arena.lists names (fitted_of L p seen))
 has_codes rules same fit L p seen names fits =
     let bypass = bypass_of p.opcodes (rules L p seen fits.spelled).all in
+    let has = plans_have_codes p fits.spelled in
     let codes = same L p seen bypass.0 bypass.1 in record {
       codes = codes;
       fit = fit (codes_of p) (register_of rules L p seen fits) codes.reset;
       code = refl;
-      identified = λ none. no_code p.opcodes p.idcode (plans_have_codes p fits.spelled).identified none;
+      user = refl;
+      identified = λ none i device. no_code p.opcodes p.usercode p.idcode has.identified has.user_identified has.user_beside none i device;
     }
 
 -- The rows.

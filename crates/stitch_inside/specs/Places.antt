@@ -28,6 +28,7 @@ places_of N names f = record {
   trst = (port_of N).trst;
   codes = f.codes;
   code = f.idcode;
+  user = f.usercode;
   controller = first_net N f;
   controller_number = cell_count N;
   instruction = first_net N f + instruction_from;

@@ -1,6 +1,6 @@
 -- The stitched netlist behaves as the wrapped chip of the plan's device, and as the netlist alone; TCK and TRST are the control ports
 -- that it has more.
--- Own. For IEEE Std 1149.1-2001 (normal operation of the system logic under BYPASS, IDCODE, SAMPLE and PRELOAD) see `Alone`.
+-- Own. For IEEE Std 1149.1-2001 (normal operation of the system logic under BYPASS, IDCODE, USERCODE, SAMPLE and PRELOAD) see `Alone`.
 use Rattle.std.specs.Prelude.{List}
 use Rattle.netlist_model.specs.Formed.{IsLaidOut, IsWellFormed}
 use Rattle.netlist_model.specs.Contained.{IsDense}

@@ -29,7 +29,8 @@ use Rattle.tap_gates.specs.Laws.{HoldsState}
 use Rattle.tap_gates.specs.Home.{IsCourse, HoldsBits, TapFindsHome}
 use Rattle.register_bits.specs.Chains.{chain_values}
 use Rattle.register_gates.specs.Constants.{ConstantsAreBits}
-use Rattle.register_gates.specs.Registers.{ident_values}
+use Rattle.register_gates.specs.Registers.{user_size}
+use Rattle.register_gates.specs.Laws.{IdentFollows}
 use Rattle.register_gates.specs.Tdo.{TdoLetsGo}
 use Rattle.instruction_register.specs.Register.{pattern_bits, held_shift, held_opcode}
 use Rattle.instruction_register.specs.Laws.{FitTheRegister}
@@ -40,7 +41,7 @@ use Rattle.boundary_runs.proofs.ChipRows.{kinds_long}
 use Rattle.wrapped_chip.specs.ChipRuns.{ChipMoment, ChipEvent}
 use Rattle.wrapped_chip.specs.Home.{IsOutside, OutsideGoesOn, IsRunFromBits, FallsHome, IsHome}
 use Rattle.wrapped_chip.specs.Realises.{SameOutside, SameEvents}
-use Rattle.surrounded_core.specs.Places.{Places, controller_nets, selection_nets, bypass_bit, ident_bit}
+use Rattle.surrounded_core.specs.Places.{Places, controller_nets, selection_nets, bypass_bit, code_values, ident_bit}
 use Rattle.surrounded_core.specs.Surrounds.{Surrounds}
 use Rattle.surrounded_core.specs.Home.{IsControllerAdded, SurroundedFindsHome}
 use Rattle.surrounded_core.proofs.Outside.{outside_always}
@@ -90,7 +91,7 @@ read_machine B S m = record {
   shift = held_shift m.value S.instruction S.codes;
   latched = reset_opcode (test_logic_of B).opcodes;
   bypass = m.value (bypass_bit S).0;
-  ident = option_map_or (λ (code : ℕ). ident_values m.value S.ident code) S.code [];
+  ident = option_map_or (code_values S m.value) S.code [];
   boundary = bits_from (λ place. m.value (S.row place)) 0 B.cells;
   update = bits_from (λ place. update_from (S.gates place) (S.row place) m.value) 0 B.cells;
   tdo = HighZ;
@@ -107,9 +108,11 @@ unfolding bits_of
 bits_long zero value = refl
 bits_long (suc count) value = ap (λ (n : ℕ). suc n) (bits_long count _)
 
-ident_long : ConstantsAreBits → (value : ℕ → Sig) (first : ℕ) (o : Option ℕ) → length (option_map_or (λ (code : ℕ). ident_values value first code) o []) ≡ length (code_bits o)
-ident_long constants value first None = refl
-ident_long constants value first (Some code) = chain_long value (first + 2) _ ∙ (constants 32 code).counted ∙ sym (bits_long 32 code)
+ident_long : IdentFollows → (S : Places) (value : ℕ → Sig) (o : Option ℕ) → length (option_map_or (code_values S value) o []) ≡ length (code_bits o)
+ident_long ident S value None = refl
+ident_long ident S value (Some code) =
+    let laws = ident S.ident S.ident_number (controller_nets S) (selection_nets S).ident_on (selection_nets S).user_on S.tdi S.user code in
+    chain_long value (S.ident + user_size S.user + 2) _ ∙ laws.long ∙ sym (bits_long 32 code)
 
 shift_long : ConstantsAreBits → (value : ℕ → Sig) (first : ℕ) (codes : Codes) → FitTheRegister codes → length (held_shift value first codes) ≡ length (pattern codes.capture)
 shift_long constants value first codes fit =
@@ -122,7 +125,7 @@ machine_is_home laws M N B S around m = record {
   latched = refl;
   tdo = refl;
   shift = shift_long laws.constants m.value S.instruction S.codes around.codes.fit ∙ ap (λ (xs : List Sig). length xs) (sym around.codes.codes.capture);
-  ident = ident_long laws.constants m.value S.ident S.code ∙ ap (λ (o : Option ℕ). length (code_bits o)) around.codes.code;
+  ident = ident_long laws.by.ident S m.value S.code ∙ ap (λ (o : Option ℕ). length (code_bits o)) around.codes.code;
   boundary = long_from (λ place. m.value (S.row place)) B.cells 0 ∙ sym (kinds_long B.cells);
   update = long_from (λ place. update_from (S.gates place) (S.row place) m.value) B.cells 0 ∙ sym (kinds_long B.cells);
 }
@@ -237,7 +240,7 @@ holds_home laws M N B S events outside moment t f =
       stages = record { shift = refl; latched = next.latched ∙ latches_home L (levels t) (levels (suc t)) [] machine refl f.falls.falls };
       legible = (by.legible S.codes L around.codes.codes).reset (read_machine B S m') refl refl;
       bypass = refl;
-      ident = λ code e. sym (ap (λ (o : Option ℕ). option_map_or (λ (c : ℕ). ident_values m'.value S.ident c) o []) e);
+      ident = λ code e. sym (ap (λ (o : Option ℕ). option_map_or (code_values S m'.value) o []) e);
       tdo = laws.lets_go S.driver S.driver_number (controller_nets S) (selection_nets S) (bypass_bit S) (ident_bit S) S.nearest S.tdo M event.0 (levels t) (levels (suc t)) m m' around.formed
           around.registers.tdo now.settled step carries carries' shows f.falls.falls;
       rows = λ place row there_row. record {

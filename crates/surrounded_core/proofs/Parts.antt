@@ -8,7 +8,7 @@ use Rattle.signal_values.specs.declared.Sig.{Sig}
 use Rattle.signal_values.specs.declared.Sig.TheVariants.{Zero}
 use Rattle.signal_values.specs.Values.{bit}
 use Rattle.cell_library.specs.declared.codes.Instr.{Instr}
-use Rattle.cell_library.specs.declared.codes.Instr.TheVariants.{Extest, Sample, Preload, Bypass, Idcode, Highz, Clamp}
+use Rattle.cell_library.specs.declared.codes.Instr.TheVariants.{Bypass}
 use Rattle.cell_library.specs.declared.codes.Opcode.{Opcode}
 use Rattle.netlist_model.specs.Lists.{NetlistView}
 use Rattle.netlist_model.specs.Settled.{feed_value, IsSettled}
@@ -23,14 +23,13 @@ use Rattle.bsdl_device.specs.declared.values.Device.{Device}
 use Rattle.test_logic.specs.declared.Levels.{Levels}
 use Rattle.test_logic.specs.declared.TapInput.TheVariants.{Tck, Tms, Tdi, Trst}
 use Rattle.test_logic.specs.declared.TapState.{TapState}
-use Rattle.test_logic.specs.Instructions.{opcode_of, is_opcode, instruction_of, bits_of}
+use Rattle.test_logic.specs.Instructions.{is_usercode, opcode_of, is_opcode, instruction_of, bits_of}
 use Rattle.test_logic.specs.Registers.{first_bit, bypass_after, ident_after}
-use Rattle.test_logic.specs.Machine.{Machine, TestLogic, machine_step, in_effect, selects, test_logic_of, code_bits, zeros}
+use Rattle.test_logic.specs.Machine.{Machine, TestLogic, machine_step, in_effect, selects, test_logic_of, code_bits, user_bits, captured_code, zeros}
 use Rattle.tap_gates.specs.Laws.{Carries as TapCarries, TapFollows, HoldsState, ShowsState, StepIsTheMachines}
 use Rattle.tap_gates.specs.Home.{IsCourse}
 use Rattle.register_bits.specs.Laws.{Carries, bit_after}
-use Rattle.register_gates.specs.Laws.{BypassFollows, IdentFollows}
-use Rattle.register_gates.specs.Registers.{ident_cells, ident_last, ident_values}
+use Rattle.register_gates.specs.Laws.{captured_bits, BypassFollows, IdentFollows}
 use Rattle.register_gates.specs.Steps.{StepsByRegister}
 use Rattle.register_gates.specs.Tdo.{TdoFollows, ident_feed, tdo_given_by}
 use Rattle.instruction_gates.specs.Selections.{Selected}
@@ -46,7 +45,7 @@ use Rattle.wrapped_chip.specs.Cells.{captured}
 use Rattle.wrapped_chip.specs.ChipRuns.{ChipMoment, ChipEvent}
 use Rattle.wrapped_chip.specs.Home.{IsOutside}
 use Rattle.wrapped_chip.specs.Realises.{SameOutside, SameEvents}
-use Rattle.surrounded_core.specs.Places.{Places, controller_nets, selection_nets, bypass_bit, ident_bit}
+use Rattle.surrounded_core.specs.Places.{Places, controller_nets, selection_nets, bypass_bit, code_cells, code_values, code_last, ident_bit}
 use Rattle.surrounded_core.specs.Surrounds.{Surrounds}
 use Rattle.surrounded_core.specs.Laws.{core_value, SurroundedStands}
 use Rattle.surrounded_core.proofs.Outside.{outside_always, level_carried}
@@ -77,7 +76,7 @@ pub record HoldsMachine (B : Device) (S : Places) (machine : Machine) (m : Momen
   pub stages : HoldsStages S.instruction S.codes machine m
   pub legible : IsLegible machine
   pub bypass : m.value (bypass_bit S).0 ≡ machine.bypass
-  pub ident : (code : ℕ) → S.code ≡ Some code → ident_values m.value S.ident code ≡ machine.ident
+  pub ident : (code : ℕ) → S.code ≡ Some code → code_values S m.value code ≡ machine.ident
   pub tdo : tdo_given_by S.driver m ≡ machine.tdo
   pub rows : (place : ℕ) (r : CellRow) → slice_get B.cells place ≡ Some r → HoldsRow (S.gates place) (S.row place) place machine m.value
   pub long : AreLong (test_logic_of B) machine
@@ -237,11 +236,19 @@ bypass_held by r (suc t) below =
     e ∙ ap (λ (x : Sig). bit_after a b Zero (bypass_after on machine.state (bit a.tdi) x) x x) (bypass_held by r t before)
     ∙ sym (by.registers (logic r) a b (caught_at r t) machine).bypass
 
-ident_held : RunLaws → (r : Scene) (t : ℕ) → t ≤ length r.events → (code : ℕ) → r.places.code ≡ Some code → (logic r).code ≡ bits_of 32 code
-    → HasCells r.outer (ident_cells r.places.ident r.places.ident_number (controller_nets r.places) (selection_nets r.places).ident_on r.places.tdi code)
-    → ident_values (r.moment t).value r.places.ident code ≡ (machine_at r t).ident
-ident_held by r zero below code there is has = r.holds.ident code there
-ident_held by r (suc t) below code there is has =
+-- what is captured is what the test logic captures
+captures_code : (r : Scene) (code : ℕ) (using : Bool) → r.places.code ≡ Some code
+    → captured_bits r.places.user code using ≡ (if using then (logic r).user else (logic r).code)
+captures_code r code using there =
+    let has : r.device.idcode ≡ Some code = sym r.around.codes.code ∙ there in
+    let user : (logic r).user ≡ bits_of 32 (unwrap_or r.places.user code)
+    = ap (λ (o : Option ℕ). user_bits o r.device.usercode) has ∙ ap (λ (o : Option ℕ). bits_of 32 (unwrap_or o code)) (sym r.around.codes.user) in
+    ap (λ (xs : List Sig). if using then xs else bits_of 32 code) (sym user) ∙ ap (λ (xs : List Sig). if using then (logic r).user else xs) (sym (ap code_bits has))
+
+ident_held : RunLaws → (r : Scene) (t : ℕ) → t ≤ length r.events → (code : ℕ) → r.places.code ≡ Some code → HasCells r.outer (code_cells r.places code)
+    → code_values r.places (r.moment t).value code ≡ (machine_at r t).ident
+ident_held by r zero below code there has = r.holds.ident code there
+ident_held by r (suc t) below code there has =
     let S = r.places in
     let before : t ≤ length r.events = omega arith in
     let next = next_at r t below in
@@ -249,23 +256,26 @@ ident_held by r (suc t) below code there is has =
     let b : Levels = levels_at r (suc t) in
     let machine : Machine = machine_at r t in
     let on : Bool = selects (logic r) machine register.DeviceId in
-    let e = (by.ident S.ident S.ident_number (controller_nets S) (selection_nets S).ident_on S.tdi code).step r.outer next.0 machine.state on a b (r.moment t) (r.moment (suc t))
-    r.around.formed has (settled_at r t before) next.1
-    (record { carries = carried r t before; shows = state_shown by r t before; selection = (selected by r t before).ident_on; data_in = (levelled r t before).tdi })
-    (carried r (suc t) below) in
-    let after : List Sig → List Sig → List Sig = λ c xs. bit_after a b (zeros c) (ident_after on c machine.state (bit a.tdi) xs) xs xs in
-    e ∙ ap (λ (c : List Sig). after c (ident_values (r.moment t).value S.ident code)) (sym is)
-    ∙ ap (λ (xs : List Sig). after (logic r).code xs) (ident_held by r t before code there is has)
+    let using : Bool = is_usercode (in_effect (logic r) machine) in
+    let chosen = selected by r t before in
+    let e = (by.ident S.ident S.ident_number (controller_nets S) (selection_nets S).ident_on (selection_nets S).user_on S.tdi S.user code).step r.outer next.0 machine.state on using a b
+    (r.moment t) (r.moment (suc t)) r.around.formed has (settled_at r t before) next.1
+    (record { carries = carried r t before; shows = state_shown by r t before; selection = chosen.ident_on; data_in = (levelled r t before).tdi }) chosen.user_on (carried r (suc t) below) in
+    let after : List Sig → List Sig → List Sig → List Sig = λ blank c xs. bit_after a b (zeros blank) (ident_after on c machine.state (bit a.tdi) xs) xs xs in
+    let now : List Sig = code_values S (r.moment t).value code in
+    e ∙ ap (λ (xs : List Sig). after xs (captured_bits S.user code using) now) (sym (ap code_bits (sym r.around.codes.code ∙ there)))
+    ∙ ap (λ (c : List Sig). after (logic r).code c now) (captures_code r code using there)
+    ∙ ap (λ (xs : List Sig). after (logic r).code (captured_code (in_effect (logic r) machine) (logic r)) xs) (ident_held by r t before code there has)
     ∙ sym (by.registers (logic r) a b (caught_at r t) machine).ident
 
-ident_with : RunLaws → (r : Scene) (t : ℕ) → t ≤ length r.events → (code : ℕ) → r.places.code ≡ Some code → (logic r).code ≡ bits_of 32 code
-    → HasCells r.outer (ident_cells r.places.ident r.places.ident_number (controller_nets r.places) (selection_nets r.places).ident_on r.places.tdi code)
-    → (r.moment t).value (ident_last r.places.ident r.places.tdi code).0 ≡ first_bit (machine_at r t).ident
-ident_with by r t below code there is has =
+ident_with : RunLaws → (r : Scene) (t : ℕ) → t ≤ length r.events → (code : ℕ) → r.places.code ≡ Some code → HasCells r.outer (code_cells r.places code)
+    → (r.moment t).value (code_last r.places code).0 ≡ first_bit (machine_at r t).ident
+ident_with by r t below code there has =
     let S = r.places in
-    (by.ident S.ident S.ident_number (controller_nets S) (selection_nets S).ident_on S.tdi code).last (r.moment t) ∙ ap first_bit (ident_held by r t below code there is has)
+    (by.ident S.ident S.ident_number (controller_nets S) (selection_nets S).ident_on (selection_nets S).user_on S.tdi S.user code).last (r.moment t)
+    ∙ ap first_bit (ident_held by r t below code there has)
 
--- IDCODE is in effect only where it has an opcode
+-- an instruction that selects the identification register is in effect only where it has an opcode
 finds : (p : Instr → Bool) (xs : List Instr) (i : Instr) → find p xs ≡ Some i → p i ≡ true
 finds p [] i e = absurd (cc)
 finds p (x ∷ xs) i e = by_test (p x) refl (λ found. finds p xs i found) e
@@ -274,34 +284,28 @@ finds p (x ∷ xs) i e = by_test (p x) refl (λ found. finds p xs i found) e
     by_test true is later found = let same : x ≡ i = cc in sym (ap p same) ∙ is
     by_test false is later found = later found
 
-named : (o : Option Instr) → unwrap_or o Bypass ≡ Idcode → o ≡ Some Idcode
-named None e = absurd (cc)
-named (Some i) e = ap (λ (x : Instr). Some x) e
+named : (o : Option Instr) → selected_register (unwrap_or o Bypass) ≡ register.DeviceId → o ≡ Some (unwrap_or o Bypass)
+named None device = absurd (let bad : register.Bypass ≡ register.DeviceId = device in cc)
+named (Some i) device = refl
 
-idcode_has_opcode : (opcodes : List Opcode) (latched : List Sig) → instruction_of opcodes latched ≡ Idcode → is_opcode latched (opcode_of opcodes Idcode) ≡ true
+has_opcode : (opcodes : List Opcode) (latched : List Sig) → selected_register (instruction_of opcodes latched) ≡ register.DeviceId
+    → is_opcode latched (opcode_of opcodes (instruction_of opcodes latched)) ≡ true
 unfolding instruction_of
-idcode_has_opcode opcodes latched e = finds (λ i. is_opcode latched (opcode_of opcodes i)) all_instructions Idcode (named (find (λ i. is_opcode latched (opcode_of opcodes i)) all_instructions) e)
-
-selects_device : (i : Instr) → selected_register i ≡ register.DeviceId → i ≡ Idcode
-selects_device Idcode e = refl
-selects_device Extest e = absurd (cc)
-selects_device Sample e = absurd (cc)
-selects_device Preload e = absurd (cc)
-selects_device Bypass e = absurd (cc)
-selects_device Highz e = absurd (cc)
-selects_device Clamp e = absurd (cc)
+has_opcode opcodes latched device =
+    let is : Instr → Bool = λ i. is_opcode latched (opcode_of opcodes i) in
+    finds is all_instructions (instruction_of opcodes latched) (named (find is all_instructions) device)
 
 -- where the identification register is selected, its bit nearest TDO is on the net that is handed on
 pub ident_nearest : RunLaws → (r : Scene) (t : ℕ) → t ≤ length r.events → selected_register (in_effect (logic r) (machine_at r t)) ≡ register.DeviceId
     → feed_value (r.moment t).value (ident_feed (ident_bit r.places)) ≡ first_bit (machine_at r t).ident
 ident_nearest by r t below device = by_code r.places.code refl r.around.registers.ident
   where
-    by_code : (o : Option ℕ) → r.places.code ≡ o
-        → HasCells r.outer (option_map_or (ident_cells r.places.ident r.places.ident_number (controller_nets r.places) (selection_nets r.places).ident_on r.places.tdi) o [])
-        → feed_value (r.moment t).value (ident_feed (option_map (ident_last r.places.ident r.places.tdi) o)) ≡ first_bit (machine_at r t).ident
+    by_code : (o : Option ℕ) → r.places.code ≡ o → HasCells r.outer (option_map_or (code_cells r.places) o [])
+        → feed_value (r.moment t).value (ident_feed (option_map (code_last r.places) o)) ≡ first_bit (machine_at r t).ident
     by_code None e has =
-        let idcode : in_effect (logic r) (machine_at r t) ≡ Idcode = selects_device (in_effect (logic r) (machine_at r t)) device in
-        let none : opcode_of r.device.opcodes Idcode ≡ None = r.around.codes.identified (sym r.around.codes.code ∙ e) in
-        let found : is_opcode (machine_at r t).latched (opcode_of r.device.opcodes Idcode) ≡ true = idcode_has_opcode r.device.opcodes (machine_at r t).latched idcode in
+        let none : opcode_of r.device.opcodes (in_effect (logic r) (machine_at r t)) ≡ None
+        = r.around.codes.identified (sym r.around.codes.code ∙ e) (in_effect (logic r) (machine_at r t)) device in
+        let found : is_opcode (machine_at r t).latched (opcode_of r.device.opcodes (in_effect (logic r) (machine_at r t))) ≡ true
+        = has_opcode r.device.opcodes (machine_at r t).latched device in
         absurd (let bad : false ≡ true = sym (ap (is_opcode (machine_at r t).latched) none) ∙ found in cc)
-    by_code (Some code) e has = ident_with by r t below code e (ap code_bits (sym r.around.codes.code ∙ e)) has
+    by_code (Some code) e has = ident_with by r t below code e has

@@ -13,14 +13,13 @@ use Rattle.test_logic.specs.declared.TapState.TheVariants.{TestLogicReset}
 use Rattle.test_logic.specs.Machine.{Machine, TestLogic, reset, test_logic_of, code_bits, zeros}
 use Rattle.tap_gates.specs.Laws.{HoldsState}
 use Rattle.register_bits.specs.Laws.{Carries}
-use Rattle.register_gates.specs.Registers.{ident_cells, ident_values}
 use Rattle.boundary_runs.specs.Rows.{IsRowOf}
 use Rattle.wrapped_chip.specs.Cells.{chip_reading}
 use Rattle.wrapped_chip.specs.ChipRuns.{ChipMoment, ChipEvent, IsChipRun}
 use Rattle.wrapped_chip.specs.Laws.{ChipRunOnce, SameChipMoment}
 use Rattle.wrapped_chip.specs.Realises.{IsRunBeside}
 use Rattle.wrapped_chip.specs.Beside.{RunBesideExists}
-use Rattle.surrounded_core.specs.Places.{Places, controller_nets, selection_nets, bypass_bit, ident_bit}
+use Rattle.surrounded_core.specs.Places.{Places, controller_nets, selection_nets, bypass_bit, code_cells, code_values, ident_bit}
 use Rattle.surrounded_core.specs.Surrounds.{Surrounds}
 use Rattle.surrounded_core.specs.Laws.{SurroundedReads, SurroundedRealises}
 use Rattle.surrounded_core.proofs.Parts.{RunLaws, HoldsMachine, Scene, core_at, machine_at, Levelled, levelled_by, carried_by, moded_by}
@@ -37,13 +36,10 @@ starts_in_reset by M N B S around given levels m start levelled low =
     let controller : HoldsState S.controller TestLogicReset m
     = tap.start M given levels m around.formed around.registers.controller start (moded_by S levels m levelled) low in
     let shows = tap.shows TestLogicReset m controller in
-    let ident_start : (o : Option ℕ) → S.code ≡ o
-    → HasCells M (option_map_or (ident_cells S.ident S.ident_number (controller_nets S) (selection_nets S).ident_on S.tdi) o [])
-    → (code : ℕ) → o ≡ Some code → ident_values m.value S.ident code ≡ (reset L).ident
+    let ident_start : (o : Option ℕ) → S.code ≡ o → HasCells M (option_map_or (code_cells S) o []) → (code : ℕ) → o ≡ Some code → code_values S m.value code ≡ (reset L).ident
     = λ o is has code e.
-    let there : HasCells M (ident_cells S.ident S.ident_number (controller_nets S) (selection_nets S).ident_on S.tdi code)
-    = subst (λ (x : Option ℕ). HasCells M (option_map_or (ident_cells S.ident S.ident_number (controller_nets S) (selection_nets S).ident_on S.tdi) x [])) e has in
-    (by.ident S.ident S.ident_number (controller_nets S) (selection_nets S).ident_on S.tdi code).start M given levels m around.formed there start carries low
+    let there : HasCells M (code_cells S code) = subst (λ (x : Option ℕ). HasCells M (option_map_or (code_cells S) x [])) e has in
+    (by.ident S.ident S.ident_number (controller_nets S) (selection_nets S).ident_on (selection_nets S).user_on S.tdi S.user code).start M given levels m around.formed there start carries low
     ∙ ap (λ (c : Option ℕ). zeros (code_bits c)) (sym (sym around.codes.code ∙ is ∙ e)) in
     record {
       controller = controller;

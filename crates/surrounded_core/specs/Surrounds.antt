@@ -1,7 +1,7 @@
 -- A core with a device's test logic around it, in a netlist.
 -- IEEE Std 1149.1-2001: test logic architecture, boundary-scan register; the record is own.
 use Rattle.std.specs.Prelude.{◌≡◌, ◌<◌, ℕ, suc, true, length, slice_get, Some, None}
-use Rattle.cell_library.specs.declared.codes.Instr.TheVariants as instr
+use Rattle.cell_library.specs.declared.codes.Instr.{Instr}
 use Rattle.netlist_model.specs.declared.NetId.{NetId}
 use Rattle.netlist_model.specs.declared.Dir.{Dir}
 use Rattle.netlist_model.specs.declared.Dir.TheVariants.{Input, Output}
@@ -10,6 +10,8 @@ use Rattle.netlist_model.specs.Settled.{follows_pin}
 use Rattle.netlist_model.specs.Formed.{IsWellFormed}
 use Rattle.netlist_model.specs.Contained.{HasCells}
 use Rattle.netlist_images.specs.Behind.{NestedBehind}
+use Rattle.bsdl_device.specs.Instructions.{selected_register}
+use Rattle.bsdl_device.specs.declared.entries.Register.TheVariants as register
 use Rattle.bsdl_device.specs.declared.values.CellRow.{CellRow}
 use Rattle.bsdl_device.specs.declared.values.Device.{Device}
 use Rattle.test_logic.specs.declared.TapInput.{TapInput}
@@ -32,12 +34,13 @@ pub record HasPorts (M N : NetlistView) (S : Places) : Type 0 where
   pub tdo : IsTapNet M N 3 S.tdo.0
   pub tdo_side : direction M.ports S.tdo.0 ≡ Some Output
 
--- own: the codes are the device's, and suit the instruction register; without IDCODE's opcode nothing selects an identification register
+-- own: the codes are the device's, and suit the instruction register; without a code no opcode selects an identification register
 pub record HasCodes (B : Device) (S : Places) : Type 0 where
   pub codes : AreCodes S.codes (test_logic_of B)
   pub fit : FitTheRegister S.codes
   pub code : S.code ≡ B.idcode
-  pub identified : B.idcode ≡ None → opcode_of B.opcodes instr.Idcode ≡ None
+  pub user : S.user ≡ B.usercode
+  pub identified : B.idcode ≡ None → (i : Instr) → selected_register i ≡ register.DeviceId → opcode_of B.opcodes i ≡ None
 
 -- own: the rows of the boundary register are there, each behind the next towards TDI
 pub record HasRows (M N : NetlistView) (B : Device) (S : Places) : Type 0 where

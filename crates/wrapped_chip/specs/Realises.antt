@@ -1,5 +1,5 @@
 -- A netlist keeps another's ports and cells, and behaves as it does in a device's test logic, or alone.
--- Own. For IEEE Std 1149.1-2001 (normal operation of the system logic under BYPASS, IDCODE, SAMPLE and PRELOAD) see `Alone`.
+-- Own. For IEEE Std 1149.1-2001 (normal operation of the system logic under BYPASS, IDCODE, USERCODE, SAMPLE and PRELOAD) see `Alone`.
 use Rattle.std.specs.Prelude.{◌≡◌, ◌≤◌, ℕ, ◌+◌, true, List, [], ◌∷◌, ◌++◌, map, length, slice_get, slice_range, filter_map, Option, Some, None, option_map}
 use Rattle.signal_values.specs.declared.Sig.{Sig}
 use Rattle.signal_values.specs.declared.PinSig.{PinSig}

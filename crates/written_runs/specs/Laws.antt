@@ -1,6 +1,6 @@
 -- The netlist that is written with its test logic behaves as the wrapped chip of the plan's device, and as the netlist alone; TCK and
 -- TRST are the control ports that it has more.
--- Own. For IEEE Std 1149.1-2001 (normal operation of the system logic under BYPASS, IDCODE, SAMPLE and PRELOAD) see `Alone`.
+-- Own. For IEEE Std 1149.1-2001 (normal operation of the system logic under BYPASS, IDCODE, USERCODE, SAMPLE and PRELOAD) see `Alone`.
 use Rattle.verilog_tree.specs.declared.tree.Module.{Module}
 use Rattle.netlist_model.specs.Formed.{IsLaidOut}
 use Rattle.netlist_link.specs.Linked.{LinkedView}
