@@ -93,6 +93,7 @@ plan_line (plan.PlanLine line) = place_line (codes "PlanLine") line
 plan_line (plan.PlanTwice word) = named_line (codes "PlanTwice") word
 plan_line (plan.PlanOpcode word) = named_line (codes "PlanOpcode") word
 plan_line plan.PlanIdcode = words_line (codes "PlanIdcode") []
+plan_line plan.PlanUsercode = words_line (codes "PlanUsercode") []
 plan_line (plan.PlanInstruction word) = named_line (codes "PlanInstruction") word
 plan_line plan.OutOfMemory = memory_line
 

@@ -19,6 +19,7 @@ pub fn put_plan_fault<O: Sink>(out: &mut O, fault: &PlanFault) -> Result<(), Wri
         PlanFault::PlanTwice { word } => put_named(out, b"PlanTwice", word.as_bytes()),
         PlanFault::PlanOpcode { word } => put_named(out, b"PlanOpcode", word.as_bytes()),
         PlanFault::PlanIdcode => put_line(out, &Field::Word(b"PlanIdcode"), &[]),
+        PlanFault::PlanUsercode => put_line(out, &Field::Word(b"PlanUsercode"), &[]),
         PlanFault::PlanInstruction { word } => put_named(out, b"PlanInstruction", word.as_bytes()),
         PlanFault::OutOfMemory => put_memory(out),
     }

@@ -76,6 +76,7 @@ fn kind_word(kind: MeaningKind) -> &'static [u8]
         MeaningKind::Opcode => b"Opcode",
         MeaningKind::Capture => b"Capture",
         MeaningKind::Idcode => b"Idcode",
+        MeaningKind::Usercode => b"Usercode",
         MeaningKind::Register => b"Register",
         MeaningKind::Boundary => b"Boundary",
         MeaningKind::Row => b"Row",

@@ -1,6 +1,6 @@
 -- The plan of the demonstration netlists.
 -- IEEE Std 1149.1-2001: test access port, instructions, device identification register, boundary-scan register; the plan is own.
-use Rattle.std.specs.Prelude.{ℕ, ◌+◌, ◌-◌, ◌^◌, List, [], ◌∷◌, ◌++◌, map, codes, Some}
+use Rattle.std.specs.Prelude.{ℕ, ◌+◌, ◌-◌, ◌^◌, List, [], ◌∷◌, ◌++◌, map, codes, Some, None}
 use Rattle.std.specs.Fmt.{decimal}
 use Rattle.cell_library.specs.declared.codes.BoundaryKind.{BoundaryKind}
 use Rattle.cell_library.specs.declared.codes.BoundaryKind.TheVariants.{Bc1, Bc4}
@@ -39,6 +39,7 @@ pin_lines = pin_line (codes "clk") 1 Bc4 ∷ pin_line (codes "rn") 2 Bc4
 
 abbrev pub demo_plan : Plan
 demo_plan = record {
+  version = 1;
   entity = codes "demo_chip";
   «package» = codes "PK";
   prefix = codes "bs_";
@@ -52,6 +53,7 @@ demo_plan = record {
   capture = record { len = 4; value = 1 };
   opcodes = opcodes;
   idcode = Some (2 ^ 28 + 2 ^ 12 + 3);
+  usercode = None;
   control = Bc1;
   pins = pin_lines;
   linkage = [];

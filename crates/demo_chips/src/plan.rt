@@ -95,6 +95,7 @@ pub fn demo_plan(alloc: Global) -> Result<Plan, OutOfMemory>
     ensures { IfOk result (λ plan. plan ≡ model.demo_plan) }
 {
     Ok(Plan {
+        version: 1,
         entity: Text::from_bytes(alloc, b"demo_chip")?,
         package: Text::from_bytes(alloc, b"PK")?,
         prefix: Text::from_bytes(alloc, b"bs_")?,
@@ -108,6 +109,7 @@ pub fn demo_plan(alloc: Global) -> Result<Plan, OutOfMemory>
         capture: Bits { len: 4, value: 1 },
         opcodes: opcodes(alloc)?,
         idcode: Some(268_439_555),
+        usercode: None,
         control: BoundaryKind::Bc1,
         pins: pin_lines(alloc)?,
         linkage: Row::new(alloc),

@@ -1,5 +1,5 @@
 -- The canonical text of the plan spells it.
-use Rattle.std.proofs.Common.{◌≡◌, ℕ, Bool, true, false, List, [], ◌∷◌, codes, map, Some, refl, ap}
+use Rattle.std.proofs.Common.{◌≡◌, ℕ, Bool, true, false, List, [], ◌∷◌, codes, map, Some, None, refl, ap}
 use Rattle.std.specs.Prelude.{All, ◌&&◌, not}
 use Rattle.std.specs.Fmt.{digits}
 use Rattle.std.specs.List.{list_all}
@@ -66,6 +66,7 @@ opcode_words =
 
 abbrev source : PlanSource
 source = record {
+  version = codes "1";
   entity = codes "demo_chip";
   «package» = codes "PK";
   prefix = codes "bs_";
@@ -79,6 +80,7 @@ source = record {
   capture = codes "0001";
   opcodes = opcode_words;
   idcode = Some (record { version = codes "0001"; part = codes "0000000000000001"; manufacturer = codes "00000000001"; mark = codes "1" });
+  usercode = None;
   control = Bc1;
   pins = plans.pin_lines;
   linkage = [];
@@ -93,6 +95,7 @@ opcode_is o h = record { name = and_left (is_name o.name) (is_pattern o.bits) h;
 source_is : IsSource source
 unfolding digits
 source_is = record {
+  version = refl;
   entity = refl;
   «package» = refl;
   prefix = refl;
@@ -107,6 +110,7 @@ source_is = record {
   some = λ e. absurd (cc);
   opcodes = all_are opcode_right IsOpcode opcode_is opcode_words refl;
   idcode = record { version = refl; part = refl; manufacturer = refl; mark = refl };
+  usercode = tt;
   control = tt;
   pins = all_are (λ (p : PinLine). is_pin p.pin) IsPinLine (λ p h. h) plans.pin_lines refl;
   linkage = All-nil _;

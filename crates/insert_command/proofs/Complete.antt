@@ -37,6 +37,7 @@ plan_memory law bytes p (plan.PlanLine line) spells bad = absurd (law bytes p sp
 plan_memory law bytes p (plan.PlanTwice word) spells bad = absurd (law bytes p spells (plan.PlanTwice word) bad)
 plan_memory law bytes p (plan.PlanOpcode word) spells bad = absurd (law bytes p spells (plan.PlanOpcode word) bad)
 plan_memory law bytes p plan.PlanIdcode spells bad = absurd (law bytes p spells plan.PlanIdcode bad)
+plan_memory law bytes p plan.PlanUsercode spells bad = absurd (law bytes p spells plan.PlanUsercode bad)
 plan_memory law bytes p (plan.PlanInstruction word) spells bad = absurd (law bytes p spells (plan.PlanInstruction word) bad)
 plan_memory law bytes p plan.OutOfMemory spells bad = refl
 

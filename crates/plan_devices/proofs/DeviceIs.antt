@@ -138,14 +138,18 @@ plans_make_devices rules there agree highz has found L p seen fits room =
     let facts = facts_of has found L p seen fits in
     let register = plans_have_registers p fits.spelled in
     let codes = plans_have_codes p fits.spelled in
+    let bits = plans_have_bits p fits.spelled in
     let right = right_ports L p seen fits facts.names in
     record {
       entity = facts.names.unit.0;
       «package» = facts.names.unit.1.0;
       ports = device_ports L p seen fits room facts.names (plans_have_pins p fits.spelled) facts.once facts.lined right;
       tap = device_tap L p seen register;
-      instructions = device_register rules L p seen fits register (plans_have_bits p fits.spelled) codes;
+      instructions = device_register rules L p seen fits register bits codes;
       code = codes.code;
       identified = codes.identified;
+      user = bits.user;
+      user_identified = codes.user_identified;
+      user_beside = codes.user_beside;
       rows = device_rows there agree highz L p seen fits room facts;
     }

@@ -15,7 +15,7 @@ use Rattle.plan_texts.specs.declared.plan.TapLine.{TapLine}
 use Rattle.plan_texts.specs.declared.plan.PinLine.{PinLine}
 use Rattle.plan_texts.specs.Forms.{is_pin}
 use Rattle.plan_texts.specs.Meaning.{plan_of}
-use Rattle.plan_texts.specs.Grammar.{PlanSource, IsSource, IsTapLine, IsPinLine, plan_rows, opcode_words, idcode_rows, pin_words, tap_words, written_of}
+use Rattle.plan_texts.specs.Grammar.{PlanSource, IsSource, IsTapLine, IsPinLine, plan_rows, opcode_words, idcode_rows, user_rows, pin_words, tap_words, written_of}
 use Rattle.plan_texts.specs.Canonical.{IsPlan}
 use Rattle.plan_fitting.specs.Fits.{tap_lines}
 use Rattle.plan_devices.proofs.FilledWords.{IsFilled, AreFilled, kept_lines_filled}
@@ -67,7 +67,7 @@ lines_have_pins s is filled =
     let taps = filled.1.1.1.1 in
     let codes_on = taps.1.1.1.1.1.1.1.1 in
     let a = all_back AreFilled (map opcode_words s.opcodes) _ codes_on in
-    let b = all_back AreFilled (idcode_rows s.idcode) _ a in
+    let b = all_back AreFilled (user_rows s.usercode) _ (all_back AreFilled (idcode_rows s.idcode) _ a) in
     let pins = map pin_words s.pins in
     let more = map (tap_words (codes "linkage")) s.linkage in
     record {
