@@ -9,7 +9,7 @@ WORD = re.compile(r'\s+|--[^\n]*|"[^"\n]*"|[A-Za-z]\w*|\d+(?:\.\d+(?:[eE][+-]?\d
 ROW = re.compile(r"(\d+)\s*\(\s*(\w+)\s*,\s*(\*|\w+(?:\s*\(\s*\d+\s*\))?)\s*,\s*(\w+)\s*,\s*([01X])\s*(?:,\s*(\d+)\s*,\s*([01])\s*,\s*Z\s*)?\)", re.I)
 # What is between TDI and TDO under each instruction.
 BOUNDARY, BYPASS, DEVICE_ID = "BOUNDARY", "BYPASS", "DEVICE_ID"
-REGISTERS = dict(EXTEST=BOUNDARY, SAMPLE=BOUNDARY, PRELOAD=BOUNDARY, IDCODE=DEVICE_ID, BYPASS=BYPASS, HIGHZ=BYPASS, CLAMP=BYPASS)
+REGISTERS = dict(EXTEST=BOUNDARY, SAMPLE=BOUNDARY, PRELOAD=BOUNDARY, IDCODE=DEVICE_ID, USERCODE=DEVICE_ID, BYPASS=BYPASS, HIGHZ=BYPASS, CLAMP=BYPASS)
 FUNCTIONS = ("input", "clock", "output2", "output3", "bidir", "control")
 
 
@@ -62,6 +62,7 @@ class Device:
     opcodes: Dict[str, str] = field(default_factory=dict)
     capture: str = ""
     code: Optional[str] = None
+    user: Optional[str] = None
     rows: List[Row] = field(default_factory=list)
 
     def tap(self):
@@ -291,6 +292,8 @@ def instructions_of(words, device):
     device.capture = words.text_attribute("INSTRUCTION_CAPTURE").strip()
     if words.next_attribute() == "IDCODE_REGISTER":
         device.code = re.sub(r"\s", "", words.text_attribute("IDCODE_REGISTER"))
+    if words.next_attribute() == "USERCODE_REGISTER":
+        device.user = re.sub(r"\s", "", words.text_attribute("USERCODE_REGISTER"))
     for name, bits in [*device.opcodes.items(), ("what is captured", device.capture)]:
         if len(bits) != device.length:
             raise Fault(f"{name}: {bits} hasn't the length of the instruction register, {device.length}")
@@ -300,8 +303,11 @@ def instructions_of(words, device):
     for name in ("BYPASS", "EXTEST", "SAMPLE", "PRELOAD"):
         if name not in device.opcodes:
             raise Fault(f"there is no opcode of {name}")
-    if ("IDCODE" in device.opcodes) != (device.code is not None) or len(device.code or "1" * 32) != 32:
-        raise Fault("IDCODE and its register of 32 bits don't stand together")
+    for name, code in (("IDCODE", device.code), ("USERCODE", device.user)):
+        if (name in device.opcodes) != (code is not None) or len(code or "1" * 32) != 32:
+            raise Fault(f"{name} and its register of 32 bits don't stand together")
+    if "USERCODE" in device.opcodes and "IDCODE" not in device.opcodes:
+        raise Fault("USERCODE stands without IDCODE")
 
 
 def read_device(path):

@@ -175,11 +175,13 @@ class Row:
         return self.port.text if self.index is None else f"{self.port.text}({self.index})"
 
 
+CODE = lambda strings: strings.one(lambda text: re.fullmatch(r"[01]{32}", text), "32 bits, with no blank between them,")
 READERS = {
     "PIN_MAP_STRING": lambda strings: strings.listed(pin_entry),
     "INSTRUCTION_OPCODE": lambda strings: strings.listed(opcode_entry),
     "INSTRUCTION_CAPTURE": Strings.bits,
-    "IDCODE_REGISTER": lambda strings: strings.one(lambda text: re.fullmatch(r"[01]{32}", text), "32 bits, with no blank between them,"),
+    "IDCODE_REGISTER": CODE,
+    "USERCODE_REGISTER": CODE,
     "REGISTER_ACCESS": lambda strings: strings.listed(access_entry),
     "BOUNDARY_REGISTER": lambda strings: strings.listed(Row),
 }
@@ -311,11 +313,18 @@ def check_opcodes(sections):
         if other != name.text and {other.upper(), name.text.upper()} != {"SAMPLE", "PRELOAD"}:
             raise Broken(bits.place, f"{name.text} has the opcode of {other}")
     check_code(sections, "IDCODE" in there, place)
+    check_together(sections, "USERCODE", "USERCODE" in there, place)
+    if "USERCODE" in there and "IDCODE" not in there:
+        raise Broken(place, "the instruction USERCODE stands without IDCODE")
+
+
+def check_together(sections, name, is_there, place):
+    if (f"{name}_REGISTER" in sections.starts) != is_there:
+        raise Broken(place, f"the instruction {name} and the section {name}_REGISTER don't stand together")
 
 
 def check_code(sections, is_wanted, place):
-    if ("IDCODE_REGISTER" in sections.starts) != is_wanted:
-        raise Broken(place, "the instruction IDCODE and the section IDCODE_REGISTER don't stand together")
+    check_together(sections, "IDCODE", is_wanted, place)
     if is_wanted:
         code = sections.entries("IDCODE_REGISTER")
         if code.text[-1] == "0":

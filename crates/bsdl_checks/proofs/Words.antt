@@ -8,8 +8,8 @@ use Rattle.bsdl_device.specs.declared.written.PortDeclaration.{PortDeclaration}
 use Rattle.bsdl_device.specs.declared.written.StringAttribute.{StringAttribute}
 use Rattle.bsdl_device.specs.declared.written.File.{File}
 use Rattle.bsdl_device.specs.Matching.{each_after, separated_by}
-use Rattle.bsdl_device.specs.Shape.{Mark, KeyWord, NameOf, mode_word, type_words, StringOf, joined, sections, strings_words, names_words, declaration_words, string_attribute_words, constant_section, port_section, idcode_section}
-use Rattle.bsdl_checks.specs.Counts.{strings_count, idcode_count, after_semicolons, first_word, all_words}
+use Rattle.bsdl_device.specs.Shape.{Mark, KeyWord, NameOf, mode_word, type_words, StringOf, joined, sections, strings_words, names_words, declaration_words, string_attribute_words, constant_section, port_section, code_words, usercode_words, idcode_section}
+use Rattle.bsdl_checks.specs.Counts.{strings_count, code_count, after_semicolons, first_word, all_words}
 
 abbrev lengths : {A : Type 0} → List (List A) → ℕ
 lengths [] = 0
@@ -47,12 +47,16 @@ constant-length f = omega (arith, length-append (strings_words f.pin_map) (Mark 
 pub attribute-length : (kind : List ℕ) (a : StringAttribute) → length (string_attribute_words kind a) ≡ 8 + strings_count a.strings
 attribute-length kind a = omega (arith, length-append (strings_words a.strings) (Mark Semicolon ∷ []), strings-length a.strings)
 
-pub idcode-length : (f : File) → length (idcode_section f) ≡ idcode_count f.idcode
-idcode-length f = by f.idcode
-  where
-    by : (idcode : Option StringAttribute) → length (option_map_or (string_attribute_words (codes "IDCODE_REGISTER")) idcode []) ≡ idcode_count idcode
-    by None = refl
-    by (Some a) = attribute-length (codes "IDCODE_REGISTER") a
+-- an attribute that may be left out
+optional-length : (kind : List ℕ) (code : Option StringAttribute) → length (option_map_or (string_attribute_words kind) code []) ≡ code_count code
+optional-length kind None = refl
+optional-length kind (Some a) = attribute-length kind a
+
+pub code-length : (f : File) → length (code_words f) ≡ code_count f.idcode
+code-length f = optional-length (codes "IDCODE_REGISTER") f.idcode
+
+pub idcode-length : (f : File) → length (idcode_section f) ≡ code_count f.idcode + code_count f.usercode
+idcode-length f = omega (arith, length-append (code_words f) (usercode_words f), code-length f, optional-length (codes "USERCODE_REGISTER") f.usercode)
 
 -- the sections before one, as lengths
 before : (f : File) (n : ℕ) → length (joined (take n (sections f))) ≡ lengths (take n (sections f))
@@ -82,7 +86,7 @@ pub word-idcode : (f : File) → first_word f 13 ≡ first_word f 12 + 8 + strin
 unfolding first_word
 word-idcode f = omega (arith, before f 12, before f 11, attribute-length (codes "INSTRUCTION_CAPTURE") f.capture)
 
-pub word-access : (f : File) → first_word f 14 ≡ first_word f 13 + idcode_count f.idcode
+pub word-access : (f : File) → first_word f 14 ≡ first_word f 13 + code_count f.idcode + code_count f.usercode
 unfolding first_word
 word-access f = omega (arith, before f 13, before f 12, idcode-length f)
 
@@ -138,13 +142,16 @@ fits-capture_string f = omega (arith, word-idcode f, word-access f, fits-access 
 pub fits-idcode_string : (f : File) → first_word f 13 + 7 ≤ all_words f
 fits-idcode_string f = omega (arith, word-access f, word-boundary_length f, fits-boundary_length f)
 
+pub fits-usercode_string : (f : File) → first_word f 13 + length (code_words f) + 7 ≤ all_words f
+fits-usercode_string f = omega (arith, code-length f, word-access f, word-boundary_length f, fits-boundary_length f)
+
 pub fits-access_string : (f : File) → first_word f 14 + 7 ≤ all_words f
 fits-access_string f = omega (arith, word-boundary_length f, fits-boundary_length f)
 
 pub fits-rows_string : (f : File) → first_word f 16 + 7 ≤ all_words f
 fits-rows_string f = omega (arith, word-all f)
 
-pub ruleset string_words = (fits-pin_map_string, fits-opcode_string, fits-capture_string, fits-idcode_string, fits-access_string, fits-rows_string)
+pub ruleset string_words = (fits-pin_map_string, fits-opcode_string, fits-capture_string, fits-idcode_string, fits-usercode_string, fits-access_string, fits-rows_string)
 
 -- the words of a declaration, by its type
 pub declaration_words_count : (d : PortDeclaration) → length (declaration_words d) ≡ strings_count d.names + 2 + option_map_or (λ (r : WrittenRange). 6) d.range 1

@@ -12,8 +12,9 @@ use Rattle.bsdl_device.specs.Shape.{Pattern, Mark, declaration_words, file_words
 abbrev pub strings_count : List (List ℕ) → ℕ
 strings_count strings = length strings + (length strings - 1)
 
-abbrev pub idcode_count : Option StringAttribute → ℕ
-idcode_count idcode = option_map_or (λ (a : StringAttribute). 8 + strings_count a.strings) idcode 0
+-- a code's attribute, where the file has it
+abbrev pub code_count : Option StringAttribute → ℕ
+code_count code = option_map_or (λ (a : StringAttribute). 8 + strings_count a.strings) code 0
 
 -- declarations, with `;` before each
 abbrev pub after_semicolons : List PortDeclaration → List Pattern

@@ -10,7 +10,7 @@ use Rattle.bsdl_device.specs.RowRules.{row_fails}
 use Rattle.bsdl_checks.specs.declared.first.BrokenRule.{BrokenRule}
 
 abbrev pub order : List MeaningKind
-order = kind.Name ∷ kind.PinMap ∷ kind.Tap ∷ kind.Length ∷ kind.Opcode ∷ kind.Capture ∷ kind.Idcode ∷ kind.Register ∷ kind.Boundary ∷ kind.Row ∷ []
+order = kind.Name ∷ kind.PinMap ∷ kind.Tap ∷ kind.Length ∷ kind.Opcode ∷ kind.Capture ∷ kind.Idcode ∷ kind.Usercode ∷ kind.Register ∷ kind.Boundary ∷ kind.Row ∷ []
 
 -- the section at which a rule is told; that on a netlist and a device has none
 abbrev pub section_of : MeaningKind → ℕ
@@ -21,6 +21,7 @@ section_of kind.Length = 10
 section_of kind.Opcode = 11
 section_of kind.Capture = 12
 section_of kind.Idcode = 11
+section_of kind.Usercode = 11
 section_of kind.Register = 14
 section_of kind.Boundary = 15
 section_of kind.Row = 16
@@ -35,6 +36,7 @@ rule_fails f c kind.Length = rule.length_fails f
 rule_fails f c kind.Opcode = rule.opcode_fails f c
 rule_fails f c kind.Capture = rule.capture_fails f c
 rule_fails f c kind.Idcode = rule.idcode_fails c
+rule_fails f c kind.Usercode = rule.usercode_fails c
 rule_fails f c kind.Register = rule.register_fails c
 rule_fails f c kind.Boundary = rule.boundary_fails f c
 rule_fails f c kind.Row = row_fails f c

@@ -132,6 +132,7 @@ fn device_at(
         opcodes: opcodes_of(alloc, contents.opcodes.as_slice())?,
         capture: contents.capture,
         idcode: contents.idcode,
+        usercode: contents.usercode,
         cells: cells_of(
             alloc,
             ports,

@@ -9,7 +9,9 @@ ghost use Rattle.bsdl_checks.specs.Ordered as first;
 
 use crate::access::register_fails;
 use crate::boundary::boundary_fails;
-use crate::instructions::{capture_fails, idcode_fails, length_fails, opcode_fails};
+use crate::instructions::{
+    capture_fails, idcode_fails, length_fails, opcode_fails, usercode_fails,
+};
 use crate::pin_map::pin_map_fails;
 use crate::port_table::PortTable;
 use crate::ports::{declared_ports, name_fails};
@@ -28,7 +30,7 @@ pub struct BrokenRule {
 }
 
 /// The rules in their order.
-const ORDER: [MeaningKind; 10] = [
+const ORDER: [MeaningKind; 11] = [
     MeaningKind::Name,
     MeaningKind::PinMap,
     MeaningKind::Tap,
@@ -36,6 +38,7 @@ const ORDER: [MeaningKind; 10] = [
     MeaningKind::Opcode,
     MeaningKind::Capture,
     MeaningKind::Idcode,
+    MeaningKind::Usercode,
     MeaningKind::Register,
     MeaningKind::Boundary,
     MeaningKind::Row,
@@ -53,6 +56,7 @@ fn word_of(file: &File, kind: MeaningKind) -> u64
         MeaningKind::Opcode => sections::opcode_word(file),
         MeaningKind::Capture => sections::capture_word(file),
         MeaningKind::Idcode => sections::opcode_word(file),
+        MeaningKind::Usercode => sections::opcode_word(file),
         MeaningKind::Register => sections::access_word(file),
         MeaningKind::Boundary => sections::boundary_length_word(file),
         MeaningKind::Row => sections::boundary_word(file),
@@ -78,6 +82,7 @@ fn rule_fails(
         MeaningKind::Opcode => opcode_fails(alloc, file, contents),
         MeaningKind::Capture => Ok(capture_fails(file, contents)),
         MeaningKind::Idcode => Ok(idcode_fails(contents)),
+        MeaningKind::Usercode => Ok(usercode_fails(contents)),
         MeaningKind::Register => register_fails(alloc, contents),
         MeaningKind::Boundary => boundary_fails(alloc, file, contents),
         MeaningKind::Row => row_fails(alloc, file, contents, ports),

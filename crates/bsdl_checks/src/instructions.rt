@@ -1,6 +1,7 @@
-// Rules on the instruction register: its length, opcodes, the captured bits and the identification code.
-ghost use Rattle.std.specs.Prelude.{◌≡◌, IfOk, find, map};
+// Rules on the instruction register: its length, opcodes, the captured bits, the identification code and the usercode.
+ghost use Rattle.std.specs.Prelude.{◌≡◌, IfOk, find, map, not};
 ghost use Rattle.std.specs.List.{list_any};
+ghost use Rattle.std.specs.Option.{option_map_or};
 ghost use Rattle.bsdl_device.specs.Instructions as profile;
 ghost use Rattle.bsdl_device.specs.Checks as rule;
 ghost use Rattle.bsdl_lexicon.specs.NameKeys.{names_in};
@@ -93,7 +94,7 @@ fn clashes_with(first: &OpcodeEntry, others: &[OpcodeEntry]) -> bool
     others.iter().any(|second| clash(first, second))
 }
 
-// Two opcodes clash; where each is of a known instruction, there are seven at most.
+// Two opcodes clash; where each is of a known instruction, there are eight at most.
 fn some_clash(opcodes: &[OpcodeEntry]) -> bool
     ensures { result ≡ rule.any_pair rule.opcodes_clash opcodes.now }
 {
@@ -137,4 +138,23 @@ pub fn idcode_fails(contents: &Contents) -> bool
         None => reads,
         Some(code) => !reads || code_is_barred(code),
     }
+}
+
+// There is a code without the instruction, or the instruction without a code.
+fn stands_alone(code: Option<u32>, named: bool) -> bool
+    ensures { result ≡ option_map_or (λ _. not named) code named }
+{
+    match code {
+        None => named,
+        Some(_) => !named,
+    }
+}
+
+/// There is a usercode without the instruction, the instruction without a usercode, or the instruction without IDCODE.
+pub fn usercode_fails(contents: &Contents) -> bool
+    ensures { result ≡ rule.usercode_fails contents.now }
+{
+    let opcodes = contents.opcodes.as_slice();
+    let named = has_instruction(opcodes, Instr::Usercode);
+    stands_alone(contents.usercode, named) || (named && !has_instruction(opcodes, Instr::Idcode))
 }

@@ -1,4 +1,4 @@
-// The meaning checks of a BSDL file: the ten rules in their order, and the device that a file describes where it breaks none.
+// The meaning checks of a BSDL file: the eleven rules in their order, and the device that a file describes where it breaks none.
 // Contracts cite the rules of bsdl_device's specs/Checks.antt and RowRules.antt, `first_meaning_fault` and `device_of`.
 // IEEE Std 1149.1-2001: the annex on BSDL; instruction register; device identification register; boundary cells. The order of the rules and the limits are own.
 //
@@ -8,10 +8,10 @@
 // - The calls of `sections` give the numbers of the first words of sections; `strings_stand_within` says that the
 //   first string of each section stands within the file.
 // - Inside, by subject: names, ports, the pin map and the test access port (`ports`, `pin_map`, `tap`); the
-//   instruction register, the identification code and register access (`instructions`, `access`); the boundary
-//   register (`boundary`, `rows`, `controls`, `disables`, `system_bits`, `bit_rows`): each rule says yes exactly
-//   where it is broken. Tables find the first port or entry of a name, in any case of letters, and the first row
-//   of a number.
+//   instruction register, the identification code, the usercode and register access (`instructions`, `access`);
+//   the boundary register (`boundary`, `rows`, `controls`, `disables`, `system_bits`, `bit_rows`): each rule says
+//   yes exactly where it is broken. Tables find the first port or entry of a name, in any case of letters, and the
+//   first row of a number.
 // By the contract of `first_fault`, `device`.
 #![tactic(auto)]
 

@@ -1,14 +1,14 @@
 // The ports that a file declares, and the rules on their names.
-ghost use Rattle.std.specs.Prelude.{◌≡◌, ◌++◌, ◌<◌, ◌^◌, ◌||◌, IfOk, OnOk, map, nat_lt, not};
+ghost use Rattle.std.specs.Prelude.{◌≡◌, ◌++◌, ◌<◌, ◌^◌, ◌||◌, ◌∷◌, [], false, IfOk, OnOk, map, nat_lt, not};
 ghost use Rattle.std.specs.List.{list_any};
-ghost use Rattle.std.specs.Option.{option_map};
+ghost use Rattle.std.specs.Option.{option_map, option_map_or};
 ghost use Rattle.bsdl_device.specs.Ports as declared;
 ghost use Rattle.bsdl_lexicon.specs.Names.{is_same_name};
 ghost use Rattle.bsdl_device.specs.Checks as rule;
 
 use crate::names::is_repeated;
 use crate::port_table::port_keys;
-use bsdl_device::{DeclaredPort, File, PortDeclaration, PortRange, WrittenRange};
+use bsdl_device::{DeclaredPort, File, PortDeclaration, PortRange, StringAttribute, WrittenRange};
 use bsdl_lexicon::names::same_name;
 use std::alloc::Global;
 use texts::{OutOfMemory, Text};
@@ -111,13 +111,20 @@ fn is_other(file: &File, entity: &Text) -> bool
     !same_name(entity.as_bytes(), file.entity.as_bytes())
 }
 
+// An attribute that may be left out is of another entity.
+fn code_is_other(file: &File, code: &Option<StringAttribute>) -> bool
+    ensures { result ≡ option_map_or (λ a. not (is_same_name a.entity file.now.entity)) code.now false }
+{
+    match code {
+        None => false,
+        Some(attribute) => is_other(file, &attribute.entity),
+    }
+}
+
+#[tactic(auto, using(crate::proofs::Entries::along_codes))]
 fn names_other_entity(file: &File) -> bool
     ensures { result ≡ rule.names_other_entity file.now }
 {
-    let of_code = match &file.idcode {
-        None => false,
-        Some(attribute) => is_other(file, &attribute.entity),
-    };
     is_other(file, &file.conformance_entity)
         || is_other(file, &file.pin_map_entity)
         || is_other(file, &file.length.entity)
@@ -127,7 +134,8 @@ fn names_other_entity(file: &File) -> bool
         || is_other(file, &file.boundary_length.entity)
         || is_other(file, &file.boundary.entity)
         || is_other(file, &file.end)
-        || of_code
+        || code_is_other(file, &file.idcode)
+        || code_is_other(file, &file.usercode)
 }
 
 fn is_named_twice(alloc: Global, ports: &[DeclaredPort]) -> Result<bool, OutOfMemory>

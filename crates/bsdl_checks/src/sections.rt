@@ -1,6 +1,6 @@
 // The number of the first word of each section at which a rule is told.
 ghost use Rattle.std.specs.Prelude.{◌≡◌, ◌<◌, ◌+◌, ◌-◌, ◌^◌, length};
-ghost use Rattle.bsdl_device.specs.Shape.{declaration_words};
+ghost use Rattle.bsdl_device.specs.Shape.{code_words, declaration_words};
 ghost use Rattle.bsdl_checks.specs.Counts as count;
 
 use bsdl_device::{File, PortDeclaration, StringAttribute};
@@ -15,11 +15,11 @@ fn strings_count(strings: &[Text]) -> u64
     if count == 0 { 0 } else { count + (count - 1) }
 }
 
-fn idcode_count(idcode: &Option<StringAttribute>) -> u64
-    requires { count.idcode_count idcode.now < 2 ^ 64 }
-    ensures { result ≡ count.idcode_count idcode.now }
+fn code_count(code: &Option<StringAttribute>) -> u64
+    requires { count.code_count code.now < 2 ^ 64 }
+    ensures { result ≡ count.code_count code.now }
 {
-    match idcode {
+    match code {
         None => 0,
         Some(attribute) => 8 + strings_count(attribute.strings.as_slice()),
     }
@@ -108,7 +108,7 @@ pub fn capture_word(file: &File) -> u64
     opcode_word(file) + 8 + strings_count(file.opcodes.strings.as_slice())
 }
 
-/// Of the identification code; where the file has none, that of the register access.
+/// Of the identification code; where the file has none, that of the usercode or of the register access.
 #[tactic(auto, using(crate::proofs::Words::section_words))]
 pub fn idcode_word(file: &File) -> u64
     requires { count.all_words file.now < 2 ^ 64 }
@@ -117,13 +117,22 @@ pub fn idcode_word(file: &File) -> u64
     capture_word(file) + 8 + strings_count(file.capture.strings.as_slice())
 }
 
+/// Of the usercode, behind the code; where the file has none, that of the register access.
+#[tactic(auto, using(crate::proofs::Words::section_words))]
+pub fn usercode_word(file: &File) -> u64
+    requires { count.all_words file.now < 2 ^ 64 }
+    ensures { result ≡ count.first_word file.now 13 + length (code_words file.now) }
+{
+    idcode_word(file) + code_count(&file.idcode)
+}
+
 /// Of the register access.
 #[tactic(auto, using(crate::proofs::Words::section_words))]
 pub fn access_word(file: &File) -> u64
     requires { count.all_words file.now < 2 ^ 64 }
     ensures { result ≡ count.first_word file.now 14 }
 {
-    idcode_word(file) + idcode_count(&file.idcode)
+    usercode_word(file) + code_count(&file.usercode)
 }
 
 /// Of the boundary register's length.

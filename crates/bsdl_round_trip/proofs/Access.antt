@@ -1,6 +1,6 @@
 -- The registers of the canonical text, with the instructions that the device has.
 use Rattle.std.proofs.Common.{◌≡◌, List, [], ◌∷◌, ◌++◌, Bool, true, false, cond, map, refl, sym, ap, subst, ◌∙◌}
-use Rattle.std.specs.Prelude.{◌||◌, not, codes}
+use Rattle.std.specs.Prelude.{◌||◌, not}
 use Rattle.std.specs.List.{list_any, list_all, filter}
 use Rattle.std.proofs.lemmas.List.Folds.{list_any-append}
 use Rattle.list_laws.proofs.Tests.{not_false, or_first, or_second, neither}
@@ -48,18 +48,18 @@ has_all opcodes h =
 abbrev kept_by : Bool → Instr → List Instr → List Instr
 kept_by b i more = cond b (i ∷ more) more
 
-abbrev entries_by : Bool → Bool → Bool → Bool → Bool → Bool → Bool → List AccessEntry
-entries_by e s p b h c i =
+abbrev entries_by : Bool → Bool → Bool → Bool → Bool → Bool → Bool → Bool → List AccessEntry
+entries_by e s p b h c i u =
     record { register = register.Boundary; instructions = map instruction_word (cond e (instr.Extest ∷ cond s (instr.Sample ∷ cond p (instr.Preload ∷ []) []) (cond p (instr.Preload ∷ []) [])) (cond s (instr.Sample ∷ cond p (instr.Preload ∷ []) []) (cond p (instr.Preload ∷ []) []))) }
     ∷ record { register = register.Bypass; instructions = map instruction_word (cond b (instr.Bypass ∷ cond h (instr.Highz ∷ cond c (instr.Clamp ∷ []) []) (cond c (instr.Clamp ∷ []) [])) (cond h (instr.Highz ∷ cond c (instr.Clamp ∷ []) []) (cond c (instr.Clamp ∷ []) []))) }
-    ∷ device_id_entries i
+    ∷ device_id_entries i u
 
-by_entries : (opcodes : List Opcode) → HasAll opcodes → access_entries opcodes ≡ entries_by true true true true (has_opcode opcodes instr.Highz) (has_opcode opcodes instr.Clamp) (has_opcode opcodes instr.Idcode)
+by_entries : (opcodes : List Opcode) → HasAll opcodes → access_entries opcodes ≡ entries_by true true true true (has_opcode opcodes instr.Highz) (has_opcode opcodes instr.Clamp) (has_opcode opcodes instr.Idcode) (has_opcode opcodes instr.Usercode)
 by_entries opcodes all =
-    ap (λ x. entries_by x (has_opcode opcodes instr.Sample) (has_opcode opcodes instr.Preload) (has_opcode opcodes instr.Bypass) (has_opcode opcodes instr.Highz) (has_opcode opcodes instr.Clamp) (has_opcode opcodes instr.Idcode)) all.extest
-    ∙ ap (λ x. entries_by true x (has_opcode opcodes instr.Preload) (has_opcode opcodes instr.Bypass) (has_opcode opcodes instr.Highz) (has_opcode opcodes instr.Clamp) (has_opcode opcodes instr.Idcode)) all.sample
-    ∙ ap (λ x. entries_by true true x (has_opcode opcodes instr.Bypass) (has_opcode opcodes instr.Highz) (has_opcode opcodes instr.Clamp) (has_opcode opcodes instr.Idcode)) all.preload
-    ∙ ap (λ x. entries_by true true true x (has_opcode opcodes instr.Highz) (has_opcode opcodes instr.Clamp) (has_opcode opcodes instr.Idcode)) all.bypass
+    ap (λ x. entries_by x (has_opcode opcodes instr.Sample) (has_opcode opcodes instr.Preload) (has_opcode opcodes instr.Bypass) (has_opcode opcodes instr.Highz) (has_opcode opcodes instr.Clamp) (has_opcode opcodes instr.Idcode) (has_opcode opcodes instr.Usercode)) all.extest
+    ∙ ap (λ x. entries_by true x (has_opcode opcodes instr.Preload) (has_opcode opcodes instr.Bypass) (has_opcode opcodes instr.Highz) (has_opcode opcodes instr.Clamp) (has_opcode opcodes instr.Idcode) (has_opcode opcodes instr.Usercode)) all.sample
+    ∙ ap (λ x. entries_by true true x (has_opcode opcodes instr.Bypass) (has_opcode opcodes instr.Highz) (has_opcode opcodes instr.Clamp) (has_opcode opcodes instr.Idcode) (has_opcode opcodes instr.Usercode)) all.preload
+    ∙ ap (λ x. entries_by true true true x (has_opcode opcodes instr.Highz) (has_opcode opcodes instr.Clamp) (has_opcode opcodes instr.Idcode) (has_opcode opcodes instr.Usercode)) all.bypass
 
 -- what no device's registers break
 record Right (list : List AccessEntry) : Type 0 where
@@ -67,18 +67,26 @@ record Right (list : List AccessEntry) : Type 0 where
   pub own : list_any (λ (a : AccessEntry). list_any (selects_other a.register) a.instructions) list ≡ false
   pub filled : list_all (λ (a : AccessEntry). is_filled a.instructions) list ≡ true
 
-right_by : (h c i : Bool) → Right (entries_by true true true true h c i)
-right_by true true true = record { once = refl; own = refl; filled = refl }
-right_by true true false = record { once = refl; own = refl; filled = refl }
-right_by true false true = record { once = refl; own = refl; filled = refl }
-right_by true false false = record { once = refl; own = refl; filled = refl }
-right_by false true true = record { once = refl; own = refl; filled = refl }
-right_by false true false = record { once = refl; own = refl; filled = refl }
-right_by false false true = record { once = refl; own = refl; filled = refl }
-right_by false false false = record { once = refl; own = refl; filled = refl }
+right_by : (h c i u : Bool) → Right (entries_by true true true true h c i u)
+right_by true true true true = record { once = refl; own = refl; filled = refl }
+right_by true true true false = record { once = refl; own = refl; filled = refl }
+right_by true true false true = record { once = refl; own = refl; filled = refl }
+right_by true true false false = record { once = refl; own = refl; filled = refl }
+right_by true false true true = record { once = refl; own = refl; filled = refl }
+right_by true false true false = record { once = refl; own = refl; filled = refl }
+right_by true false false true = record { once = refl; own = refl; filled = refl }
+right_by true false false false = record { once = refl; own = refl; filled = refl }
+right_by false true true true = record { once = refl; own = refl; filled = refl }
+right_by false true true false = record { once = refl; own = refl; filled = refl }
+right_by false true false true = record { once = refl; own = refl; filled = refl }
+right_by false true false false = record { once = refl; own = refl; filled = refl }
+right_by false false true true = record { once = refl; own = refl; filled = refl }
+right_by false false true false = record { once = refl; own = refl; filled = refl }
+right_by false false false true = record { once = refl; own = refl; filled = refl }
+right_by false false false false = record { once = refl; own = refl; filled = refl }
 
 right : (opcodes : List Opcode) → HasAll opcodes → Right (access_entries opcodes)
-right opcodes all = subst (λ (l : List AccessEntry). Right l) (sym (by_entries opcodes all)) (right_by (has_opcode opcodes instr.Highz) (has_opcode opcodes instr.Clamp) (has_opcode opcodes instr.Idcode))
+right opcodes all = subst (λ (l : List AccessEntry). Right l) (sym (by_entries opcodes all)) (right_by (has_opcode opcodes instr.Highz) (has_opcode opcodes instr.Clamp) (has_opcode opcodes instr.Idcode) (has_opcode opcodes instr.Usercode))
 
 pub is_access : (opcodes : List Opcode) → HasAll opcodes → IsAccess (access_entries opcodes)
 is_access opcodes all = record { filled = refl; instructions = (right opcodes all).filled }
@@ -99,16 +107,19 @@ present_have opcodes (i ∷ is) = by (has_opcode opcodes i) refl (present_have o
     by true h rest = neither (is_without_opcode (map opcode_entry opcodes) (instruction_word i)) (list_any (is_without_opcode (map opcode_entry opcodes)) (present opcodes is)) (with_opcode opcodes i h) rest
     by false h rest = rest
 
-device_id_has : (opcodes : List Opcode) (b : Bool) → has_opcode opcodes instr.Idcode ≡ b → list_any (is_without_opcode (map opcode_entry opcodes)) (instructions_of (device_id_entries b)) ≡ false
-device_id_has opcodes true h = neither (is_without_opcode (map opcode_entry opcodes) (codes "IDCODE")) false (with_opcode opcodes instr.Idcode h) refl
-device_id_has opcodes false h = refl
+device_id_has : (opcodes : List Opcode) (b u : Bool) → has_opcode opcodes instr.Idcode ≡ b → has_opcode opcodes instr.Usercode ≡ u → list_any (is_without_opcode (map opcode_entry opcodes)) (instructions_of (device_id_entries b u)) ≡ false
+device_id_has opcodes true true h k =
+    neither (is_without_opcode (map opcode_entry opcodes) (instruction_word instr.Idcode)) _ (with_opcode opcodes instr.Idcode h)
+    (neither (is_without_opcode (map opcode_entry opcodes) (instruction_word instr.Usercode)) false (with_opcode opcodes instr.Usercode k) refl)
+device_id_has opcodes true false h k = neither (is_without_opcode (map opcode_entry opcodes) (instruction_word instr.Idcode)) false (with_opcode opcodes instr.Idcode h) refl
+device_id_has opcodes false u h k = refl
 
 all_have : (opcodes : List Opcode) → list_any (is_without_opcode (map opcode_entry opcodes)) (instructions_of (access_entries opcodes)) ≡ false
 all_have opcodes =
-    list_any-append (is_without_opcode (map opcode_entry opcodes)) (present opcodes (instr.Extest ∷ instr.Sample ∷ instr.Preload ∷ [])) (present opcodes (instr.Bypass ∷ instr.Highz ∷ instr.Clamp ∷ []) ++ instructions_of (device_id_entries (has_opcode opcodes instr.Idcode)))
+    list_any-append (is_without_opcode (map opcode_entry opcodes)) (present opcodes (instr.Extest ∷ instr.Sample ∷ instr.Preload ∷ [])) (present opcodes (instr.Bypass ∷ instr.Highz ∷ instr.Clamp ∷ []) ++ instructions_of (device_id_entries (has_opcode opcodes instr.Idcode) (has_opcode opcodes instr.Usercode)))
     ∙ neither (list_any (is_without_opcode (map opcode_entry opcodes)) (present opcodes (instr.Extest ∷ instr.Sample ∷ instr.Preload ∷ []))) _ (present_have opcodes (instr.Extest ∷ instr.Sample ∷ instr.Preload ∷ []))
-    (list_any-append (is_without_opcode (map opcode_entry opcodes)) (present opcodes (instr.Bypass ∷ instr.Highz ∷ instr.Clamp ∷ [])) (instructions_of (device_id_entries (has_opcode opcodes instr.Idcode)))
-    ∙ neither (list_any (is_without_opcode (map opcode_entry opcodes)) (present opcodes (instr.Bypass ∷ instr.Highz ∷ instr.Clamp ∷ []))) _ (present_have opcodes (instr.Bypass ∷ instr.Highz ∷ instr.Clamp ∷ [])) (device_id_has opcodes (has_opcode opcodes instr.Idcode) refl))
+    (list_any-append (is_without_opcode (map opcode_entry opcodes)) (present opcodes (instr.Bypass ∷ instr.Highz ∷ instr.Clamp ∷ [])) (instructions_of (device_id_entries (has_opcode opcodes instr.Idcode) (has_opcode opcodes instr.Usercode)))
+    ∙ neither (list_any (is_without_opcode (map opcode_entry opcodes)) (present opcodes (instr.Bypass ∷ instr.Highz ∷ instr.Clamp ∷ []))) _ (present_have opcodes (instr.Bypass ∷ instr.Highz ∷ instr.Clamp ∷ [])) (device_id_has opcodes (has_opcode opcodes instr.Idcode) (has_opcode opcodes instr.Usercode) refl refl))
 
 pub registers_keep : (opcodes : List Opcode) → HasAll opcodes
     → (list_any (is_without_opcode (map opcode_entry opcodes)) (instructions_of (access_entries opcodes)) || is_repeated (instructions_of (access_entries opcodes)) || list_any (λ (a : AccessEntry). list_any (selects_other a.register) a.instructions) (access_entries opcodes)) ≡ false

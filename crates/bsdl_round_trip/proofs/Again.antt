@@ -1,10 +1,11 @@
 -- A device's canonical file and contents, where a file and contents that break no rule describe the device.
-use Rattle.std.proofs.Common.{◌≡◌, ℕ, List, [], ◌∷◌, Bool, false, Option, Some, None, map, length, refl, ap, ◌∙◌, eq-eqb}
+use Rattle.std.proofs.Common.{◌≡◌, ℕ, List, [], ◌∷◌, ◌++◌, Bool, false, Option, Some, None, map, length, refl, ap, ◌∙◌, eq-eqb}
 use Rattle.std.proofs.lemmas.List.{length-map}
 use Rattle.std.specs.Prelude.{◌==◌, ◌||◌, ◌&&◌, not, nat_lt}
 use Rattle.std.specs.List.{list_any, filter_map}
 use Rattle.std.specs.Option.{option_map, option_map_or}
 use Rattle.list_laws.proofs.Tests.{or_first, or_second, neither}
+use Rattle.cell_library.specs.declared.codes.Instr.{Instr}
 use Rattle.cell_library.specs.declared.codes.Instr.TheVariants as instr
 use Rattle.cell_library.specs.declared.codes.Function.TheVariants as function
 use Rattle.cell_library.specs.declared.codes.Opcode.{Opcode}
@@ -21,13 +22,13 @@ use Rattle.bsdl_device.specs.declared.entries.PinEntry.{PinEntry}
 use Rattle.bsdl_device.specs.declared.entries.RowEntry.{RowEntry}
 use Rattle.bsdl_device.specs.declared.entries.Contents.{Contents}
 use Rattle.bsdl_device.specs.Ports.{declared_ports, port_names, port_bits}
-use Rattle.bsdl_device.specs.Checks.{any_pair, is_repeated, port_named_twice, port_named_as_unit, has_too_many_bits, names_other_entity, names_other_package, name_fails, port_not_mapped_once, entry_misfits, all_pins, pin_map_fails, tap_names, tap_port_misfits, tap_fails, opcode_fails, idcode_fails, code_is_barred, boundary_fails, opcode_is_unknown, opcode_named_twice, lacks_instruction, has_other_length, bypass_is_not_ones, opcodes_clash, numbers_misfit, has_instruction}
+use Rattle.bsdl_device.specs.Checks.{any_pair, is_repeated, port_named_twice, port_named_as_unit, has_too_many_bits, names_other_entity, names_other_package, name_fails, port_not_mapped_once, entry_misfits, all_pins, pin_map_fails, tap_names, tap_port_misfits, tap_fails, opcode_fails, idcode_fails, usercode_fails, code_is_barred, boundary_fails, opcode_is_unknown, opcode_named_twice, lacks_instruction, has_other_length, bypass_is_not_ones, opcodes_clash, numbers_misfit, has_instruction}
 use Rattle.bsdl_device.specs.RowRules.{is_function, row_fails, row_misfits, bit_not_in_one_row, system_bits, rows_disagree, highz_fails}
 use Rattle.bsdl_device.specs.Denoted.{device_of, port_of, cell_of, place_of, ordered_rows, opcode_of}
 use Rattle.bsdl_round_trip.proofs.Totals.{Shuffled, any_shuffled}
 use Rattle.bsdl_round_trip.proofs.Names.{same_self}
 use Rattle.bsdl_round_trip.proofs.Lookups.{place_of_same}
-use Rattle.bsdl_round_trip.proofs.Rebuilt.{code_strings, rebuilt_file, rebuilt_contents, as_declared, rebuilt_ports, entry_of, opcode_entry, tap_of}
+use Rattle.bsdl_round_trip.proofs.Rebuilt.{code_strings, user_strings, of_entity, rebuilt_file, rebuilt_contents, as_declared, rebuilt_ports, entry_of, opcode_entry, tap_of}
 use Rattle.bsdl_round_trip.proofs.PinMaps.{MapsPorts, maps_again, ports_again, entry_again}
 use Rattle.bsdl_round_trip.proofs.Taps.{SameTap, spelled_tap, tap_again, same_turn, tap_repeats_same, tap_misfits_same, system_bits_same}
 use Rattle.bsdl_round_trip.proofs.Instructions as opcodes
@@ -106,13 +107,20 @@ parts f c k =
 -- The rules.
 
 -- the entities that the canonical file names are the device's
-pub entity_named : (entity : List ℕ) (code : Option ℕ) → list_any (λ name. not (is_same_name name entity)) (entity ∷ entity ∷ entity ∷ entity ∷ entity ∷ entity ∷ entity ∷ entity ∷ entity ∷ option_map_or (λ (a : StringAttribute). a.entity ∷ []) (option_map (λ code2. let a : StringAttribute = record { entity = entity; strings = code_strings code2 } in a) code) []) ≡ false
-entity_named entity code = by code (ap not (same_self entity))
+abbrev pub entities : List ℕ → Option ℕ → Option ℕ → List (List ℕ)
+entities entity code user =
+    entity ∷ entity ∷ entity ∷ entity ∷ entity ∷ entity ∷ entity ∷ entity ∷ entity
+    ∷ (option_map_or (λ (a : StringAttribute). a.entity ∷ []) (option_map (λ n. of_entity entity (code_strings n)) code) []
+    ++ option_map_or (λ (a : StringAttribute). a.entity ∷ []) (option_map (λ n. of_entity entity (user_strings n)) user) [])
+
+pub entity_named : (entity : List ℕ) (code user : Option ℕ) → list_any (λ name. not (is_same_name name entity)) (entities entity code user) ≡ false
+entity_named entity code user = by code user (ap not (same_self entity))
   where
-    by : (o : Option ℕ) → not (is_same_name entity entity) ≡ false
-        → list_any (λ name. not (is_same_name name entity)) (entity ∷ entity ∷ entity ∷ entity ∷ entity ∷ entity ∷ entity ∷ entity ∷ entity ∷ option_map_or (λ (a : StringAttribute). a.entity ∷ []) (option_map (λ code2. let a : StringAttribute = record { entity = entity; strings = code_strings code2 } in a) o) []) ≡ false
-    by None h = rw h refl
-    by (Some n) h = rw h refl
+    by : (o p : Option ℕ) → not (is_same_name entity entity) ≡ false → list_any (λ name. not (is_same_name name entity)) (entities entity o p) ≡ false
+    by None None h = rw h refl
+    by None (Some n) h = rw h refl
+    by (Some n) None h = rw h refl
+    by (Some n) (Some m) h = rw h refl
 
 name_again : (f : File) (c : Contents) → Keeps f c → Parts f c → name_fails (rebuilt_file (device_of f c)) ≡ false
 name_again f c k p =
@@ -121,7 +129,7 @@ name_again f c k p =
     neither (port_named_twice (rebuilt_file (device_of f c)) || port_named_as_unit (rebuilt_file (device_of f c)) || has_too_many_bits (rebuilt_file (device_of f c)) || names_other_entity (rebuilt_file (device_of f c))) (names_other_package (rebuilt_file (device_of f c)))
     (neither (port_named_twice (rebuilt_file (device_of f c)) || port_named_as_unit (rebuilt_file (device_of f c)) || has_too_many_bits (rebuilt_file (device_of f c))) (names_other_entity (rebuilt_file (device_of f c)))
     (ap (λ (ports : List DeclaredPort). is_repeated (port_names ports) || list_any (λ name. is_same_name name f.entity || is_same_name name f.«package») (port_names ports) || nat_lt 4096 (port_bits ports)) p.ports ∙ e3)
-    (entity_named f.entity c.idcode))
+    (entity_named f.entity c.idcode c.usercode))
     (ap not (same_self f.«package»))
 
 pin_map_again : (f : File) (c : Contents) → Parts f c → pin_map_fails (rebuilt_file (device_of f c)) (rebuilt_contents (device_of f c)) ≡ false
@@ -148,10 +156,21 @@ opcode_again f c k p =
     (opcodes.unknown_same c.opcodes) (opcodes.twice_same c.opcodes) (opcodes.lacks_same c.opcodes) (opcodes.length_same f.length.value c.opcodes) (opcodes.ones_same c.opcodes) (opcodes.clash_same c.opcodes)
     ∙ k.opcode
 
+-- whether there is an instruction
+instruction_again : (f : File) (c : Contents) → Parts f c → (i : Instr) → has_instruction (map opcode_entry (device_of f c).opcodes) i ≡ has_instruction c.opcodes i
+instruction_again f c p i = ap (λ (os : List OpcodeEntry). has_instruction os i) p.opcodes ∙ opcodes.has_same i c.opcodes
+
 idcode_again : (f : File) (c : Contents) → Keeps f c → Parts f c → idcode_fails (rebuilt_contents (device_of f c)) ≡ false
 idcode_again f c k p =
-    let has : has_instruction (map opcode_entry (device_of f c).opcodes) instr.Idcode ≡ has_instruction c.opcodes instr.Idcode = ap (λ (os : List OpcodeEntry). has_instruction os instr.Idcode) p.opcodes ∙ opcodes.has_same instr.Idcode c.opcodes in
-    ap (λ (b : Bool). option_map_or (λ _. not b) c.idcode b || option_map_or code_is_barred c.idcode false) has ∙ k.idcode
+    ap (λ (b : Bool). option_map_or (λ _. not b) c.idcode b || option_map_or code_is_barred c.idcode false) (instruction_again f c p instr.Idcode) ∙ k.idcode
+
+usercode_again : (f : File) (c : Contents) → Keeps f c → Parts f c → usercode_fails (rebuilt_contents (device_of f c)) ≡ false
+usercode_again f c k p =
+    let user = has_instruction c.opcodes instr.Usercode in
+    let ident = has_instruction (map opcode_entry (device_of f c).opcodes) instr.Idcode in
+    ap (λ (b : Bool). option_map_or (λ _. not b) c.usercode b || (b && not ident)) (instruction_again f c p instr.Usercode)
+    ∙ ap (λ (b : Bool). option_map_or (λ _. not user) c.usercode user || (user && not b)) (instruction_again f c p instr.Idcode)
+    ∙ k.usercode
 
 boundary_again : (f : File) (c : Contents) → Keeps f c → Parts f c → boundary_fails (rebuilt_file (device_of f c)) (rebuilt_contents (device_of f c)) ≡ false
 boundary_again f c k p =
@@ -185,7 +204,7 @@ row_again f c k p =
     let others = map opcode_entry (device_of f c).opcodes in
     let disagree : any_pair rows_disagree c.rows ≡ false = or_second (list_any (row_misfits ports f.tap c.rows) c.rows || list_any (bit_not_in_one_row c.rows) (system_bits ports f.tap)) (any_pair rows_disagree c.rows)
     (or_first (list_any (row_misfits ports f.tap c.rows) c.rows || list_any (bit_not_in_one_row c.rows) (system_bits ports f.tap) || any_pair rows_disagree c.rows) (highz_fails c) k.row) in
-    let has : has_instruction others instr.Highz ≡ has_instruction c.opcodes instr.Highz = ap (λ (os : List OpcodeEntry). has_instruction os instr.Highz) p.opcodes ∙ opcodes.has_same instr.Highz c.opcodes in
+    let has : has_instruction others instr.Highz ≡ has_instruction c.opcodes instr.Highz = instruction_again f c p instr.Highz in
     ap (λ (ps : List DeclaredPort). row_rules ps tap (rebuilt_contents (device_of f c)).rows (has_instruction others instr.Highz)) p.ports
     ∙ ap (λ (rs : List RowEntry). row_rules ports tap rs (has_instruction others instr.Highz)) p.rows
     ∙ four_same (list_any (row_misfits ports tap rows) rows) (list_any (bit_not_in_one_row rows) (system_bits ports tap)) (any_pair rows_disagree rows) (has_instruction others instr.Highz && outputs rows)
@@ -205,6 +224,7 @@ keeps_again f c k p = record {
   opcode = opcode_again f c k p;
   capture = k.capture;
   idcode = idcode_again f c k p;
+  usercode = usercode_again f c k p;
   register = registers_keep (device_of f c).opcodes p.all;
   boundary = boundary_again f c k p;
   row = row_again f c k p;
@@ -249,6 +269,7 @@ with_parts g b ports tck tms tdi tdo trst codes cells = record {
   opcodes = codes;
   capture = b.capture;
   idcode = b.idcode;
+  usercode = b.usercode;
   cells = cells;
 }
 

@@ -15,7 +15,7 @@ use Rattle.bsdl_device.specs.declared.written.Direction.TheVariants as direction
 use Rattle.bsdl_device.specs.declared.entries.Register.TheVariants as register
 use Rattle.bsdl_device.specs.Matching.{is_filled}
 use Rattle.bsdl_device.specs.Shape.{joined, mode_word, direction_word, stop_word}
-use Rattle.bsdl_device.specs.Canonical.{pieces, separated_text, next_string, bits_text, pattern_text, direction_text, bounds_text, vector_text, type_text, named_text, port_text, ports_text, pin_entry_text, pin_map_text, entity_text, conformance_text, head_text, port_name, scan_in_text, scan_mode_text, scan_out_text, scan_reset_text, scan_clock_text, tap_text, attribute_text, opcode_text, opcodes_text, and_string, code_text, idcode_text, has_opcode, instructions_text, device_id_text, boundary_access_text, bypass_access_text, access_text, registers_text, row_text, rows_text, boundary_length_text, boundary_rows_text, boundary_text, canonical_device}
+use Rattle.bsdl_device.specs.Canonical.{pieces, separated_text, next_string, bits_text, pattern_text, direction_text, bounds_text, vector_text, type_text, named_text, port_text, ports_text, pin_entry_text, pin_map_text, entity_text, conformance_text, head_text, port_name, scan_in_text, scan_mode_text, scan_out_text, scan_reset_text, scan_clock_text, tap_text, attribute_text, opcode_text, opcodes_text, and_string, code_text, idcode_text, usercode_text, has_opcode, instructions_text, user_access_text, device_id_text, boundary_access_text, bypass_access_text, access_text, registers_text, row_text, rows_text, boundary_length_text, boundary_rows_text, boundary_text, canonical_device}
 use Rattle.bsdl_round_trip.proofs.Pieces.{pieces_then}
 use Rattle.bsdl_round_trip.proofs.FileAtoms.{FileAtom, text_then, text_then-append}
 use Rattle.bsdl_round_trip.proofs.ContentAtoms.{ContentAtom, bytes_of, bytes_of-append, Mark}
@@ -23,8 +23,8 @@ use Rattle.bsdl_round_trip.proofs.EntryAtoms.{comma_strings, pin_entry_bytes, op
 use Rattle.bsdl_round_trip.proofs.ContentTexts as contents
 use Rattle.bsdl_round_trip.proofs.ContentTexts.{IsPort}
 use Rattle.bsdl_round_trip.proofs.Held.{GoodDevice, opcodes_filled}
-use Rattle.bsdl_round_trip.proofs.Rebuilt.{entry_of, opcode_entry, row_entry, row_entries, access_entries, device_id_entries, present, rebuilt_file}
-use Rattle.bsdl_round_trip.proofs.FileTexts.{section_atoms, attribute_atoms, tap_atoms, strings_atoms, line_end, listed_atoms, integer_atoms, type_atoms, port_atoms, port_end, port_close, ports_atoms, entity_atoms, generic_atoms, port_open, use_atoms, conformance_atoms, pin_map_atoms, constant_open, clock_atoms, capture_atoms, idcode_atoms, end_atoms}
+use Rattle.bsdl_round_trip.proofs.Rebuilt.{entry_of, opcode_entry, row_entry, row_entries, access_entries, device_id_entries, present, user_strings, rebuilt_file}
+use Rattle.bsdl_round_trip.proofs.FileTexts.{section_atoms, attribute_atoms, tap_atoms, strings_atoms, line_end, listed_atoms, integer_atoms, type_atoms, port_atoms, port_end, port_close, ports_atoms, entity_atoms, generic_atoms, port_open, use_atoms, conformance_atoms, pin_map_atoms, constant_open, clock_atoms, capture_atoms, idcode_atoms, usercode_atoms, ident_atoms, end_atoms}
 
 -- Sections, one behind the other.
 
@@ -157,31 +157,42 @@ bypass_list = instr.Bypass ∷ instr.Highz ∷ instr.Clamp ∷ []
 between : List ℕ → List ℕ
 between rest = 41 ∷ 44 ∷ 34 ∷ 32 ∷ 38 ∷ 10 ∷ 32 ∷ 32 ∷ 32 ∷ 32 ∷ 34 ∷ (codes "BYPASS (" ++ rest)
 
-access_by : (a b : List ContentAtom) (id : Bool) (rest : List ℕ)
-    → codes "BOUNDARY (" ++ (bytes_of a ++ (between (bytes_of b ++ ((if id then pieces (codes "),\" &\n    \"DEVICE_ID (IDCODE" ∷ []) else []) ++ (41 ∷ 34 ∷ rest)))))
-    ≡ (codes "BOUNDARY (" ++ (bytes_of (a ++ (Mark 41 ∷ [])) ++ (44 ∷ []))) ++ (34 ∷ 32 ∷ 38 ∷ 10 ∷ 32 ∷ 32 ∷ 32 ∷ 32 ∷ text_then (strings_atoms (comma_strings (λ (s : List ℕ). s) ((codes "BYPASS (" ++ bytes_of (b ++ (Mark 41 ∷ []))) ∷ map access_bytes (device_id_entries id)))) rest)
+-- the registers with that of the identification
+ident_by : (a b : List ContentAtom) (ident rest : List ℕ)
+    → codes "BOUNDARY (" ++ (bytes_of a ++ (between (bytes_of b ++ (41 ∷ 44 ∷ 34 ∷ 32 ∷ 38 ∷ 10 ∷ 32 ∷ 32 ∷ 32 ∷ 32 ∷ 34 ∷ (ident ++ (34 ∷ rest))))))
+    ≡ (codes "BOUNDARY (" ++ (bytes_of (a ++ (Mark 41 ∷ [])) ++ (44 ∷ []))) ++ (34 ∷ 32 ∷ 38 ∷ 10 ∷ 32 ∷ 32 ∷ 32 ∷ 32 ∷ 34 ∷ (codes "BYPASS (" ++ ((bytes_of (b ++ (Mark 41 ∷ [])) ++ (44 ∷ [])) ++ (34 ∷ 32 ∷ 38 ∷ 10 ∷ 32 ∷ 32 ∷ 32 ∷ 32 ∷ 34 ∷ (ident ++ (34 ∷ rest))))))
+unfolding between
+ident_by a b ident rest = ap (λ (t : List ℕ). codes "BOUNDARY (" ++ t) (
+    ap (λ (t : List ℕ). bytes_of a ++ (41 ∷ 44 ∷ 34 ∷ 32 ∷ 38 ∷ 10 ∷ 32 ∷ 32 ∷ 32 ∷ 32 ∷ 34 ∷ (codes "BYPASS (" ++ t))) (sym (closed_comma b (34 ∷ 32 ∷ 38 ∷ 10 ∷ 32 ∷ 32 ∷ 32 ∷ 32 ∷ 34 ∷ (ident ++ (34 ∷ rest)))))
+    ∙ sym (closed_comma a (34 ∷ 32 ∷ 38 ∷ 10 ∷ 32 ∷ 32 ∷ 32 ∷ 32 ∷ 34 ∷ (codes "BYPASS (" ++ ((bytes_of (b ++ (Mark 41 ∷ [])) ++ (44 ∷ [])) ++ (34 ∷ 32 ∷ 38 ∷ 10 ∷ 32 ∷ 32 ∷ 32 ∷ 32 ∷ 34 ∷ (ident ++ (34 ∷ rest))))))))
+
+abbrev ident_text : Bool → Bool → List ℕ
+ident_text id user = if id then pieces (codes "),\" &\n    \"DEVICE_ID (IDCODE" ∷ (if user then codes ", USERCODE" else []) ∷ []) else []
+
+access_by : (a b : List ContentAtom) (id user : Bool) (rest : List ℕ)
+    → codes "BOUNDARY (" ++ (bytes_of a ++ (between (bytes_of b ++ (ident_text id user ++ (41 ∷ 34 ∷ rest)))))
+    ≡ (codes "BOUNDARY (" ++ (bytes_of (a ++ (Mark 41 ∷ [])) ++ (44 ∷ []))) ++ (34 ∷ 32 ∷ 38 ∷ 10 ∷ 32 ∷ 32 ∷ 32 ∷ 32 ∷ text_then (strings_atoms (comma_strings (λ (s : List ℕ). s) ((codes "BYPASS (" ++ bytes_of (b ++ (Mark 41 ∷ []))) ∷ map access_bytes (device_id_entries id user)))) rest)
 unfolding between pieces
-access_by a b true rest = ap (λ (t : List ℕ). codes "BOUNDARY (" ++ t) (
-    ap (λ (t : List ℕ). bytes_of a ++ (41 ∷ 44 ∷ 34 ∷ 32 ∷ 38 ∷ 10 ∷ 32 ∷ 32 ∷ 32 ∷ 32 ∷ 34 ∷ (codes "BYPASS (" ++ t))) (sym (closed_comma b (34 ∷ 32 ∷ 38 ∷ 10 ∷ 32 ∷ 32 ∷ 32 ∷ 32 ∷ 34 ∷ (codes "DEVICE_ID (IDCODE)" ++ (34 ∷ rest)))))
-    ∙ sym (closed_comma a (34 ∷ 32 ∷ 38 ∷ 10 ∷ 32 ∷ 32 ∷ 32 ∷ 32 ∷ 34 ∷ (codes "BYPASS (" ++ ((bytes_of (b ++ (Mark 41 ∷ [])) ++ (44 ∷ [])) ++ (34 ∷ 32 ∷ 38 ∷ 10 ∷ 32 ∷ 32 ∷ 32 ∷ 32 ∷ 34 ∷ (codes "DEVICE_ID (IDCODE)" ++ (34 ∷ rest))))))))
-access_by a b false rest = ap (λ (t : List ℕ). codes "BOUNDARY (" ++ t) (
+access_by a b true true rest = ident_by a b (codes "DEVICE_ID (IDCODE, USERCODE)") rest
+access_by a b true false rest = ident_by a b (codes "DEVICE_ID (IDCODE)") rest
+access_by a b false user rest = ap (λ (t : List ℕ). codes "BOUNDARY (" ++ t) (
     ap (λ (t : List ℕ). bytes_of a ++ (41 ∷ 44 ∷ 34 ∷ 32 ∷ 38 ∷ 10 ∷ 32 ∷ 32 ∷ 32 ∷ 32 ∷ 34 ∷ (codes "BYPASS (" ++ t))) (sym (closed b (34 ∷ rest)))
     ∙ sym (closed_comma a (34 ∷ 32 ∷ 38 ∷ 10 ∷ 32 ∷ 32 ∷ 32 ∷ 32 ∷ 34 ∷ (codes "BYPASS (" ++ (bytes_of (b ++ (Mark 41 ∷ [])) ++ (34 ∷ rest))))))
 
 access_then : (opcodes : List Opcode) (rest : List ℕ) → 34 ∷ (access_text opcodes ++ (41 ∷ 34 ∷ rest)) ≡ text_then (strings_atoms (comma_strings access_bytes (access_entries opcodes))) rest
-unfolding access_text boundary_access_text bypass_access_text device_id_text between
+unfolding access_text boundary_access_text bypass_access_text device_id_text user_access_text between
 access_then opcodes rest = ap (λ (t : List ℕ). 34 ∷ t) (
     five (codes "BOUNDARY (") (instructions_text opcodes boundary_list) (codes "),\" &\n    \"BYPASS (") (instructions_text opcodes bypass_list) (device_id_text opcodes) (41 ∷ 34 ∷ rest)
     ∙ ap (λ (t : List ℕ). codes "BOUNDARY (" ++ (t ++ (between (instructions_text opcodes bypass_list ++ (device_id_text opcodes ++ (41 ∷ 34 ∷ rest)))))) (names_same opcodes boundary_list)
     ∙ ap (λ (t : List ℕ). codes "BOUNDARY (" ++ (present_bytes opcodes boundary_list ++ (between (t ++ (device_id_text opcodes ++ (41 ∷ 34 ∷ rest)))))) (names_same opcodes bypass_list)
-    ∙ access_by (names_atoms (present opcodes boundary_list)) (names_atoms (present opcodes bypass_list)) (has_opcode opcodes instr.Idcode) rest
-    ∙ by (has_opcode opcodes instr.Idcode))
-    ∙ sym (strings_next (codes "BOUNDARY (" ++ (bytes_of (names_atoms (present opcodes boundary_list) ++ (Mark 41 ∷ []))) ++ codes ",") access_bytes (record { register = register.Bypass; instructions = present opcodes bypass_list }) (device_id_entries (has_opcode opcodes instr.Idcode)) rest)
+    ∙ access_by (names_atoms (present opcodes boundary_list)) (names_atoms (present opcodes bypass_list)) (has_opcode opcodes instr.Idcode) (has_opcode opcodes instr.Usercode) rest
+    ∙ by (has_opcode opcodes instr.Idcode) (has_opcode opcodes instr.Usercode))
+    ∙ sym (strings_next (codes "BOUNDARY (" ++ (bytes_of (names_atoms (present opcodes boundary_list) ++ (Mark 41 ∷ []))) ++ codes ",") access_bytes (record { register = register.Bypass; instructions = present opcodes bypass_list }) (device_id_entries (has_opcode opcodes instr.Idcode) (has_opcode opcodes instr.Usercode)) rest)
   where
-    by : (id : Bool) → (codes "BOUNDARY (" ++ (bytes_of (names_atoms (present opcodes boundary_list) ++ (Mark 41 ∷ [])) ++ (44 ∷ []))) ++ (34 ∷ 32 ∷ 38 ∷ 10 ∷ 32 ∷ 32 ∷ 32 ∷ 32 ∷ text_then (strings_atoms (comma_strings (λ (s : List ℕ). s) ((codes "BYPASS (" ++ bytes_of (names_atoms (present opcodes bypass_list) ++ (Mark 41 ∷ []))) ∷ map access_bytes (device_id_entries id)))) rest)
-        ≡ (codes "BOUNDARY (" ++ (bytes_of (names_atoms (present opcodes boundary_list) ++ (Mark 41 ∷ [])) ++ (44 ∷ []))) ++ (34 ∷ 32 ∷ 38 ∷ 10 ∷ 32 ∷ 32 ∷ 32 ∷ 32 ∷ text_then (strings_atoms (comma_strings access_bytes (record { register = register.Bypass; instructions = present opcodes bypass_list } ∷ device_id_entries id))) rest)
-    by true = refl
-    by false = refl
+    by : (id user : Bool) → (codes "BOUNDARY (" ++ (bytes_of (names_atoms (present opcodes boundary_list) ++ (Mark 41 ∷ [])) ++ (44 ∷ []))) ++ (34 ∷ 32 ∷ 38 ∷ 10 ∷ 32 ∷ 32 ∷ 32 ∷ 32 ∷ text_then (strings_atoms (comma_strings (λ (s : List ℕ). s) ((codes "BYPASS (" ++ bytes_of (names_atoms (present opcodes bypass_list) ++ (Mark 41 ∷ []))) ∷ map access_bytes (device_id_entries id user)))) rest)
+        ≡ (codes "BOUNDARY (" ++ (bytes_of (names_atoms (present opcodes boundary_list) ++ (Mark 41 ∷ [])) ++ (44 ∷ []))) ++ (34 ∷ 32 ∷ 38 ∷ 10 ∷ 32 ∷ 32 ∷ 32 ∷ 32 ∷ text_then (strings_atoms (comma_strings access_bytes (record { register = register.Bypass; instructions = present opcodes bypass_list } ∷ device_id_entries id user))) rest)
+    by true user = refl
+    by false user = refl
 
 -- The sections' texts.
 
@@ -197,6 +208,14 @@ code_then entity (Some code) tail rest is =
   where
     seven : (a b c d m r : List ℕ) → ((((((a ++ m) ++ b) ++ m) ++ c) ++ m) ++ d) ++ r ≡ a ++ (m ++ (b ++ (m ++ (c ++ (m ++ (d ++ r))))))
     seven a b c d m r = simp append_assoc
+
+user_then : (entity : List ℕ) (code : Option ℕ) (tail rest : List ℕ) → tail ≡ 34 ∷ text_then line_end rest → usercode_text entity code ++ tail ≡ 34 ∷ text_then line_end (text_then (usercode_atoms entity code) rest)
+unfolding usercode_text
+user_then entity None tail rest is = is
+user_then entity (Some code) tail rest is =
+    append_assoc (attribute_text (codes "\";\n") (codes "USERCODE_REGISTER") entity (codes "\n    \"")) (bits_text 32 code) tail
+    ∙ ap (λ (t : List ℕ). attribute_text (codes "\";\n") (codes "USERCODE_REGISTER") entity (codes "\n    \"") ++ (bits_text 32 code ++ t)) is
+    ∙ listed_then (codes "\";\n") (codes "USERCODE_REGISTER") entity (bits_text 32 code) (user_strings code) rest refl
 
 clock_then : (name clock : List ℕ) (at : Stop) (rest : List ℕ) → scan_clock_text name clock (stop_word at) ++ rest ≡ text_then (clock_atoms name clock at) rest
 unfolding scan_clock_text
@@ -230,8 +249,8 @@ end_then entity = sym (append-nil (pieces (codes "\";\nend " ∷ entity ∷ code
 
 -- The whole text.
 
-nine : (a b c d e f g h i r : List ℕ) → ((((((((a ++ b) ++ c) ++ d) ++ e) ++ f) ++ g) ++ h) ++ i) ++ r ≡ a ++ (b ++ (c ++ (d ++ (e ++ (f ++ (g ++ (h ++ (i ++ r))))))))
-nine a b c d e f g h i r = simp append_assoc
+ten : (a b c d e f g h i j r : List ℕ) → (((((((((a ++ b) ++ c) ++ d) ++ e) ++ f) ++ g) ++ h) ++ i) ++ j) ++ r ≡ a ++ (b ++ (c ++ (d ++ (e ++ (f ++ (g ++ (h ++ (i ++ (j ++ r)))))))))
+ten a b c d e f g h i j r = simp append_assoc
 
 some_cells : (ports : List DevPort) (cells : List CellRow) → is_filled (row_entries ports 0 cells) ≡ true → is_filled (enumerate_from 0 cells) ≡ true
 some_cells ports [] h = absurd (cc)
@@ -251,7 +270,7 @@ abbrev behind13 : Device → List ℕ
 behind13 d = text_then (listed_atoms (codes "REGISTER_ACCESS") d.entity (rebuilt_file d).access.strings) (behind14 d)
 
 abbrev behind12 : Device → List ℕ
-behind12 d = text_then (idcode_atoms d.entity d.idcode) (behind13 d)
+behind12 d = text_then (ident_atoms d.entity d.idcode d.usercode) (behind13 d)
 
 abbrev behind11 : Device → List ℕ
 behind11 d = text_then (capture_atoms d.entity (pattern_text d.capture)) (behind12 d)
@@ -291,14 +310,16 @@ registers_then d g =
     let access : attribute_text (codes "\";\n") (codes "REGISTER_ACCESS") d.entity (codes "\n    \"") ++ (access_text d.opcodes ++ (41 ∷ 34 ∷ text_then line_end (behind14 d))) ≡ 34 ∷ text_then line_end (behind13 d) =
     attribute_then (codes "\";\n") (codes "REGISTER_ACCESS") d.entity 10 (32 ∷ 32 ∷ 32 ∷ 32 ∷ 34 ∷ []) (access_text d.opcodes ++ (41 ∷ 34 ∷ text_then line_end (behind14 d)))
     ∙ ap (λ (t : List ℕ). 34 ∷ 59 ∷ 10 ∷ text_then (attribute_atoms (codes "REGISTER_ACCESS") d.entity 10) (32 ∷ 32 ∷ 32 ∷ 32 ∷ t)) (access_then d.opcodes (text_then line_end (behind14 d)) ∙ sym (text_then-append (strings_atoms (rebuilt_file d).access.strings) line_end (behind14 d))) in
-    let code = code_then d.entity d.idcode _ (behind13 d) access in
+    let user = user_then d.entity d.usercode _ (behind13 d) access in
+    let code = code_then d.entity d.idcode _ (text_then (usercode_atoms d.entity d.usercode) (behind13 d)) user
+    ∙ ap (λ (t : List ℕ). 34 ∷ text_then line_end t) (sym (text_then-append (idcode_atoms d.entity d.idcode) (usercode_atoms d.entity d.usercode) (behind13 d))) in
     let capture : attribute_text (codes "\";\n") (codes "INSTRUCTION_CAPTURE") d.entity (codes " \"") ++ (pattern_text d.capture ++ (34 ∷ text_then line_end (behind12 d))) ≡ 34 ∷ text_then line_end (behind11 d) =
     attribute_then (codes "\";\n") (codes "INSTRUCTION_CAPTURE") d.entity 32 (34 ∷ []) (pattern_text d.capture ++ (34 ∷ text_then line_end (behind12 d))) in
     let opcodes : attribute_text (codes ";\n") (codes "INSTRUCTION_OPCODE") d.entity (codes "\n    \"") ++ (separated_text next_string opcode_text d.opcodes ++ (34 ∷ text_then line_end (behind11 d))) ≡ text_then line_end (behind10 d) =
     listed_then (codes ";\n") (codes "INSTRUCTION_OPCODE") d.entity (separated_text next_string opcode_text d.opcodes) (rebuilt_file d).opcodes.strings (behind11 d)
     (strings_of_entries opcode_text opcode_bytes d.opcodes (map opcode_entry d.opcodes) (text_then line_end (behind11 d)) (opcodes_filled d.opcodes g.all) (opcodes_same d.opcodes)) in
-    nine (attribute_text [] (codes "INSTRUCTION_LENGTH") d.entity (codes " ")) (decimal d.length) (attribute_text (codes ";\n") (codes "INSTRUCTION_OPCODE") d.entity (codes "\n    \"")) (separated_text next_string opcode_text d.opcodes)
-    (attribute_text (codes "\";\n") (codes "INSTRUCTION_CAPTURE") d.entity (codes " \"")) (pattern_text d.capture) (idcode_text d.entity d.idcode) (attribute_text (codes "\";\n") (codes "REGISTER_ACCESS") d.entity (codes "\n    \"")) (access_text d.opcodes) (41 ∷ 34 ∷ text_then line_end (behind14 d))
+    ten (attribute_text [] (codes "INSTRUCTION_LENGTH") d.entity (codes " ")) (decimal d.length) (attribute_text (codes ";\n") (codes "INSTRUCTION_OPCODE") d.entity (codes "\n    \"")) (separated_text next_string opcode_text d.opcodes)
+    (attribute_text (codes "\";\n") (codes "INSTRUCTION_CAPTURE") d.entity (codes " \"")) (pattern_text d.capture) (idcode_text d.entity d.idcode) (usercode_text d.entity d.usercode) (attribute_text (codes "\";\n") (codes "REGISTER_ACCESS") d.entity (codes "\n    \"")) (access_text d.opcodes) (41 ∷ 34 ∷ text_then line_end (behind14 d))
     ∙ ap (λ (t : List ℕ). attribute_text [] (codes "INSTRUCTION_LENGTH") d.entity (codes " ") ++ (decimal d.length ++ (attribute_text (codes ";\n") (codes "INSTRUCTION_OPCODE") d.entity (codes "\n    \"") ++ (separated_text next_string opcode_text d.opcodes ++ (attribute_text (codes "\";\n") (codes "INSTRUCTION_CAPTURE") d.entity (codes " \"") ++ (pattern_text d.capture ++ t)))))) code
     ∙ ap (λ (t : List ℕ). attribute_text [] (codes "INSTRUCTION_LENGTH") d.entity (codes " ") ++ (decimal d.length ++ (attribute_text (codes ";\n") (codes "INSTRUCTION_OPCODE") d.entity (codes "\n    \"") ++ (separated_text next_string opcode_text d.opcodes ++ t)))) capture
     ∙ ap (λ (t : List ℕ). attribute_text [] (codes "INSTRUCTION_LENGTH") d.entity (codes " ") ++ (decimal d.length ++ t)) opcodes

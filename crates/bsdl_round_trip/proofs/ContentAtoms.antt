@@ -1,10 +1,10 @@
 -- Contents as lists of atoms: their bytes, and the patterns that they are.
-use Rattle.std.proofs.Common.{◌≡◌, ℕ, suc, zero, ◌+◌, ◌-◌, ◌*◌, ◌/◌, ◌%◌, ◌^◌, ◌<◌, ◌≤◌, List, [], ◌∷◌, ◌++◌, Bool, true, false, Some, None, length, refl, sym, ap, subst, ◌∙◌, arith, le-leb, eq-eqb, add-one, append_assoc, length-append, lit<}
+use Rattle.std.proofs.Common.{◌≡◌, ℕ, suc, zero, ◌+◌, ◌*◌, ◌/◌, ◌%◌, ◌^◌, ◌<◌, ◌≤◌, List, [], ◌∷◌, ◌++◌, Bool, true, false, Some, None, length, refl, sym, ap, subst, ◌∙◌, arith, le-leb, eq-eqb, add-one, append_assoc, length-append, lit<}
 use Rattle.std.specs.Prelude.{◌==◌, ◌||◌, ◌&&◌, not, nat_le, if◌then◌else◌}
 use Rattle.std.specs.List.{list_all, flat_map, AllByRecursion}
 use Rattle.std.specs.Fmt.{decimal}
-use Rattle.std.proofs.lemmas.Fmt.{decimal_by_steps, length-decimal-le, decimal_nonempty}
-use Rattle.std.proofs.Math.Nat.{mul-le-mul_right, pow-succ', mul_assoc}
+use Rattle.std.proofs.lemmas.Fmt.{length-decimal-le, decimal_nonempty}
+use Rattle.std.proofs.Math.Nat.{pow-succ'}
 use Rattle.std.proofs.lemmas.List.Folds.{list_all-append}
 use Rattle.std.proofs.Math.Bool.{and-false}
 use Rattle.list_laws.proofs.Tests.{not_true, and_left, and_right}

@@ -242,6 +242,7 @@ word_is_identifier instr.Preload = refl
 word_is_identifier instr.Idcode = refl
 word_is_identifier instr.Highz = refl
 word_is_identifier instr.Clamp = refl
+word_is_identifier instr.Usercode = refl
 
 pub opcode_is : (o : Opcode) → GoodBits o.bits → Entry (opcode_atoms (opcode_entry o)) (opcode_words (opcode_entry o))
 opcode_is o good = record { all = (word_is_identifier o.instr, (tt, (refl, (good, (refl, tt))))); apart = refl; patterns = refl }

@@ -1,6 +1,6 @@
 -- A device that some text spells keeps the conditions.
 use Rattle.std.proofs.Common.{◌≡◌, ℕ, zero, suc, ◌%◌, ◌<◌, ◌≤◌, List, Bool, true, false, Option, Some, None, map, length, refl, sym, ap, subst, ◌∙◌, arith, eqb-true, ltb-false}
-use Rattle.std.specs.Prelude.{◌==◌, ◌||◌, not, nat_lt, is_some, count_by, sum_by, IfSome}
+use Rattle.std.specs.Prelude.{◌==◌, ◌||◌, ◌&&◌, not, nat_lt, is_some, count_by, sum_by, IfSome}
 use Rattle.std.specs.List.{list_any}
 use Rattle.std.specs.Option.{option_map_or}
 use Rattle.list_laws.proofs.Tests.{not_false, or_first, or_second}
@@ -16,7 +16,7 @@ use Rattle.bsdl_device.specs.Ports.{declared_ports, port_bits, width}
 use Rattle.bsdl_device.specs.Checks.{any_pair, is_repeated, port_named_twice, port_named_as_unit, has_too_many_bits, names_other_entity, names_other_package, port_not_mapped_once, entry_misfits, all_pins, is_scalar_port, tap_names, tap_port_misfits, opcode_is_unknown, opcode_named_twice, lacks_instruction, has_other_length, bypass_is_not_ones, opcodes_clash, has_instruction, code_is_barred, numbers_misfit}
 use Rattle.bsdl_device.specs.RowRules.{row_misfits, bit_not_in_one_row, system_bits, rows_disagree, highz_fails}
 use Rattle.bsdl_device.specs.Spelled.{SpellsText}
-use Rattle.bsdl_device.specs.IsDevice.{AreDevicePorts, names_of, IsDeviceTap, IsInstructionRegister, IsDeviceCode, own_bits, is_at, AreDeviceRows, IsDevice}
+use Rattle.bsdl_device.specs.IsDevice.{AreDevicePorts, names_of, IsDeviceTap, IsInstructionRegister, IsDeviceCode, IsUsercode, own_bits, is_at, AreDeviceRows, IsDevice}
 use Rattle.bsdl_round_trip.proofs.Names.{all_to}
 use Rattle.bsdl_round_trip.proofs.Instructions.{has_by_opcode}
 use Rattle.bsdl_round_trip.proofs.Rebuilt.{as_declared, entry_of, opcode_entry, tap_of, row_entries, rebuilt_file, rebuilt_contents, rebuilt_ports}
@@ -130,6 +130,23 @@ code_from (Some code) has good h = (
   not_false has (or_first (not has) (code_is_barred code) h),
 )
 
+-- what the rule on the usercode comes to, by whether there are the instructions
+record IsUser (code user : Option ℕ) (has : Bool) : Type 0 where
+  pub short : IfSome user IsUsercode
+  pub identified : has ≡ is_some user
+  pub beside : (not (is_some user) || is_some code) ≡ true
+
+user_from : (code user : Option ℕ) (has ident : Bool) → IsCode user → ident ≡ is_some code → (option_map_or (λ _. not has) user has || (has && not ident)) ≡ false → IsUser code user has
+user_from code None has ident good some h = record { short = tt; identified = or_first has (has && not ident) h; beside = refl }
+user_from code (Some n) has ident good some h =
+    let there : has ≡ true = not_false has (or_first (not has) (has && not ident) h) in
+    let with : not ident ≡ false = sym (ap (λ (b : Bool). b && not ident) there) ∙ or_second (not has) (has && not ident) h in
+    record {
+      short = (bits_are (record { len = 32; value = n }) good).value;
+      identified = there;
+      beside = sym some ∙ not_false ident with;
+    }
+
 -- Rows.
 
 above_zero : (m : ℕ) → (m == 0) ≡ false → 0 < m
@@ -162,6 +179,7 @@ spelled_device bytes d spells =
     let s = stands bytes d spells in
     let n = named_from d s in
     let code = code_from d.idcode (has_instruction (map opcode_entry d.opcodes) instr.Idcode) s.good.idcode s.keeps.idcode in
+    let user = user_from d.idcode d.usercode (has_instruction (map opcode_entry d.opcodes) instr.Usercode) (has_instruction (map opcode_entry d.opcodes) instr.Idcode) s.good.usercode code.1 s.keeps.usercode in
     record {
       entity = name_is d.entity s.good.entity;
       «package» = name_is d.«package» s.good.«package»;
@@ -170,5 +188,8 @@ spelled_device bytes d spells =
       instructions = instructions_from d s;
       code = code.0;
       identified = sym (has_by_opcode instr.Idcode d.opcodes) ∙ code.1;
+      user = user.short;
+      user_identified = sym (has_by_opcode instr.Usercode d.opcodes) ∙ user.identified;
+      user_beside = user.beside;
       rows = rows_are d s n.names;
     }

@@ -5,7 +5,7 @@ use Rattle.std.proofs.lemmas.Option.{slice_get_within}
 use Rattle.std.specs.Prelude.{◌==◌, ◌||◌, ◌&&◌, not, nat_lt, nat_le, is_some, is_none, slice_get, count_by, IfSome}
 use Rattle.std.specs.List.{list_any, enumerate_from, AllByRecursion}
 use Rattle.std.specs.Option.{option_map, option_map_or}
-use Rattle.list_laws.proofs.Tests.{and_right, not_false, neither}
+use Rattle.list_laws.proofs.Tests.{and_right, neither}
 use Rattle.list_laws.proofs.Lists.{all_at, any_map, none_passes}
 use Rattle.cell_library.specs.declared.codes.Function.TheVariants as function
 use Rattle.cell_library.specs.declared.codes.Instr.TheVariants as instr
@@ -25,12 +25,12 @@ use Rattle.bsdl_device.specs.declared.entries.RowEntry.{RowEntry}
 use Rattle.bsdl_device.specs.Matching.{is_filled}
 use Rattle.bsdl_device.specs.Ports as declared
 use Rattle.bsdl_device.specs.Ports.{declared_ports, port_bits, has_bit, is_within}
-use Rattle.bsdl_device.specs.Checks.{any_pair, is_repeated, port_named_twice, port_named_as_unit, has_too_many_bits, names_other_entity, names_other_package, name_fails, port_not_mapped_once, entry_misfits, all_pins, pin_map_fails, is_scalar_port, tap_names, tap_port_misfits, tap_fails, length_fails, opcode_is_unknown, opcode_named_twice, lacks_instruction, has_other_length, bypass_is_not_ones, opcodes_clash, opcode_fails, capture_fails, has_instruction, code_is_barred, idcode_fails, numbers_misfit, boundary_fails}
+use Rattle.bsdl_device.specs.Checks.{any_pair, is_repeated, port_named_twice, port_named_as_unit, has_too_many_bits, names_other_entity, names_other_package, name_fails, port_not_mapped_once, entry_misfits, all_pins, pin_map_fails, is_scalar_port, tap_names, tap_port_misfits, tap_fails, length_fails, opcode_is_unknown, opcode_named_twice, lacks_instruction, has_other_length, bypass_is_not_ones, opcodes_clash, opcode_fails, capture_fails, has_instruction, code_is_barred, idcode_fails, usercode_fails, numbers_misfit, boundary_fails}
 use Rattle.bsdl_device.specs.RowRules.{is_function, row_misfits, bit_not_in_one_row, system_bits, rows_disagree, highz_fails, row_fails}
 use Rattle.bsdl_device.specs.Denoted.{device_of, port_of, cell_of, place_of, ordered_rows}
 use Rattle.bsdl_device.specs.Canonical.{port_name, has_opcode, canonical_device}
 use Rattle.bsdl_device.specs.Spelled.{SpellsText}
-use Rattle.bsdl_device.specs.IsDevice.{IsBits, IsDeviceRange, IsDevicePort, names_of, tap_places, is_scalar_at, IsDeviceTap, IsDeviceCode, is_control_at, is_disabled, IsDeviceRow, own_bits, is_at, IsDevice}
+use Rattle.bsdl_device.specs.IsDevice.{IsBits, IsDeviceRange, IsDevicePort, names_of, tap_places, is_scalar_at, IsDeviceTap, IsDeviceCode, IsUsercode, is_control_at, is_disabled, IsDeviceRow, own_bits, is_at, IsDevice}
 use Rattle.bsdl_round_trip.proofs.Names.{same_self, all_to}
 use Rattle.bsdl_round_trip.proofs.Identifiers.{name_test}
 use Rattle.bsdl_round_trip.proofs.Instructions.{named_again, has_by_opcode, opcodes_again}
@@ -67,7 +67,7 @@ name_kept d is =
     (ap is_repeated (names_again d) ∙ is.ports.distinct)
     (ap (λ (names : List (List ℕ)). list_any (λ name. is_same_name name d.entity || is_same_name name d.«package») names) (names_again d) ∙ is.ports.apart))
     few)
-    (entity_named d.entity d.idcode))
+    (entity_named d.entity d.idcode d.usercode))
     (ap not (same_self d.«package»))
 
 abbrev pub map_rules : List DeclaredPort → List PinEntry → Bool
@@ -144,6 +144,15 @@ code_kept (Some code) has is h = neither (not has) (code_is_barred code) (ap not
 idcode_kept : (d : Device) → IsDevice d → idcode_fails (rebuilt_contents d) ≡ false
 idcode_kept d is = code_kept d.idcode (has_instruction (map opcode_entry d.opcodes) instr.Idcode) is.code (has_by_opcode instr.Idcode d.opcodes ∙ is.identified)
 
+user_kept : (code user : Option ℕ) (has ident : Bool) → has ≡ is_some user → ident ≡ is_some code → (not (is_some user) || is_some code) ≡ true → (option_map_or (λ _. not has) user has || (has && not ident)) ≡ false
+user_kept code None has ident there some beside = neither has (has && not ident) there (ap (λ (b : Bool). b && not ident) there)
+user_kept code (Some n) has ident there some beside = neither (not has) (has && not ident) (ap not there) (ap (λ (b : Bool). b && not ident) there ∙ ap not (some ∙ beside))
+
+usercode_kept : (d : Device) → IsDevice d → usercode_fails (rebuilt_contents d) ≡ false
+usercode_kept d is =
+    user_kept d.idcode d.usercode (has_instruction (map opcode_entry d.opcodes) instr.Usercode) (has_instruction (map opcode_entry d.opcodes) instr.Idcode)
+    (has_by_opcode instr.Usercode d.opcodes ∙ is.user_identified) (has_by_opcode instr.Idcode d.opcodes ∙ is.identified) is.user_beside
+
 in_order : (d : Device) → InOrder 0 (length d.cells) (row_entries d.ports 0 d.cells)
 in_order d = record { numbered = rows_numbered d.ports 0 d.cells; many = rows_many d.ports 0 d.cells }
 
@@ -202,6 +211,7 @@ keeps_all d is = record {
   opcode = opcode_kept d is;
   capture = capture_kept d is;
   idcode = idcode_kept d is;
+  usercode = usercode_kept d is;
   register = registers_keep d.opcodes (has_all d.opcodes is.instructions.all);
   boundary = boundary_kept d is;
   row = row_kept d is;
@@ -282,6 +292,10 @@ code_good : (code : Option ℕ) → IfSome code IsDeviceCode → IsCode code
 code_good None is = tt
 code_good (Some code) is = bits_good (record { len = 32; value = code }) (record { some = omega arith; few = omega arith; value = is.short })
 
+user_good : (code : Option ℕ) → IfSome code IsUsercode → IsCode code
+user_good None is = tt
+user_good (Some code) is = bits_good (record { len = 32; value = code }) (record { some = omega arith; few = omega arith; value = is })
+
 ports_filled_by : (ports : List DevPort) (k : ℕ) → k < length ports → is_filled ports ≡ true
 ports_filled_by [] k h = absurd (omega arith)
 ports_filled_by (p ∷ ps) k h = refl
@@ -313,6 +327,7 @@ good d is =
       all = has_all d.opcodes is.instructions.all;
       capture = bits_good d.capture is.instructions.capture;
       idcode = code_good d.idcode is.code;
+      usercode = user_good d.usercode is.user;
       count = is.rows.few;
       rows = rows_good d all is.rows.few 0 d.cells (omega arith) is.rows.each;
       some_row = rows_filled d.ports d.cells is.rows.some;

@@ -115,6 +115,7 @@ pub record GoodContents (c : Contents) : Type 0 where
   pub opcodes : AllByRecursion (λ (o : OpcodeEntry). GoodBits o.bits) c.opcodes
   pub capture : GoodBits c.capture
   pub idcode : IsCode c.idcode
+  pub usercode : IsCode c.usercode
   pub rows : AllByRecursion GoodRow c.rows
 
 pins_good : (list : List (List ℕ)) → AllByRecursion (λ (pin : List ℕ). AllByRecursion GoodContent (PinRun pin ∷ [])) list → AllByRecursion GoodPin list
@@ -160,6 +161,7 @@ contents_good f c h = record {
   opcodes = all_to c.opcodes (λ o (k : AllByRecursion GoodContent (opcode_words o)). k.1.1.0) (all_separated GoodContent comma opcode_words c.opcodes (all_contents (separated_by comma opcode_words c.opcodes) (content_words (joined f.opcodes.strings)) h.opcodes.hold (good_words (joined f.opcodes.strings))));
   capture = (all_contents (runs.BitsRun c.capture ∷ []) (content_words (joined f.capture.strings)) h.capture (good_words (joined f.capture.strings))).0;
   idcode = code_good f.idcode c.idcode h.idcode;
+  usercode = code_good f.usercode c.usercode h.usercode;
   rows = all_to c.rows row_good (all_separated GoodContent comma row_words c.rows (all_contents (separated_by comma row_words c.rows) (content_words (joined f.boundary.strings)) h.rows.hold (good_words (joined f.boundary.strings))));
 }
 

@@ -1,5 +1,5 @@
 -- The canonical text as atoms, section by section.
-use Rattle.std.proofs.Common.{◌≡◌, ℕ, ◌^◌, ◌<◌, List, [], ◌∷◌, ◌++◌, Bool, true, false, Option, Some, None, map, length, refl, sym, ap, ◌∙◌, append-nil}
+use Rattle.std.proofs.Common.{◌≡◌, ℕ, ◌^◌, ◌<◌, List, [], ◌∷◌, ◌++◌, Bool, true, Option, Some, None, map, length, refl, sym, ap, ◌∙◌, append-nil}
 use Rattle.std.specs.Prelude.{◌&&◌, codes}
 use Rattle.std.specs.List.{list_all, AllByRecursion}
 use Rattle.list_laws.proofs.Tests.{and_left, and_right}
@@ -23,8 +23,8 @@ use Rattle.bsdl_round_trip.proofs.Identifiers.{name_test}
 use Rattle.bsdl_device.specs.Grammar.{pin_entry_words, opcode_words, access_words, row_words}
 use Rattle.bsdl_device.specs.Canonical.{pattern_text}
 use Rattle.bsdl_device.specs.Runs.{is_identifier}
-use Rattle.bsdl_round_trip.proofs.Held.{IsFileName, IsSmallRange, IsDeclared, AreStrings, GoodDevice, entry_strings, code_are_strings, bits_are_strings, pin_entries_are, opcodes_are, access_are, rows_are}
-use Rattle.bsdl_round_trip.proofs.Rebuilt.{direction_of, code_strings, rebuilt_file, entry_of, opcode_entry, access_entries, row_entries}
+use Rattle.bsdl_round_trip.proofs.Held.{IsFileName, IsSmallRange, IsDeclared, AreStrings, GoodDevice, entry_strings, code_are_strings, user_are_strings, bits_are_strings, pin_entries_are, opcodes_are, access_are, rows_are}
+use Rattle.bsdl_round_trip.proofs.Rebuilt.{direction_of, code_strings, user_strings, rebuilt_file, entry_of, opcode_entry, access_entries, row_entries}
 
 -- Parts.
 
@@ -116,6 +116,14 @@ abbrev pub idcode_atoms : List ℕ → Option ℕ → List FileAtom
 idcode_atoms entity None = []
 idcode_atoms entity (Some code) = attribute_atoms (codes "IDCODE_REGISTER") entity 10 ++ (margin ++ (code_atoms (code_strings code) ++ line_end))
 
+abbrev pub usercode_atoms : List ℕ → Option ℕ → List FileAtom
+usercode_atoms entity None = []
+usercode_atoms entity (Some code) = listed_atoms (codes "USERCODE_REGISTER") entity (user_strings code)
+
+-- the identification register's attributes count as one section
+abbrev pub ident_atoms : List ℕ → Option ℕ → Option ℕ → List FileAtom
+ident_atoms entity code user = idcode_atoms entity code ++ usercode_atoms entity user
+
 abbrev pub end_atoms : List ℕ → List FileAtom
 end_atoms entity = Key (codes "end") ∷ Blank 32 ∷ Name entity ∷ line_end
 
@@ -125,7 +133,7 @@ section_atoms d =
     ∷ (constant_open d.«package» ++ (margin ++ (strings_atoms (rebuilt_file d).pin_map ++ line_end)))
     ∷ (tap_atoms (codes "TAP_SCAN_IN") (rebuilt_file d).tap.tdi ++ (tap_atoms (codes "TAP_SCAN_MODE") (rebuilt_file d).tap.tms ++ (tap_atoms (codes "TAP_SCAN_OUT") (rebuilt_file d).tap.tdo ++ tap_atoms (codes "TAP_SCAN_RESET") (rebuilt_file d).tap.trst)))
     ∷ clock_atoms (rebuilt_file d).tap.tck d.clock d.stop ∷ integer_atoms (codes "INSTRUCTION_LENGTH") d.entity d.length ∷ listed_atoms (codes "INSTRUCTION_OPCODE") d.entity (rebuilt_file d).opcodes.strings
-    ∷ capture_atoms d.entity (pattern_text d.capture) ∷ idcode_atoms d.entity d.idcode ∷ listed_atoms (codes "REGISTER_ACCESS") d.entity (rebuilt_file d).access.strings
+    ∷ capture_atoms d.entity (pattern_text d.capture) ∷ ident_atoms d.entity d.idcode d.usercode ∷ listed_atoms (codes "REGISTER_ACCESS") d.entity (rebuilt_file d).access.strings
     ∷ integer_atoms (codes "BOUNDARY_LENGTH") d.entity (length d.cells) ∷ listed_atoms (codes "BOUNDARY_REGISTER") d.entity (rebuilt_file d).boundary.strings ∷ end_atoms d.entity ∷ []
 
 -- Atoms that follow each other, from a free place to a free place.
@@ -252,6 +260,10 @@ code_is entity (Some code) name =
     (both margin (code_atoms (code_strings code) ++ line_end) margin_is
     (record { all = (are.0, (refl, (tt, (refl, (are.1.0, (refl, (tt, (refl, (are.1.1.0, (refl, (tt, (refl, (are.1.1.1.0, (tt, (refl, tt))))))))))))))); fits = refl; ends = refl }))
 
+user_is : (entity : List ℕ) (code : Option ℕ) → IsFileName entity → Section (usercode_atoms entity code)
+user_is entity None name = record { all = tt; fits = refl; ends = refl }
+user_is entity (Some code) name = listed_is (codes "USERCODE_REGISTER") entity (user_strings code) refl name (user_are_strings code)
+
 -- The whole text.
 
 name_string : (name : List ℕ) → IsFileName name → list_all is_quotable name ≡ true
@@ -285,7 +297,7 @@ sections_are d g = (
                       (
                         both (attribute_atoms (codes "INSTRUCTION_CAPTURE") d.entity 32) (String (pattern_text d.capture) ∷ line_end) (attribute_is (codes "INSTRUCTION_CAPTURE") d.entity 32 refl g.entity refl) (record { all = ((bits_are_strings d.capture).0, (tt, (refl, tt))); fits = refl; ends = refl }),
                         (
-                          code_is d.entity d.idcode g.entity,
+                          both (idcode_atoms d.entity d.idcode) (usercode_atoms d.entity d.usercode) (code_is d.entity d.idcode g.entity) (user_is d.entity d.usercode g.entity),
                           (
                             listed_is (codes "REGISTER_ACCESS") d.entity (rebuilt_file d).access.strings refl g.entity (entry_strings access_atoms access_words (access_entries d.opcodes) (access_are d.opcodes)),
                             (

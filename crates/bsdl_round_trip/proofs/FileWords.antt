@@ -20,8 +20,8 @@ use Rattle.bsdl_device.specs.Spelled.{SpellsFile}
 use Rattle.bsdl_round_trip.proofs.FileAtoms.{FileAtom, file_patterns, patterns_of, pieces_of, atoms_match}
 use Rattle.bsdl_round_trip.proofs.Held.{GoodDevice, opcodes_filled, filled_map}
 use Rattle.bsdl_round_trip.proofs.EntryAtoms.{comma_strings, pin_entry_bytes, opcode_bytes, access_bytes, row_bytes}
-use Rattle.bsdl_round_trip.proofs.Rebuilt.{declaration_of, of_entity, code_strings, rebuilt_file, entry_of, opcode_entry, access_entries, row_entries, written_range}
-use Rattle.bsdl_round_trip.proofs.FileTexts.{all_joined, sections_are, section_atoms, strings_atoms, line_end, margin, listed_atoms, port_atoms, port_end, port_close, ports_atoms, port_open, constant_open, idcode_atoms}
+use Rattle.bsdl_round_trip.proofs.Rebuilt.{declaration_of, of_entity, code_strings, user_strings, rebuilt_file, entry_of, opcode_entry, access_entries, row_entries, written_range}
+use Rattle.bsdl_round_trip.proofs.FileTexts.{all_joined, sections_are, section_atoms, strings_atoms, line_end, margin, listed_atoms, port_atoms, port_end, port_close, ports_atoms, port_open, constant_open, idcode_atoms, usercode_atoms, ident_atoms}
 
 patterns_of-append : (xs ys : List FileAtom) → patterns_of (xs ++ ys) ≡ patterns_of xs ++ patterns_of ys
 patterns_of-append [] ys = refl
@@ -65,6 +65,16 @@ code_patterns : (entity : List ℕ) (code : Option ℕ) → patterns_of (idcode_
 code_patterns entity None = refl
 code_patterns entity (Some code) = refl
 
+user_patterns : (entity : List ℕ) (code : Option ℕ) → patterns_of (usercode_atoms entity code) ≡ option_map_or (shape.string_attribute_words (codes "USERCODE_REGISTER")) (option_map (λ (n : ℕ). of_entity entity (user_strings n)) code) []
+user_patterns entity None = refl
+user_patterns entity (Some code) = refl
+
+ident_patterns : (d : Device) → patterns_of (ident_atoms d.entity d.idcode d.usercode) ≡ shape.idcode_section (rebuilt_file d)
+ident_patterns d =
+    patterns_of-append (idcode_atoms d.entity d.idcode) (usercode_atoms d.entity d.usercode)
+    ∙ ap (λ (l : List Pattern). l ++ patterns_of (usercode_atoms d.entity d.usercode)) (code_patterns d.entity d.idcode)
+    ∙ ap (λ (l : List Pattern). shape.code_words (rebuilt_file d) ++ l) (user_patterns d.entity d.usercode)
+
 constant_patterns : (f : File) → patterns_of (constant_open f.«package» ++ (margin ++ (strings_atoms f.pin_map ++ line_end))) ≡ shape.constant_section f
 constant_patterns f = ap (λ (l : List Pattern). shape.constant_words f ++ l) (strings_patterns f.pin_map) ∙ sym (append_assoc (shape.constant_words f) (strings_words f.pin_map) (Mark Semicolon ∷ []))
 
@@ -106,7 +116,7 @@ sections_same d = (
                       (
                         refl,
                         (
-                          code_patterns d.entity d.idcode,
+                          ident_patterns d,
                           (listed_patterns (codes "REGISTER_ACCESS") (rebuilt_file d).access, (refl, (listed_patterns (codes "BOUNDARY_REGISTER") (rebuilt_file d).boundary, (refl, tt)))),
                         ),
                       ),
@@ -155,6 +165,10 @@ code_filled : (entity : List ℕ) (code : Option ℕ) → option_map_or (λ (a :
 code_filled entity None = refl
 code_filled entity (Some code) = refl
 
+user_filled : (entity : List ℕ) (code : Option ℕ) → option_map_or (λ (a : StringAttribute). is_filled a.strings) (option_map (λ (n : ℕ). of_entity entity (user_strings n)) code) true ≡ true
+user_filled entity None = refl
+user_filled entity (Some code) = refl
+
 pub is_file : (d : Device) → GoodDevice d → is_filled d.opcodes ≡ true → IsFile (rebuilt_file d)
 is_file d g some = record {
   ports = declared_filled d.ports g.some_port;
@@ -163,6 +177,7 @@ is_file d g some = record {
   opcodes = strings_filled opcode_bytes (map opcode_entry d.opcodes) (filled_map opcode_entry d.opcodes some);
   capture = refl;
   idcode = code_filled d.entity d.idcode;
+  usercode = user_filled d.entity d.usercode;
   access = strings_filled access_bytes (access_entries d.opcodes) refl;
   boundary = strings_filled row_bytes (row_entries d.ports 0 d.cells) g.some_row;
 }

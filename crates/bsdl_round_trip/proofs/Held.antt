@@ -31,7 +31,7 @@ use Rattle.bsdl_round_trip.proofs.ContentAtoms.{ContentAtom, Pattern, Mark, byte
 use Rattle.bsdl_round_trip.proofs.EntryAtoms.{pin_entry_atoms, opcode_atoms, access_atoms, row_atoms, comma_strings}
 use Rattle.bsdl_round_trip.proofs.ContentTexts.{IsPort, IsRow, pin_entry_is, opcode_is, access_is, row_entry_is}
 use Rattle.bsdl_round_trip.proofs.Access.{HasAll, is_access}
-use Rattle.bsdl_round_trip.proofs.Rebuilt.{entry_of, opcode_entry, access_entries, device_id_entries, row_entries, code_strings, of_entity, rebuilt_file, rebuilt_contents}
+use Rattle.bsdl_round_trip.proofs.Rebuilt.{entry_of, opcode_entry, access_entries, ident_list, device_id_entries, row_entries, code_strings, user_strings, of_entity, rebuilt_file, rebuilt_contents}
 
 -- Strings of entries.
 
@@ -93,6 +93,7 @@ pub record GoodDevice (d : Device) : Type 0 where
   pub all : HasAll d.opcodes
   pub capture : GoodBits d.capture
   pub idcode : IsCode d.idcode
+  pub usercode : IsCode d.usercode
   pub count : (rebuilt_file d).boundary_length.value < 10 ^ 9
   pub rows : AllByRecursion IsRow (row_entries d.ports 0 d.cells)
   pub some_row : is_filled (row_entries d.ports 0 d.cells) ≡ true
@@ -110,12 +111,12 @@ opcodes_are (o ∷ os) all = (opcode_is o all.0, opcodes_are os all.1)
 pub access_are : (opcodes : List Opcode) → AllByRecursion (λ (a : AccessEntry). Entry (access_atoms a) (access_words a)) (access_entries opcodes)
 access_are opcodes = (
   access_is register.Boundary (filter (has_opcode opcodes) (instr.Extest ∷ instr.Sample ∷ instr.Preload ∷ [])),
-  (access_is register.Bypass (filter (has_opcode opcodes) (instr.Bypass ∷ instr.Highz ∷ instr.Clamp ∷ [])), by (has_opcode opcodes instr.Idcode)),
+  (access_is register.Bypass (filter (has_opcode opcodes) (instr.Bypass ∷ instr.Highz ∷ instr.Clamp ∷ [])), by (has_opcode opcodes instr.Idcode) (has_opcode opcodes instr.Usercode)),
 )
   where
-    by : (b : Bool) → AllByRecursion (λ (a : AccessEntry). Entry (access_atoms a) (access_words a)) (device_id_entries b)
-    by true = (access_is register.DeviceId (instr.Idcode ∷ []), tt)
-    by false = tt
+    by : (b u : Bool) → AllByRecursion (λ (a : AccessEntry). Entry (access_atoms a) (access_words a)) (device_id_entries b u)
+    by true u = (access_is register.DeviceId (ident_list u), tt)
+    by false u = tt
 
 pub rows_are : (rows : List RowEntry) → AllByRecursion IsRow rows → AllByRecursion (λ (r : RowEntry). Entry (row_atoms r) (row_words r)) rows
 rows_are [] all = tt
@@ -151,6 +152,10 @@ hold_code : (entity : List ℕ) (code : Option ℕ) → IsCode code → HoldIdco
 hold_code entity None good = tt
 hold_code entity (Some code) good = subst (λ (t : List ℕ). runs.Matches (runs.BitsRun (record { len = 32; value = code }) ∷ []) (content_words t)) (sym (code_joined code)) (hold_bits (record { len = 32; value = code }) good)
 
+hold_user : (entity : List ℕ) (code : Option ℕ) → IsCode code → HoldIdcode (option_map (λ (n : ℕ). of_entity entity (user_strings n)) code) code
+hold_user entity None good = tt
+hold_user entity (Some code) good = hold_bits (record { len = 32; value = code }) good
+
 bits_quotable : (len value : ℕ) → list_all is_quotable (bits_text len value) ≡ true
 unfolding bits_text
 bits_quotable zero value = refl
@@ -161,6 +166,9 @@ bits_quotable (suc len) value = list_all-append is_quotable (bits_text len (valu
 
 pub code_are_strings : (code : ℕ) → AreStrings (code_strings code)
 code_are_strings code = (bits_quotable 4 (code / 2 ^ 28), (bits_quotable 16 (code / 2 ^ 12), (bits_quotable 11 (code / 2), (bits_quotable 1 code, tt))))
+
+pub user_are_strings : (code : ℕ) → AreStrings (user_strings code)
+user_are_strings code = (bits_quotable 32 code, tt)
 
 pub bits_are_strings : (bits : Bits) → AreStrings (pattern_text bits ∷ [])
 bits_are_strings bits = (bits_quotable bits.len bits.value, tt)
@@ -182,6 +190,7 @@ holds_again d g = record {
   opcodes = record { filled = filled_map opcode_entry d.opcodes (opcodes_filled d.opcodes g.all); hold = hold_entries opcode_atoms opcode_words (map opcode_entry d.opcodes) (opcodes_are d.opcodes g.opcodes) };
   capture = hold_bits d.capture g.capture;
   idcode = hold_code d.entity d.idcode g.idcode;
+  usercode = hold_user d.entity d.usercode g.usercode;
   access = record { is = is_access d.opcodes g.all; hold = hold_entries access_atoms access_words (access_entries d.opcodes) (access_are d.opcodes) };
   rows = record { filled = g.some_row; hold = hold_entries row_atoms row_words (row_entries d.ports 0 d.cells) (rows_are (row_entries d.ports 0 d.cells) g.rows) };
 }

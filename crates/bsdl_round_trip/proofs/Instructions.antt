@@ -30,6 +30,7 @@ named_again instr.Preload = refl
 named_again instr.Idcode = refl
 named_again instr.Highz = refl
 named_again instr.Clamp = refl
+named_again instr.Usercode = refl
 
 -- an instruction's name in its own spelling; an unknown name as it is
 abbrev own_name : Option Instr → List ℕ → List ℕ
@@ -117,13 +118,14 @@ opcodes_again (o ∷ os) =
 
 -- an instruction's own name is another's just where they are one
 word_of_one : (i j : Instr) → names_instruction i (instruction_word j) ≡ is_instruction i j
-word_of_one instr.Bypass j = elim j as (λ v. names_instruction instr.Bypass (instruction_word v) ≡ is_instruction instr.Bypass v) [ instr.Bypass ↦ refl | instr.Extest ↦ refl | instr.Sample ↦ refl | instr.Preload ↦ refl | instr.Idcode ↦ refl | instr.Highz ↦ refl | instr.Clamp ↦ refl ]
-word_of_one instr.Extest j = elim j as (λ v. names_instruction instr.Extest (instruction_word v) ≡ is_instruction instr.Extest v) [ instr.Bypass ↦ refl | instr.Extest ↦ refl | instr.Sample ↦ refl | instr.Preload ↦ refl | instr.Idcode ↦ refl | instr.Highz ↦ refl | instr.Clamp ↦ refl ]
-word_of_one instr.Sample j = elim j as (λ v. names_instruction instr.Sample (instruction_word v) ≡ is_instruction instr.Sample v) [ instr.Bypass ↦ refl | instr.Extest ↦ refl | instr.Sample ↦ refl | instr.Preload ↦ refl | instr.Idcode ↦ refl | instr.Highz ↦ refl | instr.Clamp ↦ refl ]
-word_of_one instr.Preload j = elim j as (λ v. names_instruction instr.Preload (instruction_word v) ≡ is_instruction instr.Preload v) [ instr.Bypass ↦ refl | instr.Extest ↦ refl | instr.Sample ↦ refl | instr.Preload ↦ refl | instr.Idcode ↦ refl | instr.Highz ↦ refl | instr.Clamp ↦ refl ]
-word_of_one instr.Idcode j = elim j as (λ v. names_instruction instr.Idcode (instruction_word v) ≡ is_instruction instr.Idcode v) [ instr.Bypass ↦ refl | instr.Extest ↦ refl | instr.Sample ↦ refl | instr.Preload ↦ refl | instr.Idcode ↦ refl | instr.Highz ↦ refl | instr.Clamp ↦ refl ]
-word_of_one instr.Highz j = elim j as (λ v. names_instruction instr.Highz (instruction_word v) ≡ is_instruction instr.Highz v) [ instr.Bypass ↦ refl | instr.Extest ↦ refl | instr.Sample ↦ refl | instr.Preload ↦ refl | instr.Idcode ↦ refl | instr.Highz ↦ refl | instr.Clamp ↦ refl ]
-word_of_one instr.Clamp j = elim j as (λ v. names_instruction instr.Clamp (instruction_word v) ≡ is_instruction instr.Clamp v) [ instr.Bypass ↦ refl | instr.Extest ↦ refl | instr.Sample ↦ refl | instr.Preload ↦ refl | instr.Idcode ↦ refl | instr.Highz ↦ refl | instr.Clamp ↦ refl ]
+word_of_one instr.Bypass j = elim j as (λ v. names_instruction instr.Bypass (instruction_word v) ≡ is_instruction instr.Bypass v) [ instr.Bypass ↦ refl | instr.Extest ↦ refl | instr.Sample ↦ refl | instr.Preload ↦ refl | instr.Idcode ↦ refl | instr.Highz ↦ refl | instr.Clamp ↦ refl | instr.Usercode ↦ refl ]
+word_of_one instr.Extest j = elim j as (λ v. names_instruction instr.Extest (instruction_word v) ≡ is_instruction instr.Extest v) [ instr.Bypass ↦ refl | instr.Extest ↦ refl | instr.Sample ↦ refl | instr.Preload ↦ refl | instr.Idcode ↦ refl | instr.Highz ↦ refl | instr.Clamp ↦ refl | instr.Usercode ↦ refl ]
+word_of_one instr.Sample j = elim j as (λ v. names_instruction instr.Sample (instruction_word v) ≡ is_instruction instr.Sample v) [ instr.Bypass ↦ refl | instr.Extest ↦ refl | instr.Sample ↦ refl | instr.Preload ↦ refl | instr.Idcode ↦ refl | instr.Highz ↦ refl | instr.Clamp ↦ refl | instr.Usercode ↦ refl ]
+word_of_one instr.Preload j = elim j as (λ v. names_instruction instr.Preload (instruction_word v) ≡ is_instruction instr.Preload v) [ instr.Bypass ↦ refl | instr.Extest ↦ refl | instr.Sample ↦ refl | instr.Preload ↦ refl | instr.Idcode ↦ refl | instr.Highz ↦ refl | instr.Clamp ↦ refl | instr.Usercode ↦ refl ]
+word_of_one instr.Idcode j = elim j as (λ v. names_instruction instr.Idcode (instruction_word v) ≡ is_instruction instr.Idcode v) [ instr.Bypass ↦ refl | instr.Extest ↦ refl | instr.Sample ↦ refl | instr.Preload ↦ refl | instr.Idcode ↦ refl | instr.Highz ↦ refl | instr.Clamp ↦ refl | instr.Usercode ↦ refl ]
+word_of_one instr.Highz j = elim j as (λ v. names_instruction instr.Highz (instruction_word v) ≡ is_instruction instr.Highz v) [ instr.Bypass ↦ refl | instr.Extest ↦ refl | instr.Sample ↦ refl | instr.Preload ↦ refl | instr.Idcode ↦ refl | instr.Highz ↦ refl | instr.Clamp ↦ refl | instr.Usercode ↦ refl ]
+word_of_one instr.Clamp j = elim j as (λ v. names_instruction instr.Clamp (instruction_word v) ≡ is_instruction instr.Clamp v) [ instr.Bypass ↦ refl | instr.Extest ↦ refl | instr.Sample ↦ refl | instr.Preload ↦ refl | instr.Idcode ↦ refl | instr.Highz ↦ refl | instr.Clamp ↦ refl | instr.Usercode ↦ refl ]
+word_of_one instr.Usercode j = elim j as (λ v. names_instruction instr.Usercode (instruction_word v) ≡ is_instruction instr.Usercode v) [ instr.Bypass ↦ refl | instr.Extest ↦ refl | instr.Sample ↦ refl | instr.Preload ↦ refl | instr.Idcode ↦ refl | instr.Highz ↦ refl | instr.Clamp ↦ refl | instr.Usercode ↦ refl ]
 
 pub has_by_opcode : (i : Instr) (opcodes : List Opcode) → has_instruction (map opcode_entry opcodes) i ≡ has_opcode opcodes i
 unfolding has_opcode

@@ -4,7 +4,7 @@ use Rattle.std.specs.Option.{option_map}
 use Rattle.list_laws.proofs.Options.{not_found}
 use Rattle.bsdl_device.specs.declared.written.File.{File}
 use Rattle.bsdl_device.specs.declared.entries.Contents.{Contents}
-use Rattle.bsdl_device.specs.Checks.{name_fails, pin_map_fails, tap_fails, length_fails, opcode_fails, capture_fails, idcode_fails, register_fails, boundary_fails}
+use Rattle.bsdl_device.specs.Checks.{name_fails, pin_map_fails, tap_fails, length_fails, opcode_fails, capture_fails, idcode_fails, usercode_fails, register_fails, boundary_fails}
 use Rattle.bsdl_device.specs.RowRules.{row_fails}
 use Rattle.bsdl_device.specs.Meanings.{first_meaning_fault, fault_of}
 
@@ -19,6 +19,7 @@ pub record Keeps (f : File) (c : Contents) : Type 0 where
   pub opcode : opcode_fails f c ≡ false
   pub capture : capture_fails f c ≡ false
   pub idcode : idcode_fails c ≡ false
+  pub usercode : usercode_fails c ≡ false
   pub register : register_fails c ≡ false
   pub boundary : boundary_fails f c ≡ false
   pub row : row_fails f c ≡ false
@@ -40,8 +41,9 @@ keeps f c h1 =
     let h6 = not_later (fault_of f) (opcode_fails f c) _ _ h5 in
     let h7 = not_later (fault_of f) (capture_fails f c) _ _ h6 in
     let h8 = not_later (fault_of f) (idcode_fails c) _ _ h7 in
-    let h9 = not_later (fault_of f) (register_fails c) _ _ h8 in
-    let h10 = not_later (fault_of f) (boundary_fails f c) _ _ h9 in
+    let h9 = not_later (fault_of f) (usercode_fails c) _ _ h8 in
+    let h10 = not_later (fault_of f) (register_fails c) _ _ h9 in
+    let h11 = not_later (fault_of f) (boundary_fails f c) _ _ h10 in
     record {
       name = not_found (fault_of f) (name_fails f) _ _ h1;
       pin_map = not_found (fault_of f) (pin_map_fails f c) _ _ h2;
@@ -50,9 +52,10 @@ keeps f c h1 =
       opcode = not_found (fault_of f) (opcode_fails f c) _ _ h5;
       capture = not_found (fault_of f) (capture_fails f c) _ _ h6;
       idcode = not_found (fault_of f) (idcode_fails c) _ _ h7;
-      register = not_found (fault_of f) (register_fails c) _ _ h8;
-      boundary = not_found (fault_of f) (boundary_fails f c) _ _ h9;
-      row = not_found (fault_of f) (row_fails f c) _ _ h10;
+      usercode = not_found (fault_of f) (usercode_fails c) _ _ h8;
+      register = not_found (fault_of f) (register_fails c) _ _ h9;
+      boundary = not_found (fault_of f) (boundary_fails f c) _ _ h10;
+      row = not_found (fault_of f) (row_fails f c) _ _ h11;
     }
 
 pub none_broken : (f : File) (c : Contents) → Keeps f c → first_meaning_fault f c ≡ None
@@ -64,6 +67,7 @@ none_broken f c k =
     (none_yet (fault_of f) (opcode_fails f c) _ _ k.opcode
     (none_yet (fault_of f) (capture_fails f c) _ _ k.capture
     (none_yet (fault_of f) (idcode_fails c) _ _ k.idcode
+    (none_yet (fault_of f) (usercode_fails c) _ _ k.usercode
     (none_yet (fault_of f) (register_fails c) _ _ k.register
     (none_yet (fault_of f) (boundary_fails f c) _ _ k.boundary
-    (none_yet (fault_of f) (row_fails f c) _ _ k.row refl)))))))))
+    (none_yet (fault_of f) (row_fails f c) _ _ k.row refl))))))))))

@@ -1,5 +1,5 @@
 -- Pairs that pass a test, in any order of the list.
-use Rattle.std.proofs.Common.{◌≡◌, List, [], ◌∷◌, Bool, true, false, ◌||◌, map, refl, ap, ◌∙◌}
+use Rattle.std.proofs.Common.{◌≡◌, List, [], ◌∷◌, Bool, false, ◌||◌, map, refl, ap, ◌∙◌}
 use Rattle.std.specs.List.{list_any}
 use Rattle.list_laws.proofs.Tests.{or_first, or_second, neither}
 use Rattle.list_laws.proofs.Lists.{any_same, any_map}

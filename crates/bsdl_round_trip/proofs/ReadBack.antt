@@ -140,6 +140,7 @@ good f c gf gc some k p =
       all = p.all;
       capture = gc.capture;
       idcode = gc.idcode;
+      usercode = gc.usercode;
       count = subst (λ (n : ℕ). n < 10 ^ 9) (sym p.many) small;
       rows = subst (λ (l : List RowEntry). AllByRecursion IsRow l) (sym p.rows) (rows_are_rows ports gf.ports count 0 (ordered_rows count c.rows) small p.order.numbered (omega arith) p.known (chosen_good GoodRow is_numbered _ c.rows gc.rows));
       some_row = ap is_filled p.rows ∙ rows_filled ports count (ordered_rows count c.rows) many some_rows;

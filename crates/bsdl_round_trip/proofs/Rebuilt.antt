@@ -1,6 +1,6 @@
 -- The file and the contents of a device's canonical text.
 use Rattle.std.proofs.Common.{◌≡◌, ℕ, ◌+◌, List, [], ◌∷◌, length, map, Bool, true, false, Option, Some, None, refl, ap, ◌∙◌}
-use Rattle.std.specs.Prelude.{◌/◌, ◌^◌, nat_le, codes, if◌then◌else◌}
+use Rattle.std.specs.Prelude.{◌/◌, ◌^◌, nat_le, if◌then◌else◌}
 use Rattle.std.specs.List.{flat_map, filter}
 use Rattle.std.specs.Option.{option_map}
 use Rattle.cell_library.specs.declared.codes.Instr.{Instr}
@@ -48,15 +48,20 @@ entry_of p = record { port = p.name; pins = mapped p.range p.pins }
 abbrev pub present : List Opcode → List Instr → List (List ℕ)
 present opcodes list = map instruction_word (filter (has_opcode opcodes) list)
 
-abbrev pub device_id_entries : Bool → List AccessEntry
-device_id_entries true = record { register = register.DeviceId; instructions = codes "IDCODE" ∷ [] } ∷ []
-device_id_entries false = []
+-- IDCODE, and USERCODE where the device has it
+abbrev pub ident_list : Bool → List Instr
+ident_list true = instr.Idcode ∷ instr.Usercode ∷ []
+ident_list false = instr.Idcode ∷ []
+
+abbrev pub device_id_entries : Bool → Bool → List AccessEntry
+device_id_entries true user = record { register = register.DeviceId; instructions = map instruction_word (ident_list user) } ∷ []
+device_id_entries false user = []
 
 abbrev pub access_entries : List Opcode → List AccessEntry
 access_entries opcodes =
     record { register = register.Boundary; instructions = present opcodes (instr.Extest ∷ instr.Sample ∷ instr.Preload ∷ []) }
     ∷ record { register = register.Bypass; instructions = present opcodes (instr.Bypass ∷ instr.Highz ∷ instr.Clamp ∷ []) }
-    ∷ device_id_entries (has_opcode opcodes instr.Idcode)
+    ∷ device_id_entries (has_opcode opcodes instr.Idcode) (has_opcode opcodes instr.Usercode)
 
 abbrev pub port_bit : List DevPort → DevBit → PortBit
 port_bit ports b = record { port = port_name ports b.port; index = b.index }
@@ -75,6 +80,7 @@ rebuilt_contents d = record {
   opcodes = map opcode_entry d.opcodes;
   capture = d.capture;
   idcode = d.idcode;
+  usercode = d.usercode;
   access = access_entries d.opcodes;
   rows = row_entries d.ports 0 d.cells;
 }
@@ -92,6 +98,9 @@ declaration_of p = record { names = p.name ∷ []; mode = p.mode; range = option
 
 abbrev pub code_strings : ℕ → List (List ℕ)
 code_strings code = bits_text 4 (code / 2 ^ 28) ∷ bits_text 16 (code / 2 ^ 12) ∷ bits_text 11 (code / 2) ∷ bits_text 1 code ∷ []
+
+abbrev pub user_strings : ℕ → List (List ℕ)
+user_strings code = bits_text 32 code ∷ []
 
 abbrev pub tap_of : Device → TapNames
 tap_of d = record { tdi = port_name d.ports d.tdi; tms = port_name d.ports d.tms; tdo = port_name d.ports d.tdo; trst = port_name d.ports d.trst; tck = port_name d.ports d.tck }
@@ -115,6 +124,7 @@ rebuilt_file d = record {
   opcodes = of_entity d.entity (comma_strings opcode_bytes (map opcode_entry d.opcodes));
   capture = of_entity d.entity (pattern_text d.capture ∷ []);
   idcode = option_map (λ code. of_entity d.entity (code_strings code)) d.idcode;
+  usercode = option_map (λ code. of_entity d.entity (user_strings code)) d.usercode;
   access = of_entity d.entity (comma_strings access_bytes (access_entries d.opcodes));
   boundary_length = record { entity = d.entity; value = length d.cells };
   boundary = of_entity d.entity (comma_strings row_bytes (row_entries d.ports 0 d.cells));

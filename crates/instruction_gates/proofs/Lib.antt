@@ -5,5 +5,6 @@ pub mod MatchedBits
 pub mod MatchRows
 pub mod Decoded
 pub mod SelectionsTold
+pub mod Copied
 pub mod StagesAdded
 pub mod StagesFollow

@@ -26,7 +26,7 @@ use Rattle.tap_gates.specs.Controller.{same_state}
 use Rattle.register_bits.specs.Chains.{chain_cells, chain_values, cleared, ChainsFollow}
 use Rattle.register_bits.specs.Laws.{Steers, is_capture, is_shift, bit_after}
 use Rattle.register_gates.specs.Steps.{StepsByRegister}
-use Rattle.register_gates.proofs.Ident.{cleared_is}
+use Rattle.register_gates.proofs.DataRegisters.{cleared_is}
 use Rattle.instruction_gates.specs.declared.stages.TheConstants.{LOADS}
 use Rattle.instruction_gates.specs.Rows.{bits_in}
 use Rattle.instruction_gates.specs.Latches.{latches_cells, is_reset, is_update, Latches, LatchesFollow}

@@ -5,7 +5,7 @@ use Rattle.signal_values.specs.declared.Sig.{Sig}
 use Rattle.signal_values.specs.Values.{bit}
 use Rattle.cell_library.specs.declared.codes.Bits.{Bits}
 use Rattle.cell_library.specs.declared.codes.Instr.{Instr}
-use Rattle.cell_library.specs.declared.codes.Instr.TheVariants.{Extest, Sample, Preload, Idcode, Highz, Clamp}
+use Rattle.cell_library.specs.declared.codes.Instr.TheVariants.{Extest, Sample, Preload, Idcode, Highz, Clamp, Usercode}
 use Rattle.cell_library.specs.declared.codes.Opcode.{Opcode}
 use Rattle.netlist_model.specs.declared.NetId.{NetId}
 use Rattle.netlist_model.specs.declared.Feed.{Feed}
@@ -27,11 +27,12 @@ use Rattle.tap_gates.specs.Laws.{ShowsState}
 use Rattle.register_gates.specs.Constants.{ConstantsAreBits}
 use Rattle.register_gates.specs.Steps.{StepsByRegister}
 use Rattle.instruction_gates.specs.Rows.{bits_in}
+use Rattle.instruction_gates.specs.Copies.{row_values, copies_cells, CopiesTell}
 use Rattle.instruction_gates.specs.Latches.{latch_values}
 use Rattle.instruction_gates.specs.Matches.{match_before, AreKnown, MatchesTell}
 use Rattle.instruction_gates.specs.Selections.{selections_cells, Selected, Tells, SelectionsTell}
 use Rattle.instruction_gates.specs.Stages.{stages_cells, Feeds, StagesFollow, StagesStep}
-use Rattle.instruction_register.specs.Register.{pattern_bits, latches_from, opcodes_from, selections_from, cells_with, told_with, opcode_size, opcode_cells, opcode_told, matched_instructions, opcodes_cells, opcodes_told, instruction_cells, instruction_nets, held_opcode}
+use Rattle.instruction_register.specs.Register.{pattern_bits, latches_from, opcodes_from, selections_from, copies_from, cells_with, told_with, opcode_size, opcode_cells, opcode_told, matched_instructions, opcodes_cells, opcodes_told, instruction_cells, instruction_nets, held_opcode}
 use Rattle.instruction_register.specs.Laws.{FitTheRegister, IsFed, Follows, InstructionFollows}
 use Rattle.instruction_register.specs.Steps.{HoldsStages, InstructionSteps}
 use Rattle.instruction_register.proofs.Patterns.{bits_in_pattern, pattern_valued, latched_as, last_of}
@@ -43,6 +44,7 @@ pub record PartLaws : Type 0 where
   pub stages : StagesFollow
   pub matches : MatchesTell
   pub selections : SelectionsTell
+  pub copies : CopiesTell
   pub constants : ConstantsAreBits
   pub steps : StepsByRegister
   pub moments : RunHasMoments
@@ -81,22 +83,25 @@ all_told : PartLaws → (codes : Codes) → FitTheRegister codes → (first at c
 all_told laws codes fit first at cell N m formed settled known has =
     let latches : ℕ = latches_from first codes in
     let size : Instr → ℕ = λ i. opcode_size codes i in
-    let extest = split laws.parts N at cell latches codes Extest (Sample ∷ Preload ∷ Idcode ∷ Highz ∷ Clamp ∷ []) has in
+    let extest = split laws.parts N at cell latches codes Extest (Sample ∷ Preload ∷ Idcode ∷ Highz ∷ Clamp ∷ Usercode ∷ []) has in
     let at1 : ℕ = at + size Extest in
     let cell1 : ℕ = cell + size Extest in
-    let sample = split laws.parts N at1 cell1 latches codes Sample (Preload ∷ Idcode ∷ Highz ∷ Clamp ∷ []) extest.1 in
+    let sample = split laws.parts N at1 cell1 latches codes Sample (Preload ∷ Idcode ∷ Highz ∷ Clamp ∷ Usercode ∷ []) extest.1 in
     let at2 : ℕ = at1 + size Sample in
     let cell2 : ℕ = cell1 + size Sample in
-    let preload = split laws.parts N at2 cell2 latches codes Preload (Idcode ∷ Highz ∷ Clamp ∷ []) sample.1 in
+    let preload = split laws.parts N at2 cell2 latches codes Preload (Idcode ∷ Highz ∷ Clamp ∷ Usercode ∷ []) sample.1 in
     let at3 : ℕ = at2 + size Preload in
     let cell3 : ℕ = cell2 + size Preload in
-    let idcode = split laws.parts N at3 cell3 latches codes Idcode (Highz ∷ Clamp ∷ []) preload.1 in
+    let idcode = split laws.parts N at3 cell3 latches codes Idcode (Highz ∷ Clamp ∷ Usercode ∷ []) preload.1 in
     let at4 : ℕ = at3 + size Idcode in
     let cell4 : ℕ = cell3 + size Idcode in
-    let highz = split laws.parts N at4 cell4 latches codes Highz (Clamp ∷ []) idcode.1 in
+    let highz = split laws.parts N at4 cell4 latches codes Highz (Clamp ∷ Usercode ∷ []) idcode.1 in
     let at5 : ℕ = at4 + size Highz in
     let cell5 : ℕ = cell4 + size Highz in
-    let clamp = split laws.parts N at5 cell5 latches codes Clamp [] highz.1 in
+    let clamp = split laws.parts N at5 cell5 latches codes Clamp (Usercode ∷ []) highz.1 in
+    let at6 : ℕ = at5 + size Clamp in
+    let cell6 : ℕ = cell5 + size Clamp in
+    let usercode = split laws.parts N at6 cell6 latches codes Usercode [] clamp.1 in
     record {
       extest = told_one laws codes fit first at cell N m formed settled known Extest extest.0;
       sample = told_one laws codes fit first at1 cell1 N m formed settled known Sample sample.0;
@@ -104,12 +109,14 @@ all_told laws codes fit first at cell N m formed settled known has =
       idcode = told_one laws codes fit first at3 cell3 N m formed settled known Idcode idcode.0;
       highz = told_one laws codes fit first at4 cell4 N m formed settled known Highz highz.0;
       clamp = told_one laws codes fit first at5 cell5 N m formed settled known Clamp clamp.0;
+      usercode = told_one laws codes fit first at6 cell6 N m formed settled known Usercode usercode.0;
     }
 
 record Apart (N : NetlistView) (first number : ℕ) (tap : TapNets) (tdi : NetId) (codes : Codes) : Type 0 where
   stages : HasCells N (stages_cells first number tap tdi (pattern_bits codes codes.capture) (pattern_bits codes codes.reset))
   opcodes : HasCells N (opcodes_cells (opcodes_from first codes) (opcodes_from number codes) (latches_from first codes) codes matched_instructions)
   selections : HasCells N (selections_cells (selections_from first codes) (selections_from number codes) tap (opcodes_told (opcodes_from first codes) codes))
+  copies : HasCells N (copies_cells (copies_from first codes) (copies_from number codes) (latches_from first codes) codes.length)
 
 apart : ContainedParts → (N : NetlistView) (first number : ℕ) (tap : TapNets) (tdi : NetId) (codes : Codes) → HasCells N (instruction_cells first number tap tdi codes)
     → Apart N first number tap tdi codes
@@ -117,9 +124,11 @@ apart parts N first number tap tdi codes has =
     let stages : List CellView = stages_cells first number tap tdi (pattern_bits codes codes.capture) (pattern_bits codes codes.reset) in
     let opcodes : List CellView = opcodes_cells (opcodes_from first codes) (opcodes_from number codes) (latches_from first codes) codes matched_instructions in
     let selections : List CellView = selections_cells (selections_from first codes) (selections_from number codes) tap (opcodes_told (opcodes_from first codes) codes) in
-    let one = (parts N stages (opcodes ++ selections)).parts has in
-    let two = (parts N opcodes selections).parts one.1 in
-    record { stages = one.0; opcodes = two.0; selections = two.1 }
+    let copies : List CellView = copies_cells (copies_from first codes) (copies_from number codes) (latches_from first codes) codes.length in
+    let one = (parts N stages (opcodes ++ (selections ++ copies))).parts has in
+    let two = (parts N opcodes (selections ++ copies)).parts one.1 in
+    let three = (parts N selections copies).parts two.1 in
+    record { stages = one.0; opcodes = two.0; selections = three.0; copies = three.1 }
 
 -- What is the same for each moment.
 
@@ -143,6 +152,18 @@ feeds_of laws tap tdi codes L levels machine m are fit fed = record {
   pattern = pattern_valued laws.constants m.value codes codes.capture fit.capture ∙ sym are.capture;
 }
 
+-- what the copies carry
+copied : PartLaws → (first number : ℕ) (codes : Codes) (N : NetlistView) (m : Moment) → IsWellFormed N
+    → HasCells N (copies_cells (copies_from first codes) (copies_from number codes) (latches_from first codes) codes.length) → IsSettled N m.pins m.state m.value
+    → row_values m.value (copies_from first codes) codes.length ≡ held_opcode m.value first codes
+copied laws first number codes N m formed has settled =
+    let presets : List Feed = pattern_bits codes codes.reset in
+    let many : length presets ≡ codes.length = (laws.constants codes.length codes.reset.value).counted in
+    let P : ℕ → Type 0 = λ n. HasCells N (copies_cells (copies_from first codes) (copies_from number codes) (latches_from first codes) n) in
+    ap (λ (n : ℕ). row_values m.value (copies_from first codes) n) (sym many)
+    ∙ laws.copies (copies_from first codes) (copies_from number codes) (latches_from first codes) presets N m formed (subst P (sym many) has) settled
+    ∙ latched_as laws.constants m.value first codes codes.reset
+
 -- what its nets tell
 tell : PartLaws → (first number : ℕ) (tap : TapNets) (tdi : NetId) (codes : Codes) (N : NetlistView) (L : TestLogic) → IsWellFormed N → HasCells N (instruction_cells first number tap tdi codes)
     → AreCodes codes L → FitTheRegister codes → (machine : Machine) (m : Moment) → IsSettled N m.pins m.state m.value → ShowsState tap machine.state m → AreKnown machine.latched
@@ -161,6 +182,7 @@ tell laws first number tap tdi codes N L formed has are fit machine m settled sh
     record {
       shift = held.shift;
       latched = held.latched;
+      opcode = copied laws first number codes N m formed cells.copies settled ∙ held.latched;
       last = last_of m.value (first + 1) tdi (pattern_bits codes codes.capture) same.some ∙ ap first_bit held.shift;
       selected = subst Q (sym are.opcodes) (subst P held.latched selected);
     }

@@ -10,7 +10,7 @@ use Rattle.signal_values.specs.declared.Sig.TheVariants.{Zero, One, Unknown}
 use Rattle.signal_values.specs.Values.{bit}
 use Rattle.cell_library.specs.declared.codes.Bits.{Bits}
 use Rattle.cell_library.specs.declared.codes.Instr.{Instr}
-use Rattle.cell_library.specs.declared.codes.Instr.TheVariants.{Bypass, Extest, Sample, Preload, Idcode, Highz, Clamp}
+use Rattle.cell_library.specs.declared.codes.Instr.TheVariants.{Bypass, Extest, Sample, Preload, Idcode, Highz, Clamp, Usercode}
 use Rattle.cell_library.specs.declared.codes.Opcode.{Opcode}
 use Rattle.bsdl_device.specs.declared.entries.OpcodeEntry.{OpcodeEntry}
 use Rattle.bsdl_device.specs.Instructions.{instruction_word, names_instruction, is_instruction, same_bits}
@@ -99,6 +99,7 @@ same_instruction Preload Preload e = refl
 same_instruction Idcode Idcode e = refl
 same_instruction Highz Highz e = refl
 same_instruction Clamp Clamp e = refl
+same_instruction Usercode Usercode e = refl
 same_instruction i j e = absurd (false≢true e)
 
 shares_with_itself : (i : Instr) → may_share i i ≡ true
@@ -109,6 +110,7 @@ shares_with_itself Preload = refl
 shares_with_itself Idcode = refl
 shares_with_itself Highz = refl
 shares_with_itself Clamp = refl
+shares_with_itself Usercode = refl
 
 named_sample : (x : Instr) → names_instruction Sample (instruction_word x) ≡ is_instruction Sample x
 named_sample Bypass = refl
@@ -118,6 +120,7 @@ named_sample Preload = refl
 named_sample Idcode = refl
 named_sample Highz = refl
 named_sample Clamp = refl
+named_sample Usercode = refl
 
 named_preload : (x : Instr) → names_instruction Preload (instruction_word x) ≡ is_instruction Preload x
 named_preload Bypass = refl
@@ -127,6 +130,7 @@ named_preload Preload = refl
 named_preload Idcode = refl
 named_preload Highz = refl
 named_preload Clamp = refl
+named_preload Usercode = refl
 
 abbrev pair : Instr → Instr → Bool
 pair x y = (is_instruction Sample x && is_instruction Preload y) || (is_instruction Preload x && is_instruction Sample y)
@@ -224,6 +228,7 @@ named_bypass Preload = refl
 named_bypass Idcode = refl
 named_bypass Highz = refl
 named_bypass Clamp = refl
+named_bypass Usercode = refl
 
 there_step : (o : Opcode) (rest : Option Opcode) (here tail : Bool) → (here || tail) ≡ true → (tail ≡ true → opcode_in rest ≡ None → ⊥) → opcode_in (cond here (Some o) rest) ≡ None → ⊥
 there_step o rest true tail h more e = cc

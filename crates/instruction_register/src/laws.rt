@@ -1,7 +1,7 @@
 ghost use Rattle.instruction_register.specs.Laws.{InstructionFollows, RegistersFit};
 ghost use Rattle.instruction_register.specs.Steps.{InstructionSteps, InstructionsStayLegible};
 
-use instruction_gates::{matches_tell, selections_tell, stages_follow, stages_step};
+use instruction_gates::{copies_tell, matches_tell, selections_tell, stages_follow, stages_step};
 use netlist_laws::{contained_parts, moments_of_a_run};
 use register_gates::{constants_are_bits, steps_by_register};
 use tap_gates::step_is_the_machines;
@@ -15,6 +15,7 @@ pub fn instruction_follows()
     stages_follow();
     matches_tell();
     selections_tell();
+    copies_tell();
     constants_are_bits();
     steps_by_register();
     moments_of_a_run();
@@ -29,6 +30,7 @@ pub fn instruction_steps()
     stages_step();
     matches_tell();
     selections_tell();
+    copies_tell();
     constants_are_bits();
     steps_by_register();
     moments_of_a_run();

@@ -4,13 +4,13 @@
 // IEEE Std 1149.1-2001: instruction register, instructions.
 //
 // - `add_instruction` appends exactly the register's cells and answers its nets, by definitions over the codes;
-//   for n bits it takes 10 + 6n cells and nets, and 2n for each opcode but that of BYPASS, so at most 10 + 18n. It
+//   for n bits it takes 11 + 7n cells and nets, and 2n for each opcode but that of BYPASS, so at most 11 + 21n. It
 //   can't refuse. An instruction without an opcode takes none.
 // - In every well-formed netlist that contains the cells, at each moment of a run whose nets carry the levels of
 //   the test access port and the controller's state (`instruction_follows`): the shift stage and the latched
 //   opcode are the test logic's, with the bit nearest TDO on the net that was answered; and the nets of the
-//   selected register, of the boundary register's capture, shift and update, of EXTEST and of the modes are those
-//   of the instruction in effect, for any history.
+//   selected register, of USERCODE, of the boundary register's capture, shift and update, of EXTEST and of the modes
+//   are those of the instruction in effect, for any history; and the latched opcode is on nets one behind another.
 // - The codes of each device that some BSDL text describes fit the register (`registers_fit`): patterns as long as
 //   it is, and no opcode twice but that of SAMPLE and PRELOAD.
 // - So it is of the whole register, step by step, from whatever its stages hold (`instruction_steps`); from Test-
@@ -19,7 +19,7 @@
 // By the contract of `add_instruction` and two law functions.
 // What the test logic's gates take, for n bits of the instruction register, and what is set aside for them:
 // | call | cells | nets | set aside | |---|---|---|---| | `add_tap` | 44 | 44 | 140 | | `add_instruction` | at
-// most 10 + 18n | the same | 100 + 64n | | `add_bypass` | 5 | 5 | 10 | | `add_ident` | 98 | 98 | 130 | | `add_tdo`
+// most 11 + 21n | the same | 100 + 64n | | `add_bypass` | 5 | 5 | 10 | | `add_ident` | 98 or 99 | the same | 130 | | `add_tdo`
 // | 7 | 6 | 20 | | `add_port_nets` | 0 | 5 | 10 | | each boundary cell | 3 to 8 | 3 to 7 | 24 | | all together | |
 // | 410 + 64n, and 24 a boundary cell |
 #![tactic(auto)]
@@ -35,7 +35,7 @@ mod laws;
 mod opcodes;
 mod stages;
 
-use instruction_gates::add_selections;
+use instruction_gates::{add_copies, add_selections};
 pub use laws::{instruction_follows, instruction_steps, instructions_stay_legible, registers_fit};
 use netlist_arena::Netlist;
 use netlist_model::NetId;
@@ -44,13 +44,13 @@ use register_gates::{added_in_turn, constants_are_bits};
 use stages::add_coded_stages;
 use test_logic::{Codes, InstrNets, TapNets};
 
-/// Adds the instruction register with these codes to a dense netlist, and answers its nets. For n bits it takes at most 10 + 18 n cells
-/// and nets of the room that is there: 10 + 6 n, and 2 n for each opcode but that of BYPASS.
+/// Adds the instruction register with these codes to a dense netlist, and answers its nets. For n bits it takes at most 11 + 21 n cells
+/// and nets of the room that is there: 11 + 7 n, and 2 n for each opcode but that of BYPASS.
 pub fn add_instruction(netlist: &mut Netlist, tap: &TapNets, tdi: NetId, codes: &Codes) -> InstrNets
     requires dense { IsDense netlist.old.lists }
     requires bits { codes.now.length ≤ 32 }
-    requires nets { 10 + 18 * codes.now.length ≤ netlist.old.spare.nets }
-    requires cells { 10 + 18 * codes.now.length ≤ netlist.old.spare.cells }
+    requires nets { 11 + 21 * codes.now.length ≤ netlist.old.spare.nets }
+    requires cells { 11 + 21 * codes.now.length ≤ netlist.old.spare.cells }
     requires clock { AreNetsBelow (length netlist.old.lists.nets) tap.now.tck tap.now.trst }
     requires steps { AreNetsBelow (length netlist.old.lists.nets) tap.now.capture_ir tap.now.shift_ir }
     requires loads { AreNetsBelow (length netlist.old.lists.nets) tap.now.update_ir tap.now.in_reset }
@@ -61,12 +61,14 @@ pub fn add_instruction(netlist: &mut Netlist, tap: &TapNets, tdi: NetId, codes: 
     ensures nets { result ≡ instruction_nets (length netlist.old.lists.nets) tap.now tdi codes.now }
     ensures added { Appended netlist.old netlist.new (instruction_size codes.now)
         (instruction_cells (length netlist.old.lists.nets) (cell_count netlist.old.lists) tap.now tdi codes.now) }
-    ensures size { instruction_size codes.now ≤ 10 + 18 * codes.now.length }
+    ensures size { instruction_size codes.now ≤ 11 + 21 * codes.now.length }
     ensures dense { IsDense netlist.new.lists }
 {
     added_in_turn();
     constants_are_bits();
     let stages = add_coded_stages(netlist, tap, tdi, codes);
     let matched = add_opcodes(netlist, stages.latches, codes);
-    add_selections(netlist, tap, &matched, stages.last)
+    let nets = add_selections(netlist, tap, &matched, stages.last);
+    add_copies(netlist, stages.latches, codes.length);
+    nets
 }

@@ -48,8 +48,8 @@ fn add_opcode(netlist: &mut Netlist, latches: NetId, codes: &Codes, instruction:
 pub fn add_opcodes(netlist: &mut Netlist, latches: NetId, codes: &Codes) -> Matched
     requires dense { IsDense netlist.old.lists }
     requires bits { codes.now.length ≤ 32 }
-    requires nets { 12 * codes.now.length ≤ netlist.old.spare.nets }
-    requires cells { 12 * codes.now.length ≤ netlist.old.spare.cells }
+    requires nets { 14 * codes.now.length ≤ netlist.old.spare.nets }
+    requires cells { 14 * codes.now.length ≤ netlist.old.spare.cells }
     requires latches { latches.0 + 3 * codes.now.length ≤ length netlist.old.lists.nets }
     ensures told { result ≡ opcodes_told (length netlist.old.lists.nets) codes.now }
     ensures added { Appended netlist.old netlist.new (opcodes_size codes.now matched_instructions)
@@ -57,8 +57,8 @@ pub fn add_opcodes(netlist: &mut Netlist, latches: NetId, codes: &Codes) -> Matc
     ensures below { AreToldBelow (length netlist.new.lists.nets) result }
     ensures count { length netlist.new.lists.nets
         ≡ length netlist.old.lists.nets + opcodes_size codes.now matched_instructions }
-    ensures nets_left { netlist.old.spare.nets ≤ netlist.new.spare.nets + 12 * codes.now.length }
-    ensures cells_left { netlist.old.spare.cells ≤ netlist.new.spare.cells + 12 * codes.now.length }
+    ensures nets_left { netlist.old.spare.nets ≤ netlist.new.spare.nets + 14 * codes.now.length }
+    ensures cells_left { netlist.old.spare.cells ≤ netlist.new.spare.cells + 14 * codes.now.length }
     ensures dense { IsDense netlist.new.lists }
 {
     appended_none();
@@ -70,6 +70,7 @@ pub fn add_opcodes(netlist: &mut Netlist, latches: NetId, codes: &Codes) -> Matc
     let idcode = add_opcode(netlist, latches, codes, Instr::Idcode);
     let highz = add_opcode(netlist, latches, codes, Instr::Highz);
     let clamp = add_opcode(netlist, latches, codes, Instr::Clamp);
+    let usercode = add_opcode(netlist, latches, codes, Instr::Usercode);
     Matched {
         extest,
         sample,
@@ -77,5 +78,6 @@ pub fn add_opcodes(netlist: &mut Netlist, latches: NetId, codes: &Codes) -> Matc
         idcode,
         highz,
         clamp,
+        usercode,
     }
 }

@@ -1,8 +1,10 @@
 pub mod ConstantBits
+pub mod ChoiceBits
 pub mod Added
 pub mod Steps
 pub mod Selection
 pub mod Bypass
+pub mod DataRegisters
 pub mod Ident
 pub mod TdoAdded
 pub mod TdoFollows

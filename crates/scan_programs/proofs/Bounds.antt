@@ -10,7 +10,7 @@ use Rattle.bsdl_device.specs.declared.entries.Register.TheVariants as register
 use Rattle.bsdl_device.specs.declared.values.DevPort.{DevPort}
 use Rattle.bsdl_device.specs.declared.values.Device.{Device}
 use Rattle.bsdl_device.specs.Ports.{width, indices}
-use Rattle.bsdl_device.specs.Instructions.{selected_register}
+use Rattle.bsdl_device.specs.Instructions.{selected_register, is_register}
 use Rattle.bsdl_device.specs.IsDevice.{IsDevice, IsBits}
 use Rattle.test_logic.specs.declared.TapState.{TapState}
 use Rattle.test_logic.specs.declared.TapState.TheVariants as state
@@ -22,7 +22,8 @@ use Rattle.scan_programs.specs.declared.pins.Reader.{Reader}
 use Rattle.scan_programs.specs.Scans.{moves, shifts, dr_scan, ir_scan, low_bits, alternating, register_length, scan_length, ident_scan, instruction_scans, all_clocks}
 use Rattle.scan_programs.specs.Pins.{bit_word, port_word, start_value, takes_start, starts_of, starts, is_read_port, reader_at, readers_of, readers}
 use Rattle.scan_programs.specs.Program.{expected, tdo_lines, reader_value, pin_lines, look, is_update, look_after, set_line, set_if, Bench, machine_after, bench_after, clock_lines, scan_lines, in_reset, first_bench, program_of}
-use Rattle.scan_programs.proofs.Rows.{bits_in, few_pieces, length-indices, few_cells, few_opcodes}
+use Rattle.scan_programs.proofs.Pairs.{one_if, count}
+use Rattle.scan_programs.proofs.Rows.{bits_in, few_pieces, length-indices, few_cells, few_opcodes, scans_boundary, few_boundary}
 
 -- Lines of one look.
 
@@ -174,12 +175,13 @@ unfolding alternating
 length-alternating zero first = refl
 length-alternating (suc count) first = ap suc (length-alternating count _)
 
-few_bits : (B : Device) (r : Register) → length B.cells ≤ 8192 → register_length B r ≤ 8192
-few_bits B register.Boundary h = h
+-- another register than the boundary's has 32 bits at most
+few_bits : (B : Device) (r : Register) → length B.cells ≤ 8192 → register_length B r ≤ 32 + 8160 * one_if (is_register register.Boundary r)
+few_bits B register.Boundary h = omega (arith, h)
 few_bits B register.Bypass h = omega arith
 few_bits B register.DeviceId h = omega arith
 
-costs-instruction : (B : Device) (pins : ℕ) (o : Opcode) → length B.cells ≤ 8192 → o.bits.len ≤ 32 → costs pins (instruction_scans B o) ≤ 82160 + 10 * pins
+costs-instruction : (B : Device) (pins : ℕ) (o : Opcode) → length B.cells ≤ 8192 → o.bits.len ≤ 32 → costs pins (instruction_scans B o) ≤ 560 + 10 * pins + 81600 * one_if (scans_boundary o)
 costs-instruction B pins o few short =
     let n = scan_length B o.instr in
     let code = low_bits o.bits.len o.bits.value in
@@ -199,7 +201,7 @@ costs-ident pins None = omega arith
 costs-ident pins (Some code) = let a = costs-dr pins (replicate 32 false) in let l = length-replicate 32 false in omega (arith, a, l)
 
 costs-instructions : (B : Device) (pins : ℕ) → pins ≤ 4096 → length B.cells ≤ 8192 → (opcodes : List Opcode) → AllByRecursion (λ (o : Opcode). IsBits o.bits) opcodes
-    → costs pins (flat_map (instruction_scans B) opcodes) ≤ 123120 * length opcodes
+    → costs pins (flat_map (instruction_scans B) opcodes) ≤ 41520 * length opcodes + 81600 * count scans_boundary opcodes
 costs-instructions B pins p few [] are = omega arith
 costs-instructions B pins p few (o ∷ opcodes) are =
     let e = costs-append pins (instruction_scans B o) (flat_map (instruction_scans B) opcodes) in
@@ -208,15 +210,16 @@ costs-instructions B pins p few (o ∷ opcodes) are =
     let more = costs-instructions B pins p few opcodes are.1 in
     omega (arith, e, one, more, p)
 
-costs-all : (B : Device) (pins : ℕ) → IsDevice B → pins ≤ 4096 → costs pins (all_clocks B) ≤ 874318
+costs-all : (B : Device) (pins : ℕ) → IsDevice B → pins ≤ 4096 → costs pins (all_clocks B) ≤ 589438
 unfolding all_clocks
 costs-all B pins is p =
     let scans = flat_map (instruction_scans B) B.opcodes in
     let a = costs-append pins (ident_scan B.idcode) scans in
     let ident = costs-ident pins B.idcode in
     let codes = costs-instructions B pins p (few_cells B is) B.opcodes is.instructions.values in
-    let seven = few_opcodes B is in
-    omega (arith, a, ident, codes, seven, p)
+    let eight = few_opcodes B is in
+    let three = few_boundary B is in
+    omega (arith, a, ident, codes, eight, three, p)
 
 pub few_lines : (B : Device) → IsDevice B → length (program_of B) ≤ 1000000
 unfolding program_of

@@ -26,10 +26,11 @@ use Rattle.bsdl_device.specs.declared.values.Disable.{Disable}
 use Rattle.bsdl_device.specs.declared.values.CellRow.{CellRow}
 use Rattle.bsdl_device.specs.declared.values.Device.{Device}
 use Rattle.bsdl_device.specs.declared.entries.OpcodeEntry.{OpcodeEntry}
+use Rattle.bsdl_device.specs.declared.entries.Register.TheVariants as register
 use Rattle.bsdl_device.specs.Ports.{width, has_bit, is_within, indices, index_at, counted_from, same_index, is_mode}
 use Rattle.bsdl_device.specs.Checks.{any_pair}
 use Rattle.bsdl_device.specs.RowRules.{is_function}
-use Rattle.bsdl_device.specs.Instructions.{instruction_word, all_instructions, is_instruction}
+use Rattle.bsdl_device.specs.Instructions.{instruction_word, all_instructions, selected_register, is_register, is_instruction}
 use Rattle.bsdl_device.specs.IsDevice.{IsDevice, IsDeviceRow, is_tap_place, is_bit_of, stands_right, wanted_mode, is_disabled, is_control_at, names_control, own_bits_at, own_bits, is_at, opcode_entry}
 use Rattle.scan_programs.specs.Fits.{IsInRange, AreInRange}
 use Rattle.scan_programs.proofs.Pairs.{one_if, count, count_is, count_all, count_le, AreMatched, MatchOnce, no_more}
@@ -349,6 +350,7 @@ one_of_all o instr.Preload e = refl
 one_of_all o instr.Idcode e = refl
 one_of_all o instr.Highz e = refl
 one_of_all o instr.Clamp e = refl
+one_of_all o instr.Usercode e = refl
 
 opcodes_matched : (opcodes : List Opcode) → AreMatched (λ o. true) has_instruction all_instructions opcodes
 opcodes_matched [] = tt
@@ -369,6 +371,8 @@ same_instruction instr.Highz instr.Highz h = refl
 same_instruction instr.Highz j h = absurd (cc)
 same_instruction instr.Clamp instr.Clamp h = refl
 same_instruction instr.Clamp j h = absurd (cc)
+same_instruction instr.Usercode instr.Usercode h = refl
+same_instruction instr.Usercode j h = absurd (cc)
 
 name_itself : (i : Instr) → is_same_name (instruction_word i) (instruction_word i) ≡ true
 name_itself instr.Bypass = refl
@@ -378,6 +382,7 @@ name_itself instr.Preload = refl
 name_itself instr.Idcode = refl
 name_itself instr.Highz = refl
 name_itself instr.Clamp = refl
+name_itself instr.Usercode = refl
 
 abbrev names_in : List Opcode → List (List ℕ)
 names_in opcodes = map (λ (o : OpcodeEntry). o.name) (map opcode_entry opcodes)
@@ -415,9 +420,37 @@ count_true : {A : Type 0} (xs : List A) → count (λ x. true) xs ≡ length xs
 count_true [] = refl
 count_true (x ∷ xs) = let e = count_true xs in omega (arith, e)
 
-pub few_opcodes : (d : Device) → IsDevice d → length d.opcodes ≤ 7
+pub few_opcodes : (d : Device) → IsDevice d → length d.opcodes ≤ 8
 few_opcodes d is =
     let least = no_more (λ (o : Opcode). true) (λ (i : Instr). true) has_instruction d.opcodes all_instructions (opcodes_matched d.opcodes) (each_once d.opcodes is.instructions.once all_instructions) in
     let e = count_true d.opcodes in
-    let seven : count (λ (i : Instr). true) all_instructions ≡ 7 = refl in
-    omega (arith, least, e, seven)
+    let eight : count (λ (i : Instr). true) all_instructions ≡ 8 = refl in
+    omega (arith, least, e, eight)
+
+-- Opcodes of the boundary register.
+
+abbrev pub scans_boundary : Opcode → Bool
+scans_boundary o = is_register register.Boundary (selected_register o.instr)
+
+abbrev boundary_instructions : List Instr
+boundary_instructions = instr.Extest ∷ instr.Sample ∷ instr.Preload ∷ []
+
+one_of_boundary : (i : Instr) → is_register register.Boundary (selected_register i) ≡ true → list_any (λ j. is_instruction j i) boundary_instructions ≡ true
+one_of_boundary instr.Bypass h = absurd (cc)
+one_of_boundary instr.Extest h = refl
+one_of_boundary instr.Sample h = refl
+one_of_boundary instr.Preload h = refl
+one_of_boundary instr.Idcode h = absurd (cc)
+one_of_boundary instr.Highz h = absurd (cc)
+one_of_boundary instr.Clamp h = absurd (cc)
+one_of_boundary instr.Usercode h = absurd (cc)
+
+boundary_matched : (opcodes : List Opcode) → AreMatched scans_boundary has_instruction boundary_instructions opcodes
+boundary_matched [] = tt
+boundary_matched (o ∷ opcodes) = (record { some = λ e. one_of_boundary o.instr e }, boundary_matched opcodes)
+
+pub few_boundary : (d : Device) → IsDevice d → count scans_boundary d.opcodes ≤ 3
+few_boundary d is =
+    let least = no_more scans_boundary (λ (i : Instr). true) has_instruction d.opcodes boundary_instructions (boundary_matched d.opcodes) (each_once d.opcodes is.instructions.once boundary_instructions) in
+    let three : count (λ (i : Instr). true) boundary_instructions ≡ 3 = refl in
+    omega (arith, least, three)

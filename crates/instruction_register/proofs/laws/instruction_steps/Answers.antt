@@ -8,6 +8,7 @@ returns c =
       stages = c.stages_follow.ensures;
       matches = c.matches_tell.ensures;
       selections = c.selections_tell.ensures;
+      copies = c.copies_tell.ensures;
       constants = c.constants_are_bits.ensures;
       steps = c.steps_by_register.ensures;
       moments = c.moments_of_a_run.ensures;

@@ -6,6 +6,6 @@ returns c =
     lemma (record {
       parts = c.contained_parts.ensures;
       meets = c.contained_part_meets.ensures;
-      chains = c.chains_follow.ensures;
+      data = c.data_registers_follow.ensures;
       moments = c.moments_of_a_run.ensures;
     })

@@ -1,17 +1,10 @@
-use Rattle.std.proofs.Common.{◌+◌, ◌∙◌, arith, length}
-use Rattle.register_gates.proofs.Added.{clock_below, steps_below, cells_left, ident_added, many, constants_below, last_at}
-use Rattle.register_gates.proofs.add_ident.Goals as goal
-
-pub add_shift_chain-requires-clause-nets : goal.add_shift_chain-requires-clause-nets
-add_shift_chain-requires-clause-nets c =
-    let count = many c.constants_of-captured.result c.args.code c.constants_of-captured.ensures in
-    let room = c.add_selection-steering.ensures.added.net_room in omega (arith, c.requires.nets)
+use Rattle.std.proofs.Common.{◌+◌, ◌*◌, ◌∙◌, arith, length}
+use Rattle.register_gates.proofs.Added.{clock_below, steps_below, cells_left, more_below, chain_last_at, data_added}
+use Rattle.register_gates.proofs.add_data.Goals as goal
 
 pub add_shift_chain-requires-clause-cells : goal.add_shift_chain-requires-clause-cells
 add_shift_chain-requires-clause-cells c =
-    let count = many c.constants_of-captured.result c.args.code c.constants_of-captured.ensures in
-    let room = cells_left c.args.netlist.now c.add_selection-steering.new.netlist c.args.tap.now c.args.instruction.now.ident_on 96 c.add_selection-steering.ensures.added (omega (arith, c.requires.cells)) in
-    omega arith
+    cells_left c.args.netlist.now c.add_selection-steering.new.netlist c.args.tap.now c.args.on (3 * length c.args.captured.now) c.add_selection-steering.ensures.added (omega (arith, c.requires.cells))
 
 pub add_shift_chain-requires-clause-steering : goal.add_shift_chain-requires-clause-steering
 add_shift_chain-requires-clause-steering c = clock_below (length c.args.netlist.now.lists.nets) _ c.add_selection-steering.result c.args.tap.now c.add_selection-steering.ensures.steering
@@ -26,14 +19,16 @@ add_shift_chain-requires-clause-tdi c =
     let more = c.appended_count.ensures c.args.netlist.now c.add_selection-steering.new.netlist 2 _ c.add_selection-steering.ensures.added in omega (arith, c.requires.tdi)
 
 pub add_shift_chain-requires-clause-captured : goal.add_shift_chain-requires-clause-captured
-add_shift_chain-requires-clause-captured c = constants_below _ c.constants_of-captured.result c.args.code c.constants_of-captured.ensures
+add_shift_chain-requires-clause-captured c =
+    let more = c.appended_count.ensures c.args.netlist.now c.add_selection-steering.new.netlist 2 _ c.add_selection-steering.ensures.added in
+    more_below (length c.args.netlist.now.lists.nets) _ c.args.captured.now (omega arith) c.requires.captured
 
 pub returns-clause-last : goal.returns-clause-last
 returns-clause-last c = c.add_shift_chain.ensures.last
-    ∙ last_at (length c.args.netlist.now.lists.nets + 2) _ c.args.tdi c.constants_of-captured.result c.args.code c.constants_of-captured.ensures
+    ∙ chain_last_at (length c.args.netlist.now.lists.nets + 2) _ c.args.tdi c.args.captured.now
     (c.appended_count.ensures c.args.netlist.now c.add_selection-steering.new.netlist 2 _ c.add_selection-steering.ensures.added)
 
 pub returns-clause-added : goal.returns-clause-added
-returns-clause-added c = ident_added c.appended_count.ensures c.appended_more.ensures c.args.netlist.now c.add_selection-steering.new.netlist c.add_shift_chain.new.netlist
-    c.add_selection-steering.result c.args.tap.now c.args.instruction.now.ident_on c.args.tdi c.args.code c.constants_of-captured.result c.add_selection-steering.ensures.steering
-    c.constants_of-captured.ensures c.add_selection-steering.ensures.added c.add_shift_chain.ensures.added
+returns-clause-added c = data_added c.appended_count.ensures c.appended_more.ensures c.args.netlist.now c.add_selection-steering.new.netlist c.add_shift_chain.new.netlist
+    c.add_selection-steering.result c.args.tap.now c.args.on c.args.tdi c.args.captured.now c.add_selection-steering.ensures.steering
+    c.add_selection-steering.ensures.added c.add_shift_chain.ensures.added

@@ -1,0 +1,4 @@
+use Rattle.instruction_gates.proofs.copies.+add_copies.Given as goal
+
+abbrev pub decreases-add_copies : goal.decreases-add_copies
+decreases-add_copies l = l.count
