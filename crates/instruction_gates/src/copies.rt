@@ -36,6 +36,7 @@ pub fn add_copies(netlist: &mut Netlist, latches: NetId, count: u32)
     if count == 0 {
         return;
     }
+    let _nets = netlist.net_count();
     let behind = count - 1;
     let _copy = add_part(
         netlist,

@@ -9,6 +9,7 @@ use Rattle.netlist_model.specs.declared.NetId.{NetId}
 use Rattle.netlist_model.specs.declared.Feed.{Feed}
 use Rattle.netlist_model.specs.declared.Feed.TheVariants.{Net, Const}
 use Rattle.netlist_model.specs.Settled.{feed_value, feed_values}
+use Rattle.netlist_model.specs.Below.{IsFeedBelow}
 use Rattle.test_logic.specs.Instructions.{bits_of}
 use Rattle.register_gates.specs.Choices.{choice, choice_bits, ChoicesAreBits}
 
@@ -57,7 +58,7 @@ pub choices : ChoicesAreBits
 choices = λ count code user on off. record {
   counted = counted_choices count code user on off;
   values = λ net using e f. valued_choices net count code user using on off e f;
-  each = λ P c x y. each_choice P count code user on off c x y;
+  below = λ nets x y. each_choice (IsFeedBelow nets) count code user on off (λ c. tt) x y;
 }
 
 none : (code user : ℕ) (on off : NetId) → choice_bits 0 code user on off ≡ []

@@ -5,6 +5,6 @@ pub mod Steps
 pub mod Selection
 pub mod Bypass
 pub mod DataRegisters
-pub mod Ident
+pub mod Identified
 pub mod TdoAdded
 pub mod TdoFollows

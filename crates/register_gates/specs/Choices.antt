@@ -1,12 +1,13 @@
 -- What the bits of the identification register capture, of the code and the usercode, bit 0 first, as it is nearest TDO.
 -- IEEE Std 1149.1-2001: device identification register (IDCODE, USERCODE); the gates are own.
-use Rattle.std.specs.Prelude.{◌≡◌, ℕ, zero, suc, ◌/◌, ◌%◌, ◌==◌, Bool, true, false, not, List, [], ◌∷◌, All, length, if◌then◌else◌}
+use Rattle.std.specs.Prelude.{◌≡◌, ℕ, zero, suc, ◌/◌, ◌%◌, ◌==◌, ◌<◌, Bool, true, false, not, List, [], ◌∷◌, length, if◌then◌else◌}
 use Rattle.signal_values.specs.declared.Sig.{Sig}
 use Rattle.signal_values.specs.Values.{bit}
 use Rattle.netlist_model.specs.declared.NetId.{NetId}
 use Rattle.netlist_model.specs.declared.Feed.{Feed}
 use Rattle.netlist_model.specs.declared.Feed.TheVariants.{Net, Const}
 use Rattle.netlist_model.specs.Settled.{feed_values}
+use Rattle.netlist_model.specs.Below.{AreFeedsBelow}
 use Rattle.test_logic.specs.Instructions.{bits_of}
 
 -- a bit of the code, and of the usercode: a constant where they agree, else whether USERCODE is in effect, or isn't
@@ -26,8 +27,7 @@ pub record ChoiceLaws (count code user : ℕ) (on off : NetId) : Type 0 where
   -- where the nets tell whether USERCODE is in effect, they have the usercode's values, and else the code's
   pub values : (net : ℕ → Sig) (using : Bool) → net on.0 ≡ bit using → net off.0 ≡ bit (not using)
       → feed_values net (choice_bits count code user on off) ≡ (if using then bits_of count user else bits_of count code)
-  -- what holds of constants and of the two nets holds of each
-  pub each : (P : Feed → Type 0) → ((b : Bool) → P (Const b)) → P (Net on) → P (Net off) → All P (choice_bits count code user on off)
+  pub below : (nets : ℕ) → on.0 < nets → off.0 < nets → AreFeedsBelow nets (choice_bits count code user on off)
 
 abbrev pub ChoicesAreBits : Type 0
 ChoicesAreBits = (count code user : ℕ) (on off : NetId) → ChoiceLaws count code user on off

@@ -11,7 +11,8 @@ use Rattle.test_logic.specs.declared.TapNets.{TapNets}
 use Rattle.register_bits.specs.declared.Steering.{Steering}
 use Rattle.register_bits.specs.Bits.{shift_bit_cells}
 use Rattle.register_bits.specs.Chains.{chain_cells, chain_last, chain_values}
-use Rattle.register_gates.specs.declared.TheConstants.{SELECTED, INVERSE}
+use Rattle.register_gates.specs.declared.TheConstants.{SELECTED}
+use Rattle.register_gates.specs.declared.ident.TheConstants.{INVERSE}
 use Rattle.register_gates.specs.Constants.{constant_bits}
 use Rattle.register_gates.specs.Choices.{choice_bits}
 

@@ -1,4 +1,4 @@
-use Rattle.register_gates.proofs.Ident.{ident as lemma}
+use Rattle.register_gates.proofs.Identified.{ident as lemma}
 use Rattle.register_gates.proofs.laws.ident_follows.Goals as goal
 
 pub returns : goal.returns
@@ -6,6 +6,6 @@ returns c =
     lemma (record {
       parts = c.contained_parts.ensures;
       meets = c.contained_part_meets.ensures;
-      data = c.data_registers_follow.ensures;
+      registers = c.data_registers_follow.ensures;
       moments = c.moments_of_a_run.ensures;
     })

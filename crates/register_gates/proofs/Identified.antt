@@ -1,5 +1,5 @@
 -- The identification register is that of the test logic.
-use Rattle.std.proofs.Common.{◌≡◌, ℕ, zero, suc, ◌+◌, ◌≤◌, Bool, true, false, not, List, [], ◌∷◌, length, Option, Some, None, refl, sym, ap, ◌∙◌, arith}
+use Rattle.std.proofs.Common.{◌≡◌, ℕ, zero, suc, ◌+◌, ◌≤◌, ◌/◌, Bool, true, false, not, List, [], ◌∷◌, length, Option, Some, None, refl, sym, ap, ◌∙◌, arith}
 use Rattle.std.specs.Prelude.{if◌then◌else◌, unwrap_or}
 use Rattle.signal_values.specs.declared.Sig.{Sig}
 use Rattle.signal_values.specs.declared.Sig.TheVariants.{Zero}
@@ -34,7 +34,7 @@ use Rattle.register_gates.proofs.Steps.{by_register, all_along}
 pub record PartLaws : Type 0 where
   pub parts : ContainedParts
   pub meets : ContainedPartMeets
-  pub data : DataFollows
+  pub registers : DataFollows
   pub moments : RunHasMoments
 
 pub long : (first : ℕ) (user_on : NetId) (user : Option ℕ) (code : ℕ) → length (captured_feeds first user_on user code) ≡ 32
@@ -76,7 +76,7 @@ apart by N first number tap on user_on tdi user code has =
 
 laws : PartLaws → (first number : ℕ) (tap : TapNets) (on user_on tdi : NetId) (user : Option ℕ) (code : ℕ)
     → DataLaws (first + user_size user) (number + user_size user) tap on tdi (captured_feeds first user_on user code)
-laws by first number tap on user_on tdi user code = by.data (first + user_size user) (number + user_size user) tap on tdi (captured_feeds first user_on user code)
+laws by first number tap on user_on tdi user code = by.registers (first + user_size user) (number + user_size user) tap on tdi (captured_feeds first user_on user code)
 
 blank : (first : ℕ) (user_on : NetId) (user : Option ℕ) (code : ℕ) → zeros (captured_feeds first user_on user code) ≡ zeros (bits_of 32 code)
 blank first user_on user code = zeros_by (captured_feeds first user_on user code) 32 code (long first user_on user code)
