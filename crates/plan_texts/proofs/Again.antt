@@ -1,14 +1,14 @@
 -- The canonical text of a plan that some bytes spell spells it.
 use Rattle.std.proofs.Common.{◌≡◌, ◌≢◌, ℕ, ◌+◌, ◌*◌, ◌/◌, ◌%◌, ◌^◌, ◌<◌, ◌≤◌, Bool, true, false, List, [], ◌∷◌, ◌++◌, map, length, codes, Option, Some, None, refl, sym, ap, ◌∙◌, subst, arith, leb-true, eqb-true}
-use Rattle.std.specs.Prelude.{if◌then◌else◌, All, ◌&&◌, ◌||◌, ◌==◌, is_some, nat_le}
+use Rattle.std.specs.Prelude.{if◌then◌else◌, All, not, ◌&&◌, ◌||◌, ◌==◌, is_some, nat_le}
 use Rattle.std.specs.List.{filter_map, enumerate_from, list_all}
 use Rattle.std.specs.Option.{option_map}
 use Rattle.std.specs.Str.{bytes_eq}
 use Rattle.std.specs.Fmt.{decimal}
 use Rattle.std.specs.Cmp.Lexicographic.{bytes_decides}
 use Rattle.std.proofs.lemmas.List.Elements.{All-nil, All-cons, All-head, All-tail}
-use Rattle.list_laws.proofs.Tests.{both_true, not_false}
-use Rattle.list_laws.proofs.Options.{or_else-parts, found}
+use Rattle.list_laws.proofs.Tests.{both_true, not_false, or_second}
+use Rattle.list_laws.proofs.Options.{or_else-parts, not_there, found}
 use Rattle.cell_library.specs.declared.codes.Instr.{Instr}
 use Rattle.cell_library.specs.declared.codes.Instr.TheVariants as instr
 use Rattle.bsdl_lexicon.specs.Bytes.{is_digit}
@@ -112,23 +112,13 @@ codes_again opcodes (Some g) are none =
     let fails : idcode_fails opcodes (Some (groups_of g)) ≡ false = failing (idcode_fails opcodes (Some (groups_of g))) none in
     ap (λ (w : List (List ℕ)). w ∷ []) (code_again g are (no_three _ (groups_misfit (groups_of g)) _ fails))
 
-failing_user : (t : Bool) → (if t then Some fault.PlanUsercode else None) ≡ None → t ≡ false
-failing_user true h = absurd (cc)
-failing_user false h = refl
-
-last_of : (a b d : Bool) → (not a || not b || d) ≡ false → d ≡ false
-last_of true true false h = refl
-last_of false b d h = absurd (cc)
-last_of true false d h = absurd (cc)
-last_of true true true h = absurd (cc)
-
 user_again : (version : ℕ) (opcodes : List OpcodeEntry) (u : Option (List ℕ)) → IsUserIf version u → usercode_fault version opcodes (option_map bits_of u) ≡ None
     → user_rows_of (option_map value_of (option_map bits_of u)) ≡ user_rows u
 user_again version opcodes None is none = refl
 user_again version opcodes (Some bits) is none =
     let fails : usercode_fails opcodes (Some (bits_of bits)) ≡ false
-    = sym (ap (λ (t : Bool). t && usercode_fails opcodes (Some (bits_of bits))) is.1) ∙ failing_user (version == 2 && usercode_fails opcodes (Some (bits_of bits))) none in
-    let long : length bits ≡ 32 = right_length 32 bits (last_of (has_instruction opcodes instr.Usercode) (has_instruction opcodes instr.Idcode) (has_other_length 32 (bits_of bits)) fails) in
+    = sym (ap (λ (t : Bool). t && usercode_fails opcodes (Some (bits_of bits))) is.1) ∙ (not_there (version == 2 && usercode_fails opcodes (Some (bits_of bits))) fault.PlanUsercode None none).0 in
+    let long : length bits ≡ 32 = right_length 32 bits (or_second (not (has_instruction opcodes instr.Usercode) || not (has_instruction opcodes instr.Idcode)) (has_other_length 32 (bits_of bits)) fails) in
     ap (λ (w : List ℕ). keyed (codes "usercode") w ∷ []) (pattern_group bits 32 is.0 long)
 
 version_again : (word : List ℕ) → is_version word ≡ true → version_word (value_after 10 0 word) ≡ word

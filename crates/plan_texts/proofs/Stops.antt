@@ -429,7 +429,7 @@ abbrev IsBehindUser : ℕ → Lines → Type 0
 IsBehindUser version ws = NotFirst (user_line version) ws × IsBehindCodes ws
 
 behind_end : (version : ℕ) (ws : Lines) → AtEnd ws → IsBehindUser version ws
-behind_end version ws none = subst (IsBehindUser version) (sym none) (tt, tt, tt)
+behind_end version ws none = subst (IsBehindUser version) (sym none) (tt, (tt, tt))
 
 control_law : (version : ℕ) (opcodes : List OpcodeEntry) → LawAt AtEnd (NotFirst opcode_line) (λ rows. codes_second version opcodes rows)
 control_law version opcodes next laws =
@@ -438,7 +438,7 @@ control_law version opcodes next laws =
     (λ control b. done (record { opcodes = opcodes; idcode = front idcode_line rows; usercode = front (user_line version) (code_left rows); control = control }) b) next)
     (optional_law (NotFirst opcode_line) idcode_line second (λ idcode.
     optional_law IsBehindCodes (user_line version) (third idcode) (λ usercode.
-    line_law AtEnd (IsBehindUser version) control_line (keyed (codes "control") (codes "BC_1")) kind.Bc1 refl (λ ws. (no_user version kind.Bc1, refl, refl)) (behind_end version)
+    line_law AtEnd (IsBehindUser version) control_line (keyed (codes "control") (codes "BC_1")) kind.Bc1 refl (λ ws. (no_user version kind.Bc1, (refl, refl))) (behind_end version)
     (λ control b. next (record { opcodes = opcodes; idcode = idcode; usercode = usercode; control = control }) b)
     (λ control. laws (record { opcodes = opcodes; idcode = idcode; usercode = usercode; control = control })))))
   where

@@ -1,5 +1,5 @@
 -- The controller and the registers are added one behind the other.
-use Rattle.std.proofs.Common.{◌≡◌, ℕ, ◌+◌, ◌*◌, ◌<◌, ◌≤◌, List, [], ◌∷◌, ◌++◌, length, length-append, refl, sym, ◌∙◌, ap, subst, arith, Option, Some, None}
+use Rattle.std.proofs.Common.{◌≡◌, ℕ, ◌+◌, ◌*◌, ◌<◌, ◌≤◌, List, [], ◌∷◌, ◌++◌, length, refl, sym, ◌∙◌, ap, subst, arith, Option, Some, None}
 use Rattle.std.specs.Option.{option_map, option_map_or}
 use Rattle.netlist_model.specs.declared.NetId.{NetId}
 use Rattle.netlist_model.specs.declared.Feed.{Feed}
@@ -14,10 +14,9 @@ use Rattle.test_logic.specs.declared.TapNets.{TapNets}
 use Rattle.test_logic.specs.declared.InstrNets.{InstrNets}
 use Rattle.tap_gates.specs.Controller.{tap_cells, tap_nets}
 use Rattle.register_bits.specs.Bits.{AreNetsBelow}
-use Rattle.register_bits.specs.Chains.{chain_last, chain_cells}
-use Rattle.register_bits.proofs.Lengths.{chain_length}
-use Rattle.register_gates.specs.Constants.{ConstantsAreBits, constant_bits}
-use Rattle.register_gates.specs.Registers.{selected_cells, selected_steering, bypass_cells, ident_cells, ident_last}
+use Rattle.register_bits.specs.Chains.{chain_last}
+use Rattle.register_gates.specs.Constants.{ConstantsAreBits}
+use Rattle.register_gates.specs.Registers.{bypass_cells, user_size, captured_feeds, ident_size, ident_cells, ident_last}
 use Rattle.register_gates.specs.Tdo.{AreIdentBelow}
 use Rattle.boundary_cells.specs.Cells.{AreScanNetsBelow}
 use Rattle.instruction_register.specs.Register.{pattern_bits, selections_from, instruction_size, instruction_cells, instruction_nets}
@@ -25,10 +24,11 @@ use Rattle.plan_fitting.specs.declared.fitted.Fitted.{Fitted}
 use Rattle.stitch_model.specs.declared.TapPort.{TapPort}
 use Rattle.stitch_model.specs.declared.Logic.{Logic}
 use Rattle.stitch_model.specs.Rows.{behind}
-use Rattle.stitch_model.specs.Logic.{instruction_from, bypass_from, ident_from, ident_size, logic_size, tap_at, instruction_at, bypass_at, ident_at, logic_at, controller_part, instruction_part, bypass_part, ident_part, logic_cells}
+use Rattle.stitch_model.specs.Logic.{instruction_from, bypass_from, ident_from, code_size, logic_size, tap_at, instruction_at, bypass_at, ident_at, logic_at, controller_part, instruction_part, bypass_part, ident_part, logic_cells}
+use Rattle.stitch_model.proofs.Few.{captured_counted, ident_few}
 use Rattle.scan_parts.specs.Logic.{IsPortBelow, IsLogicBelow}
 use Rattle.scan_parts.proofs.Outputs.{DrivesFrom, drives_none, drives_both, drives_later, controller_drives, instruction_drives, bypass_drives, ident_drives, free_before}
-use Rattle.scan_parts.proofs.Sizes.{instruction_length}
+use Rattle.scan_parts.proofs.Sizes.{instruction_length, ident_length}
 
 -- What one part hands to the next is there.
 
@@ -58,6 +58,7 @@ tap_below first n port tap below is more =
 pub record InstructionBelow (n : ℕ) (instruction : InstrNets) : Type 0 where
   pub bypass_on : instruction.bypass_on.0 < n
   pub ident_on : instruction.ident_on.0 < n
+  pub user_on : instruction.user_on.0 < n
   pub last : instruction.last.0 < n
   pub scan : AreScanNetsBelow n instruction.scan
 
@@ -74,6 +75,7 @@ handed_below constants first n tap tdi codes below low more =
     record {
       bypass_on = omega arith;
       ident_on = omega arith;
+      user_on = omega arith;
       last = last_below (first + 1) n tdi (pattern_bits codes codes.capture) (omega arith) (omega arith);
       scan = ((omega arith, omega arith), (omega arith, omega arith), (omega arith, omega arith), (omega arith, omega arith), omega arith);
     }
@@ -97,19 +99,23 @@ scan_more n m instruction more below =
     let i = below.scan.4 in
     let j = below.bypass_on in
     let k = below.ident_on in
+    let k' = below.user_on in
     let l = below.last in
     record {
       bypass_on = omega arith;
       ident_on = omega arith;
+      user_on = omega arith;
       last = omega arith;
       scan = ((omega arith, omega arith), (omega arith, omega arith), (omega arith, omega arith), (omega arith, omega arith), omega arith);
     }
 
-pub ident_below : ConstantsAreBits → (first n : ℕ) (tdi : NetId) (code : ℕ) (last : NetId) → tdi.0 < n → last ≡ ident_last first tdi code → first + 98 ≤ n → last.0 < n
-ident_below constants first n tdi code last low is more =
-    let counted = (constants 32 code).counted in
-    let there = last_below (first + 2) n tdi (constant_bits 32 code) low (omega arith) in
-    let same : last.0 ≡ (chain_last (first + 2) tdi (constant_bits 32 code)).0 = ap (λ (net : NetId). net.0) is in
+pub ident_below : (first n : ℕ) (user_on tdi : NetId) (user : Option ℕ) (code : ℕ) (last : NetId) → tdi.0 < n → last ≡ ident_last first user_on tdi user code
+    → first + ident_size user ≤ n → last.0 < n
+ident_below first n user_on tdi user code last low is more =
+    let captured : List Feed = captured_feeds first user_on user code in
+    let counted = captured_counted first user_on user code in
+    let there = last_below (first + user_size user + 2) n tdi captured low (omega arith) in
+    let same : last.0 ≡ (chain_last (first + user_size user + 2) tdi captured).0 = ap (λ (net : NetId). net.0) is in
     omega arith
 
 -- The room that is left.
@@ -134,17 +140,11 @@ bypass_room old new tap on tdi added =
     let room = added.cell_room in
     omega arith
 
-pub ident_room : ConstantsAreBits → (old new : ArenaView) (tap : TapNets) (on tdi : NetId) (code : ℕ)
-    → Appended old new 98 (ident_cells (length old.lists.nets) (cell_count old.lists) tap on tdi code) → old.spare.cells ≤ new.spare.cells + 98
-ident_room constants old new tap on tdi code added =
-    let first : ℕ = length old.lists.nets in
-    let number : ℕ = cell_count old.lists in
-    let xs : List CellView = selected_cells first number tap on in
-    let ys : List CellView = chain_cells (first + 2) (number + 2) (selected_steering first tap) tdi (constant_bits 32 code) in
-    let both = length-append xs ys in
-    let two : length xs ≡ 2 = refl in
-    let long = chain_length (first + 2) (number + 2) (selected_steering first tap) tdi (constant_bits 32 code) in
-    let counted = (constants 32 code).counted in
+pub ident_room : (old new : ArenaView) (tap : TapNets) (on user_on tdi : NetId) (user : Option ℕ) (code : ℕ)
+    → Appended old new (ident_size user) (ident_cells (length old.lists.nets) (cell_count old.lists) tap on user_on tdi user code) → old.spare.cells ≤ new.spare.cells + 99
+ident_room old new tap on user_on tdi user code added =
+    let long = ident_length (length old.lists.nets) (cell_count old.lists) tap on user_on tdi user code in
+    let few = ident_few user in
     let room = added.cell_room in
     omega arith
 
@@ -174,7 +174,7 @@ numbered n = record { 0 = n }
 
 pub logic_is : AppendedCount → (old a b c : ArenaView) (port : TapPort) (f : Fitted) (tap : TapNets) (instruction : InstrNets) (bypass : NetId) (ident : Option NetId) (one two three : List CellView)
     → tap ≡ tap_nets (length old.lists.nets) port.tck port.trst → instruction ≡ instruction_nets (length a.lists.nets) tap port.tdi f.codes
-    → bypass.0 ≡ length b.lists.nets + 2 → ident ≡ option_map (ident_last (length c.lists.nets) port.tdi) f.idcode
+    → bypass.0 ≡ length b.lists.nets + 2 → ident ≡ option_map (ident_last (length c.lists.nets) instruction.user_on port.tdi f.usercode) f.idcode
     → Appended old a 49 one → Appended a b (instruction_size f.codes) two → Appended b c 5 three
     → record { tap = tap; instruction = instruction; bypass = bypass; ident = ident } ≡ logic_at (length old.lists.nets) port f
 unfolding numbered
@@ -187,7 +187,9 @@ logic_is count old a b c port f tap instruction bypass ident one two three tap_i
     let at : bypass.0 ≡ first + bypass_from f + 2 = omega arith in
     let handed = handed_is count old a port f tap instruction one tap_is instruction_is x in
     let bit : bypass ≡ bypass_at first f = ap numbered at in
-    let last : ident ≡ ident_at first port f = ident_is ∙ ap (λ (n : ℕ). option_map (ident_last n port.tdi) f.idcode) lc in
+    let last : ident ≡ ident_at first port f
+    = ident_is ∙ ap (λ (i : InstrNets). option_map (ident_last (length c.lists.nets) i.user_on port.tdi f.usercode) f.idcode) handed
+    ∙ ap (λ (n : ℕ). option_map (ident_last n (instruction_at first port f).user_on port.tdi f.usercode) f.idcode) lc in
     let P : TapNets → InstrNets → NetId → Option NetId → Logic = λ t i n d. record { tap = t; instruction = i; bypass = n; ident = d } in
     ap (λ (t : TapNets). P t instruction bypass ident) tap_is ∙ ap (λ (i : InstrNets). P (tap_at first port) i bypass ident) handed
     ∙ ap (λ (n : NetId). P (tap_at first port) (instruction_at first port f) n ident) bit
@@ -198,7 +200,8 @@ pub logic_added : AppendedCount → AppendedMore → (old a b c new : ArenaView)
     → Appended old a 49 (tap_cells (length old.lists.nets) (cell_count old.lists) port.tck port.tms port.trst)
     → Appended a b (instruction_size f.codes) (instruction_cells (length a.lists.nets) (cell_count a.lists) tap port.tdi f.codes)
     → Appended b c 5 (bypass_cells (length b.lists.nets) (cell_count b.lists) tap instruction.bypass_on port.tdi)
-    → Appended c new (ident_size f.idcode) (option_map_or (ident_cells (length c.lists.nets) (cell_count c.lists) tap instruction.ident_on port.tdi) f.idcode [])
+    → Appended c new (code_size f.usercode f.idcode)
+    (option_map_or (ident_cells (length c.lists.nets) (cell_count c.lists) tap instruction.ident_on instruction.user_on port.tdi f.usercode) f.idcode [])
     → Appended old new (logic_size f) (logic_cells (length old.lists.nets) (cell_count old.lists) port f)
 logic_added count join old a b c new port f tap instruction tap_is instruction_is one two three four =
     let first : ℕ = length old.lists.nets in
@@ -217,20 +220,20 @@ logic_added count join old a b c new port f tap instruction tap_is instruction_i
     = subst (λ (n : ℕ). P3 (tap_at first port) (instruction_at first port f) n) lb
     (subst (λ (i : InstrNets). P3 (tap_at first port) i (length b.lists.nets)) handed (subst (λ (t : TapNets). P3 t instruction (length b.lists.nets)) tap_is three)) in
     let P4 : TapNets → InstrNets → ℕ → Type 0
-    = λ t i n. Appended c new (ident_size f.idcode) (option_map_or (ident_cells n (cell_count c.lists) t i.ident_on port.tdi) f.idcode []) in
-    let four' : Appended c new (ident_size f.idcode) (ident_part first port f (cell_count c.lists))
+    = λ t i n. Appended c new (code_size f.usercode f.idcode) (option_map_or (ident_cells n (cell_count c.lists) t i.ident_on i.user_on port.tdi f.usercode) f.idcode []) in
+    let four' : Appended c new (code_size f.usercode f.idcode) (ident_part first port f (cell_count c.lists))
     = subst (λ (n : ℕ). P4 (tap_at first port) (instruction_at first port f) n) lc
     (subst (λ (i : InstrNets). P4 (tap_at first port) i (length c.lists.nets)) handed (subst (λ (t : TapNets). P4 t instruction (length c.lists.nets)) tap_is four)) in
     let to_b = behind_added join old a b 49 size (controller_part first port (cell_count old.lists)) (instruction_part first port f) one two' in
     let to_c = behind_added join old b c (49 + size) 5 _ (bypass_part first port f) to_b three' in
-    behind_added join old c new (49 + size + 5) (ident_size f.idcode) _ (ident_part first port f) to_c four'
+    behind_added join old c new (49 + size + 5) (code_size f.usercode f.idcode) _ (ident_part first port f) to_c four'
 
 -- Nets that were free stay so.
 
-code_drives : (first start number : ℕ) (tap : TapNets) (on tdi : NetId) (code : Option ℕ) → first ≤ start
-    → DrivesFrom first (option_map_or (ident_cells start number tap on tdi) code [])
-code_drives first start number tap on tdi None low = drives_none first
-code_drives first start number tap on tdi (Some code) low = ident_drives first start number tap on tdi code low
+code_drives : (first start number : ℕ) (tap : TapNets) (on user_on tdi : NetId) (user code : Option ℕ) → first ≤ start
+    → DrivesFrom first (option_map_or (ident_cells start number tap on user_on tdi user) code [])
+code_drives first start number tap on user_on tdi user None low = drives_none first
+code_drives first start number tap on user_on tdi user (Some code) low = ident_drives first start number tap on user_on tdi user code low
 
 behind_drives : (first number : ℕ) (part : List CellView) (rest : ℕ → List CellView) → DrivesFrom first part → ((n : ℕ) → DrivesFrom first (rest n))
     → DrivesFrom first (behind number part rest)
@@ -246,7 +249,7 @@ logic_drives first number port f =
     (behind_drives first number one (instruction_part first port f) (controller_drives first first number port.tck port.tms port.trst (omega arith))
     (λ n. instruction_drives first (first + instruction_from) n (tap_at first port) port.tdi f.codes (omega arith)))
     (λ n. bypass_drives first (first + bypass_from f) n (tap_at first port) (instruction_at first port f).bypass_on port.tdi (omega arith)))
-    (λ n. code_drives first (first + ident_from f) n (tap_at first port) (instruction_at first port f).ident_on port.tdi f.idcode (omega arith))
+    (λ n. code_drives first (first + ident_from f) n (tap_at first port) (instruction_at first port f).ident_on (instruction_at first port f).user_on port.tdi f.usercode f.idcode (omega arith))
 
 pub logic_leaves_free : FreeStays → (old new : ArenaView) (port : TapPort) (f : Fitted)
     → Appended old new (logic_size f) (logic_cells (length old.lists.nets) (cell_count old.lists) port f)
@@ -256,10 +259,11 @@ logic_leaves_free stays old new port f added =
     (logic_drives (length old.lists.nets) (cell_count old.lists) port f)
 
 -- a device without a code gets no cells
-pub no_code : AppendedNone → (old : ArenaView) (tap : TapNets) (on tdi : NetId) (code : Option ℕ) → code ≡ None → IsDense old.lists
-    → Appended old old (ident_size code) (option_map_or (ident_cells (length old.lists.nets) (cell_count old.lists) tap on tdi) code [])
-no_code none old tap on tdi code is dense =
-    let P : Option ℕ → Type 0 = λ o. Appended old old (ident_size o) (option_map_or (ident_cells (length old.lists.nets) (cell_count old.lists) tap on tdi) o []) in
+pub no_code : AppendedNone → (old : ArenaView) (tap : TapNets) (on user_on tdi : NetId) (user code : Option ℕ) → code ≡ None → IsDense old.lists
+    → Appended old old (code_size user code) (option_map_or (ident_cells (length old.lists.nets) (cell_count old.lists) tap on user_on tdi user) code [])
+no_code none old tap on user_on tdi user code is dense =
+    let P : Option ℕ → Type 0
+    = λ o. Appended old old (code_size user o) (option_map_or (ident_cells (length old.lists.nets) (cell_count old.lists) tap on user_on tdi user) o []) in
     subst P (sym is) (none old dense)
 
 -- What is handed on.

@@ -23,20 +23,22 @@ use Rattle.register_bits.specs.declared.TheConstants.{SHIFT_BIT}
 use Rattle.register_bits.specs.Bits.{shift_bit_given, held_bit, held_bit_given, held_bit_cells}
 use Rattle.register_bits.specs.Chains.{chain_last, chain_cells}
 use Rattle.register_gates.specs.declared.TheConstants.{SELECTED}
-use Rattle.register_gates.specs.Constants.{constant_bits}
-use Rattle.register_gates.specs.Registers.{selected_given, selected_cells, selected_steering, bypass_cells, ident_cells}
+use Rattle.register_gates.specs.declared.ident.TheConstants.{INVERSE}
+use Rattle.register_gates.specs.Registers.{selected_given, selected_cells, selected_steering, bypass_cells, data_cells, user_size, inverse_cells, captured_feeds, ident_cells}
 use Rattle.instruction_gates.specs.declared.latches.Latching.{Latching}
 use Rattle.instruction_gates.specs.declared.latches.TheConstants.{LOADED}
 use Rattle.instruction_gates.specs.declared.matches.TheConstants.{EQUAL_BIT}
+use Rattle.instruction_gates.specs.declared.copies.TheConstants.{COPY}
 use Rattle.instruction_gates.specs.declared.selections.Matched.{Matched}
 use Rattle.instruction_gates.specs.declared.selections.TheConstants.{SELECTIONS}
 use Rattle.instruction_gates.specs.declared.stages.TheConstants.{LOADS}
 use Rattle.instruction_gates.specs.Rows.{is_one, row_cells, placed}
 use Rattle.instruction_gates.specs.Latches.{holding_of, loaded_given, latch_cells, latches_cells}
 use Rattle.instruction_gates.specs.Matches.{match_before, equal_given, match_cells, matches_cells}
+use Rattle.instruction_gates.specs.Copies.{copy_given, copies_cells}
 use Rattle.instruction_gates.specs.Selections.{selections_given, selections_cells}
 use Rattle.instruction_gates.specs.Stages.{loads_given, ir_steering, ir_latching, shift_stage_cells, stages_cells}
-use Rattle.instruction_register.specs.Register.{pattern_bits, latches_from, opcodes_from, selections_from, cells_with, opcode_size, opcode_cells, opcodes_cells, opcodes_told, matched_instructions, instruction_cells}
+use Rattle.instruction_register.specs.Register.{pattern_bits, latches_from, opcodes_from, selections_from, copies_from, cells_with, opcode_size, opcode_cells, opcodes_cells, opcodes_told, matched_instructions, instruction_cells}
 
 -- each of these cells that is connected drives a net from this one on
 abbrev pub DrivesFrom : ℕ → List CellView → Type 0
@@ -120,6 +122,12 @@ opcodes_drive first start number latches codes (i ∷ rest) low =
     drives_both first (opcode_cells start number latches codes i) _ (opcode_drives first start number latches codes (opcode_of codes.opcodes i) low)
     (opcodes_drive first (start + opcode_size codes i) (number + opcode_size codes i) latches codes rest (omega arith))
 
+copies_drive : (first start number latched count : ℕ) → first ≤ start → DrivesFrom first (copies_cells start number latched count)
+copies_drive first start number latched zero low = drives_none first
+copies_drive first start number latched (suc behind) low =
+    drives_both first (part_cells COPY (copy_given latched behind) start number) (copies_cells (suc start) (suc number) latched behind)
+    (part_drives first start number COPY (copy_given latched behind) low) (copies_drive first (suc start) (suc number) latched behind (omega arith))
+
 -- The parts.
 
 pub controller_drives : (first start number : ℕ) (tck tms trst : NetId) → first ≤ start → DrivesFrom first (part_cells CONTROLLER (tap_given tck tms trst) start number)
@@ -131,17 +139,30 @@ instruction_drives first start number tap tdi codes low =
     (stages_drive first start number tap tdi (pattern_bits codes codes.capture) (pattern_bits codes codes.reset) low)
     (drives_both first (opcodes_cells (opcodes_from start codes) (opcodes_from number codes) (latches_from start codes) codes matched_instructions) _
     (opcodes_drive first (opcodes_from start codes) (opcodes_from number codes) (latches_from start codes) codes matched_instructions (omega arith))
-    (part_drives first (selections_from start codes) (selections_from number codes) SELECTIONS (selections_given tap (opcodes_told (opcodes_from start codes) codes)) (omega arith)))
+    (drives_both first (selections_cells (selections_from start codes) (selections_from number codes) tap (opcodes_told (opcodes_from start codes) codes)) _
+    (part_drives first (selections_from start codes) (selections_from number codes) SELECTIONS (selections_given tap (opcodes_told (opcodes_from start codes) codes)) (omega arith))
+    (copies_drive first (copies_from start codes) (copies_from number codes) (latches_from start codes) codes.length (omega arith))))
 
 pub bypass_drives : (first start number : ℕ) (tap : TapNets) (on tdi : NetId) → first ≤ start → DrivesFrom first (bypass_cells start number tap on tdi)
 bypass_drives first start number tap on tdi low =
     drives_both first (selected_cells start number tap on) (part_cells SHIFT_BIT (shift_bit_given (selected_steering start tap) (Const false) tdi) (start + 2) (number + 2)) (part_drives first start number SELECTED (selected_given tap on) low)
     (part_drives first (start + 2) (number + 2) SHIFT_BIT (shift_bit_given (selected_steering start tap) (Const false) tdi) (omega arith))
 
-pub ident_drives : (first start number : ℕ) (tap : TapNets) (on tdi : NetId) (code : ℕ) → first ≤ start → DrivesFrom first (ident_cells start number tap on tdi code)
-ident_drives first start number tap on tdi code low =
-    drives_both first (selected_cells start number tap on) (chain_cells (start + 2) (number + 2) (selected_steering start tap) tdi (constant_bits 32 code)) (part_drives first start number SELECTED (selected_given tap on) low)
-    (chain_drives first (start + 2) (number + 2) (selected_steering start tap) tdi (constant_bits 32 code) (omega arith))
+data_drives : (first start number : ℕ) (tap : TapNets) (on tdi : NetId) (captured : List Feed) → first ≤ start → DrivesFrom first (data_cells start number tap on tdi captured)
+data_drives first start number tap on tdi captured low =
+    drives_both first (selected_cells start number tap on) (chain_cells (start + 2) (number + 2) (selected_steering start tap) tdi captured)
+    (part_drives first start number SELECTED (selected_given tap on) low) (chain_drives first (start + 2) (number + 2) (selected_steering start tap) tdi captured (omega arith))
+
+inverse_drives : (first start number : ℕ) (user_on : NetId) (user : Option ℕ) → first ≤ start → DrivesFrom first (inverse_cells start number user_on user)
+inverse_drives first start number user_on None low = drives_none first
+inverse_drives first start number user_on (Some user) low = part_drives first start number INVERSE (Net user_on ∷ []) low
+
+pub ident_drives : (first start number : ℕ) (tap : TapNets) (on user_on tdi : NetId) (user : Option ℕ) (code : ℕ) → first ≤ start
+    → DrivesFrom first (ident_cells start number tap on user_on tdi user code)
+ident_drives first start number tap on user_on tdi user code low =
+    let captured : List Feed = captured_feeds start user_on user code in
+    drives_both first (inverse_cells start number user_on user) (data_cells (start + user_size user) (number + user_size user) tap on tdi captured)
+    (inverse_drives first start number user_on user low) (data_drives first (start + user_size user) (number + user_size user) tap on tdi captured (omega arith))
 
 -- nets before those of a part stay free
 pub free_before : FreeStays → (old new : ArenaView) (count first : ℕ) (part : List CellView) → Appended old new count part → DrivesFrom first part

@@ -9,10 +9,10 @@ use Rattle.plan_fitting.specs.declared.fitted.Fitted.{Fitted}
 use Rattle.stitch_model.specs.declared.TapPort.{TapPort}
 use Rattle.stitch_model.specs.declared.Logic.{Logic}
 
--- own: so many nets and cells suffice: 49 for the controller, 10 and 18 for each bit for the instruction register, 5 for the bypass
--- register, and 98 for the identification register
+-- own: so many nets and cells suffice: 49 for the controller, 11 and 21 for each bit for the instruction register, 5 for the bypass
+-- register, and 99 for the identification register
 abbrev pub logic_room : Fitted → ℕ
-logic_room f = 162 + 18 * f.codes.length
+logic_room f = 164 + 21 * f.codes.length
 
 pub record HasLogicRoom (arena : ArenaView) (f : Fitted) : Type 0 where
   pub nets : logic_room f ≤ arena.spare.nets

@@ -9,7 +9,7 @@ ghost use Rattle.gate_parts.specs.Appended.{Appended};
 ghost use Rattle.register_bits.specs.Bits.{AreNetsBelow};
 ghost use Rattle.register_gates.specs.Registers.{ident_cells, ident_last};
 ghost use Rattle.register_gates.specs.Tdo.{AreIdentBelow};
-ghost use Rattle.stitch_model.specs.Logic.{ident_size, logic_size, logic_at, logic_cells};
+ghost use Rattle.stitch_model.specs.Logic.{code_size, logic_size, logic_at, logic_cells};
 ghost use Rattle.scan_parts.specs.Logic.{logic_room, HasLogicRoom, IsPortBelow, IsLogicBelow};
 
 use gate_parts::{appended_count, appended_more, appended_none, free_net_stays};
@@ -29,27 +29,29 @@ fn add_code(
     instruction: &InstrNets,
     tdi: NetId,
     code: Option<u32>,
+    user: Option<u32>,
 ) -> Option<NetId>
     requires dense { IsDense netlist.old.lists }
-    requires nets { 98 ≤ netlist.old.spare.nets }
-    requires cells { 98 ≤ netlist.old.spare.cells }
+    requires nets { 99 ≤ netlist.old.spare.nets }
+    requires cells { 99 ≤ netlist.old.spare.cells }
     requires clock { AreNetsBelow (length netlist.old.lists.nets) tap.now.tck tap.now.trst }
     requires steps { AreNetsBelow (length netlist.old.lists.nets) tap.now.capture_dr tap.now.shift_dr }
-    requires on { instruction.now.ident_on.0 < length netlist.old.lists.nets }
+    requires selections { AreNetsBelow (length netlist.old.lists.nets) instruction.now.ident_on
+        instruction.now.user_on }
     requires tdi { tdi.0 < length netlist.old.lists.nets }
-    ensures ident { result ≡ option_map (ident_last (length netlist.old.lists.nets) tdi) code }
+    ensures ident { result ≡ option_map (ident_last (length netlist.old.lists.nets)
+        instruction.now.user_on tdi user) code }
     ensures below { AreIdentBelow (length netlist.new.lists.nets) result }
-    ensures added { Appended netlist.old netlist.new (ident_size code)
+    ensures added { Appended netlist.old netlist.new (code_size user code)
         (option_map_or (ident_cells (length netlist.old.lists.nets) (cell_count netlist.old.lists) tap.now
-        instruction.now.ident_on tdi) code []) }
-    ensures cells_left { netlist.old.spare.cells ≤ netlist.new.spare.cells + 98 }
+        instruction.now.ident_on instruction.now.user_on tdi user) code []) }
+    ensures cells_left { netlist.old.spare.cells ≤ netlist.new.spare.cells + 99 }
     ensures dense { IsDense netlist.new.lists }
 {
     appended_none();
     appended_count();
-    constants_are_bits();
     match code {
-        Some(code) => Some(add_ident(netlist, tap, instruction, tdi, code)),
+        Some(code) => Some(add_ident(netlist, tap, instruction, tdi, code, user)),
         None => None,
     }
 }
@@ -78,7 +80,14 @@ pub fn add_logic(netlist: &mut Netlist, port: &TapPort, fitted: &Fitted) -> Logi
     let tap = add_tap(netlist, port.tck, port.tms, port.trst);
     let instruction = add_instruction(netlist, &tap, port.tdi, &fitted.codes);
     let bypass = add_bypass(netlist, &tap, &instruction, port.tdi);
-    let ident = add_code(netlist, &tap, &instruction, port.tdi, fitted.idcode);
+    let ident = add_code(
+        netlist,
+        &tap,
+        &instruction,
+        port.tdi,
+        fitted.idcode,
+        fitted.usercode,
+    );
     Logic {
         tap,
         instruction,

@@ -261,6 +261,7 @@ pub fn device_of_fit(alloc: Global, fitted: &Fitted) -> Result<Device, OutOfMemo
         opcodes,
         capture: fitted.codes.capture,
         idcode: fitted.idcode,
+        usercode: fitted.usercode,
         cells,
     })
 }

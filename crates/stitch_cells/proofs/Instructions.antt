@@ -3,7 +3,7 @@ use Rattle.std.proofs.Common.{◌≡◌, ℕ, ◌+◌, ◌*◌, ◌≤◌, List,
 use Rattle.std.specs.Prelude.{Option}
 use Rattle.cell_library.specs.declared.codes.Bits.{Bits}
 use Rattle.cell_library.specs.declared.codes.Instr.{Instr}
-use Rattle.cell_library.specs.declared.codes.Instr.TheVariants.{Extest, Sample, Preload, Idcode, Highz, Clamp}
+use Rattle.cell_library.specs.declared.codes.Instr.TheVariants.{Extest, Sample, Preload, Idcode, Highz, Clamp, Usercode}
 use Rattle.netlist_model.specs.declared.NetId.{NetId}
 use Rattle.netlist_model.specs.declared.Feed.{Feed}
 use Rattle.netlist_model.specs.declared.Feed.TheVariants.{Net}
@@ -17,14 +17,15 @@ use Rattle.register_gates.proofs.ConstantBits.{counted, constants}
 use Rattle.instruction_gates.specs.declared.selections.TheConstants.{SELECTIONS}
 use Rattle.instruction_gates.specs.declared.stages.TheConstants.{LOADS}
 use Rattle.instruction_gates.specs.Latches.{latches_cells}
+use Rattle.instruction_gates.specs.Copies.{copies_cells}
 use Rattle.instruction_gates.specs.Selections.{selections_given, selections_cells}
 use Rattle.instruction_gates.specs.Stages.{loads_given, ir_steering, ir_latching, stages_cells}
-use Rattle.instruction_register.specs.Register.{pattern_bits, stages_size, latches_from, size_with, cells_with, told_with, opcode_size, opcode_cells, opcode_told, matched_instructions, opcodes_size, opcodes_cells, opcodes_told, opcodes_from, selections_from, instruction_size, instruction_cells}
+use Rattle.instruction_register.specs.Register.{pattern_bits, stages_size, latches_from, size_with, cells_with, told_with, opcode_size, opcode_cells, opcode_told, matched_instructions, opcodes_size, opcodes_cells, opcodes_told, opcodes_from, selections_from, copies_from, instruction_size, instruction_cells}
 use Rattle.instruction_register.proofs.Added.{stages_counted}
 use Rattle.instruction_register.proofs.Sizes.{opcode_length, opcodes_length}
 use Rattle.stitch_cells.specs.Gates.{EachCell, DriveInTurn, FeedsAre, IsLogicCell}
 use Rattle.stitch_cells.proofs.Tables.{each_append, turn_append, turn_moved, feed_cons, table_turn, plain_logic}
-use Rattle.stitch_cells.proofs.Registers.{Between, constant_feeds, SteeringAre, LatchingAre, chain_turn, chain_logic, latches_turn, latches_logic, matches_turn, matches_logic, before_is}
+use Rattle.stitch_cells.proofs.Registers.{Between, constant_feeds, SteeringAre, LatchingAre, chain_turn, chain_logic, latches_turn, latches_logic, matches_turn, matches_logic, before_is, copies_turn, copies_logic}
 
 -- Nets in turn.
 
@@ -63,14 +64,17 @@ instruction_turn first number tap tdi codes =
     let stages = stages_cells first number tap tdi captured presets in
     let told = opcodes_cells (opcodes_from first codes) (opcodes_from number codes) (latches_from first codes) codes matched_instructions in
     let chosen = selections_cells (selections_from first codes) (selections_from number codes) tap (opcodes_told (opcodes_from first codes) codes) in
+    let copies = copies_cells (copies_from first codes) (copies_from number codes) (latches_from first codes) codes.length in
     let a : length stages ≡ stages_size codes = stages_counted constants first number tap tdi codes in
     let b : length told ≡ opcodes_size codes matched_instructions =
     opcodes_length constants (opcodes_from first codes) (opcodes_from number codes) (latches_from first codes) codes matched_instructions in
-    turn_append first stages (told ++ chosen) (stages_turn first number tap tdi captured presets)
-    (turn_moved (opcodes_from first codes) (first + length stages) (told ++ chosen) (ap (λ (n : ℕ). first + n) (sym a))
-    (turn_append (opcodes_from first codes) told chosen (opcodes_turn (opcodes_from first codes) (opcodes_from number codes) (latches_from first codes) codes matched_instructions)
-    (turn_moved (selections_from first codes) (opcodes_from first codes + length told) chosen (ap (λ (n : ℕ). opcodes_from first codes + n) (sym b))
-    (table_turn SELECTIONS (selections_given tap (opcodes_told (opcodes_from first codes) codes)) (selections_from first codes) (selections_from number codes)))))
+    turn_append first stages (told ++ (chosen ++ copies)) (stages_turn first number tap tdi captured presets)
+    (turn_moved (opcodes_from first codes) (first + length stages) (told ++ (chosen ++ copies)) (ap (λ (n : ℕ). first + n) (sym a))
+    (turn_append (opcodes_from first codes) told (chosen ++ copies) (opcodes_turn (opcodes_from first codes) (opcodes_from number codes) (latches_from first codes) codes matched_instructions)
+    (turn_moved (selections_from first codes) (opcodes_from first codes + length told) (chosen ++ copies) (ap (λ (n : ℕ). opcodes_from first codes + n) (sym b))
+    (turn_append (selections_from first codes) chosen copies
+    (table_turn SELECTIONS (selections_given tap (opcodes_told (opcodes_from first codes) codes)) (selections_from first codes) (selections_from number codes))
+    (copies_turn (copies_from first codes) (copies_from number codes) (latches_from first codes) codes.length)))))
 
 -- What they read.
 
@@ -124,7 +128,7 @@ opcodes_logic tck trst P first number latched codes (i ∷ rest) l own =
 -- what is told of each opcode
 told_feeds : (P : ℕ → Type 0) (first : ℕ) (codes : Codes) (rest : List Feed) → Between P first (first + opcodes_size codes matched_instructions) → FeedsAre P rest
     → FeedsAre P ((opcodes_told first codes).extest ∷ (opcodes_told first codes).sample ∷ (opcodes_told first codes).preload ∷ (opcodes_told first codes).idcode
-    ∷ (opcodes_told first codes).highz ∷ (opcodes_told first codes).clamp ∷ rest)
+    ∷ (opcodes_told first codes).highz ∷ (opcodes_told first codes).clamp ∷ (opcodes_told first codes).usercode ∷ rest)
 told_feeds P first codes rest own are =
     let m = opcodes_told first codes in
     let sample : ℕ = first + opcode_size codes Extest in
@@ -132,6 +136,7 @@ told_feeds P first codes rest own are =
     let idcode : ℕ = preload + opcode_size codes Preload in
     let highz : ℕ = idcode + opcode_size codes Idcode in
     let clamp : ℕ = highz + opcode_size codes Highz in
+    let usercode : ℕ = clamp + opcode_size codes Clamp in
     let one : (at : ℕ) (i : Instr) → first ≤ at → at + opcode_size codes i ≤ first + opcodes_size codes matched_instructions → FeedsAre P (opcode_told at codes i ∷ []) =
     λ at i low high. told_feed P at codes (opcode_of codes.opcodes i) (λ net a b. own net (omega arith) (omega arith)) in
     feed_cons P m.extest _ (one first Extest (omega arith) (omega arith))
@@ -139,7 +144,8 @@ told_feeds P first codes rest own are =
     (feed_cons P m.preload _ (one preload Preload (omega arith) (omega arith))
     (feed_cons P m.idcode _ (one idcode Idcode (omega arith) (omega arith))
     (feed_cons P m.highz _ (one highz Highz (omega arith) (omega arith))
-    (feed_cons P m.clamp _ (one clamp Clamp (omega arith) (omega arith)) are)))))
+    (feed_cons P m.clamp _ (one clamp Clamp (omega arith) (omega arith))
+    (feed_cons P m.usercode _ (one usercode Usercode (omega arith) (omega arith)) are))))))
 
 pub instruction_logic : (P : ℕ → Type 0) (first number : ℕ) (tap : TapNets) (tdi : NetId) (codes : Codes) → TapAre P tap → P tdi.0 → Between P first (first + instruction_size codes)
     → EachCell (IsLogicCell tap.tck tap.trst P) (instruction_cells first number tap tdi codes)
@@ -150,14 +156,18 @@ instruction_logic P first number tap tdi codes t d own =
     let told = opcodes_cells (opcodes_from first codes) (opcodes_from number codes) (latches_from first codes) codes matched_instructions in
     let matched = opcodes_told (opcodes_from first codes) codes in
     let chosen = selections_cells (selections_from first codes) (selections_from number codes) tap matched in
+    let copies = copies_cells (copies_from first codes) (copies_from number codes) (latches_from first codes) codes.length in
     let a : length captured ≡ codes.length = counted codes.length codes.capture.value in
     let b : length presets ≡ codes.length = counted codes.length codes.reset.value in
-    each_append (IsLogicCell tap.tck tap.trst P) stages (told ++ chosen)
+    each_append (IsLogicCell tap.tck tap.trst P) stages (told ++ (chosen ++ copies))
     (stages_logic P first number tap tdi captured presets t d (constant_feeds P codes.length codes.capture.value) (b ∙ sym a) (λ net low high. own net low (omega arith)))
-    (each_append (IsLogicCell tap.tck tap.trst P) told chosen
+    (each_append (IsLogicCell tap.tck tap.trst P) told (chosen ++ copies)
     (opcodes_logic tap.tck tap.trst P (opcodes_from first codes) (opcodes_from number codes) (latches_from first codes) codes matched_instructions
     (λ net low high. own net (omega arith) (omega arith)) (λ net low high. own net (omega arith) (omega arith)))
+    (each_append (IsLogicCell tap.tck tap.trst P) chosen copies
     (plain_logic SELECTIONS (selections_given tap matched) (selections_from first codes) (selections_from number codes) tap.tck tap.trst P refl
     (told_feeds P (opcodes_from first codes) codes (Net tap.capture_dr ∷ Net tap.shift_dr ∷ Net tap.update_dr ∷ [])
     (λ net low high. own net (omega arith) (omega arith)) (t.capture_dr, (t.shift_dr, (t.update_dr, tt))))
-    (λ j below. own (selections_from first codes + j) (omega arith) (omega arith))))
+    (λ j below. own (selections_from first codes + j) (omega arith) (omega arith)))
+    (copies_logic tap.tck tap.trst P (copies_from first codes) (copies_from number codes) (latches_from first codes) codes.length
+    (λ net low high. own net (omega arith) (omega arith)) (λ net low high. own net (omega arith) (omega arith)))))

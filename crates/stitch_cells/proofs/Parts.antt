@@ -1,8 +1,9 @@
 -- The cells of the controller and of each register beside the boundary register, and TDO's.
-use Rattle.std.proofs.Common.{◌≡◌, ℕ, ◌+◌, ◌<◌, false, length, refl, arith, Some, None}
+use Rattle.std.proofs.Common.{◌≡◌, ℕ, ◌+◌, ◌*◌, ◌<◌, false, List, [], ◌∷◌, length, refl, sym, ap, arith, Some, None}
 use Rattle.std.specs.Prelude.{Option}
 use Rattle.netlist_model.specs.declared.NetId.{NetId}
-use Rattle.netlist_model.specs.declared.Feed.TheVariants.{Const}
+use Rattle.netlist_model.specs.declared.Feed.{Feed}
+use Rattle.netlist_model.specs.declared.Feed.TheVariants.{Net, Const}
 use Rattle.gate_parts.specs.Parts.{part_cells}
 use Rattle.test_logic.specs.declared.InstrNets.{InstrNets}
 use Rattle.test_logic.specs.declared.TapNets.{TapNets}
@@ -12,19 +13,19 @@ use Rattle.register_bits.specs.declared.TheConstants.{SHIFT_BIT}
 use Rattle.register_bits.specs.Bits.{shift_bit_given, shift_bit_cells}
 use Rattle.register_bits.specs.Chains.{chain_cells}
 use Rattle.register_gates.specs.declared.TheConstants.{SELECTED}
+use Rattle.register_gates.specs.declared.ident.TheConstants.{INVERSE}
 use Rattle.register_gates.specs.declared.tdo.TheConstants.{TDO}
-use Rattle.register_gates.specs.Constants.{constant_bits}
-use Rattle.register_gates.specs.Registers.{selected_given, selected_cells, selected_steering, bypass_cells, ident_cells}
+use Rattle.register_gates.specs.Registers.{selected_given, selected_cells, selected_steering, bypass_cells, data_cells, user_size, inverse_cells, captured_feeds, ident_size, ident_cells}
 use Rattle.register_gates.specs.Tdo.{tdo_given}
-use Rattle.register_gates.proofs.ConstantBits.{counted}
 use Rattle.instruction_register.specs.Register.{stages_size, opcodes_size, matched_instructions, instruction_size}
 use Rattle.plan_fitting.specs.declared.fitted.Fitted.{Fitted}
 use Rattle.stitch_model.specs.declared.TapPort.{TapPort}
-use Rattle.stitch_model.specs.Logic.{instruction_from, bypass_from, ident_from, ident_size, tap_at, instruction_at, ident_part}
+use Rattle.stitch_model.specs.Logic.{instruction_from, bypass_from, ident_from, code_size, tap_at, instruction_at, ident_part}
+use Rattle.stitch_model.proofs.Few.{inverse_counted, captured_counted}
 use Rattle.stitch_cells.specs.Gates.{EachCell, DriveInTurn, FeedsAre, IsLogicCell}
 use Rattle.stitch_cells.specs.Logic.{LogicNets, LogicCells, LogicTurns}
 use Rattle.stitch_cells.proofs.Tables.{each_append, turn_append, turn_moved, table_turn, table_logic, plain_logic}
-use Rattle.stitch_cells.proofs.Registers.{Between, constant_feeds, SteeringAre, shift_logic, chain_turn, chain_logic}
+use Rattle.stitch_cells.proofs.Registers.{Between, captured_are, SteeringAre, shift_logic, chain_turn, chain_logic}
 use Rattle.stitch_cells.proofs.Instructions.{instruction_turn, TapAre, instruction_logic}
 
 -- Nets in turn.
@@ -38,20 +39,33 @@ bypass_turn first number tap on tdi =
     (turn_moved (first + 2) (first + length front) bits (omega arith)
     (table_turn SHIFT_BIT (shift_bit_given (selected_steering first tap) (Const false) tdi) (first + 2) (number + 2)))
 
-ident_turn : (first number : ℕ) (tap : TapNets) (on tdi : NetId) (code : ℕ) → DriveInTurn first (ident_cells first number tap on tdi code)
-ident_turn first number tap on tdi code =
+data_turn : (first number : ℕ) (tap : TapNets) (on tdi : NetId) (captured : List Feed) → DriveInTurn first (data_cells first number tap on tdi captured)
+data_turn first number tap on tdi captured =
     let front = selected_cells first number tap on in
-    let bits = chain_cells (first + 2) (number + 2) (selected_steering first tap) tdi (constant_bits 32 code) in
+    let bits = chain_cells (first + 2) (number + 2) (selected_steering first tap) tdi captured in
     let two : length front ≡ 2 = refl in
     turn_append first front bits (table_turn SELECTED (selected_given tap on) first number)
-    (turn_moved (first + 2) (first + length front) bits (omega arith) (chain_turn (first + 2) (number + 2) (selected_steering first tap) tdi (constant_bits 32 code)))
+    (turn_moved (first + 2) (first + length front) bits (omega arith) (chain_turn (first + 2) (number + 2) (selected_steering first tap) tdi captured))
+
+inverse_turn : (first number : ℕ) (user_on : NetId) (user : Option ℕ) → DriveInTurn first (inverse_cells first number user_on user)
+inverse_turn first number user_on None = tt
+inverse_turn first number user_on (Some user) = table_turn INVERSE (Net user_on ∷ []) first number
+
+ident_turn : (first number : ℕ) (tap : TapNets) (on user_on tdi : NetId) (user : Option ℕ) (code : ℕ) → DriveInTurn first (ident_cells first number tap on user_on tdi user code)
+ident_turn first number tap on user_on tdi user code =
+    let captured = captured_feeds first user_on user code in
+    let inverse = inverse_cells first number user_on user in
+    let data_register = data_cells (first + user_size user) (number + user_size user) tap on tdi captured in
+    turn_append first inverse data_register (inverse_turn first number user_on user)
+    (turn_moved (first + user_size user) (first + length inverse) data_register (ap (λ (n : ℕ). first + n) (sym (inverse_counted first number user_on user)))
+    (data_turn (first + user_size user) (number + user_size user) tap on tdi captured))
 
 ident_part_turn : (first : ℕ) (port : TapPort) (f : Fitted) (number : ℕ) → DriveInTurn (first + ident_from f) (ident_part first port f number)
 ident_part_turn first port f number = by f.idcode
   where
     by : (code : Option ℕ) → DriveInTurn (first + ident_from f) (ident_part first port (record f { idcode = code }) number)
     by None = tt
-    by (Some code) = ident_turn (first + ident_from f) number (tap_at first port) (instruction_at first port f).ident_on port.tdi code
+    by (Some code) = ident_turn (first + ident_from f) number (tap_at first port) (instruction_at first port f).ident_on (instruction_at first port f).user_on port.tdi f.usercode code
 
 pub logic_turns : (first : ℕ) (port : TapPort) (f : Fitted) (number : ℕ) → LogicTurns first port f number
 logic_turns first port f number = record {
@@ -95,36 +109,51 @@ bypass_logic P first number tap on tdi t o d own =
     (selected_are P first number tap on t o two)
     (shift_logic P (first + 2) (number + 2) (selected_steering first tap) (Const false) tdi (steering_are P first tap t two) tt d (λ net low high. own net (omega arith) (omega arith)))
 
-ident_logic : (P : ℕ → Type 0) (first number : ℕ) (tap : TapNets) (on tdi : NetId) (code : ℕ) → TapAre P tap → P on.0 → P tdi.0 → Between P first (first + 98)
-    → EachCell (IsLogicCell tap.tck tap.trst P) (ident_cells first number tap on tdi code)
-ident_logic P first number tap on tdi code t o d own =
+data_logic : (P : ℕ → Type 0) (first number : ℕ) (tap : TapNets) (on tdi : NetId) (captured : List Feed) → TapAre P tap → P on.0 → P tdi.0 → FeedsAre P captured
+    → Between P first (first + (2 + 3 * length captured)) → EachCell (IsLogicCell tap.tck tap.trst P) (data_cells first number tap on tdi captured)
+data_logic P first number tap on tdi captured t o d are own =
     let two : Between P first (first + 2) = λ net low high. own net low (omega arith) in
-    let many : length (constant_bits 32 code) ≡ 32 = counted 32 code in
-    each_append (IsLogicCell tap.tck tap.trst P) (selected_cells first number tap on)
-    (chain_cells (first + 2) (number + 2) (selected_steering first tap) tdi (constant_bits 32 code))
+    each_append (IsLogicCell tap.tck tap.trst P) (selected_cells first number tap on) (chain_cells (first + 2) (number + 2) (selected_steering first tap) tdi captured)
     (selected_are P first number tap on t o two)
-    (chain_logic P (first + 2) (number + 2) (selected_steering first tap) tdi (constant_bits 32 code) (steering_are P first tap t two) (constant_feeds P 32 code) d
+    (chain_logic P (first + 2) (number + 2) (selected_steering first tap) tdi captured (steering_are P first tap t two) are d (λ net low high. own net (omega arith) (omega arith)))
+
+inverse_logic : (tck trst : NetId) (P : ℕ → Type 0) (first number : ℕ) (user_on : NetId) (user : Option ℕ) → P user_on.0 → Between P first (first + user_size user)
+    → EachCell (IsLogicCell tck trst P) (inverse_cells first number user_on user)
+inverse_logic tck trst P first number user_on None u own = tt
+inverse_logic tck trst P first number user_on (Some user) u own =
+    plain_logic INVERSE (Net user_on ∷ []) first number tck trst P refl (u, tt) (λ j below. own (first + j) (omega arith) (omega arith))
+
+ident_logic : (P : ℕ → Type 0) (first number : ℕ) (tap : TapNets) (on user_on tdi : NetId) (user : Option ℕ) (code : ℕ) → TapAre P tap → P on.0 → P user_on.0 → P tdi.0
+    → Between P first (first + ident_size user) → EachCell (IsLogicCell tap.tck tap.trst P) (ident_cells first number tap on user_on tdi user code)
+ident_logic P first number tap on user_on tdi user code t o u d own =
+    let captured : List Feed = captured_feeds first user_on user code in
+    let many : length captured ≡ 32 = captured_counted first user_on user code in
+    let front : Between P first (first + user_size user) = λ net low high. own net low (omega arith) in
+    each_append (IsLogicCell tap.tck tap.trst P) (inverse_cells first number user_on user) (data_cells (first + user_size user) (number + user_size user) tap on tdi captured)
+    (inverse_logic tap.tck tap.trst P first number user_on user u front)
+    (data_logic P (first + user_size user) (number + user_size user) tap on tdi captured t o d (captured_are P first user_on user code u front)
     (λ net low high. own net (omega arith) (omega arith)))
 
-ident_part_logic : (first : ℕ) (port : TapPort) (f : Fitted) (P : ℕ → Type 0) → LogicNets first port f P → P (instruction_at first port f).ident_on.0 → (number : ℕ)
-    → EachCell (IsLogicCell port.tck port.trst P) (ident_part first port f number)
-ident_part_logic first port f P c on number =
+ident_part_logic : (first : ℕ) (port : TapPort) (f : Fitted) (P : ℕ → Type 0) → LogicNets first port f P → P (instruction_at first port f).ident_on.0
+    → P (instruction_at first port f).user_on.0 → (number : ℕ) → EachCell (IsLogicCell port.tck port.trst P) (ident_part first port f number)
+ident_part_logic first port f P c on user_on number =
     by f.idcode (λ net low high. c.own net (omega arith) (omega arith))
   where
-    by : (code : Option ℕ) → Between P (first + ident_from f) (first + (ident_from f + ident_size code))
+    by : (code : Option ℕ) → Between P (first + ident_from f) (first + (ident_from f + code_size f.usercode code))
         → EachCell (IsLogicCell port.tck port.trst P) (ident_part first port (record f { idcode = code }) number)
     by None own = tt
     by (Some code) own =
-        ident_logic P (first + ident_from f) number (tap_at first port) (instruction_at first port f).ident_on port.tdi code (tap_are first port f P c) on c.tdi
-        (λ net low high. own net low (omega arith))
+        ident_logic P (first + ident_from f) number (tap_at first port) (instruction_at first port f).ident_on (instruction_at first port f).user_on port.tdi f.usercode code
+        (tap_are first port f P c) on user_on c.tdi (λ net low high. own net low (omega arith))
 
 pub logic_cells_are : (first : ℕ) (port : TapPort) (f : Fitted) (P : ℕ → Type 0) → LogicNets first port f P → (number : ℕ) → LogicCells first port f P number
 logic_cells_are first port f P c number =
     let own = c.own in
     let n : ℕ = instruction_size f.codes in
-    let is : n ≡ stages_size f.codes + (opcodes_size f.codes matched_instructions + 9) = refl in
+    let is : n ≡ stages_size f.codes + (opcodes_size f.codes matched_instructions + (10 + f.codes.length)) = refl in
     let bypass_on : P (instruction_at first port f).bypass_on.0 = own _ (omega arith) (omega arith) in
     let ident_on : P (instruction_at first port f).ident_on.0 = own _ (omega arith) (omega arith) in
+    let user_on : P (instruction_at first port f).user_on.0 = own _ (omega arith) (omega arith) in
     record {
       controller = table_logic CONTROLLER (tap_given port.tck port.tms port.trst) first number 0 2 port.tck port.trst P refl refl refl
           (c.tck, (c.tms, (c.trst, tt))) (λ j below. own (first + j) (omega arith) (omega arith));
@@ -132,7 +161,7 @@ logic_cells_are first port f P c number =
           (λ net low high. own net (omega arith) (omega arith));
       bypass = bypass_logic P (first + bypass_from f) number (tap_at first port) (instruction_at first port f).bypass_on port.tdi (tap_are first port f P c) bypass_on c.tdi
           (λ net low high. own net (omega arith) (omega arith));
-      ident = ident_part_logic first port f P c ident_on number;
+      ident = ident_part_logic first port f P c ident_on user_on number;
     }
 
 -- TDO.

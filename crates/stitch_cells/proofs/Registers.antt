@@ -1,5 +1,5 @@
 -- The cells of the instruction register and of the other registers beside the boundary register.
-use Rattle.std.proofs.Common.{◌≡◌, ℕ, zero, suc, ◌+◌, ◌*◌, ◌<◌, ◌≤◌, ◌/◌, true, false, Bool, List, [], ◌∷◌, length, refl, ap, arith}
+use Rattle.std.proofs.Common.{◌≡◌, ℕ, zero, suc, ◌+◌, ◌*◌, ◌<◌, ◌≤◌, ◌/◌, ◌%◌, ◌==◌, true, false, Bool, List, [], ◌∷◌, length, refl, ap, Option, Some, None, arith}
 use Rattle.netlist_model.specs.declared.NetId.{NetId}
 use Rattle.netlist_model.specs.declared.Feed.{Feed}
 use Rattle.netlist_model.specs.declared.Feed.TheVariants.{Net, Const}
@@ -10,12 +10,16 @@ use Rattle.register_bits.specs.Bits.{shift_bit_given, shift_bit_cells, held_bit,
 use Rattle.register_bits.specs.Chains.{chain_last, chain_cells}
 use Rattle.register_bits.proofs.Lengths.{chain_length}
 use Rattle.register_gates.specs.Constants.{constant_bits}
+use Rattle.register_gates.specs.Choices.{choice, choice_bits}
+use Rattle.register_gates.specs.Registers.{user_size, captured_feeds}
 use Rattle.instruction_gates.specs.declared.latches.Latching.{Latching}
 use Rattle.instruction_gates.specs.declared.latches.TheConstants.{LOADED}
 use Rattle.instruction_gates.specs.declared.matches.TheConstants.{EQUAL_BIT}
+use Rattle.instruction_gates.specs.declared.copies.TheConstants.{COPY}
 use Rattle.instruction_gates.specs.Rows.{is_one}
 use Rattle.instruction_gates.specs.Latches.{holding_of, loaded_given, latch_cells, latches_cells}
 use Rattle.instruction_gates.specs.Matches.{match_before, equal_given, matches_cells}
+use Rattle.instruction_gates.specs.Copies.{copy_given, copies_cells}
 use Rattle.instruction_register.proofs.Sizes.{latches_length, matches_length}
 use Rattle.stitch_cells.specs.Gates.{EachCell, DriveInTurn, FeedsAre, IsLogicCell}
 use Rattle.stitch_cells.proofs.Tables.{each_append, turn_append, turn_moved, feed_cons, feed_head, feed_tail, table_turn, table_logic, plain_logic}
@@ -29,6 +33,23 @@ pub constant_feeds : (P : ℕ → Type 0) (count value : ℕ) → FeedsAre P (co
 unfolding constant_bits
 constant_feeds P zero value = tt
 constant_feeds P (suc count) value = constant_feeds P count (value / 2)
+
+choice_feed : (P : ℕ → Type 0) (a b : Bool) (on off : NetId) (feeds : List Feed) → P on.0 → P off.0 → FeedsAre P feeds → FeedsAre P (choice a b on off ∷ feeds)
+choice_feed P false false on off feeds p q are = are
+choice_feed P false true on off feeds p q are = (p, are)
+choice_feed P true false on off feeds p q are = (q, are)
+choice_feed P true true on off feeds p q are = are
+
+choice_feeds : (P : ℕ → Type 0) (count code user : ℕ) (on off : NetId) → P on.0 → P off.0 → FeedsAre P (choice_bits count code user on off)
+unfolding choice_bits
+choice_feeds P zero code user on off p q = tt
+choice_feeds P (suc count) code user on off p q = choice_feed P (code % 2 == 1) (user % 2 == 1) on off (choice_bits count (code / 2) (user / 2) on off) p q (choice_feeds P count (code / 2) (user / 2) on off p q)
+
+-- what the identification register captures
+pub captured_are : (P : ℕ → Type 0) (first : ℕ) (user_on : NetId) (user : Option ℕ) (code : ℕ) → P user_on.0 → Between P first (first + user_size user)
+    → FeedsAre P (captured_feeds first user_on user code)
+captured_are P first user_on None code u own = constant_feeds P 32 code
+captured_are P first user_on (Some user) code u own = choice_feeds P 32 code user user_on (record { 0 = first }) u (own first (omega arith) (omega arith))
 
 -- Bits behind one another.
 
@@ -163,3 +184,21 @@ matches_logic tck trst P first number latched (item ∷ rest) l own =
     (feed_cons P before (Net (record { 0 = latched + 3 * length rest + 1 }) ∷ Const (is_one item) ∷ []) (before_is P first (length rest) fewer)
     (l (latched + 3 * length rest + 1) (omega arith) (omega arith), tt))
     (λ j below. own (first + 2 * length rest + j) (omega arith) (omega arith)))
+
+-- Copies of latched bits.
+
+pub copies_turn : (first number latched count : ℕ) → DriveInTurn first (copies_cells first number latched count)
+copies_turn first number latched zero = tt
+copies_turn first number latched (suc behind) =
+    let rest = copies_cells (suc first) (suc number) latched behind in
+    turn_append first (part_cells COPY (copy_given latched behind) first number) rest (table_turn COPY (copy_given latched behind) first number)
+    (turn_moved (suc first) (first + 1) rest (omega arith) (copies_turn (suc first) (suc number) latched behind))
+
+pub copies_logic : (tck trst : NetId) (P : ℕ → Type 0) (first number latched count : ℕ) → Between P latched (latched + 3 * count) → Between P first (first + count)
+    → EachCell (IsLogicCell tck trst P) (copies_cells first number latched count)
+copies_logic tck trst P first number latched zero l own = tt
+copies_logic tck trst P first number latched (suc behind) l own =
+    each_append (IsLogicCell tck trst P) (part_cells COPY (copy_given latched behind) first number) (copies_cells (suc first) (suc number) latched behind)
+    (plain_logic COPY (copy_given latched behind) first number tck trst P refl (l (latched + 3 * behind + 1) (omega arith) (omega arith), tt)
+    (λ j below. own (first + j) (omega arith) (omega arith)))
+    (copies_logic tck trst P (suc first) (suc number) latched behind (λ net low high. l net low (omega arith)) (λ net low high. own net (omega arith) (omega arith)))

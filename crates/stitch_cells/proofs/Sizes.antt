@@ -1,5 +1,5 @@
 -- How many cells the parts have.
-use Rattle.std.proofs.Common.{◌≡◌, ℕ, suc, ◌+◌, Bool, true, false, List, [], ◌∷◌, ◌++◌, length, length-append, refl, ◌∙◌, ap, Option, Some, None, arith}
+use Rattle.std.proofs.Common.{◌≡◌, ℕ, suc, ◌+◌, ◌*◌, Bool, true, false, List, [], ◌∷◌, ◌++◌, length, length-append, refl, ◌∙◌, ap, Option, Some, None, arith}
 use Rattle.std.proofs.lemmas.List.Sums.{sum_by-cons}
 use Rattle.netlist_model.specs.declared.NetId.{NetId}
 use Rattle.netlist_model.specs.declared.Feed.{Feed}
@@ -13,12 +13,13 @@ use Rattle.test_logic.specs.declared.ScanNets.{ScanNets}
 use Rattle.test_logic.specs.declared.Codes.{Codes}
 use Rattle.register_bits.specs.Chains.{chain_cells}
 use Rattle.register_bits.proofs.Lengths.{chain_length}
-use Rattle.register_gates.specs.Constants.{constant_bits}
-use Rattle.register_gates.specs.Registers.{selected_cells, selected_steering, ident_cells}
+use Rattle.register_gates.specs.Registers.{selected_cells, selected_steering, data_cells, user_size, inverse_cells, captured_feeds, ident_size, ident_cells}
 use Rattle.register_gates.proofs.ConstantBits.{constants}
+use Rattle.instruction_gates.specs.Copies.{copies_cells}
 use Rattle.instruction_gates.specs.Selections.{selections_cells}
+use Rattle.instruction_gates.proofs.Copied.{copies_length}
 use Rattle.instruction_gates.specs.Stages.{stages_cells}
-use Rattle.instruction_register.specs.Register.{pattern_bits, stages_size, latches_from, matched_instructions, opcodes_size, opcodes_cells, opcodes_from, selections_from, opcodes_told, instruction_size, instruction_cells}
+use Rattle.instruction_register.specs.Register.{pattern_bits, stages_size, latches_from, matched_instructions, opcodes_size, opcodes_cells, opcodes_from, selections_from, copies_from, opcodes_told, instruction_size, instruction_cells}
 use Rattle.instruction_register.proofs.Sizes.{opcodes_length}
 use Rattle.instruction_register.proofs.Added.{stages_counted}
 use Rattle.boundary_cells.specs.declared.tables.Choice.{Choice}
@@ -34,8 +35,9 @@ use Rattle.stitch_model.specs.declared.Site.TheVariants as site
 use Rattle.stitch_model.specs.Sites.{Boundary, site_of, row_sides}
 use Rattle.stitch_model.specs.Sides.{core_feed}
 use Rattle.stitch_model.specs.Rows.{nets_of_rows, nets_by, net_at, enable_of, is_active_high, site_cells, row_cells as cells_of_row, last_bit, rows_cells}
-use Rattle.stitch_model.specs.Logic.{instruction_from, bypass_from, ident_from, ident_size, logic_size, tap_at, instruction_at, ident_part}
+use Rattle.stitch_model.specs.Logic.{instruction_from, bypass_from, ident_from, code_size, logic_size, tap_at, instruction_at, ident_part}
 use Rattle.stitch_model.specs.Stitched.{boundary_at, first_net}
+use Rattle.stitch_model.proofs.Few.{inverse_counted, captured_counted}
 use Rattle.stitch_laws.specs.Places.{port_of, scan_of, instruction_number, bypass_number, ident_number, register_number, register_net, rows_before, row_first, row_side, row_number, row_next, handed_at, drivers_at}
 use Rattle.stitch_cells.specs.Sizes.{choice_count, driver_count, row_size, cells_of_rows, LogicLengths, RowLengths, Numbers}
 use Rattle.stitch_cells.specs.Cells.{driver_number}
@@ -47,30 +49,45 @@ instruction_length first number tap tdi codes =
     let stages = stages_cells first number tap tdi (pattern_bits codes codes.capture) (pattern_bits codes codes.reset) in
     let opcodes = opcodes_cells (opcodes_from first codes) (opcodes_from number codes) (latches_from first codes) codes matched_instructions in
     let selections = selections_cells (selections_from first codes) (selections_from number codes) tap (opcodes_told (opcodes_from first codes) codes) in
-    let outer = length-append stages (opcodes ++ selections) in
-    let inner = length-append opcodes selections in
+    let copies = copies_cells (copies_from first codes) (copies_from number codes) (latches_from first codes) codes.length in
+    let outer = length-append stages (opcodes ++ (selections ++ copies)) in
+    let inner = length-append opcodes (selections ++ copies) in
+    let last = length-append selections copies in
     let a : length stages ≡ stages_size codes = stages_counted constants first number tap tdi codes in
     let b : length opcodes ≡ opcodes_size codes matched_instructions =
     opcodes_length constants (opcodes_from first codes) (opcodes_from number codes) (latches_from first codes) codes matched_instructions in
-    let nine : length selections ≡ 9 = refl in
+    let ten : length selections ≡ 10 = refl in
+    let c : length copies ≡ codes.length = copies_length (copies_from first codes) (copies_from number codes) (latches_from first codes) codes.length in
     omega arith
 
-ident_length : (first number : ℕ) (tap : TapNets) (on tdi : NetId) (code : ℕ) → length (ident_cells first number tap on tdi code) ≡ 98
-ident_length first number tap on tdi code =
+data_length : (first number : ℕ) (tap : TapNets) (on tdi : NetId) (captured : List Feed) → length (data_cells first number tap on tdi captured) ≡ 2 + 3 * length captured
+data_length first number tap on tdi captured =
     let front = selected_cells first number tap on in
-    let bits = chain_cells (first + 2) (number + 2) (selected_steering first tap) tdi (constant_bits 32 code) in
+    let bits = chain_cells (first + 2) (number + 2) (selected_steering first tap) tdi captured in
     let both = length-append front bits in
     let two : length front ≡ 2 = refl in
-    let many = chain_length (first + 2) (number + 2) (selected_steering first tap) tdi (constant_bits 32 code) in
-    let count : length (constant_bits 32 code) ≡ 32 = (constants 32 code).counted in
+    let many = chain_length (first + 2) (number + 2) (selected_steering first tap) tdi captured in
     omega arith
 
-ident_part_length : (first : ℕ) (port : TapPort) (f : Fitted) (number : ℕ) → length (ident_part first port f number) ≡ ident_size f.idcode
+pub ident_length : (first number : ℕ) (tap : TapNets) (on user_on tdi : NetId) (user : Option ℕ) (code : ℕ)
+    → length (ident_cells first number tap on user_on tdi user code) ≡ ident_size user
+ident_length first number tap on user_on tdi user code =
+    let captured = captured_feeds first user_on user code in
+    let inverse = inverse_cells first number user_on user in
+    let data_register = data_cells (first + user_size user) (number + user_size user) tap on tdi captured in
+    let both = length-append inverse data_register in
+    let a = inverse_counted first number user_on user in
+    let b = data_length (first + user_size user) (number + user_size user) tap on tdi captured in
+    let count = captured_counted first user_on user code in
+    omega arith
+
+ident_part_length : (first : ℕ) (port : TapPort) (f : Fitted) (number : ℕ) → length (ident_part first port f number) ≡ code_size f.usercode f.idcode
 ident_part_length first port f number = by f.idcode
   where
-    by : (code : Option ℕ) → length (ident_part first port (record f { idcode = code }) number) ≡ ident_size code
+    by : (code : Option ℕ) → length (ident_part first port (record f { idcode = code }) number) ≡ code_size f.usercode code
     by None = refl
-    by (Some code) = ident_length (first + ident_from f) number (tap_at first port) (instruction_at first port f).ident_on port.tdi code
+    by (Some code) =
+        ident_length (first + ident_from f) number (tap_at first port) (instruction_at first port f).ident_on (instruction_at first port f).user_on port.tdi f.usercode code
 
 pub logic_lengths : (first : ℕ) (port : TapPort) (f : Fitted) (number : ℕ) → LogicLengths first port f number
 logic_lengths first port f number = record {

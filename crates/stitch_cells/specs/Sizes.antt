@@ -11,7 +11,7 @@ use Rattle.stitch_model.specs.declared.Site.{Site}
 use Rattle.stitch_model.specs.declared.Site.TheVariants as site
 use Rattle.stitch_model.specs.Sites.{site_of, sides_of}
 use Rattle.stitch_model.specs.Rows.{row_nets, nets_of_rows}
-use Rattle.stitch_model.specs.Logic.{instruction_from, bypass_from, ident_from, ident_size, logic_size, controller_part, instruction_part, bypass_part, ident_part}
+use Rattle.stitch_model.specs.Logic.{instruction_from, bypass_from, ident_from, code_size, logic_size, controller_part, instruction_part, bypass_part, ident_part}
 use Rattle.stitch_model.specs.Stitched.{boundary_at, first_net, tdo_part, stitched}
 use Rattle.stitch_laws.specs.Places.{port_of, instruction_number, bypass_number, ident_number, register_number, tdo_number, rows_before, row_number}
 use Rattle.stitch_cells.specs.Cells.{gates_of_row, drivers_of_row}
@@ -45,7 +45,7 @@ pub record LogicLengths (first : ℕ) (port : TapPort) (f : Fitted) (number : �
   pub controller : length (controller_part first port number) ≡ instruction_from
   pub instruction : length (instruction_part first port f number) ≡ instruction_size f.codes
   pub bypass : length (bypass_part first port f number) ≡ 5
-  pub ident : length (ident_part first port f number) ≡ ident_size f.idcode
+  pub ident : length (ident_part first port f number) ≡ code_size f.usercode f.idcode
 
 pub record RowLengths (N : NetlistView) (f : Fitted) (k : ℕ) (row : FitRow) : Type 0 where
   pub gates : length (gates_of_row N f k row) ≡ row_gates N.ports row

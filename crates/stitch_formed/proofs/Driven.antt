@@ -21,7 +21,7 @@ use Rattle.stitch_model.specs.declared.Site.TheVariants as site
 use Rattle.stitch_model.specs.Sites.{row_net, site_of, side_count, row_sides}
 use Rattle.stitch_model.specs.Sides.{is_moved, core_side, core_cell}
 use Rattle.stitch_model.specs.Rows.{row_nets, net_at}
-use Rattle.stitch_model.specs.Logic.{instruction_from, bypass_from, ident_from, ident_size, logic_size, tap_at, instruction_at, bypass_at, ident_at, controller_part, instruction_part, bypass_part, ident_part}
+use Rattle.stitch_model.specs.Logic.{instruction_from, bypass_from, ident_from, code_size, logic_size, tap_at, instruction_at, bypass_at, ident_at, controller_part, instruction_part, bypass_part, ident_part}
 use Rattle.stitch_model.specs.Stitched.{boundary_at, first_net, boundary_last, tdo_part, stitched}
 use Rattle.stitch_laws.specs.Places.{port_of, instruction_number, bypass_number, ident_number, tdo_number, register_net, row_first, row_side, row_number}
 use Rattle.stitch_rows.specs.Rows.{StandsAt, at_observed, at_input, at_output, at_added, at_driver, at_inout, at_control}
@@ -73,7 +73,7 @@ bypass_driven N names f well j low =
     driven_by N names f well (bypass_number N f + j) (first_net N f + bypass_from f + j) there.0 (of_bypass (record { place = j; is = refl; at = there.1 }))
     (turn_at (first_net N f + bypass_from f) cells j there.0 (logic_turns (first_net N f) (port_of N) f (bypass_number N f)).bypass there.1)
 
-ident_driven : (N : NetlistView) (names : TapNames) (f : Fitted) → FitsWell N f → (j : ℕ) → j < ident_size f.idcode → IsDriven (stitched N names f) (first_net N f + ident_from f + j)
+ident_driven : (N : NetlistView) (names : TapNames) (f : Fitted) → FitsWell N f → (j : ℕ) → j < code_size f.usercode f.idcode → IsDriven (stitched N names f) (first_net N f + ident_from f + j)
 ident_driven N names f well j low =
     let cells = ident_part (first_net N f) (port_of N) f (ident_number N f) in
     let many = (logic_lengths (first_net N f) (port_of N) f (ident_number N f)).ident in

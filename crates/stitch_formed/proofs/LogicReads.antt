@@ -16,7 +16,7 @@ use Rattle.netlist_model.specs.Lists.{CellView, NetlistView, cell_at, cell_count
 use Rattle.gate_parts.specs.Parts.{part_cells}
 use Rattle.test_logic.specs.declared.ScanNets.{ScanNets}
 use Rattle.register_gates.specs.declared.tdo.TheConstants.{TDO}
-use Rattle.register_gates.specs.Constants.{constant_bits}
+use Rattle.register_gates.specs.Registers.{user_size, captured_feeds}
 use Rattle.register_gates.specs.Tdo.{ident_feed, tdo_given, tdo_driver}
 use Rattle.register_gates.proofs.ConstantBits.{counted}
 use Rattle.instruction_register.specs.Register.{pattern_bits, stages_size, opcodes_size, matched_instructions}
@@ -30,7 +30,8 @@ use Rattle.stitch_model.specs.declared.Site.TheVariants as site
 use Rattle.stitch_model.specs.Sites.{Boundary, row_net, site_of, side_count, row_sides}
 use Rattle.stitch_model.specs.Sides.{core_cell, core_feed, level_net}
 use Rattle.stitch_model.specs.Rows.{row_nets, nets_by, net_at, control_row, enable_of, is_active_high, added_driver, last_bit, nets_of_rows}
-use Rattle.stitch_model.specs.Logic.{instruction_from, bypass_from, ident_from, ident_size, tap_at, instruction_at, bypass_at, ident_at, controller_part, instruction_part, bypass_part, ident_part}
+use Rattle.stitch_model.proofs.Few.{captured_counted}
+use Rattle.stitch_model.specs.Logic.{instruction_from, bypass_from, ident_from, code_size, tap_at, instruction_at, bypass_at, ident_at, controller_part, instruction_part, bypass_part, ident_part}
 use Rattle.stitch_model.specs.Stitched.{boundary_at, first_net, boundary_last, tdo_part}
 use Rattle.stitch_laws.specs.Places.{port_of, scan_of, instruction_number, bypass_number, ident_number, tdo_number, register_net, rows_before, row_first, row_side, row_number, row_next, handed_at, boundary_row, drivers_at}
 use Rattle.stitch_rows.specs.Rows.{HasGate, HasControl, IsOperand, StandsAt, at_observed, at_input, at_output, at_added, at_driver, at_inout, at_control}
@@ -292,12 +293,14 @@ added_reads N f well k row there cell a =
 ident_read : (N : NetlistView) (f : Fitted) → FeedsAre (OperandOf N f) (ident_feed (ident_at (first_net N f) (port_of N) f) ∷ [])
 ident_read N f = by f.idcode (λ net low high. logic_net N f net (omega arith) (omega arith))
   where
-    by : (code : Option ℕ) → ((net : ℕ) → first_net N f + ident_from f ≤ net → net < first_net N f + (ident_from f + ident_size code) → OperandOf N f net)
+    by : (code : Option ℕ) → ((net : ℕ) → first_net N f + ident_from f ≤ net → net < first_net N f + (ident_from f + code_size f.usercode code) → OperandOf N f net)
         → FeedsAre (OperandOf N f) (ident_feed (ident_at (first_net N f) (port_of N) (record f { idcode = code })) ∷ [])
     by None own = tt
     by (Some code) own =
-        let many : length (constant_bits 32 code) ≡ 32 = counted 32 code in (
-          last_is (OperandOf N f) (first_net N f + ident_from f + 2) (port_of N).tdi (constant_bits 32 code) (tap_read (inr (inr (inl refl))))
+        let start : ℕ = first_net N f + ident_from f in
+        let captured : List Feed = captured_feeds start (instruction_at (first_net N f) (port_of N) f).user_on f.usercode code in
+        let many : length captured ≡ 32 = captured_counted start (instruction_at (first_net N f) (port_of N) f).user_on f.usercode code in (
+          last_is (OperandOf N f) (start + user_size f.usercode + 2) (port_of N).tdi captured (tap_read (inr (inr (inl refl))))
               (λ net low high. own net (omega arith) (omega arith)),
           tt,
         )

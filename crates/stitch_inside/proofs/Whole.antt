@@ -1,5 +1,5 @@
 -- The stitched netlist has the device's test logic around the core.
-use Rattle.std.proofs.Common.{◌≡◌, ℕ, suc, ◌+◌, ◌<◌, ◌||◌, not, Bool, true, false, IsTrue, List, [], ◌∷◌, length, drop, refl, ap, sym, ◌∙◌, subst, Option, Some, None, arith}
+use Rattle.std.proofs.Common.{◌≡◌, ℕ, suc, ◌+◌, ◌<◌, ◌||◌, not, Bool, true, false, List, [], ◌∷◌, length, drop, refl, ap, sym, ◌∙◌, subst, Option, Some, None, arith}
 use Rattle.std.specs.Prelude.{slice_get, option_and_then, find, is_some}
 use Rattle.std.specs.List.{list_any}
 use Rattle.std.specs.Option.{option_map}
@@ -147,14 +147,14 @@ no_opcode : (opcodes : List Opcode) (i : Instr) → has_opcode opcodes i ≡ fal
 unfolding has_opcode
 no_opcode opcodes i lacks = ap (option_map (λ (o : Opcode). o.bits)) (none_any (λ (o : Opcode). is_instruction i o.instr) opcodes lacks)
 
-no_usercode : (user code : Option ℕ) → IsTrue (not (is_some user) || is_some code) → code ≡ None → is_some user ≡ false
+no_usercode : (user code : Option ℕ) → (not (is_some user) || is_some code) ≡ true → code ≡ None → is_some user ≡ false
 no_usercode None code beside none = refl
-no_usercode (Some user) None beside none = absurd (cc)
+no_usercode (Some user) None beside none = absurd (let bad : false ≡ true = beside in cc)
 no_usercode (Some user) (Some code) beside none = absurd (cc)
 
 -- without a code the opcodes lack what selects the identification register
 no_code : (opcodes : List Opcode) (user code : Option ℕ) → has_opcode opcodes instr.Idcode ≡ is_some code → has_opcode opcodes instr.Usercode ≡ is_some user
-    → IsTrue (not (is_some user) || is_some code) → code ≡ None → (i : Instr) → selected_register i ≡ register.DeviceId → opcode_of opcodes i ≡ None
+    → (not (is_some user) || is_some code) ≡ true → code ≡ None → (i : Instr) → selected_register i ≡ register.DeviceId → opcode_of opcodes i ≡ None
 no_code opcodes user code same same' beside none instr.Idcode device = no_opcode opcodes instr.Idcode (same ∙ ap (λ (c : Option ℕ). is_some c) none)
 no_code opcodes user code same same' beside none instr.Usercode device = no_opcode opcodes instr.Usercode (same' ∙ no_usercode user code beside none)
 no_code opcodes user code same same' beside none instr.Bypass device = absurd (cc)

@@ -1,5 +1,5 @@
 -- The cells of the test logic are named: each has an added name and an output, and is no `assign`.
-use Rattle.std.proofs.Common.{◌≡◌, ℕ, ◌+◌, ◌*◌, Bool, true, false, List, [], ◌∷◌, ◌++◌, length, refl, subst, inl, inr, Option, Some, None}
+use Rattle.std.proofs.Common.{◌≡◌, ℕ, zero, suc, ◌+◌, ◌*◌, Bool, true, false, List, [], ◌∷◌, ◌++◌, length, refl, subst, inl, inr, Option, Some, None}
 use Rattle.std.specs.Prelude.{slice_get, IsTrue}
 use Rattle.std.specs.List.{list_all}
 use Rattle.std.specs.Option.{option_map_or}
@@ -24,22 +24,24 @@ use Rattle.register_bits.specs.declared.TheConstants.{SHIFT_BIT, CLEARED_BIT, PR
 use Rattle.register_bits.specs.Bits.{shift_bit_given, shift_bit_cells, held_bit, held_bit_given}
 use Rattle.register_bits.specs.Chains.{chain_last, chain_cells}
 use Rattle.register_gates.specs.declared.TheConstants.{SELECTED}
+use Rattle.register_gates.specs.declared.ident.TheConstants.{INVERSE}
 use Rattle.register_gates.specs.declared.tdo.TheConstants.{TDO}
-use Rattle.register_gates.specs.Constants.{constant_bits}
-use Rattle.register_gates.specs.Registers.{selected_given, selected_cells, selected_steering, bypass_cells, ident_cells}
+use Rattle.register_gates.specs.Registers.{selected_given, selected_cells, selected_steering, bypass_cells, data_cells, user_size, inverse_cells, captured_feeds, ident_cells}
 use Rattle.register_gates.specs.Tdo.{tdo_given, tdo_driver}
 use Rattle.instruction_gates.specs.declared.latches.Latching.{Latching}
 use Rattle.instruction_gates.specs.declared.latches.TheConstants.{LOADED}
 use Rattle.instruction_gates.specs.declared.matches.TheConstants.{EQUAL_BIT}
 use Rattle.instruction_gates.specs.declared.selections.Matched.{Matched}
+use Rattle.instruction_gates.specs.declared.copies.TheConstants.{COPY}
 use Rattle.instruction_gates.specs.declared.selections.TheConstants.{SELECTIONS}
 use Rattle.instruction_gates.specs.declared.stages.TheConstants.{LOADS}
 use Rattle.instruction_gates.specs.Rows.{is_one, row_cells as bit_cells, placed}
 use Rattle.instruction_gates.specs.Latches.{loaded_given, latch_cells, latches_cells, holding_of}
 use Rattle.instruction_gates.specs.Matches.{match_before, equal_given, match_cells, matches_cells}
-use Rattle.instruction_gates.specs.Selections.{selections_given}
+use Rattle.instruction_gates.specs.Copies.{copy_given, copies_cells}
+use Rattle.instruction_gates.specs.Selections.{selections_given, selections_cells}
 use Rattle.instruction_gates.specs.Stages.{loads_given, ir_steering, ir_latching, shift_stage_cells, stages_cells}
-use Rattle.instruction_register.specs.Register.{pattern_bits, latches_from, cells_with, opcode_size, opcode_cells, matched_instructions, opcodes_cells, opcodes_told, opcodes_from, selections_from, instruction_cells}
+use Rattle.instruction_register.specs.Register.{pattern_bits, latches_from, cells_with, opcode_size, opcode_cells, matched_instructions, opcodes_cells, opcodes_told, opcodes_from, selections_from, copies_from, instruction_cells}
 use Rattle.boundary_cells.specs.declared.tables.Choice.{Choice}
 use Rattle.boundary_cells.specs.declared.tables.TheConstants.{BC_1, BC_2, UPDATES, BC_1_CONTROL, BC_2_CONTROL, BC_7_HIGH, BC_7_LOW, BC_1_LEVEL, BC_2_LEVEL}
 use Rattle.boundary_cells.specs.Cells.{steering_of, choice_cell, cells_onto, cell_given, output_cells}
@@ -138,6 +140,11 @@ module _ (law : PartIsNamed) where
   opcodes first number at codes (i ∷ rest) =
       both (opcode_cells first number at codes i) _ (opcode first number at codes (opcode_of codes.opcodes i)) (opcodes (first + opcode_size codes i) (number + opcode_size codes i) at codes rest)
 
+  copies : (first number at count : ℕ) → AreNamed (copies_cells first number at count)
+  copies first number at zero = none
+  copies first number at (suc behind) =
+      both (part_cells COPY (copy_given at behind) first number) _ (table COPY (copy_given at behind) first number refl) (copies (suc first) (suc number) at behind)
+
   instruction : (first number : ℕ) (tap : TapNets) (tdi : NetId) (codes : Codes) → AreNamed (instruction_cells first number tap tdi codes)
   instruction first number tap tdi codes =
       let told : Matched = opcodes_told (opcodes_from first codes) codes in
@@ -145,7 +152,9 @@ module _ (law : PartIsNamed) where
       (stages first number tap tdi (pattern_bits codes codes.capture) (pattern_bits codes codes.reset))
       (both (opcodes_cells (opcodes_from first codes) (opcodes_from number codes) (latches_from first codes) codes matched_instructions) _
       (opcodes (opcodes_from first codes) (opcodes_from number codes) (latches_from first codes) codes matched_instructions)
-      (table SELECTIONS (selections_given tap told) (selections_from first codes) (selections_from number codes) refl))
+      (both (selections_cells (selections_from first codes) (selections_from number codes) tap told) _
+      (table SELECTIONS (selections_given tap told) (selections_from first codes) (selections_from number codes) refl)
+      (copies (copies_from first codes) (copies_from number codes) (latches_from first codes) codes.length)))
 
   -- The registers.
 
@@ -153,13 +162,19 @@ module _ (law : PartIsNamed) where
   bypass first number tap on tdi =
       both (selected_cells first number tap on) _ (table SELECTED (selected_given tap on) first number refl) (shift_bit (first + 2) (number + 2) (selected_steering first tap) (Const false) tdi)
 
-  ident : (first number : ℕ) (tap : TapNets) (on tdi : NetId) (code : ℕ) → AreNamed (ident_cells first number tap on tdi code)
-  ident first number tap on tdi code =
-      both (selected_cells first number tap on) _ (table SELECTED (selected_given tap on) first number refl) (chain (first + 2) (number + 2) (selected_steering first tap) tdi (constant_bits 32 code))
+  inverse : (first number : ℕ) (user_on : NetId) (user : Option ℕ) → AreNamed (inverse_cells first number user_on user)
+  inverse first number user_on None = none
+  inverse first number user_on (Some user) = table INVERSE (Net user_on ∷ []) first number refl
 
-  ident_or_none : (first number : ℕ) (tap : TapNets) (on tdi : NetId) (code : Option ℕ) → AreNamed (option_map_or (ident_cells first number tap on tdi) code [])
-  ident_or_none first number tap on tdi None = none
-  ident_or_none first number tap on tdi (Some code) = ident first number tap on tdi code
+  data_register : (first number : ℕ) (tap : TapNets) (on tdi : NetId) (captured : List Feed) → AreNamed (data_cells first number tap on tdi captured)
+  data_register first number tap on tdi captured =
+      both (selected_cells first number tap on) _ (table SELECTED (selected_given tap on) first number refl) (chain (first + 2) (number + 2) (selected_steering first tap) tdi captured)
+
+  ident_or_none : (first number : ℕ) (tap : TapNets) (on user_on tdi : NetId) (user code : Option ℕ) → AreNamed (option_map_or (ident_cells first number tap on user_on tdi user) code [])
+  ident_or_none first number tap on user_on tdi user None = none
+  ident_or_none first number tap on user_on tdi user (Some code) =
+      both (inverse_cells first number user_on user) _ (inverse first number user_on user)
+      (data_register (first + user_size user) (number + user_size user) tap on tdi (captured_feeds first user_on user code))
 
   logic : (first number : ℕ) (port : TapPort) (f : Fitted) → AreNamed (logic_cells first number port f)
   logic first number port f =
@@ -170,7 +185,7 @@ module _ (law : PartIsNamed) where
       (in_turn number C (instruction_part first port f) (table CONTROLLER (tap_given port.tck port.tms port.trst) first number refl)
       (λ n. instruction (first + instruction_from) n (tap_at first port) port.tdi f.codes))
       (λ n. bypass (first + bypass_from f) n (tap_at first port) (instruction_at first port f).bypass_on port.tdi))
-      (λ n. ident_or_none (first + ident_from f) n (tap_at first port) (instruction_at first port f).ident_on port.tdi f.idcode)
+      (λ n. ident_or_none (first + ident_from f) n (tap_at first port) (instruction_at first port f).ident_on (instruction_at first port f).user_on port.tdi f.usercode f.idcode)
 
   -- The boundary register.
 

@@ -1,7 +1,7 @@
 -- What is added fits into the room that is taken for it.
 use Rattle.std.proofs.Common.{◌+◌, ◌*◌, ◌≤◌, List, [], ◌∷◌, length, arith}
 use Rattle.std.proofs.lemmas.List.Sums.{sum_by-cons}
-use Rattle.cell_library.specs.declared.codes.Instr.TheVariants.{Extest, Sample, Preload, Idcode, Highz, Clamp}
+use Rattle.cell_library.specs.declared.codes.Instr.TheVariants.{Extest, Sample, Preload, Idcode, Highz, Clamp, Usercode}
 use Rattle.netlist_model.specs.Lists.{PortView}
 use Rattle.test_logic.specs.Instructions.{opcode_of}
 use Rattle.plan_fitting.specs.declared.fitted.FitRow.{FitRow}
@@ -11,12 +11,12 @@ use Rattle.stitch_model.specs.declared.Site.TheVariants as site
 use Rattle.stitch_model.specs.Sites.{site_of, side_count, row_sides, sides_of}
 use Rattle.stitch_model.specs.Rows.{row_nets, nets_of_rows}
 use Rattle.stitch_model.specs.Logic.{logic_size}
-use Rattle.stitch_model.proofs.Few.{size_few, ident_few, nets_by_few}
+use Rattle.stitch_model.proofs.Few.{size_few, code_few, nets_by_few}
 use Rattle.stitch_cells.specs.Sizes.{choice_count, driver_count, row_size, cells_of_rows}
 use Rattle.stitch_cells.proofs.Counts.{counts}
 use Rattle.stitch_names.specs.Taken.{StitchedFitsRoom}
 
-logic_few : (f : Fitted) → logic_size f ≤ 162 + 18 * f.codes.length
+logic_few : (f : Fitted) → logic_size f ≤ 164 + 21 * f.codes.length
 logic_few f =
     let codes = f.codes in
     let a = size_few codes (opcode_of codes.opcodes Extest) in
@@ -25,7 +25,8 @@ logic_few f =
     let d = size_few codes (opcode_of codes.opcodes Idcode) in
     let e = size_few codes (opcode_of codes.opcodes Highz) in
     let g = size_few codes (opcode_of codes.opcodes Clamp) in
-    let i = ident_few f.idcode in
+    let h = size_few codes (opcode_of codes.opcodes Usercode) in
+    let i = code_few f.usercode f.idcode in
     omega arith
 
 record FewAt (at : Site) : Type 0 where

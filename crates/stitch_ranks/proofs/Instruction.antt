@@ -1,8 +1,8 @@
 -- The instruction register.
-use Rattle.std.proofs.Common.{◌≡◌, ℕ, zero, suc, ◌+◌, ◌*◌, ◌<◌, ◌≤◌, Bool, true, false, List, [], ◌∷◌, ◌++◌, length, length-append, refl, sym, ◌∙◌, subst, Option, Some, None, arith}
+use Rattle.std.proofs.Common.{◌≡◌, ℕ, zero, suc, ◌+◌, ◌*◌, ◌<◌, ◌≤◌, Bool, true, false, List, [], ◌∷◌, ◌++◌, length, length-append, refl, sym, ap, ◌∙◌, subst, Option, Some, None, arith}
 use Rattle.cell_library.specs.declared.codes.Bits.{Bits}
 use Rattle.cell_library.specs.declared.codes.Instr.{Instr}
-use Rattle.cell_library.specs.declared.codes.Instr.TheVariants.{Extest, Sample, Preload, Idcode, Highz, Clamp}
+use Rattle.cell_library.specs.declared.codes.Instr.TheVariants.{Extest, Sample, Preload, Idcode, Highz, Clamp, Usercode}
 use Rattle.netlist_model.specs.declared.NetId.{NetId}
 use Rattle.netlist_model.specs.declared.Feed.{Feed}
 use Rattle.gate_parts.specs.Levels.{AreFeedsUpTo}
@@ -17,17 +17,19 @@ use Rattle.register_gates.proofs.ConstantBits.{counted}
 use Rattle.instruction_gates.specs.declared.latches.TheConstants.{LOADED}
 use Rattle.instruction_gates.specs.declared.stages.TheConstants.{LOADS}
 use Rattle.instruction_gates.specs.declared.matches.TheConstants.{EQUAL_BIT}
+use Rattle.instruction_gates.specs.declared.copies.TheConstants.{COPY}
 use Rattle.instruction_gates.specs.declared.selections.TheConstants.{SELECTIONS}
 use Rattle.instruction_gates.specs.Matches.{match_before}
-use Rattle.instruction_gates.specs.Selections.{selections_given, selection_nets}
+use Rattle.instruction_gates.specs.Copies.{copies_cells}
+use Rattle.instruction_gates.specs.Selections.{selections_given, selections_cells, selection_nets}
 use Rattle.instruction_gates.specs.Stages.{stages_cells}
-use Rattle.instruction_register.specs.Register.{pattern_bits, stages_size, latches_from, size_with, cells_with, told_with, opcode_size, opcode_cells, matched_instructions, opcodes_size, opcodes_cells, opcodes_told, opcodes_from, selections_from, instruction_size, instruction_cells, instruction_nets}
+use Rattle.instruction_register.specs.Register.{pattern_bits, stages_size, latches_from, size_with, cells_with, told_with, opcode_size, opcode_cells, matched_instructions, opcodes_size, opcodes_cells, opcodes_told, opcodes_from, selections_from, copies_from, instruction_size, instruction_cells, instruction_nets}
 use Rattle.part_levels.specs.Above.{AreAbove, AreRanked, PartsStandAbove}
 use Rattle.part_levels.specs.Registers.{selections_levels, SelectionsStandAbove, AreBitsRanked}
-use Rattle.part_levels.specs.Instructions.{one_level, held_levels, equal_levels, AreLatchesRanked, StagesStandAbove, MatchesStandAbove}
+use Rattle.part_levels.specs.Instructions.{one_level, held_levels, equal_levels, AreLatchesRanked, StagesStandAbove, MatchesStandAbove, AreCopiesRanked, CopiesStandAbove}
 use Rattle.part_levels.proofs.Feeds.{up_cons, up_constants}
-use Rattle.stitch_ranks.proofs.Places.{StandAt, front_at, behind_at, first_at, levels_at, ranked, blocks, length_triples, triples_at, length_pairs, pairs_at}
-use Rattle.stitch_ranks.proofs.Ranks.{shift_block, latch_block, match_block, stages_ranks, opcode_ranks, opcodes_ranks, instruction_ranks, control_top}
+use Rattle.stitch_ranks.proofs.Places.{StandAt, front_at, behind_at, moved_at, first_at, levels_at, ranked, blocks, length_triples, triples_at, length_pairs, pairs_at}
+use Rattle.stitch_ranks.proofs.Ranks.{shift_block, latch_block, match_block, stages_ranks, opcode_ranks, opcodes_ranks, copies_ranks, instruction_ranks, control_top}
 use Rattle.stitch_ranks.proofs.Logic.{shift_length, bits_ranked, AreTapNetsLow}
 
 -- Lengths.
@@ -59,13 +61,20 @@ length_opcodes codes (i ∷ rest) =
     let c = length_opcodes codes rest in
     omega arith
 
+length_copies : (count : ℕ) → length (copies_ranks count) ≡ count
+length_copies zero = refl
+length_copies (suc behind) = ap suc (length_copies behind)
+
 pub length_instruction : (codes : Codes) → length (instruction_ranks codes) ≡ instruction_size codes
 length_instruction codes =
-    let a = length-append (stages_ranks codes.length) (opcodes_ranks codes matched_instructions ++ levels_at (2 * codes.length) selections_levels) in
-    let b = length-append (opcodes_ranks codes matched_instructions) (levels_at (2 * codes.length) selections_levels) in
+    let selections : List ℕ = levels_at (2 * codes.length) selections_levels in
+    let a = length-append (stages_ranks codes.length) (opcodes_ranks codes matched_instructions ++ (selections ++ copies_ranks codes.length)) in
+    let b = length-append (opcodes_ranks codes matched_instructions) (selections ++ copies_ranks codes.length) in
+    let b' = length-append selections (copies_ranks codes.length) in
     let c = length_stages codes.length in
     let d = length_opcodes codes matched_instructions in
-    let e : length (levels_at (2 * codes.length) selections_levels) ≡ 9 = refl in
+    let e : length selections ≡ 10 = refl in
+    let e' = length_copies codes.length in
     omega arith
 
 -- The two stages.
@@ -173,15 +182,37 @@ selected_up : (rank : ℕ → ℕ) (first : ℕ) (codes : Codes) (tap : TapNets)
     → AreFeedsUpTo rank (2 * codes.length) (selections_given tap (opcodes_told first codes))
 selected_up rank first codes tap at low =
     let top : ℕ = 2 * codes.length in
-    let a = told rank first codes Extest (Sample ∷ Preload ∷ Idcode ∷ Highz ∷ Clamp ∷ []) at in
-    let b = told rank (first + opcode_size codes Extest) codes Sample (Preload ∷ Idcode ∷ Highz ∷ Clamp ∷ []) a.more in
-    let c = told rank (first + opcode_size codes Extest + opcode_size codes Sample) codes Preload (Idcode ∷ Highz ∷ Clamp ∷ []) b.more in
-    let d = told rank (first + opcode_size codes Extest + opcode_size codes Sample + opcode_size codes Preload) codes Idcode (Highz ∷ Clamp ∷ []) c.more in
-    let e = told rank (first + opcode_size codes Extest + opcode_size codes Sample + opcode_size codes Preload + opcode_size codes Idcode) codes Highz (Clamp ∷ []) d.more in
-    let g = told rank (first + opcode_size codes Extest + opcode_size codes Sample + opcode_size codes Preload + opcode_size codes Idcode + opcode_size codes Highz) codes Clamp [] e.more in
+    let sample : ℕ = first + opcode_size codes Extest in
+    let preload : ℕ = sample + opcode_size codes Sample in
+    let idcode : ℕ = preload + opcode_size codes Preload in
+    let highz : ℕ = idcode + opcode_size codes Idcode in
+    let clamp : ℕ = highz + opcode_size codes Highz in
+    let usercode : ℕ = clamp + opcode_size codes Clamp in
+    let a = told rank first codes Extest (Sample ∷ Preload ∷ Idcode ∷ Highz ∷ Clamp ∷ Usercode ∷ []) at in
+    let b = told rank sample codes Sample (Preload ∷ Idcode ∷ Highz ∷ Clamp ∷ Usercode ∷ []) a.more in
+    let c = told rank preload codes Preload (Idcode ∷ Highz ∷ Clamp ∷ Usercode ∷ []) b.more in
+    let d = told rank idcode codes Idcode (Highz ∷ Clamp ∷ Usercode ∷ []) c.more in
+    let e = told rank highz codes Highz (Clamp ∷ Usercode ∷ []) d.more in
+    let g = told rank clamp codes Clamp (Usercode ∷ []) e.more in
+    let h = told rank usercode codes Usercode [] g.more in
     let t0 = low.capture_dr in let t1 = low.shift_dr in let t2 = low.update_dr in
-    up_cons rank top _ _ a.up (up_cons rank top _ _ b.up (up_cons rank top _ _ c.up (up_cons rank top _ _ d.up (up_cons rank top _ _ e.up (up_cons rank top _ _ g.up
-    (omega arith, (omega arith, (omega arith, tt))))))))
+    up_cons rank top _ _ a.up (up_cons rank top _ _ b.up (up_cons rank top _ _ c.up (up_cons rank top _ _ d.up (up_cons rank top _ _ e.up (up_cons rank top _ _ g.up (up_cons rank top _ _ h.up
+    (omega arith, (omega arith, (omega arith, tt)))))))))
+
+-- Copies of the latched bits.
+
+copy_ranked : (rank : ℕ → ℕ) (first count : ℕ) → StandAt rank first (copies_ranks count) → AreCopiesRanked rank first 0 count
+copy_ranked rank first zero at k low = absurd (omega arith)
+copy_ranked rank first (suc behind) at zero low =
+    ranked rank (first + 0) 0 one_level COPY refl (moved_at rank first (first + 0) (levels_at 0 one_level) (omega arith) (front_at rank first (levels_at 0 one_level) (copies_ranks behind) at))
+copy_ranked rank first (suc behind) at (suc k) low =
+    subst (λ (n : ℕ). AreRanked rank n 0 one_level COPY) (let e : first + 1 + k ≡ first + suc k = omega arith in e)
+    (copy_ranked rank (first + 1) behind (behind_at rank first 1 (levels_at 0 one_level) (copies_ranks behind) refl at) k (omega arith))
+
+copies_above : CopiesStandAbove → (rank : ℕ → ℕ) (first number latched count : ℕ) → StandAt rank first (copies_ranks count) → StandAt rank latched (blocks latch_block count)
+    → AreAbove rank (copies_cells first number latched count)
+copies_above law rank first number latched count at low =
+    law rank first number 0 latched count (copy_ranked rank first count at) (λ k less. let e = latch_low rank latched count low k (omega arith) in omega arith)
 
 -- The whole register.
 
@@ -189,21 +220,25 @@ pub record IsInstructionThere (rank : ℕ → ℕ) (first : ℕ) (codes : Codes)
   pub stages : StandAt rank first (stages_ranks codes.length)
   pub opcodes : StandAt rank (opcodes_from first codes) (opcodes_ranks codes matched_instructions)
   pub selections : StandAt rank (selections_from first codes) (levels_at (2 * codes.length) selections_levels)
+  pub copies : StandAt rank (copies_from first codes) (copies_ranks codes.length)
 
 pub instruction_there : (rank : ℕ → ℕ) (first : ℕ) (codes : Codes) → StandAt rank first (instruction_ranks codes) → IsInstructionThere rank first codes
 instruction_there rank first codes at =
-    let rest : List ℕ = opcodes_ranks codes matched_instructions ++ levels_at (2 * codes.length) selections_levels in
+    let selections : List ℕ = levels_at (2 * codes.length) selections_levels in
+    let last : List ℕ = selections ++ copies_ranks codes.length in
+    let rest : List ℕ = opcodes_ranks codes matched_instructions ++ last in
     let more = behind_at rank first (stages_size codes) (stages_ranks codes.length) rest (length_stages codes.length) at in
+    let behind = behind_at rank (opcodes_from first codes) (opcodes_size codes matched_instructions) (opcodes_ranks codes matched_instructions) last (length_opcodes codes matched_instructions) more in
     record {
       stages = front_at rank first (stages_ranks codes.length) rest at;
-      opcodes = front_at rank (opcodes_from first codes) (opcodes_ranks codes matched_instructions) (levels_at (2 * codes.length) selections_levels) more;
-      selections = behind_at rank (opcodes_from first codes) (opcodes_size codes matched_instructions) (opcodes_ranks codes matched_instructions) (levels_at (2 * codes.length) selections_levels)
-          (length_opcodes codes matched_instructions) more;
+      opcodes = front_at rank (opcodes_from first codes) (opcodes_ranks codes matched_instructions) last more;
+      selections = front_at rank (selections_from first codes) selections (copies_ranks codes.length) behind;
+      copies = behind_at rank (selections_from first codes) 10 selections (copies_ranks codes.length) refl behind;
     }
 
-pub instruction_above : StagesStandAbove → MatchesStandAbove → SelectionsStandAbove → PartsStandAbove → (rank : ℕ → ℕ) (first number : ℕ) (tap : TapNets) (tdi : NetId) (codes : Codes)
+pub instruction_above : StagesStandAbove → MatchesStandAbove → SelectionsStandAbove → CopiesStandAbove → PartsStandAbove → (rank : ℕ → ℕ) (first number : ℕ) (tap : TapNets) (tdi : NetId) (codes : Codes)
     → IsInstructionThere rank first codes → AreTapNetsLow rank tap → rank tdi.0 ≡ 0 → AreAbove rank (instruction_cells first number tap tdi codes)
-instruction_above stages matches selections joined rank first number tap tdi codes there low a =
+instruction_above stages matches selections copies joined rank first number tap tdi codes there low a =
     let captured : List Feed = pattern_bits codes codes.capture in
     let presets : List Feed = pattern_bits codes codes.reset in
     let at = stages_there rank first codes.length there.stages in
@@ -212,9 +247,11 @@ instruction_above stages matches selections joined rank first number tap tdi cod
     (up_constants rank 0 codes.length codes.capture.value))
     (joined rank (opcodes_cells (opcodes_from first codes) (opcodes_from number codes) (latches_from first codes) codes matched_instructions) _
     (opcodes_above matches joined rank (opcodes_from first codes) (opcodes_from number codes) (latches_from first codes) codes matched_instructions there.opcodes at.latches)
+    (joined rank (selections_cells (selections_from first codes) (selections_from number codes) tap (opcodes_told (opcodes_from first codes) codes)) _
     (selections rank (selections_from first codes) (selections_from number codes) (2 * codes.length) tap (opcodes_told (opcodes_from first codes) codes)
     (ranked rank (selections_from first codes) (2 * codes.length) selections_levels SELECTIONS refl there.selections)
-    (selected_up rank (opcodes_from first codes) codes tap there.opcodes low)))
+    (selected_up rank (opcodes_from first codes) codes tap there.opcodes low))
+    (copies_above copies rank (copies_from first codes) (copies_from number codes) (latches_from first codes) codes.length there.copies at.latches)))
 
 -- what it hands on
 pub record IsScanUpTo (rank : ℕ → ℕ) (top : ℕ) (scan : ScanNets) : Type 0 where
@@ -232,6 +269,7 @@ pub record AreInstrNetsUpTo (rank : ℕ → ℕ) (top : ℕ) (nets : InstrNets) 
   pub last : rank nets.last.0 ≤ top
   pub bypass_on : rank nets.bypass_on.0 ≤ top
   pub ident_on : rank nets.ident_on.0 ≤ top
+  pub user_on : rank nets.user_on.0 ≤ top
   pub scan : IsScanUpTo rank top nets.scan
 
 selection_nets_up : (rank : ℕ → ℕ) (first base : ℕ) (tap : TapNets) (last : NetId) → StandAt rank first (levels_at base selections_levels) → AreTapNetsLow rank tap → rank last.0 ≡ 0
@@ -239,11 +277,12 @@ selection_nets_up : (rank : ℕ → ℕ) (first base : ℕ) (tap : TapNets) (las
 selection_nets_up rank first base tap last at low a =
     let t = low.tck in let r = low.trst in
     let e1 = at 1 (base + 2) refl in let e2 = at 2 (base + 1) refl in let e3 = at 3 (base + 1) refl in let e4 = at 4 (base + 1) refl in let e5 = at 5 (base + 1) refl in
-    let e6 = at 6 (base + 2) refl in let e7 = at 7 (base + 2) refl in let e8 = at 8 (base + 2) refl in
+    let e6 = at 6 (base + 2) refl in let e7 = at 7 (base + 2) refl in let e8 = at 8 (base + 2) refl in let e9 = at 9 (base + 1) refl in
     record {
       last = omega arith;
       bypass_on = omega arith;
       ident_on = omega arith;
+      user_on = omega arith;
       scan = record {
         tck = omega arith;
         trst = omega arith;

@@ -1,5 +1,5 @@
 -- The controller, the bypass register, the identification register and TDO.
-use Rattle.std.proofs.Common.{◌≡◌, ℕ, ◌+◌, ◌*◌, ◌≤◌, [], ◌∷◌, length, refl, Option, Some, arith}
+use Rattle.std.proofs.Common.{◌≡◌, ℕ, ◌+◌, ◌*◌, ◌≤◌, [], ◌∷◌, length, refl, Option, Some, None, arith}
 use Rattle.netlist_model.specs.declared.NetId.{NetId}
 use Rattle.netlist_model.specs.declared.Feed.TheVariants.{Net}
 use Rattle.gate_parts.specs.Levels.{AreFeedsUpTo}
@@ -10,14 +10,15 @@ use Rattle.tap_gates.specs.Controller.{tap_cells, tap_nets}
 use Rattle.tap_gates.specs.Laws.{tap_levels}
 use Rattle.register_bits.specs.declared.TheConstants.{SHIFT_BIT}
 use Rattle.register_gates.specs.declared.TheConstants.{SELECTED}
+use Rattle.register_gates.specs.declared.ident.TheConstants.{INVERSE}
 use Rattle.register_gates.specs.declared.tdo.TheConstants.{TDO}
-use Rattle.register_gates.specs.Registers.{bypass_cells, ident_cells}
+use Rattle.register_gates.specs.Registers.{bypass_cells, user_size, ident_cells}
 use Rattle.register_gates.specs.Tdo.{ident_feed, tdo_cells}
 use Rattle.part_levels.specs.Above.{AreAbove}
-use Rattle.part_levels.specs.Registers.{TapStandsAbove, shift_levels, selected_levels, AreBitsRanked, BypassStandsAbove, IdentStandsAbove, IsHandedUpTo, tdo_levels, TdoStandsAbove}
+use Rattle.part_levels.specs.Registers.{TapStandsAbove, shift_levels, selected_levels, AreBitsRanked, BypassStandsAbove, inverse_levels, IsInverseRanked, IdentStandsAbove, IsHandedUpTo, tdo_levels, TdoStandsAbove}
 use Rattle.part_levels.proofs.Feeds.{up_cons}
 use Rattle.stitch_ranks.proofs.Places.{StandAt, front_at, behind_at, first_at, levels_at, ranked, blocks, triples_at}
-use Rattle.stitch_ranks.proofs.Ranks.{shift_block, bypass_ranks, ident_ranks}
+use Rattle.stitch_ranks.proofs.Ranks.{shift_block, bypass_ranks, inverse_ranks, data_ranks, ident_ranks}
 
 pub shift_length : (base k : ℕ) → length (shift_block base k) ≡ 3
 shift_length base k = refl
@@ -77,13 +78,24 @@ bypass_above law rank first number top tap on tdi at low a b =
 pub bypass_low : (rank : ℕ → ℕ) (first top : ℕ) → StandAt rank first (bypass_ranks top) → rank (first + 2) ≡ 0
 bypass_low rank first top at = at 2 0 refl
 
-pub ident_above : IdentStandsAbove → (rank : ℕ → ℕ) (first number top : ℕ) (tap : TapNets) (on tdi : NetId) (code : ℕ) → StandAt rank first (ident_ranks top (Some code))
-    → AreTapNetsLow rank tap → rank on.0 ≤ top → rank tdi.0 ≡ 0 → AreAbove rank (ident_cells first number tap on tdi code)
-ident_above law rank first number top tap on tdi code at low a b =
-    law rank first number top tap on tdi code
-    (ranked rank first top selected_levels SELECTED refl (front_at rank first (levels_at top selected_levels) (blocks (shift_block (top + 1)) 32) at))
-    (bits_ranked rank (first + 2) (top + 1) 32 (behind_at rank first 2 (levels_at top selected_levels) (blocks (shift_block (top + 1)) 32) refl at))
-    (handed rank top tap on tdi low a b)
+pub length_inverse : (top : ℕ) (user : Option ℕ) → length (inverse_ranks top user) ≡ user_size user
+length_inverse top None = refl
+length_inverse top (Some user) = refl
+
+inverse_ranked : (rank : ℕ → ℕ) (first top : ℕ) (user : Option ℕ) → StandAt rank first (inverse_ranks top user) → IsInverseRanked rank first top user
+inverse_ranked rank first top None at = tt
+inverse_ranked rank first top (Some user) at = ranked rank first top inverse_levels INVERSE refl at
+
+pub ident_above : IdentStandsAbove → (rank : ℕ → ℕ) (first number top : ℕ) (tap : TapNets) (on user_on tdi : NetId) (user : Option ℕ) (code : ℕ)
+    → StandAt rank first (ident_ranks top user (Some code)) → AreTapNetsLow rank tap → rank on.0 ≤ top → rank user_on.0 ≤ top → rank tdi.0 ≡ 0
+    → AreAbove rank (ident_cells first number tap on user_on tdi user code)
+ident_above law rank first number top tap on user_on tdi user code at low a u b =
+    let data_register = behind_at rank first (user_size user) (inverse_ranks top user) (data_ranks top) (length_inverse top user) at in
+    law rank first number top tap on user_on tdi user code (inverse_ranked rank first top user (front_at rank first (inverse_ranks top user) (data_ranks top) at))
+    (ranked rank (first + user_size user) top selected_levels SELECTED refl (front_at rank (first + user_size user) (levels_at top selected_levels) (blocks (shift_block (top + 1)) 32) data_register))
+    (bits_ranked rank (first + user_size user + 2) (top + 1) 32
+    (behind_at rank (first + user_size user) 2 (levels_at top selected_levels) (blocks (shift_block (top + 1)) 32) refl data_register))
+    (handed rank top tap on tdi low a b) u
 
 -- TDO
 

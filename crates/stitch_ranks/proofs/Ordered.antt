@@ -73,7 +73,7 @@ sides_length alone low B (row ∷ rows) =
 record AreAddedThere (rank alone : ℕ → ℕ) (B : Boundary) (f : Fitted) (count first : ℕ) : Type 0 where
   port : IsPortLow rank (tap_port count)
   sides : StandAt rank (count + 5) (sides_ranks alone (core_low f.codes) B B.rows)
-  logic : StandAt rank first (logic_ranks f.codes f.idcode)
+  logic : StandAt rank first (logic_ranks f.codes f.usercode f.idcode)
   rows : StandAt rank (first + logic_size f) (rows_ranks alone (core_low f.codes) B B.rows)
   tdo : StandAt rank (first + logic_size f + nets_of_rows B.ports B.rows) (levels_at (control_top f.codes) tdo_levels)
 
@@ -83,7 +83,7 @@ added_there rank alone B f count at =
     let low : ℕ = core_low f.codes in
     let first : ℕ = count + 5 + sides_of B.ports B.rows in
     let sides : List ℕ = sides_ranks alone low B B.rows in
-    let logic : List ℕ = logic_ranks f.codes f.idcode in
+    let logic : List ℕ = logic_ranks f.codes f.usercode f.idcode in
     let rows : List ℕ = rows_ranks alone low B B.rows in
     let tdo : List ℕ = levels_at (control_top f.codes) tdo_levels in
     let tap = front_at rank count tap_ranks (sides ++ ((logic ++ rows) ++ tdo)) at in

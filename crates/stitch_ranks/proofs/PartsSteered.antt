@@ -13,7 +13,6 @@ use Rattle.netlist_model.specs.declared.Feed.{Feed}
 use Rattle.netlist_model.specs.declared.Feed.TheVariants.{Net, Const}
 use Rattle.netlist_model.specs.Lists.{CellView}
 use Rattle.gate_parts.specs.Parts.{part_cells}
-use Rattle.register_gates.specs.Constants.{constant_bits}
 use Rattle.test_logic.specs.declared.Codes.{Codes}
 use Rattle.test_logic.specs.declared.TapNets.{TapNets}
 use Rattle.test_logic.specs.declared.InstrNets.{InstrNets}
@@ -22,16 +21,17 @@ use Rattle.test_logic.specs.Instructions.{opcode_of}
 use Rattle.tap_gates.specs.declared.table.TheConstants.{CONTROLLER}
 use Rattle.tap_gates.specs.Controller.{tap_given}
 use Rattle.register_gates.specs.declared.TheConstants.{SELECTED}
+use Rattle.register_gates.specs.declared.ident.TheConstants.{INVERSE}
 use Rattle.register_gates.specs.declared.tdo.TheConstants.{TDO}
-use Rattle.register_gates.specs.Registers.{selected_given, selected_cells, selected_steering, bypass_cells, ident_cells}
+use Rattle.register_gates.specs.Registers.{selected_given, selected_cells, selected_steering, bypass_cells, data_cells, user_size, inverse_cells, captured_feeds, ident_cells}
 use Rattle.register_gates.specs.Tdo.{tdo_given, tdo_driver, tdo_cells}
 use Rattle.register_bits.specs.Bits.{shift_bit_cells}
 use Rattle.register_bits.specs.Chains.{chain_cells}
 use Rattle.instruction_gates.specs.declared.stages.TheConstants.{LOADS}
 use Rattle.instruction_gates.specs.declared.selections.TheConstants.{SELECTIONS}
-use Rattle.instruction_gates.specs.Selections.{selections_given}
+use Rattle.instruction_gates.specs.Selections.{selections_given, selections_cells}
 use Rattle.instruction_gates.specs.Stages.{loads_given, ir_steering, ir_latching, shift_stage_cells, stages_cells}
-use Rattle.instruction_register.specs.Register.{pattern_bits, latches_from, cells_with, opcode_size, opcode_cells, matched_instructions, opcodes_cells, opcodes_told, opcodes_from, selections_from, instruction_cells}
+use Rattle.instruction_register.specs.Register.{pattern_bits, latches_from, cells_with, opcode_size, opcode_cells, matched_instructions, opcodes_cells, opcodes_told, opcodes_from, selections_from, copies_from, instruction_cells}
 use Rattle.boundary_cells.specs.declared.tables.TheConstants.{BC_1, UPDATES}
 use Rattle.boundary_cells.specs.Cells.{steering_of, stage_table, cell_given, output_cells}
 use Rattle.boundary_cells.specs.ThreeState.{control_table, control_choice, control_given, bidir_table, bidir_given}
@@ -46,7 +46,7 @@ use Rattle.stitch_model.specs.Rows.{nets_of_rows, net_at, enable_of, is_active_h
 use Rattle.stitch_model.specs.Logic.{instruction_from, bypass_from, ident_from, logic_size, tap_at, instruction_at, bypass_at, ident_at, controller_part, instruction_part, bypass_part, ident_part, logic_cells}
 use Rattle.stitch_model.specs.Stitched.{rows_part, boundary_last, tdo_part, test_logic_cells}
 use Rattle.stitch_cells.specs.Gates.{is_clocked_by}
-use Rattle.stitch_ranks.proofs.Steered.{AreSteered, steered_joined, IsFrom, table_steered, gates_steered, from_more, choice_steered, shift_steered, chain_steered, latches_steered, matches_steered}
+use Rattle.stitch_ranks.proofs.Steered.{AreSteered, steered_joined, IsFrom, table_steered, gates_steered, from_more, choice_steered, shift_steered, chain_steered, latches_steered, matches_steered, copies_steered}
 
 -- The instruction register.
 
@@ -81,8 +81,10 @@ instruction_steered first number tap tdi codes Q q =
     steered_joined tap.tck tap.trst Q (stages_cells first number tap tdi captured presets) _ (stages_steered first number tap tdi captured presets Q q)
     (steered_joined tap.tck tap.trst Q (opcodes_cells (opcodes_from first codes) (opcodes_from number codes) (latches_from first codes) codes matched_instructions) _
     (opcodes_steered (opcodes_from first codes) (opcodes_from number codes) (latches_from first codes) codes matched_instructions tap.tck tap.trst Q (from_more Q first (opcodes_from first codes) (omega arith) q))
+    (steered_joined tap.tck tap.trst Q (selections_cells (selections_from first codes) (selections_from number codes) tap (opcodes_told (opcodes_from first codes) codes)) _
     (gates_steered SELECTIONS (selections_given tap (opcodes_told (opcodes_from first codes) codes)) (selections_from first codes) (selections_from number codes) tap.tck tap.trst Q refl
-    (from_more Q first (selections_from first codes) (omega arith) q)))
+    (from_more Q first (selections_from first codes) (omega arith) q))
+    (copies_steered (copies_from first codes) (copies_from number codes) (latches_from first codes) codes.length tap.tck tap.trst Q (from_more Q first (copies_from first codes) (omega arith) q))))
 
 -- The registers beside it.
 
@@ -95,13 +97,26 @@ bypass_steered first number tap on tdi Q q =
     (selected_steered first number tap on Q q)
     (shift_steered (first + 2) (number + 2) (selected_steering first tap) (Const false) tdi Q (from_more Q first (first + 2) (omega arith) q))
 
-ident_steered : (first number : ℕ) (tap : TapNets) (on tdi : NetId) (o : Option ℕ) (Q : ℕ → Type 0) → IsFrom Q first
-    → AreSteered tap.tck tap.trst Q (option_map_or (ident_cells first number tap on tdi) o [])
-ident_steered first number tap on tdi None Q q = tt
-ident_steered first number tap on tdi (Some code) Q q =
-    steered_joined tap.tck tap.trst Q (selected_cells first number tap on) (chain_cells (first + 2) (number + 2) (selected_steering first tap) tdi (constant_bits 32 code))
+data_steered : (first number : ℕ) (tap : TapNets) (on tdi : NetId) (captured : List Feed) (Q : ℕ → Type 0) → IsFrom Q first
+    → AreSteered tap.tck tap.trst Q (data_cells first number tap on tdi captured)
+data_steered first number tap on tdi captured Q q =
+    steered_joined tap.tck tap.trst Q (selected_cells first number tap on) (chain_cells (first + 2) (number + 2) (selected_steering first tap) tdi captured)
     (selected_steered first number tap on Q q)
-    (chain_steered (first + 2) (number + 2) (selected_steering first tap) tdi (constant_bits 32 code) Q (from_more Q first (first + 2) (omega arith) q))
+    (chain_steered (first + 2) (number + 2) (selected_steering first tap) tdi captured Q (from_more Q first (first + 2) (omega arith) q))
+
+inverse_steered : (first number : ℕ) (user_on : NetId) (user : Option ℕ) (tck trst : NetId) (Q : ℕ → Type 0) → IsFrom Q first
+    → AreSteered tck trst Q (inverse_cells first number user_on user)
+inverse_steered first number user_on None tck trst Q q = tt
+inverse_steered first number user_on (Some user) tck trst Q q = gates_steered INVERSE (Net user_on ∷ []) first number tck trst Q refl q
+
+ident_steered : (first number : ℕ) (tap : TapNets) (on user_on tdi : NetId) (user o : Option ℕ) (Q : ℕ → Type 0) → IsFrom Q first
+    → AreSteered tap.tck tap.trst Q (option_map_or (ident_cells first number tap on user_on tdi user) o [])
+ident_steered first number tap on user_on tdi user None Q q = tt
+ident_steered first number tap on user_on tdi user (Some code) Q q =
+    let captured : List Feed = captured_feeds first user_on user code in
+    steered_joined tap.tck tap.trst Q (inverse_cells first number user_on user) (data_cells (first + user_size user) (number + user_size user) tap on tdi captured)
+    (inverse_steered first number user_on user tap.tck tap.trst Q q)
+    (data_steered (first + user_size user) (number + user_size user) tap on tdi captured Q (from_more Q first (first + user_size user) (omega arith) q))
 
 logic_steered : (first number : ℕ) (port : TapPort) (f : Fitted) (Q : ℕ → Type 0) → IsFrom Q first → AreSteered port.tck port.trst Q (logic_cells first number port f)
 logic_steered first number port f Q q =
@@ -115,7 +130,7 @@ logic_steered first number port f Q q =
     (table_steered CONTROLLER (tap_given port.tck port.tms port.trst) first number 0 2 port.tck port.trst Q refl refl refl q)
     (instruction_steered (first + instruction_from) (number + length C) tap port.tdi f.codes Q (from_more Q first (first + instruction_from) (omega arith) q)))
     (bypass_steered (first + bypass_from f) (number + length CI) tap (instruction_at first port f).bypass_on port.tdi Q (from_more Q first (first + bypass_from f) (omega arith) q)))
-    (ident_steered (first + ident_from f) (number + length CIP) tap (instruction_at first port f).ident_on port.tdi f.idcode Q (from_more Q first (first + ident_from f) (omega arith) q))
+    (ident_steered (first + ident_from f) (number + length CIP) tap (instruction_at first port f).ident_on (instruction_at first port f).user_on port.tdi f.usercode f.idcode Q (from_more Q first (first + ident_from f) (omega arith) q))
 
 -- Rows.
 

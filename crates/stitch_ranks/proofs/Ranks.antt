@@ -1,7 +1,7 @@
 -- The numbers of the nets of the netlist with the test logic built in.
 -- The control logic stands lowest, and the nets of the core above it, four numbers apart: so there is room for what a boundary cell gives
 -- above what the core gives it, and below the driver that takes it.
-use Rattle.std.proofs.Common.{ℕ, suc, ◌+◌, ◌-◌, ◌*◌, ◌==◌, nat_lt, Bool, List, [], ◌∷◌, ◌++◌, length, Option, Some, None, if◌then◌else◌}
+use Rattle.std.proofs.Common.{ℕ, zero, suc, ◌+◌, ◌-◌, ◌*◌, ◌==◌, nat_lt, Bool, List, [], ◌∷◌, ◌++◌, length, Option, Some, None, if◌then◌else◌}
 use Rattle.std.specs.List.{slice_index}
 use Rattle.cell_library.specs.declared.codes.Bits.{Bits}
 use Rattle.cell_library.specs.declared.codes.Instr.{Instr}
@@ -15,7 +15,7 @@ use Rattle.test_logic.specs.declared.Codes.{Codes}
 use Rattle.test_logic.specs.Instructions.{opcode_of}
 use Rattle.tap_gates.specs.Laws.{tap_levels}
 use Rattle.instruction_register.specs.Register.{matched_instructions}
-use Rattle.part_levels.specs.Registers.{shift_levels, selected_levels, selections_levels, tdo_levels}
+use Rattle.part_levels.specs.Registers.{shift_levels, selected_levels, inverse_levels, selections_levels, tdo_levels}
 use Rattle.part_levels.specs.Instructions.{one_level, held_levels, equal_levels}
 use Rattle.part_levels.specs.Rows.{bc_1_levels, stage_levels, control_levels}
 use Rattle.plan_fitting.specs.declared.fitted.FitRow.{FitRow}
@@ -50,8 +50,14 @@ abbrev pub opcodes_ranks : Codes → List Instr → List ℕ
 opcodes_ranks codes [] = []
 opcodes_ranks codes (i ∷ rest) = opcode_ranks codes.length (opcode_of codes.opcodes i) ++ opcodes_ranks codes rest
 
+-- a copy stands above its latched bit
+abbrev pub copies_ranks : ℕ → List ℕ
+copies_ranks zero = []
+copies_ranks (suc behind) = levels_at 0 one_level ++ copies_ranks behind
+
 abbrev pub instruction_ranks : Codes → List ℕ
-instruction_ranks codes = stages_ranks codes.length ++ (opcodes_ranks codes matched_instructions ++ levels_at (2 * codes.length) selections_levels)
+instruction_ranks codes =
+    stages_ranks codes.length ++ (opcodes_ranks codes matched_instructions ++ (levels_at (2 * codes.length) selections_levels ++ copies_ranks codes.length))
 
 -- what the instruction register hands on has no greater number
 abbrev pub control_top : Codes → ℕ
@@ -60,13 +66,20 @@ control_top codes = 2 * codes.length + 2
 abbrev pub bypass_ranks : ℕ → List ℕ
 bypass_ranks top = levels_at top selected_levels ++ levels_at (top + 1) shift_levels
 
-abbrev pub ident_ranks : ℕ → Option ℕ → List ℕ
-ident_ranks top None = []
-ident_ranks top (Some code) = levels_at top selected_levels ++ blocks (shift_block (top + 1)) 32
+abbrev pub inverse_ranks : ℕ → Option ℕ → List ℕ
+inverse_ranks top None = []
+inverse_ranks top (Some user) = levels_at top inverse_levels
 
-abbrev pub logic_ranks : Codes → Option ℕ → List ℕ
-logic_ranks codes idcode =
-    ((levels_at 0 tap_levels ++ instruction_ranks codes) ++ bypass_ranks (control_top codes)) ++ ident_ranks (control_top codes) idcode
+abbrev pub data_ranks : ℕ → List ℕ
+data_ranks top = levels_at top selected_levels ++ blocks (shift_block (top + 1)) 32
+
+abbrev pub ident_ranks : ℕ → Option ℕ → Option ℕ → List ℕ
+ident_ranks top user None = []
+ident_ranks top user (Some code) = inverse_ranks top user ++ data_ranks top
+
+abbrev pub logic_ranks : Codes → Option ℕ → Option ℕ → List ℕ
+logic_ranks codes user idcode =
+    ((levels_at 0 tap_levels ++ instruction_ranks codes) ++ bypass_ranks (control_top codes)) ++ ident_ranks (control_top codes) user idcode
 
 -- The core, whose nets have these numbers where it is alone.
 
@@ -139,7 +152,7 @@ tap_ranks = 0 ∷ 0 ∷ 0 ∷ 1 ∷ 0 ∷ []
 abbrev pub added_ranks : (ℕ → ℕ) → Boundary → Fitted → List ℕ
 added_ranks alone B f =
     tap_ranks ++ (sides_ranks alone (core_low f.codes) B B.rows
-    ++ ((logic_ranks f.codes f.idcode ++ rows_ranks alone (core_low f.codes) B B.rows) ++ levels_at (control_top f.codes) tdo_levels))
+    ++ ((logic_ranks f.codes f.usercode f.idcode ++ rows_ranks alone (core_low f.codes) B B.rows) ++ levels_at (control_top f.codes) tdo_levels))
 
 -- the nets of the core's pins: an input's is driven by nothing, and where a cell drives an output's, nothing reads it
 abbrev pub pin_by : Option Dir → Bool → ℕ → ℕ → ℕ

@@ -21,9 +21,11 @@ use Rattle.register_bits.specs.Chains.{chain_last, chain_cells}
 use Rattle.instruction_gates.specs.declared.latches.Latching.{Latching}
 use Rattle.instruction_gates.specs.declared.latches.TheConstants.{LOADED}
 use Rattle.instruction_gates.specs.declared.matches.TheConstants.{EQUAL_BIT}
+use Rattle.instruction_gates.specs.declared.copies.TheConstants.{COPY}
 use Rattle.instruction_gates.specs.Rows.{is_one}
 use Rattle.instruction_gates.specs.Latches.{holding_of, loaded_given, latch_cells, latches_cells}
 use Rattle.instruction_gates.specs.Matches.{match_before, equal_given, matches_cells}
+use Rattle.instruction_gates.specs.Copies.{copy_given, copies_cells}
 use Rattle.boundary_cells.specs.declared.tables.Choice.{Choice}
 use Rattle.boundary_cells.specs.Cells.{choice_cell, cells_onto}
 use Rattle.stitch_cells.specs.Gates.{is_given_at, is_clocked_by}
@@ -176,3 +178,10 @@ matches_steered first number latched (item ∷ rest) tck trst Q q =
     steered_joined tck trst Q (matches_cells first number latched rest) (part_cells EQUAL_BIT given (first + 2 * length rest) (number + 2 * length rest))
     (matches_steered first number latched rest tck trst Q q)
     (gates_steered EQUAL_BIT given (first + 2 * length rest) (number + 2 * length rest) tck trst Q refl (from_more Q first (first + 2 * length rest) (omega arith) q))
+
+pub copies_steered : (first number latched count : ℕ) (tck trst : NetId) (Q : ℕ → Type 0) → IsFrom Q first → AreSteered tck trst Q (copies_cells first number latched count)
+copies_steered first number latched zero tck trst Q q = tt
+copies_steered first number latched (suc behind) tck trst Q q =
+    steered_joined tck trst Q (part_cells COPY (copy_given latched behind) first number) (copies_cells (suc first) (suc number) latched behind)
+    (gates_steered COPY (copy_given latched behind) first number tck trst Q refl q)
+    (copies_steered (suc first) (suc number) latched behind tck trst Q (from_more Q first (suc first) (omega arith) q))

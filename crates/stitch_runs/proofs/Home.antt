@@ -13,7 +13,7 @@ use Rattle.plan_fitting.specs.Devices.{fitted_of}
 use Rattle.plan_devices.specs.Fitting.{IsFitting}
 use Rattle.instruction_register.specs.Register.{instruction_size}
 use Rattle.stitch_model.specs.declared.TapNames.{TapNames}
-use Rattle.stitch_model.specs.Logic.{logic_size, ident_size}
+use Rattle.stitch_model.specs.Logic.{logic_size, code_size}
 use Rattle.stitch_model.specs.Stitched.{stitched}
 use Rattle.surrounded_core.specs.Home.{IsControllerAdded}
 use Rattle.stitch_inside.specs.Places.{places_of}
@@ -40,7 +40,7 @@ place_few UpdateIr = omega arith
 place_low : (f : Fitted) (s : TapState) → place s < logic_size f
 place_low f s =
     let few = place_few s in
-    let whole : logic_size f ≡ 49 + instruction_size f.codes + 5 + ident_size f.idcode = refl in
+    let whole : logic_size f ≡ 49 + instruction_size f.codes + 5 + code_size f.usercode f.idcode = refl in
     omega arith
 
 pub controller_added : StitchedLogicIsAdded → (L : LinkedView) (p : Plan) (seen : List PinSeen) (names : TapNames) → IsFitting L p seen → IsLaidOut L.arena.lists → IsDense L.arena.lists

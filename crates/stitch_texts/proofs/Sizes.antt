@@ -1,7 +1,7 @@
 -- The test logic has no more cells and nets than preparing makes room for.
 use Rattle.std.proofs.Common.{◌≡◌, ℕ, ◌+◌, ◌*◌, ◌≤◌, List, length, refl, arith}
 use Rattle.cell_library.specs.declared.codes.Instr.{Instr}
-use Rattle.cell_library.specs.declared.codes.Instr.TheVariants.{Extest, Sample, Preload, Idcode, Highz, Clamp}
+use Rattle.cell_library.specs.declared.codes.Instr.TheVariants.{Extest, Sample, Preload, Idcode, Highz, Clamp, Usercode}
 use Rattle.netlist_model.specs.Lists.{PortView, NetlistView}
 use Rattle.test_logic.specs.declared.Codes.{Codes}
 use Rattle.test_logic.specs.Instructions.{opcode_of}
@@ -12,9 +12,9 @@ use Rattle.stitch_model.specs.declared.Site.{Site}
 use Rattle.stitch_model.specs.declared.Site.TheVariants as site
 use Rattle.stitch_model.specs.Sites.{site_of, row_sides, sides_of}
 use Rattle.stitch_model.specs.Rows.{row_nets, nets_of_rows}
-use Rattle.stitch_model.specs.Logic.{ident_size, logic_size}
+use Rattle.stitch_model.specs.Logic.{code_size, logic_size}
 use Rattle.stitch_model.proofs.Moves.{count_few}
-use Rattle.stitch_model.proofs.Few.{size_few, ident_few, nets_by_few}
+use Rattle.stitch_model.proofs.Few.{size_few, code_few, nets_by_few}
 use Rattle.stitch_cells.specs.Sizes.{choice_count, driver_count, row_size, cells_of_rows, added_cells, added_net_count}
 use Rattle.stitch_names.specs.Prepared.{room_of}
 use Rattle.stitch_texts.proofs.Lists.{sum_few}
@@ -38,20 +38,22 @@ row_few ports row = let a = nets_by_few (site_of ports row) row.cell in let b = 
 opcode_few : (codes : Codes) (i : Instr) → opcode_size codes i ≤ 2 * codes.length
 opcode_few codes i = size_few codes (opcode_of codes.opcodes i)
 
-opcodes_few : (codes : Codes) → opcodes_size codes matched_instructions ≤ 12 * codes.length
+opcodes_few : (codes : Codes) → opcodes_size codes matched_instructions ≤ 14 * codes.length
 opcodes_few codes =
-    six (2 * codes.length) (opcode_size codes Extest) (opcode_size codes Sample) (opcode_size codes Preload) (opcode_size codes Idcode) (opcode_size codes Highz) (opcode_size codes Clamp)
-    (opcode_few codes Extest) (opcode_few codes Sample) (opcode_few codes Preload) (opcode_few codes Idcode) (opcode_few codes Highz) (opcode_few codes Clamp) (12 * codes.length) (omega arith)
+    seven (2 * codes.length) (opcode_size codes Extest) (opcode_size codes Sample) (opcode_size codes Preload) (opcode_size codes Idcode) (opcode_size codes Highz) (opcode_size codes Clamp)
+    (opcode_size codes Usercode) (opcode_few codes Extest) (opcode_few codes Sample) (opcode_few codes Preload) (opcode_few codes Idcode) (opcode_few codes Highz) (opcode_few codes Clamp)
+    (opcode_few codes Usercode) (14 * codes.length) (omega arith)
   where
-    six : (most a b c d e f : ℕ) → a ≤ most → b ≤ most → c ≤ most → d ≤ most → e ≤ most → f ≤ most → (all : ℕ) → 6 * most ≤ all → a + (b + (c + (d + (e + (f + 0))))) ≤ all
-    six most a b c d e f p q r s t u all h = omega arith
+    seven : (most a b c d e f g : ℕ) → a ≤ most → b ≤ most → c ≤ most → d ≤ most → e ≤ most → f ≤ most → g ≤ most → (all : ℕ) → 7 * most ≤ all
+        → a + (b + (c + (d + (e + (f + (g + 0)))))) ≤ all
+    seven most a b c d e f g p q r s t u v all h = omega arith
 
-logic_few : (f : Fitted) → logic_size f ≤ 165 + 18 * f.codes.length
+logic_few : (f : Fitted) → logic_size f ≤ 165 + 21 * f.codes.length
 logic_few f =
     let a = opcodes_few f.codes in
-    let b = ident_few f.idcode in
-    let size : instruction_size f.codes ≡ 1 + 6 * f.codes.length + (opcodes_size f.codes matched_instructions + 9) = refl in
-    let whole : logic_size f ≡ 49 + instruction_size f.codes + 5 + ident_size f.idcode = refl in
+    let b = code_few f.usercode f.idcode in
+    let size : instruction_size f.codes ≡ 1 + 6 * f.codes.length + (opcodes_size f.codes matched_instructions + (10 + f.codes.length)) = refl in
+    let whole : logic_size f ≡ 49 + instruction_size f.codes + 5 + code_size f.usercode f.idcode = refl in
     omega arith
 
 -- All of it.

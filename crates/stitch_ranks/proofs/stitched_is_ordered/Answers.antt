@@ -9,6 +9,7 @@ returns c = lemma
         stages = c.stages_stand_above.ensures;
         matches = c.matches_stand_above.ensures;
         selections = c.selections_stand_above.ensures;
+        copies = c.copies_stand_above.ensures;
         bypass = c.bypass_stands_above.ensures;
         ident = c.ident_stands_above.ensures;
         joined = c.parts_stand_above.ensures;

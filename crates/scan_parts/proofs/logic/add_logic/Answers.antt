@@ -32,16 +32,17 @@ add_code-ident-requires-clause-cells c =
     let f = c.requires.room.cells in
     omega arith
 
-pub add_code-ident-requires-clause-on : goal.add_code-ident-requires-clause-on
-add_code-ident-requires-clause-on c =
+pub add_code-ident-requires-clause-selections : goal.add_code-ident-requires-clause-selections
+add_code-ident-requires-clause-selections c =
     let a = c.appended_count.ensures c.args.netlist.now c.add_tap-tap.new.netlist 49 _ c.add_tap-tap.ensures.added in
     let b = c.appended_count.ensures c.add_tap-tap.new.netlist c.add_instruction-instruction.new.netlist _ _ c.add_instruction-instruction.ensures.added in
     let d = c.appended_count.ensures c.add_instruction-instruction.new.netlist c.add_bypass-bypass.new.netlist 5 _ c.add_bypass-bypass.ensures.added in
     let e = c.requires.port.tdi in
-    (instruction_below c.constants_are_bits.ensures (length c.add_tap-tap.new.netlist.lists.nets) (length c.add_bypass-bypass.new.netlist.lists.nets) c.add_tap-tap.result
+    let below = instruction_below c.constants_are_bits.ensures (length c.add_tap-tap.new.netlist.lists.nets) (length c.add_bypass-bypass.new.netlist.lists.nets) c.add_tap-tap.result
     c.args.port.now.tdi c.args.fitted.now.codes c.add_instruction-instruction.result
     (tap_below (length c.args.netlist.now.lists.nets) (length c.add_tap-tap.new.netlist.lists.nets) c.args.port.now c.add_tap-tap.result c.requires.port c.add_tap-tap.ensures.nets (omega arith))
-    (omega arith) c.add_instruction-instruction.ensures.nets (omega arith)).ident_on
+    (omega arith) c.add_instruction-instruction.ensures.nets (omega arith) in
+    (below.ident_on, below.user_on)
 
 pub returns-clause-logic : goal.returns-clause-logic
 returns-clause-logic c =
