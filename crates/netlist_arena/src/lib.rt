@@ -17,7 +17,8 @@
 // - `copy`, where Ok, has the same lists and spare numbers. A walk that was begun goes on after a `reserve`, and
 //   in a copy.
 // - At all times each port has a net for each bit, each named net is there, and no net has two drivers
-//   (`is_laid_out`).
+//   (`is_laid_out`). A net names the cell that drives it, and the links from its first reader visit exactly the
+//   operands on it.
 // By the contract of its calls.
 #![tactic(auto)]
 
@@ -26,16 +27,17 @@ ghost use Rattle.std.specs.Prelude.{◌≡◌, [], length};
 mod cells;
 mod copies;
 mod drivers;
+mod links;
 mod moves;
 mod nets;
 mod ports;
 mod readers;
 mod room;
 
-use cell_library::Kind;
-use netlist_model::{Dir, Feed, Name, NetId, Range};
+use linked_cells::{Cell, Net};
+use netlist_model::{Dir, Name, NetId, Range};
+use numbered_places::Places;
 pub use room::ReserveFault;
-use smallvec::SmallVec;
 use std::alloc::Global;
 use std::marker::Model;
 
@@ -63,44 +65,6 @@ impl Model for Port {
     } };
 }
 
-#[derive(Drop)]
-struct Net {
-    name: Name,
-    index: Option<u32>,
-}
-
-impl Model for Net {
-    ghost use Rattle.netlist_model.specs.Lists.{NetView};
-
-    ghost Value = { NetView };
-
-    ghost view = { λ n. record { name = n.name; index = n.index } };
-}
-
-#[derive(Drop)]
-struct Cell {
-    kind: Kind,
-    name: Option<Name>,
-    feeds: SmallVec<Feed, 4>,
-    output: Option<NetId>,
-}
-
-impl Model for Cell {
-    ghost use Rattle.std.specs.Prelude.{◌≤◌, length};
-    ghost use Rattle.netlist_model.specs.Lists.{CellView};
-
-    ghost Value = { CellView };
-
-    ghost view = { λ c. record {
-      kind = c.kind;
-      name = c.name;
-      feeds = c.feeds.items;
-      output = c.output;
-    } };
-
-    ghost invariant = { λ c. length c.feeds.items ≤ 256 };
-}
-
 /// A netlist, with room for what will be added. The number of a net or a port is its place in its list. A cell
 /// keeps its number until it is removed.
 #[derive(Drop)]
@@ -109,39 +73,42 @@ pub struct Netlist {
     // How many bits the ports have.
     pins: u32,
     spare_pins: u32,
-    nets: Vec<Net>,
+    nets: Places<Net>,
     spare_nets: u32,
-    cells: Vec<Option<Cell>>,
-    // How many cells are live.
-    live: u32,
+    cells: Places<Cell>,
     spare_cells: u32,
     alloc: Global,
 }
 
 impl Model for Netlist {
-    ghost use Rattle.std.specs.Prelude.{◌≡◌, ◌+◌, ◌<◌, ◌^◌, length, vec_len, vec_capacity, All};
-    ghost use Rattle.netlist_arena.specs.Arena.{ArenaView, HasRoom, HasItsOperands, IsPlaceBelow, IsPortBelow, HasSingleDrivers, live_count, bit_count};
-    ghost use Rattle.netlist_arena.specs.Walks.{walks_from};
+    ghost use Rattle.std.specs.Prelude.{◌≡◌, ℕ, ◌+◌, ◌<◌, ◌≤◌, ◌^◌, length, vec_len, vec_capacity, All, IsSome};
+    ghost use Rattle.reader_links.specs.Links.{Threaded};
+    ghost use Rattle.numbered_places.specs.Places.{place_at};
+    ghost use Rattle.linked_cells.specs.Cells.{slot_at, first_at, driver_at, cells_of, nets_of};
+    ghost use Rattle.linked_cells.specs.Walks.{walks_of};
+    ghost use Rattle.netlist_arena.specs.Arena.{ArenaView, HasRoom, HasItsOperands, IsPlaceBelow, IsPortBelow, bit_count};
+    ghost use Rattle.netlist_arena.specs.Drivers.{AreDrivers};
 
     ghost Value = { ArenaView };
 
     ghost view = { λ n. record {
-      lists = record { ports = n.ports.items; nets = n.nets.items; cells = n.cells.items };
+      lists = record { ports = n.ports.items; nets = nets_of n.nets.items; cells = cells_of n.cells.items };
       spare = record { cells = n.spare_cells; nets = n.spare_nets; port_bits = n.spare_pins };
-      walks = walks_from n.cells.items 0 (length n.nets.items);
+      walks = walks_of n.cells.items n.nets.items;
     } };
 
     ghost invariant = { λ n. record {
       port_room : HasRoom (vec_len n.ports) n.spare_pins (vec_capacity n.ports);
       pin_room : n.pins + n.spare_pins < 2 ^ 32;
-      net_room : HasRoom (vec_len n.nets) n.spare_nets (vec_capacity n.nets);
-      cell_room : HasRoom (vec_len n.cells) n.spare_cells (vec_capacity n.cells);
+      net_room : n.spare_nets ≤ n.nets.spare;
+      cell_room : n.spare_cells ≤ n.cells.spare;
       pins_are : n.pins ≡ bit_count n.ports.items;
-      live_are : n.live ≡ live_count n.cells.items;
-      ports_below : All (IsPortBelow (length n.nets.items)) n.ports.items;
-      cells_below : All (IsPlaceBelow (length n.nets.items)) n.cells.items;
-      counts : All HasItsOperands n.cells.items;
-      driven_once : HasSingleDrivers n.cells.items;
+      nets_there : (k : ℕ) → k < length n.nets.items → IsSome (place_at n.nets.items k);
+      ports_below : All (IsPortBelow (length (nets_of n.nets.items))) n.ports.items;
+      cells_below : All (IsPlaceBelow (length (nets_of n.nets.items))) (cells_of n.cells.items);
+      counts : All HasItsOperands (cells_of n.cells.items);
+      threaded : Threaded (slot_at n.cells.items) (first_at n.nets.items);
+      drivers : AreDrivers (driver_at n.nets.items) (cells_of n.cells.items);
     } };
 }
 
@@ -155,10 +122,9 @@ impl Netlist {
             ports: Vec::new(alloc),
             pins: 0,
             spare_pins: 0,
-            nets: Vec::new(alloc),
+            nets: Places::new(alloc),
             spare_nets: 0,
-            cells: Vec::new(alloc),
-            live: 0,
+            cells: Places::new(alloc),
             spare_cells: 0,
             alloc,
         }

@@ -49,9 +49,9 @@ fn readers_move_to_another_net(rt: HostRuntime) -> Result<(), Fail> {
     let second = following(&netlist, first);
     let third = following(&netlist, second);
     assert_eq!(rt; netlist.first_reader(a), None);
-    assert_eq!(rt; first, reader(0, 0));
+    assert_eq!(rt; first, reader(1, 0));
     assert_eq!(rt; second, reader(0, 2));
-    assert_eq!(rt; third, reader(1, 0));
+    assert_eq!(rt; third, reader(0, 0));
     assert_eq!(rt; following(&netlist, third), None);
     Ok(())
 }
@@ -71,6 +71,42 @@ fn a_cell_takes_the_number_of_the_last_that_was_removed(rt: HostRuntime) -> Resu
     assert_eq!(rt; next, CellId(2));
     let copy = netlist.copy(rt.alloc())?;
     assert_eq!(rt; copy.cell_count(), 3);
+    Ok(())
+}
+
+// Removes a cell, if it is there.
+fn remove(netlist: &mut Netlist, cell: CellId)
+    ensures nets { netlist.new.lists.nets ≡ netlist.old.lists.nets }
+    ensures spare { netlist.new.spare ≡ netlist.old.spare }
+{
+    if netlist.is_live(cell) {
+        netlist.remove_cell(cell);
+    }
+}
+
+#[test]
+fn cells_take_the_numbers_of_two_that_were_removed(rt: HostRuntime) -> Result<(), Fail> {
+    let mut netlist = Netlist::new(rt.alloc());
+    netlist.reserve(5, 2, 0)?;
+    let a = netlist.add_net(Name::Original(0), None);
+    let b = netlist.add_net(Name::Original(1), None);
+    let _buf = netlist.add_cell(Kind::Buf, None, &[Feed::Net(a)], None);
+    let _not = netlist.add_cell(Kind::Not, None, &[Feed::Net(a)], None);
+    let _last = netlist.add_cell(Kind::Buf, None, &[Feed::Net(b)], None);
+    remove(&mut netlist, CellId(1));
+    remove(&mut netlist, CellId(2));
+    let and = netlist.add_cell(Kind::And, None, &[Feed::Net(a), Feed::Net(b)], None);
+    let not = netlist.add_cell(Kind::Not, None, &[Feed::Net(b)], None);
+    assert_eq!(rt; and, CellId(1));
+    assert_eq!(rt; not, CellId(2));
+    assert_eq!(rt; netlist.cell_count(), 3);
+    let of_a = netlist.first_reader(a);
+    assert_eq!(rt; of_a, reader(1, 0));
+    assert_eq!(rt; following(&netlist, of_a), reader(0, 0));
+    let of_b = netlist.first_reader(b);
+    assert_eq!(rt; of_b, reader(2, 0));
+    assert_eq!(rt; following(&netlist, of_b), reader(1, 1));
+    assert_eq!(rt; following(&netlist, reader(1, 1)), None);
     Ok(())
 }
 

@@ -36,6 +36,30 @@ fn what_was_reserved_is_enough(rt: HostRuntime) -> Result<(), Fail> {
 }
 
 #[test]
+fn a_copy_has_the_operands_of_a_wide_cell(rt: HostRuntime) -> Result<(), Fail> {
+    let mut netlist = Netlist::new(rt.alloc());
+    netlist.reserve(3, 4, 1)?;
+    let a = netlist.add_net(Name::Original(0), None);
+    let b = netlist.add_net(Name::Original(1), None);
+    let feeds = [
+        Feed::Net(a),
+        Feed::Net(b),
+        Feed::Const(true),
+        Feed::Net(a),
+        Feed::Net(b),
+    ];
+    let wide = netlist.add_wide_cell(Kind::Nor, None, &feeds, None)?;
+    let _port = netlist.add_port(Name::Original(0), Dir::Input, None, &[a])?;
+    let copy = netlist.copy(rt.alloc())?;
+    assert_eq!(rt; copy.cell_count(), 1);
+    assert_eq!(rt; copy.pin_count(), 1);
+    for (place, feed) in (0..5).zip(feeds) {
+        assert_eq!(rt; operand(&copy, wide, place), Some(feed));
+    }
+    Ok(())
+}
+
+#[test]
 fn a_port_has_a_net_for_each_bit(rt: HostRuntime) -> Result<(), Fail> {
     let mut netlist = Netlist::new(rt.alloc());
     netlist.reserve(0, 2, 2)?;

@@ -1,38 +1,49 @@
-use Rattle.std.proofs.Common.{sym, ◌∙◌}
-use Rattle.std.proofs.lemmas.List.Elements.{All-set, All-get_or}
-use Rattle.netlist_model.specs.Lists.{NetlistView}
-use Rattle.netlist_arena.specs.Arena.{HasItsOperands, IsPlaceBelow}
-use Rattle.netlist_arena.specs.Moves.{with_feed}
-use Rattle.netlist_arena.proofs.Changes.{connected_is, live_count_set, is_some-option_map, with_feed_below, with_feed_count, feed_at_below, live_cell_at}
-use Rattle.netlist_arena.proofs.Single.{single_connect}
+use Rattle.std.proofs.Common.{arith, ◌≡◌, ◌∙◌, sym, ap, length, refl}
+use Rattle.list_laws.proofs.Options.{some_there}
+use Rattle.linked_cells.specs.Cells.{cells_of, feed_in, driver_at}
+use Rattle.netlist_arena.proofs.NetDrivers.{drivers_same, outputs_connected}
+use Rattle.linked_cells.proofs.Operands.{slot_there}
+use Rattle.linked_cells.proofs.Writing.{nets_same, kept_there, length_kept, driver_kept}
+use Rattle.netlist_arena.proofs.Lists.{feed_there, operand_there, connected_below, connected_counts}
 use Rattle.netlist_arena.proofs.Netlist.connect.Goals as goal
+
+pub connect-requires-clause-there : goal.connect-requires-clause-there
+connect-requires-clause-there c =
+    let operand = rw (← c.self.view_is) at c.requires.operand in
+    let found = some_there (feed_in (cells_of c.self.inside.cells.items) c.args.cell.0 c.args.place) operand in
+    slot_there c.self.inside.cells.items (record { cell = c.args.cell; place = c.args.place }) found.0 found.1
+
+pub connect-requires-clause-net : goal.connect-requires-clause-net
+connect-requires-clause-net c = λ net at.
+    operand_there c.self.inside.nets.items (cells_of c.self.inside.cells.items) c.args.cell.0 c.args.place net c.self.invariant.nets_there c.self.invariant.cells_below at
+
+pub connect-requires-clause-feed : goal.connect-requires-clause-feed
+connect-requires-clause-feed c =
+    let below = rw (← c.self.view_is) at c.requires.feed in
+    feed_there c.self.inside.nets.items c.args.feed c.self.invariant.nets_there below
 
 pub invariant_of-self : goal.invariant_of-self
 invariant_of-self c =
-    let there = rw (← c.self.view_is) at c.requires.operand in
-    let net_there = rw (← c.self.view_is) at c.requires.feed in
-    let inside : NetlistView = record { ports = c.self.inside.ports.items; nets = c.self.inside.nets.items; cells = c.self.inside.cells.items } in
-    let below = feed_at_below inside c.args.cell.0 c.args.place there in
-    let same = is_some-option_map (with_feed c.args.place c.args.feed) c.index_mut.result.now in
-    let old_below = All-get_or (IsPlaceBelow _) c.self.inside.cells.items c.args.cell.0 c.index_mut.result.now below c.self.invariant.cells_below in
-    let old_count = All-get_or HasItsOperands c.self.inside.cells.items c.args.cell.0 c.index_mut.result.now below c.self.invariant.counts in
-    let new_count = with_feed_count c.args.place c.args.feed c.index_mut.result.now (rw (← c.index_mut.ensures.value) at old_count) in
-    let new_below = with_feed_below _ c.args.place c.args.feed c.index_mut.result.now net_there (rw (← c.index_mut.ensures.value) at old_below) in
+    let below = rw (← c.self.view_is) at c.requires.feed in
+    let nets = nets_same c.self.inside.nets.items c.connect.new.nets.items c.connect.ensures.nets in
+    let len = length_kept c.self.inside.nets.items c.connect.new.nets.items c.connect.ensures.nets in
     record {
       port_room = c.self.invariant.port_room;
       pin_room = c.self.invariant.pin_room;
-      net_room = c.self.invariant.net_room;
-      cell_room = c.self.invariant.cell_room;
       pins_are = c.self.invariant.pins_are;
-      live_are = c.self.invariant.live_are ∙ sym (live_count_set c.self.inside.cells.items c.args.cell.0 c.index_mut.result.now c.connect_place.new.place below c.index_mut.ensures.value (rw c.connect_place.ensures same));
-      ports_below = c.self.invariant.ports_below;
-      cells_below = All-set (IsPlaceBelow _) c.self.inside.cells.items c.args.cell.0 c.connect_place.new.place (rw c.connect_place.ensures new_below) c.self.invariant.cells_below;
-      counts = All-set HasItsOperands c.self.inside.cells.items c.args.cell.0 c.connect_place.new.place (rw c.connect_place.ensures new_count) c.self.invariant.counts;
-      driven_once = single_connect c.self.inside.cells.items c.args.cell.0 c.args.place c.args.feed c.index_mut.result.now c.connect_place.new.place below (live_cell_at c.self.inside.cells.items c.args.cell.0 c.index_mut.result.now below c.index_mut.ensures.value) c.connect_place.ensures c.self.invariant.driven_once;
+      ports_below = rw nets c.self.invariant.ports_below;
+      counts = rw c.connect.ensures.cells (connected_counts c.args.cell.0 c.args.place c.args.feed (cells_of c.self.inside.cells.items) c.self.invariant.counts);
+      cells_below = rw (nets, c.connect.ensures.cells) (connected_below _ c.args.cell.0 c.args.place c.args.feed (cells_of c.self.inside.cells.items) below c.self.invariant.cells_below);
+      nets_there = λ k low. kept_there c.self.inside.nets.items c.connect.new.nets.items k c.connect.ensures.nets (c.self.invariant.nets_there k (rw len at low));
+      threaded = c.connect.ensures.threaded;
+      net_room = omega arith;
+      cell_room = omega arith;
+      drivers = drivers_same (driver_at c.self.inside.nets.items) (driver_at c.connect.new.nets.items) (cells_of c.self.inside.cells.items) (cells_of c.connect.new.cells.items)
+          (λ n. driver_kept c.self.inside.nets.items c.connect.new.nets.items n c.connect.ensures.nets)
+          (rw c.connect.ensures.cells (outputs_connected c.args.cell.0 c.args.place c.args.feed (cells_of c.self.inside.cells.items))) c.self.invariant.drivers;
     }
 
 pub returns-clause-lists : goal.returns-clause-lists
 returns-clause-lists c =
-    let there = rw (← c.self.view_is) at c.requires.operand in
-    let inside : NetlistView = record { ports = c.self.inside.ports.items; nets = c.self.inside.nets.items; cells = c.self.inside.cells.items } in
-    rw (← c.self.view_is) (connected_is inside c.args.cell.0 c.args.place c.args.feed c.index_mut.result.now c.connect_place.new.place there c.index_mut.ensures.value c.connect_place.ensures)
+    let nets = nets_same c.self.inside.nets.items c.connect.new.nets.items c.connect.ensures.nets in
+    rw (← c.self.view_is, nets, c.connect.ensures.cells) refl

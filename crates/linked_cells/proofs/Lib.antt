@@ -1,0 +1,4 @@
+pub mod Writing
+pub mod Feeds
+pub mod Operands
+pub mod Walks

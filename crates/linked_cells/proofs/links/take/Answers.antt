@@ -1,0 +1,17 @@
+use Rattle.std.proofs.Common.{◌≡◌, ◌≢◌, sym, ◌∙◌, ap}
+use Rattle.netlist_model.specs.declared.Feed.{Feed}
+use Rattle.netlist_model.specs.declared.Feed.TheVariants.{Net as OnNet, Const as Fixed}
+use Rattle.reader_links.specs.declared.Slot.{Slot}
+use Rattle.reader_links.proofs.Threads.{loosely_written}
+use Rattle.linked_cells.specs.Cells.{slot_at, first_at}
+use Rattle.linked_cells.proofs.Writing.{const_loose}
+use Rattle.linked_cells.proofs.Operands.{feed_found, found_const}
+use Rattle.linked_cells.proofs.links.take.Goals as goal
+
+pub unlink-requires-clause-net : goal.unlink-requires-clause-net
+unlink-requires-clause-net c = c.requires.net c.in-Net.net (feed_found c.args.cells.now.items c.args.reader c.slot-found.result _ c.slot-found.ensures c.in-Net.is)
+
+pub returns-in-Const-clause-threaded : goal.returns-in-Const-clause-threaded
+returns-in-Const-clause-threaded c =
+    loosely_written (slot_at c.args.cells.now.items) (slot_at c.write_slot.new.cells.items) (first_at c.args.nets.now.items) c.args.reader _ c.requires.threaded
+    (found_const c.args.cells.now.items c.args.reader c.slot-found.result _ c.slot-found.ensures c.in-Const.is) const_loose (rw c.loose.ensures at c.write_slot.ensures.writes)

@@ -1,0 +1,16 @@
+use Rattle.std.proofs.Common.{◌≡◌, ℕ, sym, ◌∙◌, ap, Some, length, subst}
+use Rattle.cell_library.specs.Gates.{Takes}
+use Rattle.netlist_arena.proofs.Looking.{operand_count}
+use Rattle.netlist_arena.proofs.Netlist.feed_count.Goals as goal
+
+pub returns-clause-takes : goal.returns-clause-takes
+returns-clause-takes c =
+    let at = c.cell.ensures.found in
+    let count = operand_count c.cell.result.now ∙ sym c.count.ensures.count in
+    rw at (subst (Takes c.cell.result.now.kind) count c.cell.ensures.count)
+
+pub returns-clause-count : goal.returns-clause-count
+returns-clause-count c =
+    let at = c.cell.ensures.found in
+    let count = operand_count c.cell.result.now ∙ sym c.count.ensures.count in
+    rw at (ap (λ (n : ℕ). Some n) count)
