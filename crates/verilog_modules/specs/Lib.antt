@@ -4,5 +4,6 @@ pub mod Tables
 pub mod Items
 pub mod Nets
 pub mod Modules
+pub mod Texts
 pub mod Faults
 pub mod Laws

@@ -1,14 +1,15 @@
-ghost use Rattle.std.specs.Prelude.{◌≡◌, filter, ◌-◌, length, not, IfOk};
+ghost use Rattle.std.specs.Prelude.{◌≡◌, List, filter, ◌-◌, ◌<◌, length, not, IfOk};
 ghost use Rattle.verilog_lexicon.specs.Words.{place_in};
 ghost use Rattle.verilog_tree.specs.declared.tree.Module.{Module as ModuleTree};
 ghost use Rattle.verilog_tree.specs.Texts.{SpellsModule};
 ghost use Rattle.verilog_tree.specs.Trees.{is_port_net, tree_of};
-ghost use Rattle.verilog_reading.specs.Reading.{end_at, items_at, source_at};
+ghost use Rattle.verilog_reading.specs.Reading.{end_at, items_at, module_at, modules_at, source_at};
+ghost use Rattle.verilog_modules.specs.Texts.{trees_of, SpellsModules, RefusesText};
 ghost use Rattle.verilog_modules.specs.Parsing.{Gives, GivesSeen};
 ghost use Rattle.verilog_modules.specs.Headers.{texts};
 ghost use Rattle.verilog_modules.specs.Modules.{GivesModuleBody, ports_in};
 ghost use Rattle.verilog_modules.specs.Faults.{Refuses};
-ghost use Rattle.verilog_modules.specs.Laws.{WordsSpellOneModule};
+ghost use Rattle.verilog_modules.specs.Laws.{WordsSpellOneList, WordsSpellOneModule};
 ghost use Rattle.verilog_modules.specs.declared.fault.SyntaxFault.TheVariants as fault;
 
 use crate::declarations::Declarations;
@@ -23,7 +24,8 @@ use verilog_lexicon::reader::WordReader;
 use verilog_lexicon::symbol::Symbol;
 use verilog_lexicon::words::Words;
 use verilog_reading::{
-    faults_at_fault_word, faults_spell_nothing, reads_only_sources, spells_one_source,
+    faults_at_fault_word, faults_at_text_fault_word, faults_spell_nothing, reads_each_text,
+    reads_only_sources, reads_only_texts, spells_one_source,
 };
 use verilog_tree::{Module, Port};
 
@@ -41,10 +43,11 @@ fn end(reader: &WordReader) -> Result<(), ParseFault>
 // As few words as an item takes as a rule; where items take fewer, their room grows.
 const ITEM_WORDS: usize = 10;
 
-// What the items give, where these names are to be declared.
+// What the items give, where these names are to be declared, with room for so many items at first.
 fn module_body<'a>(
     alloc: Global,
     names: &[&'a [u8]],
+    room: usize,
     reader: &mut WordReader<'a>,
 ) -> Result<Body<'a>, ParseFault>
     ensures { GivesModuleBody (texts names.now) result reader.new
@@ -55,7 +58,7 @@ fn module_body<'a>(
         wires: Row::new(alloc),
         items: Row::new(alloc),
     };
-    body.items.make_room(reader.len() / ITEM_WORDS);
+    body.items.make_room(room);
     items(alloc, reader, &mut body)?;
     Ok(body)
 }
@@ -94,18 +97,40 @@ fn tree(alloc: Global, name: Text, header: Header, body: Body) -> Result<Module,
     })
 }
 
-// The tree of a module's words; the reader then stands behind them, or where the fault is.
-#[tactic(auto, unfolding(verilog_reading::specs::Reading::source_at))]
-fn module_tree(alloc: Global, reader: &mut WordReader) -> Result<Module, ParseFault>
-    ensures { GivesSeen tree_of result reader.new (source_at reader.old) }
+// The tree of a module's words, whatever follows them; the reader then stands behind them, or where the fault is.
+#[tactic(auto, unfolding(verilog_reading::specs::Reading::module_at))]
+fn module_tree(alloc: Global, room: usize, reader: &mut WordReader) -> Result<Module, ParseFault>
+    ensures gives { GivesSeen tree_of result reader.new (module_at reader.old) }
+    ensures shorter { IfOk result (λ _. length reader.new < length reader.old) }
 {
     module(reader)?;
     let name = text(alloc, reader)?;
     let header = module_header(alloc, reader)?;
     expect(reader, Symbol::Semicolon)?;
-    let body = module_body(alloc, header.names(), reader)?;
-    end(reader)?;
+    let body = module_body(alloc, header.names(), room, reader)?;
     Ok(tree(alloc, name, header, body)?)
+}
+
+// The tree of a module's words, behind which none stands.
+fn whole_tree(alloc: Global, reader: &mut WordReader) -> Result<Module, ParseFault>
+    ensures { GivesSeen tree_of result reader.new (source_at reader.old) }
+{
+    let room = reader.len() / ITEM_WORDS;
+    let tree = module_tree(alloc, room, reader)?;
+    end(reader)?;
+    Ok(tree)
+}
+
+// The trees of modules one after another, of which there is one at least.
+fn module_trees(alloc: Global, reader: &mut WordReader) -> Result<Row<Module>, ParseFault>
+    ensures { GivesSeen trees_of result reader.new (modules_at reader.old) }
+{
+    let mut trees = Row::new(alloc);
+    trees.push(module_tree(alloc, 0, reader)?)?;
+    while !reader.is_empty() {
+        trees.push(module_tree(alloc, 0, reader)?)?;
+    }
+    Ok(trees)
 }
 
 // The fault of the words at which a reader stands.
@@ -133,7 +158,7 @@ pub fn parse_module(alloc: Global, words: &Words) -> Result<Module, SyntaxFault>
     faults_spell_nothing();
     faults_at_fault_word();
     let mut reader = WordReader::new(words);
-    match module_tree(alloc, &mut reader) {
+    match whole_tree(alloc, &mut reader) {
         Ok(tree) => Ok(tree),
         Err(ParseFault::Syntax) => Err(fault_at(words, &reader)),
         Err(ParseFault::OutOfMemory) => Err(SyntaxFault::OutOfMemory),
@@ -145,4 +170,31 @@ pub fn words_spell_one_module()
     ensures { WordsSpellOneModule }
 {
     spells_one_source();
+}
+
+/// The trees of the modules that the words spell, one after another. The words are refused exactly where they spell none, or
+/// memory is.
+pub fn parse_modules(alloc: Global, words: &Words) -> Result<Row<Module>, SyntaxFault>
+    ensures spelled { IfOk result (λ trees. SpellsModules words.now.list trees) }
+    ensures only { IfOk result (λ trees. (others : List ModuleTree)
+        → SpellsModules words.now.list others → others ≡ trees) }
+    ensures refused { RefusesText words.now result }
+{
+    // Laws of reading that the proof uses.
+    reads_only_texts();
+    reads_each_text();
+    faults_at_text_fault_word();
+    let mut reader = WordReader::new(words);
+    match module_trees(alloc, &mut reader) {
+        Ok(trees) => Ok(trees),
+        Err(ParseFault::Syntax) => Err(fault_at(words, &reader)),
+        Err(ParseFault::OutOfMemory) => Err(SyntaxFault::OutOfMemory),
+    }
+}
+
+/// A law: words spell at most one list of modules.
+pub fn words_spell_one_list()
+    ensures { WordsSpellOneList }
+{
+    reads_each_text();
 }

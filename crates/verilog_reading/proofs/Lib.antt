@@ -5,6 +5,7 @@ pub mod Items
 pub mod Lists
 pub mod Parts
 pub mod Readers
+pub mod Several
 pub mod SpelledTrees
 pub mod SpelledWords
 pub mod Whole

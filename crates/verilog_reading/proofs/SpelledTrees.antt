@@ -6,6 +6,9 @@ use Rattle.std.specs.List.{flat_map, list_all, AllByRecursion}
 use Rattle.list_laws.proofs.Tests.{and_left, and_right}
 use Rattle.list_laws.proofs.Lists.{all_append, all_front, all_back, all_from_list_all, all_mapped}
 use Rattle.verilog_lexicon.specs.declared.word.Word.{Word}
+use Rattle.verilog_lexicon.specs.declared.word.Spanned.{Spanned}
+use Rattle.verilog_lexicon.specs.Pieces.{words_of}
+use Rattle.verilog_lexicon.specs.Words.{plain}
 use Rattle.verilog_lexicon.specs.declared.word.Word.TheVariants as word
 use Rattle.verilog_lexicon.specs.declared.reserved.Reserved.TheVariants as key
 use Rattle.verilog_lexicon.specs.declared.symbol.Symbol.TheVariants.{LeftParenthesis, RightParenthesis, Comma, Semicolon, Dot, Equals}
@@ -273,3 +276,17 @@ spelled_is_tree bytes tree spells =
     let said = spells.spells in
     subst (λ (t : Module). IsTree t) (sym said.tree_is)
     (written_tree_is said.source said.keeps_rules (subst (λ (ws : List Word). AreSpelled ws) said.words_are (words_are_spelled bytes spells.words spells.cut)))
+
+-- So do the trees of several modules.
+
+written_trees_are : (ss : List Source) → AllByRecursion IsSource ss → AreSpelled (flat_map source_words ss) → AllByRecursion IsTree (map tree_of ss)
+written_trees_are [] are spelled = tt
+written_trees_are (s ∷ ss) are spelled = (
+  written_tree_is s are.0 (all_front IsSpelled (source_words s) (flat_map source_words ss) spelled),
+  written_trees_are ss are.1 (all_back IsSpelled (source_words s) (flat_map source_words ss) spelled),
+)
+
+pub spelled_are_trees : (bytes : List ℕ) (words : List Spanned) (sources : List Source) → words_of bytes words → AllByRecursion IsSource sources
+    → plain words ≡ flat_map source_words sources → AllByRecursion IsTree (map tree_of sources)
+spelled_are_trees bytes words sources cut are is =
+    written_trees_are sources are (subst (λ (ws : List Word). AreSpelled ws) is (words_are_spelled bytes words cut))

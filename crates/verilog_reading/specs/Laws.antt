@@ -1,10 +1,11 @@
 -- What ties reading to the words of written modules.
-use Rattle.std.specs.Prelude.{◌≡◌, ℕ, ◌-◌, ◌<◌, ◌≤◌, List, [], ◌++◌, length, take, Some, None}
+use Rattle.std.specs.Prelude.{◌≡◌, ℕ, ◌+◌, ◌-◌, ◌<◌, ◌≤◌, List, [], ◌∷◌, ◌++◌, length, take, Some, None}
+use Rattle.std.specs.List.{flat_map, AllByRecursion}
 use Rattle.verilog_lexicon.specs.declared.word.Word.{Word}
 use Rattle.verilog_tree.specs.Sources.{Source}
 use Rattle.verilog_tree.specs.Spelling.{source_words}
 use Rattle.verilog_tree.specs.Trees.{IsSource}
-use Rattle.verilog_reading.specs.Reading.{source_at}
+use Rattle.verilog_reading.specs.Reading.{source_at, modules_at}
 
 -- The words of a module that keeps the rules are read as it.
 abbrev pub ReadsEachSource : Type 0
@@ -39,3 +40,36 @@ pub record IsFaultWord (ws : List Word) (u : ℕ) : Type 0 where
 -- Where reading stops at a fault, it stops at the fault's word.
 abbrev pub FaultsAtFaultWord : Type 0
 FaultsAtFaultWord = (ws left : List Word) → source_at ws ≡ (None, left) → IsFaultWord ws (length ws - length left)
+
+-- Several modules, one after another.
+
+abbrev pub text_words : Source → List Source → List Word
+text_words first more = flat_map source_words (first ∷ more)
+
+-- The words of modules that keep the rules are read as them.
+abbrev pub ReadsEachText : Type 0
+ReadsEachText = (first : Source) (more : List Source) → AllByRecursion IsSource (first ∷ more) → modules_at (text_words first more) ≡ (Some (first, more), [])
+
+-- What is read are such modules, and these are their words.
+abbrev pub ReadsOnlyTexts : Type 0
+ReadsOnlyTexts = (ws : List Word) (first : Source) (more : List Source) (left : List Word) → modules_at ws ≡ (Some (first, more), left)
+    → (left ≡ []) × (ws ≡ text_words first more) × AllByRecursion IsSource (first ∷ more)
+
+-- the words of modules, of which there is one at least, begin with these
+pub record BegunText (ws : List Word) : Type 0 where
+  pub first : Source
+  pub others : List Source
+  pub keep : AllByRecursion IsSource (first ∷ others)
+  pub more : List Word
+  pub begins : text_words first others ≡ ws ++ more
+
+-- The word of a syntax fault in a text of several modules, by its number: the words before it begin such a text, and no such text
+-- goes on with it. Past the last word, it is the count of words.
+pub record IsTextFaultWord (ws : List Word) (u : ℕ) : Type 0 where
+  pub within : u ≤ length ws
+  pub begun : BegunText (take u ws)
+  pub greatest : (v : ℕ) → u < v → v ≤ length ws → BegunText (take v ws) → ⊥
+
+-- Where reading of several modules stops at a fault, it stops at the fault's word.
+abbrev pub FaultsAtTextFaultWord : Type 0
+FaultsAtTextFaultWord = (ws left : List Word) → modules_at ws ≡ (None, left) → IsTextFaultWord ws (length ws - length left)

@@ -11,7 +11,8 @@
 // - `dir_of` and `item_head_of` answer which direction, and which item, a key word begins.
 // - A tree that any text spells keeps the conditions of a tree that can be spelled: names of 1 to 255 printing
 //   bytes, numbers of at most nine digits, as many inputs as each gate takes, no wire that is a port's net.
-// By the contract of five law functions.
+// - So it is of texts of several modules, one after another: what is read, where a fault stands, the conditions.
+// By the contract of nine law functions.
 #![tactic(auto)]
 
 pub mod heads;
@@ -19,6 +20,7 @@ pub mod laws;
 
 pub use heads::{ItemHead, dir_of, item_head_of};
 pub use laws::{
-    faults_at_fault_word, faults_spell_nothing, reads_each_source, reads_only_sources,
-    spelled_trees_keep_the_conditions, spells_one_source,
+    faults_at_fault_word, faults_at_text_fault_word, faults_spell_nothing, reads_each_source,
+    reads_each_text, reads_only_sources, reads_only_texts,
+    spelled_modules_keep_the_conditions, spelled_trees_keep_the_conditions, spells_one_source,
 };
