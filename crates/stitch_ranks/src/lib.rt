@@ -14,8 +14,8 @@ ghost use Rattle.stitch_ranks.specs.Laws.{StitchedIsOrdered, StitchedHasCones, S
 use netlist_laws::{bit_of_a_direction, direction_of_a_bit, driver_is_found, found_driver_drives};
 use part_levels::{
     bypass_stands_above, copies_stand_above, ident_stands_above, matches_stand_above,
-    parts_stand_above, rows_stand_above, selections_stand_above, stages_stand_above, stands_by_place,
-    tap_stands_above, tdo_stands_above,
+    parts_stand_above, rows_stand_above, selections_stand_above, stages_stand_above,
+    stands_by_place, tap_stands_above, tdo_stands_above,
 };
 use plan_devices::{plans_suit_netlists, rows_stand_at_bits, rows_take_the_core};
 use plan_fitting::control_cells_are_there;

@@ -21,6 +21,6 @@ pub mod laws;
 pub use heads::{ItemHead, dir_of, item_head_of};
 pub use laws::{
     faults_at_fault_word, faults_at_text_fault_word, faults_spell_nothing, reads_each_source,
-    reads_each_text, reads_only_sources, reads_only_texts,
-    spelled_modules_keep_the_conditions, spelled_trees_keep_the_conditions, spells_one_source,
+    reads_each_text, reads_only_sources, reads_only_texts, spelled_modules_keep_the_conditions,
+    spelled_trees_keep_the_conditions, spells_one_source,
 };
