@@ -1,18 +1,14 @@
 -- The driver of a net that drives another.
-use Rattle.std.proofs.Common.{◌≡◌, ◌≢◌, ◌⊎◌, inl, inr, ℕ, suc, zero, ◌<◌, ◌==◌, List, [], ◌∷◌, length, map, refl, sym, ◌∙◌, arith, ap, Option, Some, None, option_map, set, subst, Bool, true, false, cond, eq-eqb, eqb-true}
-use Rattle.std.specs.Option.{IsSome, option_and_then}
-use Rattle.std.specs.List.{slice_get, All}
+use Rattle.std.proofs.Common.{◌≡◌, ◌≢◌, inl, inr, ℕ, suc, zero, List, [], ◌∷◌, map, refl, sym, ◌∙◌, arith, ap, Option, Some, None, option_map, set, subst, eq-eqb}
+use Rattle.std.specs.List.{slice_get}
 use Rattle.std.proofs.lemmas.Bool.{cases_eq, ne_eqb}
 use Rattle.std.proofs.lemmas.List.{map-set}
-use Rattle.std.proofs.lemmas.List.Elements.{All-set}
-use Rattle.std.proofs.lemmas.Option.{slice_get-map, slice_get_within}
-use Rattle.list_laws.proofs.Lists.{slice_get-set_same, slice_get-set_other}
+use Rattle.std.proofs.lemmas.Option.{slice_get-map}
 use Rattle.netlist_model.specs.declared.NetId.{NetId}
 use Rattle.netlist_model.specs.declared.CellId.{CellId}
 use Rattle.netlist_model.specs.declared.Reader.{Reader}
 use Rattle.netlist_model.specs.Lists.{CellView, NetlistView, live_cell, IsUndriven}
-use Rattle.netlist_model.specs.Formed.{IsDriven}
-use Rattle.netlist_arena.specs.Arena.{DrivesIn, IsPlaceBelow}
+use Rattle.netlist_arena.specs.Arena.{DrivesIn}
 use Rattle.netlist_arena.specs.Moves.{moved_output, with_moved_output}
 use Rattle.numbered_places.specs.Places.{there_at, place_at}
 use Rattle.linked_cells.specs.Views.{CellSlots}

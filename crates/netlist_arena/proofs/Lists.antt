@@ -1,36 +1,32 @@
 -- The lists of a netlist whose cells and nets stand in places.
-use Rattle.std.proofs.Common.{◌≡◌, ◌≢◌, ◌⊎◌, inl, inr, ℕ, suc, zero, ◌+◌, ◌<◌, ◌≤◌, ◌==◌, List, [], ◌∷◌, ◌++◌, length, map, refl, sym, ◌∙◌, arith, ap, Option, Some, None, Bool, true, false, cond, option_map, eq-eqb, eqb-true, count_by, get_or}
-use Rattle.std.specs.Option.{IsSome, is_some, option_and_then, unwrap_or, MatchOption}
+use Rattle.std.proofs.Common.{◌≡◌, ◌⊎◌, inl, inr, ℕ, suc, zero, ◌<◌, ◌≤◌, ◌==◌, List, [], ◌∷◌, ◌++◌, length, map, refl, sym, ◌∙◌, arith, ap, Option, Some, None, Bool, true, false, cond, option_map, eqb-true, count_by, get_or}
+use Rattle.std.specs.Option.{IsSome, is_some, option_and_then, MatchOption}
 use Rattle.std.specs.Bool.{⊤}
 use Rattle.std.specs.List.{slice_get, All}
-use Rattle.std.proofs.lemmas.Bool.{cases_eq}
 use Rattle.std.proofs.lemmas.List.{length-map, map-append}
 use Rattle.std.proofs.lemmas.List.Sums.{sum_by-cons}
-use Rattle.std.proofs.lemmas.List.Elements.{All-set, All-head, All-tail}
+use Rattle.std.proofs.lemmas.List.Elements.{All-set}
 use Rattle.std.proofs.lemmas.Option.{slice_get-map, slice_get_within}
-use Rattle.list_laws.proofs.Lists.{slice_get-append_left, slice_get-append_right, slice_get_there}
 use Rattle.netlist_model.specs.declared.NetId.{NetId}
-use Rattle.netlist_model.specs.declared.CellId.{CellId}
 use Rattle.netlist_model.specs.declared.Reader.{Reader}
 use Rattle.netlist_model.specs.declared.Feed.{Feed}
 use Rattle.netlist_model.specs.declared.Feed.TheVariants.{Net as OnNet, Const as Fixed}
-use Rattle.netlist_model.specs.Lists.{PortView, NetView, CellView, NetlistView, live_cell, Reads}
+use Rattle.netlist_model.specs.Lists.{PortView, NetView, CellView, NetlistView, live_cell}
 use Rattle.netlist_model.specs.Below.{IsFeedBelow, IsNetBelow}
-use Rattle.netlist_arena.specs.Arena.{ArenaView, HasItsOperands, IsPlaceBelow, IsPortBelow}
+use Rattle.netlist_arena.specs.Arena.{HasItsOperands, IsPlaceBelow, IsPortBelow}
 use Rattle.netlist_arena.specs.Adds.{CanDrive}
-use Rattle.netlist_arena.specs.Walks.{walk_of, IsReader, IsWalk}
+use Rattle.netlist_arena.specs.Walks.{IsReader, IsWalk}
 use Rattle.netlist_arena.proofs.Growth.{place_at as found_below, count_at}
 use Rattle.netlist_arena.proofs.Laid.{feed_below}
 use Rattle.netlist_arena.proofs.Changes.{with_feed_below, with_feed_count}
-use Rattle.reader_links.specs.declared.Slot.{Slot}
-use Rattle.reader_links.specs.Links.{Threaded, VisitsOnce}
-use Rattle.reader_links.proofs.Threads.{visits_once, threaded_loosely}
+use Rattle.reader_links.specs.Links.{Threaded}
+use Rattle.reader_links.proofs.Threads.{visits_once}
 use Rattle.numbered_places.specs.Places.{there_at, place_at, Puts}
 use Rattle.linked_cells.specs.Views.{CellSlots}
 use Rattle.linked_cells.specs.declared.Net.{Net}
 use Rattle.linked_cells.specs.Cells.{cells_of, net_view, values, nets_of, slot_at, first_at, driver_at, KeepsNets, with_feed, with_slot_feed, feed_in, IsFeedThere, moved_feed, with_moved_feeds}
-use Rattle.linked_cells.proofs.Writing.{first_in, kept_there}
-use Rattle.linked_cells.proofs.Operands.{slot_of_feed, feed_of_slot, feed_found}
+use Rattle.linked_cells.proofs.Writing.{kept_there}
+use Rattle.linked_cells.proofs.Operands.{slot_of_feed, feed_found}
 
 abbrev pub AllThere : List (Option Net) → Type 0
 AllThere nets = (k : ℕ) → k < length nets → IsSome (place_at nets k)

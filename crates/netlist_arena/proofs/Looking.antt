@@ -1,13 +1,12 @@
 -- What stands in a place, as the lists have it.
-use Rattle.std.proofs.Common.{◌≡◌, ◌≢◌, ℕ, suc, zero, ◌+◌, ◌<◌, ◌≤◌, List, [], ◌∷◌, length, map, refl, sym, ◌∙◌, arith, ap, Option, Some, None, true, false, option_map, subst}
+use Rattle.std.proofs.Common.{◌≡◌, ℕ, suc, zero, ◌<◌, List, [], ◌∷◌, length, refl, ◌∙◌, arith, ap, Option, Some, None, true, false, option_map}
 use Rattle.std.specs.Option.{IsSome, MatchOption}
 use Rattle.std.specs.List.{slice_get}
 use Rattle.std.proofs.lemmas.List.{length-map}
 use Rattle.std.proofs.lemmas.Option.{slice_get-map, slice_get_within}
 use Rattle.list_laws.proofs.Options.{some_there}
 use Rattle.netlist_model.specs.declared.CellId.{CellId}
-use Rattle.netlist_model.specs.declared.Feed.{Feed}
-use Rattle.netlist_model.specs.Lists.{NetView, CellView, NetlistView, live_cell, cell_at, Drives, IsUndriven}
+use Rattle.netlist_model.specs.Lists.{CellView, NetlistView, live_cell, cell_at, Drives, IsUndriven}
 use Rattle.netlist_arena.specs.Looks.{feed_at}
 use Rattle.reader_links.specs.declared.Slot.{Slot}
 use Rattle.numbered_places.specs.Places.{there_at, place_at}

@@ -1,10 +1,9 @@
 -- The drivers that nets hold, whatever is added, moved or removed.
-use Rattle.std.proofs.Common.{◌≡◌, ◌≢◌, ◌⊎◌, inl, inr, ℕ, suc, zero, ◌+◌, ◌<◌, ◌≤◌, List, [], ◌∷◌, ◌++◌, length, map, refl, sym, ◌∙◌, arith, ap, Option, Some, None, option_map, set, subst, true, false}
-use Rattle.std.specs.Option.{IsSome, MatchOption}
+use Rattle.std.proofs.Common.{◌≡◌, ◌≢◌, ◌⊎◌, inl, inr, ℕ, suc, zero, ◌<◌, List, [], ◌∷◌, length, map, refl, sym, ◌∙◌, ap, Option, Some, None, option_map, set, subst}
 use Rattle.std.specs.List.{slice_get}
 use Rattle.std.proofs.lemmas.Bool.{cases_eq}
 use Rattle.std.proofs.lemmas.Option.{slice_get-map}
-use Rattle.list_laws.proofs.Lists.{slice_get-set_same, slice_get-set_other}
+use Rattle.list_laws.proofs.Lists.{slice_get-set_other}
 use Rattle.netlist_model.specs.declared.NetId.{NetId}
 use Rattle.netlist_model.specs.declared.CellId.{CellId}
 use Rattle.netlist_model.specs.declared.Feed.{Feed}

@@ -1,13 +1,12 @@
 -- A cell that is put in a place.
-use Rattle.std.proofs.Common.{◌≡◌, ◌≢◌, ◌⊎◌, inl, inr, ℕ, suc, zero, ◌+◌, ◌<◌, ◌≤◌, List, [], ◌∷◌, ◌++◌, length, map, refl, sym, ◌∙◌, arith, ap, Option, Some, None, option_map, set, true, false, count_by, cond, replicate, get_or}
+use Rattle.std.proofs.Common.{◌≡◌, ◌≢◌, inl, inr, ℕ, suc, zero, ◌<◌, List, [], ◌∷◌, ◌++◌, length, map, refl, sym, ◌∙◌, arith, ap, Option, Some, None, option_map, set, false, count_by, cond, replicate}
 use Rattle.std.specs.Option.{IsSome, is_some}
 use Rattle.std.specs.List.{slice_get}
 use Rattle.std.proofs.lemmas.Bool.{cases_eq}
 use Rattle.std.proofs.lemmas.List.{map-set, map-append, length-map, set-set, length-replicate}
 use Rattle.std.proofs.lemmas.List.Sums.{sum_by-cons}
 use Rattle.std.proofs.lemmas.Option.{slice_get-map, slice_get_within, slice_get_past}
-use Rattle.list_laws.proofs.Lists.{slice_get-set_same, slice_get-set_other, last_push, slice_get_there}
-use Rattle.netlist_model.specs.declared.NetId.{NetId}
+use Rattle.list_laws.proofs.Lists.{slice_get-set_same, slice_get-set_other, last_push}
 use Rattle.netlist_model.specs.declared.Reader.{Reader}
 use Rattle.netlist_model.specs.declared.Feed.{Feed}
 use Rattle.netlist_model.specs.declared.Feed.TheVariants.{Net as OnNet, Const as Fixed}

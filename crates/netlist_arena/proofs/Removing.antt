@@ -1,14 +1,13 @@
 -- What is known where a cell is removed.
-use Rattle.std.proofs.Common.{◌≡◌, ◌≢◌, ℕ, ◌<◌, List, [], length, map, refl, sym, ◌∙◌, arith, ap, Option, Some, None, option_map, set, false}
+use Rattle.std.proofs.Common.{◌≡◌, ℕ, ◌<◌, List, [], length, refl, sym, ◌∙◌, arith, ap, Option, Some, None, option_map, set, false}
 use Rattle.std.specs.Option.{IsSome, IfSome, MatchOption}
 use Rattle.std.specs.Bool.{⊤}
 use Rattle.std.specs.List.{slice_get, All}
 use Rattle.std.proofs.lemmas.List.{length-map, map-set}
-use Rattle.std.proofs.lemmas.Option.{slice_get_within}
 use Rattle.list_laws.proofs.Options.{some_there}
 use Rattle.netlist_model.specs.declared.NetId.{NetId}
 use Rattle.netlist_model.specs.declared.Feed.{Feed}
-use Rattle.netlist_model.specs.declared.Feed.TheVariants.{Net as OnNet, Const as Fixed}
+use Rattle.netlist_model.specs.declared.Feed.TheVariants.{Const as Fixed}
 use Rattle.netlist_model.specs.Lists.{CellView, live_cell}
 use Rattle.netlist_model.specs.Below.{IsNetBelow}
 use Rattle.netlist_arena.specs.Arena.{IsPlaceBelow}

@@ -1,5 +1,3 @@
-use Rattle.std.proofs.Common.{◌≡◌, ◌≢◌}
-use Rattle.netlist_model.specs.declared.Feed.TheVariants.{Net as OnNet, Const as Fixed}
 use Rattle.reader_links.proofs.Threads.{loosely_written}
 use Rattle.linked_cells.specs.Cells.{slot_at, first_at}
 use Rattle.linked_cells.proofs.Writing.{found_loose}

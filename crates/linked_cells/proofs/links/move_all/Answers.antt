@@ -1,6 +1,4 @@
-use Rattle.std.proofs.Common.{◌≡◌, ◌∙◌, sym, subst, Option, Some}
-use Rattle.netlist_model.specs.declared.Reader.{Reader}
-use Rattle.reader_links.specs.Links.{IsMoving}
+use Rattle.std.proofs.Common.{◌∙◌, sym}
 use Rattle.reader_links.proofs.Threads.{first_there, after_there, matched_there}
 use Rattle.reader_links.proofs.Moving.{moving_start, moving_last, moving_keeps, moving_joined}
 use Rattle.linked_cells.specs.Cells.{slot_at, first_at, slot_count, all_readers}

@@ -1,7 +1,5 @@
-use Rattle.std.proofs.Common.{◌≡◌, ◌∙◌, sym, subst, Option, Some}
-use Rattle.netlist_model.specs.declared.Reader.{Reader}
-use Rattle.reader_links.specs.Links.{IsMoving, walk_from}
-use Rattle.reader_links.proofs.Moving.{moving_there, moving_at, moving_step, moving_less}
+use Rattle.std.proofs.Common.{◌∙◌, sym}
+use Rattle.reader_links.proofs.Moving.{moving_there, moving_step, moving_less}
 use Rattle.linked_cells.specs.Cells.{slot_at, slot_count}
 use Rattle.linked_cells.proofs.links.turn_all.Goals as goal
 

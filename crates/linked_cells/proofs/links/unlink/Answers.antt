@@ -1,4 +1,3 @@
-use Rattle.std.proofs.Common.{◌≡◌, sym, ◌∙◌}
 use Rattle.reader_links.proofs.Threads.{unlinked, neighbours_there, written_there, after_there, matched_there}
 use Rattle.linked_cells.specs.Cells.{slot_at, first_at}
 use Rattle.linked_cells.proofs.Writing.{found_on, const_loose}

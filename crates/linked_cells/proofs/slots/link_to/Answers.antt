@@ -1,4 +1,4 @@
-use Rattle.std.proofs.Common.{◌≡◌, ◌<◌, sym, ◌∙◌, Some, None, arith, length}
+use Rattle.std.proofs.Common.{sym, arith}
 use Rattle.linked_cells.proofs.Writing.{place_within, none_there}
 use Rattle.linked_cells.proofs.slots.link_to.Goals as goal
 

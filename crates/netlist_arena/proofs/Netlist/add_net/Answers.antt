@@ -1,9 +1,9 @@
-use Rattle.std.proofs.Common.{◌≡◌, ◌∙◌, sym, ap, ℕ, length, refl, arith, length-append, ◌∷◌, ◌++◌, [], List, Some, None, subst, count_by}
+use Rattle.std.proofs.Common.{◌∙◌, sym, ap, ℕ, length, refl, arith, length-append, ◌∷◌, ◌++◌, [], Some, None, subst, count_by}
 use Rattle.std.specs.Option.{is_some}
 use Rattle.numbered_places.specs.Places.{Puts}
 use Rattle.linked_cells.specs.declared.Net.{Net}
 use Rattle.netlist_model.specs.declared.NetId.{NetId}
-use Rattle.netlist_model.specs.Lists.{NetView, NetlistView}
+use Rattle.netlist_model.specs.Lists.{NetlistView}
 use Rattle.reader_links.proofs.Threads.{threaded_loosely}
 use Rattle.linked_cells.specs.Cells.{cells_of, nets_of, net_view, slot_at, first_at, driver_at}
 use Rattle.netlist_arena.proofs.Growth.{undriven_past, direction_past}

@@ -1,6 +1,6 @@
-use Rattle.std.proofs.Common.{◌≡◌, sym, ◌∙◌, Some, length}
+use Rattle.std.proofs.Common.{◌≡◌, sym, Some}
 use Rattle.numbered_places.specs.Places.{place_at}
-use Rattle.linked_cells.specs.Cells.{cell_view, cells_of, nets_of}
+use Rattle.linked_cells.specs.Cells.{cell_view, cells_of}
 use Rattle.netlist_arena.proofs.Growth.{place_at as found_below, count_at}
 use Rattle.netlist_arena.proofs.Placing.{place_view}
 use Rattle.netlist_arena.proofs.Looking.{no_cell}

@@ -1,4 +1,4 @@
-use Rattle.std.proofs.Common.{sym, ◌∙◌, arith}
+use Rattle.std.proofs.Common.{arith}
 use Rattle.netlist_arena.proofs.Looking.{number_below}
 use Rattle.netlist_arena.proofs.Netlist.cell_bound.Goals as goal
 

@@ -1,4 +1,4 @@
-use Rattle.std.proofs.Common.{arith, ◌≡◌, ◌∙◌, sym, ap, length, refl}
+use Rattle.std.proofs.Common.{arith, refl}
 use Rattle.list_laws.proofs.Options.{some_there}
 use Rattle.linked_cells.specs.Cells.{cells_of, feed_in, driver_at}
 use Rattle.netlist_arena.proofs.NetDrivers.{drivers_same, outputs_connected}

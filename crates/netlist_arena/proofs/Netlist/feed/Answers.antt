@@ -1,4 +1,4 @@
-use Rattle.std.proofs.Common.{◌≡◌, sym, ◌∙◌, Some, length}
+use Rattle.std.proofs.Common.{length}
 use Rattle.linked_cells.specs.Cells.{cell_view}
 use Rattle.netlist_arena.proofs.Laid.{feed_below}
 use Rattle.netlist_arena.proofs.Looking.{operand_within, operand_is, slot_feed}

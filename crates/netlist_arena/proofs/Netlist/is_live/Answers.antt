@@ -1,4 +1,4 @@
-use Rattle.std.proofs.Common.{◌≡◌, sym, ◌∙◌, ap, Some, None, true, false, refl}
+use Rattle.std.proofs.Common.{◌≡◌, sym, Some, refl}
 use Rattle.numbered_places.specs.Places.{place_at}
 use Rattle.netlist_arena.proofs.Placing.{place_view}
 use Rattle.netlist_arena.proofs.Looking.{no_cell}

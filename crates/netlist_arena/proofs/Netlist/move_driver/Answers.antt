@@ -1,7 +1,7 @@
-use Rattle.std.proofs.Common.{arith, ◌≡◌, ◌≢◌, ◌∙◌, sym, ap, ℕ, ◌<◌, length, refl, [], List, Option, Some, None, subst}
+use Rattle.std.proofs.Common.{arith, ◌≡◌, ◌≢◌, ◌∙◌, sym, ap, ℕ, ◌<◌, length, refl, Option, Some, None}
 use Rattle.std.specs.List.{All}
 use Rattle.netlist_model.specs.declared.CellId.{CellId}
-use Rattle.netlist_model.specs.Lists.{NetlistView, CellView, IsUndriven}
+use Rattle.netlist_model.specs.Lists.{NetlistView, IsUndriven}
 use Rattle.netlist_model.specs.Formed.{IsDriven}
 use Rattle.netlist_arena.specs.Arena.{IsPlaceBelow}
 use Rattle.netlist_arena.proofs.Growth.{place_at as found_below, output_below}

@@ -1,4 +1,4 @@
-use Rattle.std.proofs.Common.{◌≡◌, sym, ◌∙◌, ap, refl, Some}
+use Rattle.std.proofs.Common.{◌≡◌, sym, refl, Some}
 use Rattle.numbered_places.specs.Places.{place_at}
 use Rattle.netlist_arena.proofs.Lists.{net_there}
 use Rattle.netlist_arena.proofs.Looking.{no_net, net_found}

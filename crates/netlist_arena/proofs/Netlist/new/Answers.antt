@@ -1,4 +1,4 @@
-use Rattle.std.proofs.Common.{◌≡◌, arith, refl}
+use Rattle.std.proofs.Common.{arith, refl}
 use Rattle.netlist_arena.proofs.NetDrivers.{empty_drivers, empty_threaded}
 use Rattle.netlist_arena.proofs.Netlist.new.Goals as goal
 

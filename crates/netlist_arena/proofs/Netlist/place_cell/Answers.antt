@@ -1,13 +1,11 @@
-use Rattle.std.proofs.Common.{◌≡◌, ◌∙◌, sym, ap, ℕ, length, refl, arith, ◌∷◌, [], List, Option, Some, None}
-use Rattle.netlist_model.specs.declared.CellId.{CellId}
+use Rattle.std.proofs.Common.{length, refl, arith}
 use Rattle.netlist_model.specs.Lists.{CellView, NetlistView}
 use Rattle.netlist_arena.proofs.Growth.{takes_few}
 use Rattle.netlist_arena.proofs.Puts.{puts_adds, puts_below, puts_counts}
-use Rattle.netlist_arena.specs.Adds.{AddsCell}
 use Rattle.reader_links.proofs.Threads.{threaded_loosely}
-use Rattle.linked_cells.specs.Cells.{cells_of, nets_of, values, slot_at, first_at, driver_at}
+use Rattle.linked_cells.specs.Cells.{cells_of, nets_of, slot_at, first_at, driver_at}
 use Rattle.linked_cells.proofs.Writing.{nets_same, kept_there, length_kept, driver_kept}
-use Rattle.netlist_arena.proofs.Lists.{feed_there, output_there, output_in_range, views_same, views_there, length_nets}
+use Rattle.netlist_arena.proofs.Lists.{feed_there, output_there, output_in_range, views_same, views_there}
 use Rattle.netlist_arena.proofs.NetDrivers.{drivers_same, drivers_added}
 use Rattle.netlist_arena.proofs.Netlist.place_cell.Goals as goal
 

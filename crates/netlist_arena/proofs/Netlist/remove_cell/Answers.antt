@@ -1,6 +1,5 @@
-use Rattle.std.proofs.Common.{arith, ◌≡◌, ◌∙◌, sym, ap, ℕ, length, refl, [], None, set, Option}
+use Rattle.std.proofs.Common.{arith, refl, [], None}
 use Rattle.std.proofs.lemmas.List.Elements.{All-set}
-use Rattle.netlist_model.specs.declared.NetId.{NetId}
 use Rattle.netlist_model.specs.Lists.{NetlistView}
 use Rattle.netlist_arena.specs.Arena.{HasItsOperands, IsPlaceBelow}
 use Rattle.netlist_arena.proofs.Puts.{emptied}
@@ -8,7 +7,6 @@ use Rattle.netlist_arena.proofs.Single.{undriven_removed}
 use Rattle.reader_links.proofs.Threads.{threaded_loosely}
 use Rattle.linked_cells.specs.Cells.{cells_of, nets_of, slot_at, first_at, driver_at}
 use Rattle.linked_cells.proofs.Writing.{nets_same, kept_there, length_kept, driver_kept}
-use Rattle.netlist_arena.specs.Drivers.{DriverDropped}
 use Rattle.netlist_arena.proofs.Lists.{operand_there, output_place, views_same, views_there}
 use Rattle.netlist_arena.proofs.NetDrivers.{drivers_same, drivers_single, drivers_removed}
 use Rattle.netlist_arena.proofs.Placing.{remove_threaded}

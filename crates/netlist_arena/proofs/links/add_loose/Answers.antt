@@ -1,6 +1,5 @@
-use Rattle.std.proofs.Common.{◌≡◌, ◌∙◌, length}
-use Rattle.std.specs.Option.{is_some}
-use Rattle.linked_cells.specs.Cells.{cells_of, slot_at, first_at}
+use Rattle.std.proofs.Common.{length}
+use Rattle.linked_cells.specs.Cells.{cells_of, first_at}
 use Rattle.netlist_arena.proofs.Placing.{put_at, put_threaded, put_blank, put_given}
 use Rattle.netlist_arena.proofs.links.add_loose.Goals as goal
 

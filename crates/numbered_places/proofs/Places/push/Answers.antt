@@ -1,4 +1,4 @@
-use Rattle.std.proofs.Common.{◌≡◌, refl, arith, vec_len, vec_capacity}
+use Rattle.std.proofs.Common.{arith, vec_len, vec_capacity}
 use Rattle.numbered_places.proofs.Keys.{appended}
 use Rattle.numbered_places.proofs.Places.push.Goals as goal
 

@@ -1,4 +1,4 @@
-use Rattle.std.proofs.Common.{◌≡◌, refl, ap, sym, ◌∙◌, arith}
+use Rattle.std.proofs.Common.{◌∙◌}
 use Rattle.numbered_places.proofs.Keys.{added}
 use Rattle.numbered_places.proofs.Places.put.Goals as goal
 

@@ -1,4 +1,3 @@
-use Rattle.std.proofs.Common.{◌≡◌, refl, ap, sym, ◌∙◌}
 use Rattle.numbered_places.proofs.Keys.{emptied}
 use Rattle.numbered_places.proofs.Places.remove.Goals as goal
 
