@@ -9,7 +9,7 @@ WORD = re.compile(r'\s+|--[^\n]*|"[^"\n]*"|[A-Za-z]\w*|\d+(?:\.\d+(?:[eE][+-]?\d
 ROW = re.compile(r"(\d+)\s*\(\s*(\w+)\s*,\s*(\*|\w+(?:\s*\(\s*\d+\s*\))?)\s*,\s*(\w+)\s*,\s*([01X])\s*(?:,\s*(\d+)\s*,\s*([01])\s*,\s*Z\s*)?\)", re.I)
 # What is between TDI and TDO under each instruction.
 BOUNDARY, BYPASS, DEVICE_ID = "BOUNDARY", "BYPASS", "DEVICE_ID"
-REGISTERS = dict(EXTEST=BOUNDARY, SAMPLE=BOUNDARY, PRELOAD=BOUNDARY, IDCODE=DEVICE_ID, USERCODE=DEVICE_ID, BYPASS=BYPASS, HIGHZ=BYPASS, CLAMP=BYPASS)
+REGISTERS = dict(EXTEST=BOUNDARY, SAMPLE=BOUNDARY, PRELOAD=BOUNDARY, BYPASS=BYPASS, IDCODE=DEVICE_ID, HIGHZ=BYPASS, CLAMP=BYPASS, USERCODE=DEVICE_ID)
 FUNCTIONS = ("input", "clock", "output2", "output3", "bidir", "control")
 
 
@@ -62,7 +62,7 @@ class Device:
     opcodes: Dict[str, str] = field(default_factory=dict)
     capture: str = ""
     code: Optional[str] = None
-    user: Optional[str] = None
+    usercode: Optional[str] = None
     rows: List[Row] = field(default_factory=list)
 
     def tap(self):
@@ -285,15 +285,17 @@ def test_access_of(words, device):
     words.take(") ;")
 
 
+def code_of(words, name):
+    """The bits of an attribute that may be left out."""
+    return re.sub(r"\s", "", words.text_attribute(name)) if words.next_attribute() == name else None
+
+
 def instructions_of(words, device):
     device.length = words.count_attribute("INSTRUCTION_LENGTH")
     opcodes = re.findall(r"(\w+)\s*\(\s*([01]+)\s*\)", words.text_attribute("INSTRUCTION_OPCODE"))
     device.opcodes = {name.upper(): bits for name, bits in opcodes}
     device.capture = words.text_attribute("INSTRUCTION_CAPTURE").strip()
-    if words.next_attribute() == "IDCODE_REGISTER":
-        device.code = re.sub(r"\s", "", words.text_attribute("IDCODE_REGISTER"))
-    if words.next_attribute() == "USERCODE_REGISTER":
-        device.user = re.sub(r"\s", "", words.text_attribute("USERCODE_REGISTER"))
+    device.code, device.usercode = (code_of(words, f"{name}_REGISTER") for name in ("IDCODE", "USERCODE"))
     for name, bits in [*device.opcodes.items(), ("what is captured", device.capture)]:
         if len(bits) != device.length:
             raise Fault(f"{name}: {bits} hasn't the length of the instruction register, {device.length}")
@@ -303,10 +305,10 @@ def instructions_of(words, device):
     for name in ("BYPASS", "EXTEST", "SAMPLE", "PRELOAD"):
         if name not in device.opcodes:
             raise Fault(f"there is no opcode of {name}")
-    for name, code in (("IDCODE", device.code), ("USERCODE", device.user)):
+    for name, code in (("IDCODE", device.code), ("USERCODE", device.usercode)):
         if (name in device.opcodes) != (code is not None) or len(code or "1" * 32) != 32:
-            raise Fault(f"{name} and its register of 32 bits don't stand together")
-    if "USERCODE" in device.opcodes and "IDCODE" not in device.opcodes:
+            raise Fault(f"{name} and its code of 32 bits don't stand together")
+    if device.usercode and not device.code:
         raise Fault("USERCODE stands without IDCODE")
 
 

@@ -89,6 +89,9 @@ class Strings:
     def bits(self):
         return self.one(lambda text: re.fullmatch(r"[01]{1,32}", text), "1 to 32 of 0 and 1")
 
+    def code(self):
+        return self.one(lambda text: re.fullmatch(r"[01]{32}", text), "32 bits, with no blank between them,")
+
     def among(self, words, what):
         return self.one(lambda text: text.upper() in [word.upper() for word in words], f"one of {', '.join(words)} ({what})")
 
@@ -175,13 +178,12 @@ class Row:
         return self.port.text if self.index is None else f"{self.port.text}({self.index})"
 
 
-CODE = lambda strings: strings.one(lambda text: re.fullmatch(r"[01]{32}", text), "32 bits, with no blank between them,")
 READERS = {
     "PIN_MAP_STRING": lambda strings: strings.listed(pin_entry),
     "INSTRUCTION_OPCODE": lambda strings: strings.listed(opcode_entry),
     "INSTRUCTION_CAPTURE": Strings.bits,
-    "IDCODE_REGISTER": CODE,
-    "USERCODE_REGISTER": CODE,
+    "IDCODE_REGISTER": Strings.code,
+    "USERCODE_REGISTER": Strings.code,
     "REGISTER_ACCESS": lambda strings: strings.listed(access_entry),
     "BOUNDARY_REGISTER": lambda strings: strings.listed(Row),
 }
@@ -312,25 +314,29 @@ def check_opcodes(sections):
         other = before.setdefault(bits.text, name.text)
         if other != name.text and {other.upper(), name.text.upper()} != {"SAMPLE", "PRELOAD"}:
             raise Broken(bits.place, f"{name.text} has the opcode of {other}")
-    check_code(sections, "IDCODE" in there, place)
-    check_together(sections, "USERCODE", "USERCODE" in there, place)
-    if "USERCODE" in there and "IDCODE" not in there:
-        raise Broken(place, "the instruction USERCODE stands without IDCODE")
+    check_idcode(sections, there, place)
+    check_usercode(sections, there, place)
 
 
-def check_together(sections, name, is_there, place):
-    if (f"{name}_REGISTER" in sections.starts) != is_there:
+def stand_together(sections, name, there, place):
+    """Whether the instruction and its code are there; Broken where one of them is missing."""
+    if (f"{name}_REGISTER" in sections.starts) != (name in there):
         raise Broken(place, f"the instruction {name} and the section {name}_REGISTER don't stand together")
+    return name in there
 
 
-def check_code(sections, is_wanted, place):
-    check_together(sections, "IDCODE", is_wanted, place)
-    if is_wanted:
+def check_idcode(sections, there, place):
+    if stand_together(sections, "IDCODE", there, place):
         code = sections.entries("IDCODE_REGISTER")
         if code.text[-1] == "0":
             raise Broken(code.place, "the last bit of the identification code is 0")
         if code.text[20:31] == "00001111111":
             raise Broken(code.place, "the manufacturer 00001111111 is no code")
+
+
+def check_usercode(sections, there, place):
+    if stand_together(sections, "USERCODE", there, place) and "IDCODE" not in there:
+        raise Broken(there["USERCODE"].place, "USERCODE has an opcode, and IDCODE has none")
 
 
 def check_access(sections):

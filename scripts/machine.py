@@ -63,11 +63,11 @@ class TestLogic:
         self.device, self.outside = device, outside
         self.reset_opcode = bits_of(device.opcodes.get("IDCODE") or device.opcodes["BYPASS"])
         self.named = {}
-        for name in ("EXTEST", "SAMPLE", "PRELOAD", "BYPASS", "IDCODE", "USERCODE", "HIGHZ", "CLAMP"):
+        for name in REGISTERS:
             if name in device.opcodes:
                 self.named.setdefault(tuple(bits_of(device.opcodes[name])), name)
         self.code = bits_of(device.code) if device.code else []
-        self.user = bits_of(device.user) if device.user else self.code
+        self.usercode = bits_of(device.usercode) if device.usercode else self.code
         self.capture = bits_of(device.capture)
         self.reset()
 
@@ -110,9 +110,8 @@ class TestLogic:
             return X if value == Z else value
         return self.update[row.number] if row.cell == "BC_2" and extest else X
 
-    def identity(self):
-        """What the identification register captures."""
-        return self.user if self.in_effect() == "USERCODE" else self.code
+    def captured_code(self):
+        return self.usercode if self.in_effect() == "USERCODE" else self.code
 
     def shift(self, register, bit):
         register.popleft()
@@ -123,7 +122,7 @@ class TestLogic:
         if selected == BYPASS:
             self.bypass = 0 if captures else tdi
         elif captures:
-            fresh = self.identity() if selected == DEVICE_ID else [self.captured(row) for row in self.device.rows]
+            fresh = self.captured_code() if selected == DEVICE_ID else [self.captured(row) for row in self.device.rows]
             setattr(self, "ident" if selected == DEVICE_ID else "boundary", deque(fresh))
         else:
             self.shift(self.ident if selected == DEVICE_ID else self.boundary, tdi)

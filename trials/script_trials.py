@@ -5,8 +5,8 @@ from chips import HERE, TOP, inserted, keep, run
 
 SCRIPTS = os.path.join(TOP, "scripts")
 DATA = os.path.join(HERE, "data")
-# The counter, a chip with inouts and HIGHZ, and the other small ones.
-SMALL = [(os.path.join(TOP, "examples"), "counter8")] + [(DATA, name) for name in ("both_ways", "flops", "gates", "short", "three_states")]
+# The counter, a chip with inouts and HIGHZ, and the other small ones, the last with USERCODE.
+SMALL = [(os.path.join(TOP, "examples"), "counter8")] + [(DATA, name) for name in ("both_ways", "flops", "gates", "short", "three_states", "two_codes")]
 # A device of as many rows as there may be.
 MOST_ROWS = 4091
 

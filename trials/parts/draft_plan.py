@@ -19,6 +19,7 @@ endmodule
 """
 CELLS = {"in": "BC_1", "bus[2]": "BC_4", "bus[1]": "BC_1", "bus[0]": "BC_4", "out": "BC_7", "clock": "BC_1", "CLK": "BC_1", "clk": "BC_4"}
 CELLS.update({"a[0]": "BC_1", "y[0]": "BC_1", "Y_": "BC_1"})
+CODE = "10100110100101101001010101010110"
 BARRED = ("in", "bus", "out", "clk", "a[0]", "Y_")
 
 
@@ -26,10 +27,10 @@ def cells_of(plan):
     return dict(re.findall(r"^pin (\S+) \S+ (BC_\d)$", plan, re.M))
 
 
-def taken(program, room, name, netlist):
+def taken(program, room, name, netlist, *more):
     """The draft of a netlist, of which `insert` makes a chip that does what its file says."""
     plan, *made = (os.path.join(room, end) for end in ("draft.plan", "draft.v", "draft.bsd", "draft.events"))
-    keep(plan, script("draft_plan", netlist, "--program", program))
+    keep(plan, script("draft_plan", netlist, *more, "--program", program))
     run([program, "insert", netlist, plan, *made[:2]])
     run([program, "vectors", *made[1:]])
     said = run([program, "check", *made]).strip()
@@ -59,6 +60,14 @@ def names(program, room):
     return f"a module with names of every sort: {said.strip()}; with other names in their place it is taken"
 
 
+def with_usercode(program, room):
+    """The counter with USERCODE: its plan is of version 2, and the chip gives the code."""
+    plan, said = taken(program, room, "counter8", os.path.join(SMALL[0][0], "counter8.v"), "--usercode", CODE)
+    if not re.search(rf"^plan 2$(?s:.*)^opcode USERCODE 0101$(?s:.*)^usercode {CODE}$", plan, re.M):
+        sys.exit(f"no USERCODE in\n{plan}")
+    return f"counter8 with USERCODE: {said}"
+
+
 def tried(program, room):
     for folder, name in SMALL:
         plan, said = taken(program, room, name, os.path.join(folder, name + ".v"))
@@ -67,6 +76,7 @@ def tried(program, room):
         if name == "counter8" and cells_of(plan) != cells_of(text_of(os.path.join(folder, name + ".plan"))):
             sys.exit("the counter has other cells than in its own plan")
     yield names(program, room)
+    yield with_usercode(program, room)
     large, _ = demo(program, room, 9999)
     kinds = cells_of(taken(program, room, "demo 9999", large)[0])
     yield f"demo 9999 with test logic, to which more is added: BC_4 at {', '.join(bit for bit, kind in kinds.items() if kind == 'BC_4')}"
@@ -74,6 +84,7 @@ def tried(program, room):
     wrong = {"no file": [os.path.join(room, "missing"), "--program", program], "a folder": [room, "--program", program], "no word": []}
     for what, changed in spoiled(text).items():
         wrong[what] = [keep(os.path.join(room, f"{what.replace(' ', '_')}.v"), changed), "--program", program]
+    wrong["a user code of 31 bits"] = [os.path.join(SMALL[0][0], "counter8.v"), "--usercode", CODE[1:], "--program", program]
     wrong["no program"] = [os.path.join(SMALL[0][0], "counter8.v"), "--program", os.path.join(room, "missing")]
     yield refusals("draft_plan", wrong)
 

@@ -35,6 +35,11 @@ def drawn(name, bsdl, room):
     physical = [pin for several, one in pins for pin in (several or one).split(",")]
     if len(cells) != len(rows):
         sys.exit(f"{name}: {len(cells)} cells are drawn of {len(rows)}")
+    codes = re.findall(r'_REGISTER of \w+ : entity is\s+((?:"[01]+"(?: & )?)+);', text_of(bsdl))
+    for code in codes:
+        shown = f"0x{int(re.sub('[^01]', '', code), 2):08x}"
+        if not any(re.match(f"(IDCODE|USERCODE) {shown}", line) for line in table):
+            sys.exit(f"{name}: the code {shown} isn't told")
     for number, kind, _ in rows:
         if sum(word.startswith(f"{number} {kind} ") for word in words) != 1:
             sys.exit(f"{name}: cell {number} isn't drawn once")
@@ -45,7 +50,7 @@ def drawn(name, bsdl, room):
         sys.exit(f"{name}: {led} pins are drawn of {len(physical)}")
     if len(cells) <= PAIRS and not all(is_apart(one, other) for place, one in enumerate(cells) for other in cells[:place]):
         sys.exit(f"{name}: cells are drawn on one another")
-    return f"{name}: {led} pins and {len(cells)} cells are drawn, and stand in the table"
+    return f"{name}: {led} pins and {len(cells)} cells are drawn, and stand in the table; codes: {len(codes)}"
 
 
 def tried(program, room):

@@ -52,6 +52,30 @@ def by_rows(program, room):
     return f"of {len(pairs)} exchanges of two rows of the counter's file all are found"
 
 
+def with_codes(text):
+    """The file of the chip with USERCODE, with something changed of its codes: by what it is."""
+    code, usercode = re.findall(r"CODE_REGISTER of \w+ : entity is\n    (.*);", text)
+    yield "the codes exchanged", text.replace(code, "@").replace(usercode, code).replace("@", usercode)
+    yield "their opcodes exchanged", text.replace("(01011)", "@").replace("(01010)", "(01011)").replace("@", "(01010)")
+    for place in range(1, 33):
+        bit = "0" if usercode[place] == "1" else "1"
+        yield f"bit {32 - place} of the user code", text.replace(usercode, usercode[:place] + bit + usercode[place + 1 :])
+
+
+def by_codes(program, room):
+    """Every change of what a file says of its codes is found."""
+    _, netlist, bsdl = next(chip for chip in small_chips(program, room) if chip[0] == "two_codes")
+    events, text, count = os.path.join(room, "long.events"), text_of(bsdl), 0
+    for what, changed in with_codes(text):
+        if changed == text:
+            sys.exit(f"nothing is changed: {what}")
+        script("long_program", keep(os.path.join(room, "changed.bsd"), changed), events)
+        if not misses(netlist, events):
+            sys.exit(f"{what}: not found")
+        count += 1
+    return f"of {count} changes of the codes of two_codes all are found"
+
+
 def transitions(events, tap):
     """The transitions of the controller that a program makes."""
     sys.path.append(os.path.join(os.path.dirname(os.path.dirname(os.path.dirname(os.path.abspath(__file__)))), "scripts"))
@@ -83,6 +107,7 @@ def tried(program, room):
         sys.exit(f"of 32 transitions the counter's program makes {len(seen)}")
     yield "the counter's program makes all 32 transitions of the controller"
     yield by_rows(program, room)
+    yield by_codes(program, room)
     bsdl = most_rows(room)
     said = script("long_program", bsdl, events).strip().split("\n")
     yield f"4,091 rows: {'; '.join(said)}"

@@ -1,8 +1,8 @@
 """scripts/place shows the byte that the program tells, and in a BSDL file the entry and the rule that are broken."""
 import os, random, re, subprocess, sys
 
-from chips import TOP, keep, run, text_of
-from script_trials import demo, most_rows, refusals, script
+from chips import TOP, inserted, keep, run, text_of
+from script_trials import DATA, demo, most_rows, refusals, script
 
 NEEDS = ()
 CHANGES = 300
@@ -50,6 +50,15 @@ SPOILED = (
     ("TAP_SCAN_MODE of TMS", "TAP_SCAN_MODE of q", "BsdlMeaning Tap", "q is no port of one bit with the mode `in`"),
     ("constant DIP24", "constant DIP25", "BsdlMeaning Name", "the constant is DIP25, and the generic's string DIP24"),
 )
+# Of the file of two_codes.
+APART = "the instruction USERCODE and the section USERCODE_REGISTER don't stand together"
+SPOILED_CODES = (
+    ('entity is\n    "USERCODE (01010)," &', "entity is", "BsdlMeaning Usercode", APART),
+    ("IDCODE (01011)", "IDCODE (01010)", "BsdlMeaning Opcode", "IDCODE has the opcode of USERCODE"),
+    ('"10100110100101101001010101010110"', '"1010011010010110100101010101011"', STRING, "stands where 32 bits"),
+    ('"10100110100101101001010101010110"', '"1010011010010110100101010101011X"', STRING, "stands where 32 bits"),
+    ("BYPASS (BYPASS", "BYPASS (USERCODE, BYPASS", "BsdlMeaning Register", "USERCODE stands at BYPASS; its register is DEVICE_ID"),
+)
 
 
 def shown(path, place):
@@ -60,11 +69,11 @@ def shown(path, place):
         yield int(found[1]), int(found[2]), found[3] or "", line[len(mark) - 1 : len(mark)]
 
 
-def spoiled_files(program, room, text):
+def spoiled_files(program, room, name, text, changes):
     path, out = os.path.join(room, "spoiled.bsd"), os.path.join(room, "out.bsd")
-    for old, new, fault, told in SPOILED:
+    for old, new, fault, told in changes:
         if text.count(old) != 1:
-            sys.exit(f"{old} stands {text.count(old)} times in the counter's file")
+            sys.exit(f"{old} stands {text.count(old)} times in the file of {name}")
         keep(path, text.replace(old, new))
         said = run([program, "showbsdl", path, out], (1,)).split()
         if " ".join(said[: len(fault.split())]) != fault:
@@ -73,7 +82,7 @@ def spoiled_files(program, room, text):
         line = text.count("\n", 0, text.index(old)) + 1
         if len(places) != 2 or told not in places[1][2] or places[1][0] != line:
             sys.exit(f"{new}: {places}")
-    return f"{len(SPOILED)} changes of the counter's BSDL file: the entry and the rule are told each time"
+    return f"{len(changes)} changes of the BSDL file of {name}: the entry and the rule are told each time"
 
 
 # Words of a BSDL file that may take one another's place.
@@ -170,7 +179,9 @@ def tried(program, room):
     counter, first, bsdl = (os.path.join(TOP, "examples", name) for name in ("counter8.v", "first.v", "counter8.bsd"))
     for command, path in (("canon", counter), ("canon", first), ("showbsdl", bsdl)):
         yield changed_bytes(program, room, command, path)
-    yield spoiled_files(program, room, text_of(bsdl))
+    yield spoiled_files(program, room, "the counter", text_of(bsdl), SPOILED)
+    codes = text_of(inserted(program, DATA, "two_codes", room)[1])
+    yield spoiled_files(program, room, "two_codes", codes, SPOILED_CODES)
     yield changed_words(program, room, text_of(bsdl))
     yield most(room, program)
     yield loop(program, room)
