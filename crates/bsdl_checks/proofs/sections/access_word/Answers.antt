@@ -8,5 +8,5 @@ code_count-requires c = omega (arith, word-access c.args.file.now, fits-access c
 pub overflow_add-result : goal.overflow_add-result
 overflow_add-result c = omega (arith, code-length c.args.file.now, word-access c.args.file.now, fits-access c.args.file.now)
 
-pub returns-clause : goal.returns-clause
-returns-clause c = omega (arith, code-length c.args.file.now, word-access c.args.file.now)
+pub returns : goal.returns
+returns c = omega (arith, code-length c.args.file.now, word-access c.args.file.now)
