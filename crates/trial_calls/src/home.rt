@@ -30,7 +30,7 @@ struct Part {
 // The cells by their numbers, which the netlist is asked for once.
 type Parts = [Option<Part>; 64];
 
-fn part(netlist: &Netlist, cell: CellId) -> Option<Part> {
+fn part_of(netlist: &Netlist, cell: CellId) -> Option<Part> {
     if !netlist.is_live(cell) {
         return None;
     }
@@ -46,10 +46,10 @@ fn part(netlist: &Netlist, cell: CellId) -> Option<Part> {
     })
 }
 
-fn parts(netlist: &Netlist) -> Parts {
+fn parts_of(netlist: &Netlist) -> Parts {
     let mut parts = [None; 64];
     for number in 0u32..49 {
-        parts[number as usize] = part(netlist, CellId(number));
+        parts[number as usize] = part_of(netlist, CellId(number));
     }
     parts
 }
@@ -151,7 +151,7 @@ fn five_ones_lead_home_from_every_value(rt: HostRuntime) -> Result<(), Fail> {
     let _nets = add_tap(&mut netlist, tck, tms, trst);
     assert_eq!(rt; netlist.cell_count(), 49);
     assert_eq!(rt; netlist.net_count(), 52);
-    let parts = parts(&netlist);
+    let parts = parts_of(&netlist);
     let mut early = false;
     for others in 0..1024 {
         let mut words = [0u64; 64];
