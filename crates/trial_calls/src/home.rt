@@ -20,99 +20,60 @@ const LANES: [u64; 6] = [
     0xffff_ffff_0000_0000,
 ];
 
-// What a cell does, and the nets that its first four operands are.
-#[derive(Clone, Copy)]
-struct Part {
-    kind: Kind,
-    nets: [Option<NetId>; 4],
-}
-
-// The cells by their numbers, which the netlist is asked for once.
-type Parts = [Option<Part>; 64];
-
-fn part_of(netlist: &Netlist, cell: CellId) -> Option<Part> {
-    if !netlist.is_live(cell) {
-        return None;
+fn value(netlist: &Netlist, cell: CellId, operand_place: u32, words: &Words) -> Option<u64> {
+    match operand(netlist, cell, operand_place)? {
+        Feed::Net(net) => Some(words[(net.0 % 64) as usize]),
+        Feed::Const(_) => None,
     }
-    let mut nets = [None; 4];
-    for place in 0u32..4 {
-        if let Some(Feed::Net(net)) = operand(netlist, cell, place) {
-            nets[place as usize] = Some(net);
-        }
-    }
-    Some(Part {
-        kind: netlist.kind(cell),
-        nets,
-    })
 }
 
-fn parts_of(netlist: &Netlist) -> Parts {
-    let mut parts = [None; 64];
-    for number in 0u32..49 {
-        parts[number as usize] = part_of(netlist, CellId(number));
-    }
-    parts
-}
-
-fn value(part: &Part, place: usize, words: &Words) -> Option<u64> {
-    let net = part.nets[place % 4]?;
-    Some(words[(net.0 % 64) as usize])
-}
-
-fn all_of(part: &Part, words: &Words) -> u64 {
+fn all_of(netlist: &Netlist, cell: CellId, words: &Words) -> u64 {
     let mut all = u64::MAX;
-    for place in 0usize..4 {
-        all &= value(part, place, words).unwrap_or(u64::MAX);
+    for number in 0..4 {
+        all &= value(netlist, cell, number, words).unwrap_or(u64::MAX);
     }
     all
 }
 
-fn some_of(part: &Part, words: &Words) -> u64 {
+fn some_of(netlist: &Netlist, cell: CellId, words: &Words) -> u64 {
     let mut some = 0;
-    for place in 0usize..4 {
-        some |= value(part, place, words).unwrap_or(0);
+    for number in 0..4 {
+        some |= value(netlist, cell, number, words).unwrap_or(0);
     }
     some
 }
 
 // What a gate gives; a flip-flop keeps its own.
-fn gate(part: &Part, words: &Words) -> Option<u64> {
-    match part.kind {
-        Kind::And => Some(all_of(part, words)),
-        Kind::Or => Some(some_of(part, words)),
-        Kind::Nor => Some(!some_of(part, words)),
-        Kind::Not => Some(!all_of(part, words)),
+fn gate(netlist: &Netlist, cell: CellId, words: &Words) -> Option<u64> {
+    if !netlist.is_live(cell) {
+        return None;
+    }
+    match netlist.kind(cell) {
+        Kind::And => Some(all_of(netlist, cell, words)),
+        Kind::Or => Some(some_of(netlist, cell, words)),
+        Kind::Nor => Some(!some_of(netlist, cell, words)),
+        Kind::Not => Some(!all_of(netlist, cell, words)),
         _ => None,
     }
 }
 
 // No gate stands behind more than four others.
-fn settle(parts: &Parts, words: &mut Words) {
+fn settle(netlist: &Netlist, words: &mut Words) {
     for _ in 0..5 {
-        for number in 16usize..49 {
-            if let Some(part) = &parts[number]
-                && let Some(word) = gate(part, words)
-            {
-                words[number + 3] = word;
+        for number in 16u32..49 {
+            if let Some(word) = gate(netlist, CellId(number), words) {
+                words[number as usize + 3] = word;
             }
         }
     }
 }
 
-// What a flip-flop takes.
-fn taken(part: &Option<Part>, words: &Words) -> u64 {
-    match part {
-        Some(part) => value(part, 0, words).unwrap_or(0),
-        None => 0,
-    }
-}
-
 // A rising edge of TCK with TRST at 1.
-fn rise(parts: &Parts, words: &mut Words) {
-    settle(parts, words);
+fn rise(netlist: &Netlist, words: &mut Words) {
+    settle(netlist, words);
     let mut next = [0u64; 16];
-    for number in 0usize..16 {
-        next[number] = taken(&parts[number], words);
+    for number in 0u32..16 {
+        next[number as usize] = value(netlist, CellId(number), 0, words).unwrap_or(0);
     }
     for (number, word) in next.iter().enumerate() {
         words[(number + 3) % 64] = *word;
@@ -151,7 +112,6 @@ fn five_ones_lead_home_from_every_value(rt: HostRuntime) -> Result<(), Fail> {
     let _nets = add_tap(&mut netlist, tck, tms, trst);
     assert_eq!(rt; netlist.cell_count(), 49);
     assert_eq!(rt; netlist.net_count(), 52);
-    let parts = parts_of(&netlist);
     let mut early = false;
     for others in 0..1024 {
         let mut words = [0u64; 64];
@@ -159,14 +119,14 @@ fn five_ones_lead_home_from_every_value(rt: HostRuntime) -> Result<(), Fail> {
         words[2] = u64::MAX;
         fill(others, &mut words);
         for _ in 0..4 {
-            rise(&parts, &mut words);
+            rise(&netlist, &mut words);
         }
         if is_home(&words) {
             early = true;
         }
-        rise(&parts, &mut words);
+        rise(&netlist, &mut words);
         assert!(rt; is_home(&words));
-        rise(&parts, &mut words);
+        rise(&netlist, &mut words);
         assert!(rt; is_home(&words));
     }
     assert!(rt; !early);
