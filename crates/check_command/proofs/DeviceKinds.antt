@@ -15,7 +15,7 @@ abbrev IsOther : Check → Type 0
 IsOther k = k.kind ≢ Ports
 
 all_other : (f : File) (c : Contents) → AllByRecursion IsOther (checks f c)
-all_other f c = (λ e. cc, (λ e. cc, (λ e. cc, (λ e. cc, (λ e. cc, (λ e. cc, (λ e. cc, (λ e. cc, (λ e. cc, (λ e. cc, tt))))))))))
+all_other f c = (λ e. cc, (λ e. cc, (λ e. cc, (λ e. cc, (λ e. cc, (λ e. cc, (λ e. cc, (λ e. cc, (λ e. cc, (λ e. cc, (λ e. cc, tt)))))))))))
 
 none_of_ports : (f : File) (list : List Check) (word : ℕ) → AllByRecursion IsOther list
     → option_map (fault_of f) (find (λ (k : Check). k.fails) list) ≡ Some (record { kind = Ports; word = word }) → ⊥
