@@ -3,7 +3,7 @@ use Rattle.std.proofs.Common.{◌≡◌, ◌<◌, List, [], ◌∷◌, ◌++◌,
 use Rattle.std.proofs.lemmas.List.Elements.{All-push}
 use Rattle.list_laws.proofs.Lists.{at_push}
 use Rattle.cell_library.specs.declared.listed.ListedCell.{ListedCell}
-use Rattle.cell_library.specs.Library.{kind_named}
+use Rattle.cell_library.specs.Library.{own_kind_named}
 use Rattle.cell_library.specs.Sound.{IsSoundCell, IsLibrary, IsNewTo}
 
 -- a library stays one where a cell is added under a new name
@@ -12,7 +12,7 @@ grown library cell is room sound new = record {
   few = (let long = length-append library (cell ∷ []) in omega arith);
   sound = All-push IsSoundCell library cell is.sound sound;
   named = λ i c at. elim (at_push library cell c i at) [
-    | inl h ↦ ap (λ (x : ListedCell). kind_named x.name) (sym h.1) ∙ new.free
+    | inl h ↦ ap (λ (x : ListedCell). own_kind_named x.name) (sym h.1) ∙ new.free
     | inr h ↦ is.named i c h.1
   ];
   once = λ i j c d at there same. elim (at_push library cell c i at) [

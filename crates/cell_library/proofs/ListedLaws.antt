@@ -1,18 +1,20 @@
 -- The laws of steps as lemmas, for proofs of crates above.
-use Rattle.std.proofs.Common.{◌≡◌, ◌≤◌, ℕ, zero, suc, Bool, true, false, List, [], ◌∷◌, fold, take, length, slice_index_or, All, refl, arith, eqb-true}
+use Rattle.std.proofs.Common.{◌≡◌, ◌≤◌, ℕ, zero, suc, Bool, true, false, not, List, [], ◌∷◌, fold, take, length, slice_index_or, is_some, IsTrue, All, refl, arith, eqb-true}
 use Rattle.std.proofs.lemmas.List.Elements.{All-nil, All-cons, All-head, All-tail}
 use Rattle.signal_values.specs.declared.Sig.{Sig}
-use Rattle.signal_values.specs.declared.Sig.TheVariants.{Zero}
+use Rattle.signal_values.specs.declared.Sig.TheVariants.{Zero, Unknown}
 use Rattle.signal_values.specs.Values.{bit}
 use Rattle.signal_values.specs.Knowledge.{IsBelow}
 use Rattle.signal_values.proofs.Laws.{below_refl, below-not, below-and, below-or, below-xor, below-mux}
 use Rattle.cell_library.specs.declared.listed.Step.{Step}
 use Rattle.cell_library.specs.declared.listed.Step.TheVariants as step
+use Rattle.cell_library.specs.declared.listed.Body.{Body}
+use Rattle.cell_library.specs.declared.listed.Body.TheVariants as body
 use Rattle.cell_library.specs.Laws.{AllBelow, IsKnown}
-use Rattle.cell_library.specs.Listed.{top, rest, after_step}
+use Rattle.cell_library.specs.Listed.{top, rest, after_step, body_flop, body_output}
 use Rattle.cell_library.specs.Sound.{leaves_one}
 use Rattle.cell_library.specs.ListedLaws.{StepsKeepOrder, KnownOperandsKnownSteps, SoundStepsLeaveOne}
-use Rattle.cell_library.proofs.CellLaws.{is_known-not, is_known-and, is_known-or, is_known-xor, is_known-mux}
+use Rattle.cell_library.proofs.OperationLaws.{is_known-not, is_known-and, is_known-or, is_known-xor, is_known-mux}
 use Rattle.cell_library.proofs.StepRuns.{step_is_sound}
 
 below-given : (xs ys : List Sig) (place : ℕ) → AllBelow xs ys → IsBelow (slice_index_or xs place Zero) (slice_index_or ys place Zero)
@@ -52,6 +54,10 @@ below-after_step xs ys us vs step.Mux h k =
 below-steps : (xs ys us vs : List Sig) (steps : List Step) → AllBelow xs ys → AllBelow us vs → AllBelow (fold (after_step xs) us steps) (fold (after_step ys) vs steps)
 below-steps xs ys us vs [] h k = k
 below-steps xs ys us vs (s ∷ steps) h k = below-steps xs ys (after_step xs us s) (after_step ys vs s) steps h (below-after_step xs ys us vs s h k)
+
+pub below-body_output : (b : Body) (xs ys : List Sig) → AllBelow xs ys → IsBelow (body_output b xs) (body_output b ys)
+below-body_output (body.Gate steps) xs ys k = below-top _ _ (below-steps xs ys [] [] steps k tt)
+below-body_output (body.Flop kind) xs ys k = below_refl Unknown
 
 pub steps_keep_order : StepsKeepOrder
 steps_keep_order steps xs ys k = below-top _ _ (below-steps xs ys [] [] steps k tt)
@@ -93,6 +99,11 @@ is_known-after_step xs us step.Mux h k =
 is_known-steps : (xs us : List Sig) (steps : List Step) → All IsKnown xs → All IsKnown us → All IsKnown (fold (after_step xs) us steps)
 is_known-steps xs us [] h k = k
 is_known-steps xs us (s ∷ steps) h k = is_known-steps xs (after_step xs us s) steps h (is_known-after_step xs us s h k)
+
+-- a body that is no flip-flop gives 0 or 1 for operands of 0 or 1
+pub is_known-body_output : (b : Body) (xs : List Sig) → IsTrue (not (is_some (body_flop b))) → All IsKnown xs → IsKnown (body_output b xs)
+is_known-body_output (body.Gate steps) xs gate k = is_known-top _ (is_known-steps xs [] steps k (All-nil IsKnown))
+is_known-body_output (body.Flop kind) xs gate k = cc
 
 pub known_steps : KnownOperandsKnownSteps
 known_steps steps xs k = is_known-top _ (is_known-steps xs [] steps k (All-nil IsKnown))

@@ -1,8 +1,9 @@
 -- Cells that a library lists: their steps, and what these leave. Own.
-use Rattle.std.specs.Prelude.{ℕ, List, [], ◌∷◌, fold, slice_index_or}
+use Rattle.std.specs.Prelude.{ℕ, List, [], ◌∷◌, fold, slice_index_or, Option, Some, None}
 use Rattle.signal_values.specs.declared.Sig.{Sig}
 use Rattle.signal_values.specs.declared.Sig.TheVariants.{Zero, Unknown}
 use Rattle.signal_values.specs.Values.{bit, sig_not, sig_and, sig_or, sig_xor, sig_mux}
+use Rattle.cell_library.specs.declared.FlopKind.{FlopKind}
 use Rattle.cell_library.specs.declared.listed.Step.{Step}
 use Rattle.cell_library.specs.declared.listed.Step.TheVariants as step
 use Rattle.cell_library.specs.declared.listed.Body.{Body}
@@ -16,6 +17,11 @@ no_cell = record { name = []; output = []; inputs = []; body = body.Gate [] }
 -- the cell with this number
 abbrev pub listed : List ListedCell → ℕ → ListedCell
 listed library number = slice_index_or library number no_cell
+
+-- the flip-flop that a cell is
+abbrev pub body_flop : Body → Option FlopKind
+body_flop (body.Gate steps) = None
+body_flop (body.Flop kind) = Some kind
 
 -- The values that stand after steps, the last one first. Where a step lacks a value it takes 0, which no body of a library does.
 

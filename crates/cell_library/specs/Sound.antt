@@ -10,7 +10,7 @@ use Rattle.cell_library.specs.declared.listed.Body.{Body}
 use Rattle.cell_library.specs.declared.listed.Body.TheVariants as body
 use Rattle.cell_library.specs.declared.listed.ListedCell.{ListedCell}
 use Rattle.cell_library.specs.Gates.{flop_operand_count}
-use Rattle.cell_library.specs.Library.{kind_named}
+use Rattle.cell_library.specs.Library.{own_kind_named}
 use Rattle.cell_library.specs.Ports.{AreApart}
 
 -- a simple name that is no key word, of at most 255 bytes
@@ -66,10 +66,10 @@ pub record IsSoundCell (cell : ListedCell) : Type 0 where
 pub record IsLibrary (library : List ListedCell) : Type 0 where
   pub few : length library ≤ 4096
   pub sound : All IsSoundCell library
-  pub named : (number : ℕ) (cell : ListedCell) → slice_get library number ≡ Some cell → kind_named cell.name ≡ None
+  pub named : (number : ℕ) (cell : ListedCell) → slice_get library number ≡ Some cell → own_kind_named cell.name ≡ None
   pub once : (i j : ℕ) (cell other : ListedCell) → slice_get library i ≡ Some cell → slice_get library j ≡ Some other → cell.name ≡ other.name → i ≡ j
 
 -- a name that is none of the seven's and none of the library's
 pub record IsNewTo (library : List ListedCell) (name : List ℕ) : Type 0 where
-  pub free : kind_named name ≡ None
+  pub free : own_kind_named name ≡ None
   pub new : (number : ℕ) (cell : ListedCell) → slice_get library number ≡ Some cell → cell.name ≢ name

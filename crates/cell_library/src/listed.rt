@@ -1,11 +1,15 @@
 // Cells that are listed in a library: their records, and the library that holds them.
-ghost use Rattle.std.specs.Prelude.{◌≡◌, ◌<◌, ◌∷◌, [], ◌++◌, length, IfOk, OnErr, OnOk, slice_get, Some};
-ghost use Rattle.cell_library.specs.Listed.{listed, body_output};
+ghost use Rattle.std.specs.Prelude.{◌≡◌, ◌<◌, ◌^◌, ◌∷◌, [], ◌++◌, length, IfOk, OnErr, OnOk, position, slice_get, option_copied, Some};
+ghost use Rattle.std.specs.Option.{option_map};
+ghost use Rattle.std.specs.Str.{bytes_eq};
+ghost use Rattle.cell_library.specs.Listed.{listed, body_flop, body_output};
+ghost use Rattle.cell_library.specs.Library.{port_in, port_named};
+ghost use Rattle.cell_library.specs.declared.Kind.TheVariants.{Listed};
 ghost use Rattle.cell_library.specs.Sound.{IsSoundCell, IsLibrary, IsNewTo};
 
-use crate::FlopKind;
 use crate::copies::copy_of_cells;
 use crate::steps::output_of_steps;
+use crate::{FlopKind, PortPlace};
 use signal_values::Sig;
 use std::alloc::Global;
 use std::marker::Model;
@@ -117,4 +121,99 @@ impl Library {
             },
         }
     }
+
+    // The flip-flop that a cell is.
+    pub(crate) fn flop_of(&self, number: u32) -> Option<FlopKind>
+        ensures { result ≡ body_flop (listed self.now number).body }
+    {
+        match self.cells.as_slice().get(number as usize) {
+            None => None,
+            Some(cell) => match &cell.body {
+                Body::Gate(_) => None,
+                Body::Flop(kind) => Some(*kind),
+            },
+        }
+    }
+
+    // How many operands a cell has.
+    pub(crate) fn input_count(&self, number: u32) -> u32
+        ensures { result ≡ length (listed self.now number).inputs }
+    {
+        match self.cells.as_slice().get(number as usize) {
+            None => 0,
+            Some(cell) => cell.inputs.len() as u32,
+        }
+    }
+
+    // The first cell of this name.
+    pub(crate) fn place_of(&self, name: &[u8]) -> Option<u32>
+        ensures { result ≡ position (λ cell. bytes_eq name.now cell.name) self.now }
+    {
+        let place = cell_place(self.cells.as_slice(), name)?;
+        Some(place as u32)
+    }
+
+    // The place of a cell's port.
+    #[tactic(auto, using(crate::proofs::PortLaws::listed_port, crate::proofs::PortLaws::past_port))]
+    pub(crate) fn port_of(&self, number: u32, name: &[u8]) -> Option<PortPlace>
+        ensures { result ≡ port_named self.now (Listed number) name.now }
+    {
+        match self.cells.as_slice().get(number as usize) {
+            None => None,
+            Some(cell) => port_in(cell, name),
+        }
+    }
+
+    // A cell's name.
+    pub(crate) fn name_of(&self, number: u32) -> Option<&[u8]>
+        ensures { option_copied result ≡ option_map (λ cell. cell.name) (slice_get self.now number) }
+    {
+        let cell = self.cells.as_slice().get(number as usize)?;
+        Some(cell.name.as_bytes())
+    }
+
+    // The port of a cell's output.
+    pub(crate) fn output_port_of(&self, number: u32) -> Option<&[u8]>
+        ensures { option_copied result ≡ option_map (λ cell. cell.output) (slice_get self.now number) }
+    {
+        let cell = self.cells.as_slice().get(number as usize)?;
+        Some(cell.output.as_bytes())
+    }
+
+    // The port of a cell's operand.
+    pub(crate) fn input_port_of(&self, number: u32, place: u32) -> &[u8]
+        requires { place < length (listed self.now number).inputs }
+        ensures { slice_get (listed self.now number).inputs place ≡ Some result.now }
+    {
+        match self.cells.as_slice().get(number as usize) {
+            None => unreachable!(),
+            Some(cell) => cell.inputs.as_slice()[place as usize].as_bytes(),
+        }
+    }
+}
+
+// The place of the first cell of this name.
+fn cell_place(cells: &[ListedCell], name: &[u8]) -> Option<usize>
+    ensures { result ≡ position (λ cell. bytes_eq name.now cell.name) cells.now }
+{
+    cells.iter().position(|cell| name == cell.name.as_bytes())
+}
+
+// The place of a cell's port.
+fn port_in(cell: &ListedCell, name: &[u8]) -> Option<PortPlace>
+    requires { length cell.now.inputs < 2 ^ 32 }
+    ensures { result ≡ port_in (Some cell.now.output) cell.now.inputs name.now }
+{
+    if name == cell.output.as_bytes() {
+        return Some(PortPlace::Output);
+    }
+    let place = name_place(cell.inputs.as_slice(), name)?;
+    Some(PortPlace::Input(place as u32))
+}
+
+// The first place of a name.
+fn name_place(names: &[Text], name: &[u8]) -> Option<usize>
+    ensures { result ≡ position (λ text. bytes_eq name.now text) names.now }
+{
+    names.iter().position(|text| name == text.as_bytes())
 }

@@ -1,17 +1,18 @@
-// The name and the ports of a library cell.
+// The name and the ports of a library cell, or of a listed one.
 
 ghost use Rattle.std.specs.Prelude.{◌≡◌, ◌<◌, length, slice_get, Some, option_copied};
 ghost use Rattle.cell_library.specs.Library.{cell_name, flop_name, flop_ports, operand_ports, output_port};
 
-use crate::{Edge, FlopKind, Kind, ResetTo};
+use crate::{Edge, FlopKind, Kind, Library, ResetTo};
 
-/// The name of a library cell. None for a primitive gate and for an `assign`.
-pub fn cell_name(kind: Kind) -> Option<&'static [u8]>
-    ensures { option_copied result ≡ cell_name kind }
+/// The name of a library cell or a listed one. None for a primitive gate and for an `assign`.
+pub fn cell_name(library: &Library, kind: Kind) -> Option<&[u8]>
+    ensures { option_copied result ≡ cell_name library.now kind }
 {
     match kind {
         Kind::Mux2 => Some(b"MUX2"),
         Kind::Flop(flop) => Some(flop_name(flop)),
+        Kind::Listed(number) => library.name_of(number),
         _ => None,
     }
 }
@@ -29,9 +30,9 @@ fn flop_name(flop: FlopKind) -> &'static [u8]
     }
 }
 
-/// How many ports a library cell has for its operands; none for a primitive gate.
-pub fn operand_port_count(kind: Kind) -> u32
-    ensures { result ≡ length (operand_ports kind) }
+/// How many ports a library cell or a listed one has for its operands; none for a primitive gate.
+pub fn operand_port_count(library: &Library, kind: Kind) -> u32
+    ensures { result ≡ length (operand_ports library.now kind) }
 {
     match kind {
         Kind::Mux2 => 3,
@@ -39,14 +40,15 @@ pub fn operand_port_count(kind: Kind) -> u32
             ResetTo::Nothing => 2,
             ResetTo::Zero | ResetTo::One => 3,
         },
+        Kind::Listed(number) => library.input_count(number),
         _ => 0,
     }
 }
 
-/// The port of a library cell's operand.
-pub fn operand_port(kind: Kind, place: u32) -> &'static [u8]
-    requires { place < length (operand_ports kind) }
-    ensures { slice_get (operand_ports kind) place ≡ Some result.now }
+/// The port of a cell's operand.
+pub fn operand_port(library: &Library, kind: Kind, place: u32) -> &[u8]
+    requires { place < length (operand_ports library.now kind) }
+    ensures { slice_get (operand_ports library.now kind) place ≡ Some result.now }
 {
     match kind {
         Kind::Mux2 => match place {
@@ -55,6 +57,7 @@ pub fn operand_port(kind: Kind, place: u32) -> &'static [u8]
             _ => b"S",
         },
         Kind::Flop(flop) => flop_port(flop.reset, place),
+        Kind::Listed(number) => library.input_port_of(number, place),
         _ => unreachable!(),
     }
 }
@@ -74,13 +77,14 @@ fn flop_port(reset: ResetTo, place: u32) -> &'static [u8]
     }
 }
 
-/// The port of a library cell's output. None for a primitive gate.
-pub fn output_port(kind: Kind) -> Option<&'static [u8]>
-    ensures { option_copied result ≡ output_port kind }
+/// The port of a cell's output. None for a primitive gate.
+pub fn output_port(library: &Library, kind: Kind) -> Option<&[u8]>
+    ensures { option_copied result ≡ output_port library.now kind }
 {
     match kind {
         Kind::Mux2 => Some(b"Y"),
         Kind::Flop(_) => Some(b"Q"),
+        Kind::Listed(number) => library.output_port_of(number),
         _ => None,
     }
 }

@@ -12,7 +12,6 @@ ghost use Rattle.cell_order.specs.Tables.{AreFlags};
 
 use crate::packed::Packed;
 use crate::room::refill;
-use cell_library::Kind;
 use netlist_laws::numbers_of_a_dense_netlist;
 use netlist_model::{CellId, Feed};
 
@@ -83,9 +82,7 @@ fn mark_operand(netlist: &Packed, cell: CellId, place: u32, marks: &mut [bool])
     requires long { length marks.old ≡ length netlist.now.lists.nets }
     ensures { AddsMarks (FlopReadsAt netlist.now.lists cell.0 place) marks.old marks.new }
 {
-    if let Kind::Flop(_) = netlist.kind(cell)
-        && place < netlist.feed_count(cell)
-    {
+    if netlist.flop(cell).is_some() && place < netlist.feed_count(cell) {
         mark_feed(netlist, cell, place, marks);
     }
 }
@@ -120,7 +117,7 @@ fn spread_one(netlist: &Packed, cell: CellId, marks: &mut [bool])
     requires long { length marks.old ≡ length netlist.now.lists.nets }
     ensures { AddsMarks (IsReadOfMarked netlist.now.lists marks.old cell.0) marks.old marks.new }
 {
-    if let Kind::Flop(_) = netlist.kind(cell) {
+    if netlist.flop(cell).is_some() {
         return;
     }
     if drives_marked(netlist, cell, marks) {

@@ -1,7 +1,7 @@
 // The live cells of a netlist under numbers without gaps.
 
-ghost use Rattle.std.specs.Prelude.{◌≡◌, ◌≤◌, ◌<◌, ℕ, length, map, option_map, vec_capacity, Some, IfSome, IsSome, MatchOption, ⊤};
-ghost use Rattle.cell_library.specs.Gates.{Takes};
+ghost use Rattle.std.specs.Prelude.{◌≡◌, ◌≤◌, ◌<◌, ℕ, length, map, option_map, vec_capacity, Some, IsSome, MatchOption, ⊤};
+ghost use Rattle.cell_library.specs.Gates.{flop_of};
 ghost use Rattle.netlist_model.specs.Lists.{CellView, cell_at, cell_count};
 ghost use Rattle.netlist_model.specs.Below.{IsFeedBelow, IsNetBelow};
 ghost use Rattle.netlist_model.specs.Formed.{IsLaidOut};
@@ -10,7 +10,7 @@ ghost use Rattle.netlist_arena.specs.Looks.{IsDrivenOnce, IsLive, feed_at};
 ghost use Rattle.cell_order.specs.Packed.{AreLiveCells, cell_under, packed};
 
 use crate::room::push_reserved;
-use cell_library::Kind;
+use cell_library::FlopKind;
 use netlist_arena::Netlist;
 use netlist_model::{CellId, Feed, NetId};
 use std::marker::Model;
@@ -53,12 +53,12 @@ impl<'a> Packed<'a> {
         self.netlist.cell_count()
     }
 
-    pub(crate) fn kind(&self, cell: CellId) -> Kind
+    pub(crate) fn flop(&self, cell: CellId) -> Option<FlopKind>
         requires { IsLive self.now.lists cell.0 }
-        ensures { option_map (λ (found : CellView). found.kind) (cell_at self.now.lists cell.0)
+        ensures { option_map (λ (found : CellView). flop_of self.now.lists.library found.kind) (cell_at self.now.lists cell.0)
             ≡ Some result }
     {
-        self.netlist.kind(number_of(self.netlist, self.cells, cell))
+        self.netlist.flop(number_of(self.netlist, self.cells, cell))
     }
 
     pub(crate) fn output(&self, cell: CellId) -> Option<NetId>
@@ -73,7 +73,7 @@ impl<'a> Packed<'a> {
 
     pub(crate) fn feed_count(&self, cell: CellId) -> u32
         requires { IsLive self.now.lists cell.0 }
-        ensures takes { IfSome (cell_at self.now.lists cell.0) (λ found. Takes found.kind result) }
+        ensures few { result ≤ 256 }
         ensures count { option_map (λ (found : CellView). length found.feeds)
             (cell_at self.now.lists cell.0) ≡ Some result }
     {

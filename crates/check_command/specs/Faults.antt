@@ -2,6 +2,7 @@
 -- whether their ports agree, then the events. Own.
 use Rattle.std.specs.Prelude.{◌≡◌, ℕ, List}
 use Rattle.verilog_texts.specs.TextFaults.{IsTextFault}
+use Rattle.cell_library.specs.declared.listed.ListedCell.{ListedCell}
 use Rattle.netlist_link.specs.Linked.{LinkedView}
 use Rattle.bsdl_device.specs.declared.meaning.MeaningKind.TheVariants.{Ports}
 use Rattle.bsdl_device.specs.declared.values.Device.{Device}
@@ -65,13 +66,13 @@ StandsInOthers linked text events (fault.Script f) = HasFaultAt linked text even
 StandsInOthers linked text events f = ⊥
 
 -- the fault stands in the bytes of a device and of events at the netlist that these bytes spell
-pub record StandsInRest (net text events : List ℕ) (f : Fault) : Type 0 where
+pub record StandsInRest (library : List ListedCell) (net text events : List ℕ) (f : Fault) : Type 0 where
   pub linked : LinkedView
-  pub netlist : SpellsLinked net linked
+  pub netlist : SpellsLinked library net linked
   pub stands : StandsInOthers linked text events f
 
--- the fault stands in the bytes of a netlist, of a device and of events
-abbrev pub StandsInAll : List ℕ → List ℕ → List ℕ → Fault → Type 0
-StandsInAll net text events (fault.Netlist f) = IsTextFault net f
-StandsInAll net text events (fault.Link f) = HasLinkFault f net
-StandsInAll net text events f = StandsInRest net text events f
+-- the fault stands in the bytes of a netlist, with this library, of a device and of events
+abbrev pub StandsInAll : List ListedCell → List ℕ → List ℕ → List ℕ → Fault → Type 0
+StandsInAll library net text events (fault.Netlist f) = IsTextFault net f
+StandsInAll library net text events (fault.Link f) = HasLinkFault library f net
+StandsInAll library net text events f = StandsInRest library net text events f

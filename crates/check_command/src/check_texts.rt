@@ -7,6 +7,7 @@ ghost use Rattle.check_command.specs.Faults.{IsCheckOf, IsDeviceFor, StandsInAll
 
 use bsdl_device::{Device, DeviceTextFault, MeaningKind};
 use bsdl_values::read_device;
+use cell_library::Library;
 use check_runs::{Checked, check_lines};
 use command_faults::Fault;
 use conformance_report::ports_agree;
@@ -16,14 +17,16 @@ use scan_vectors::read_events;
 use std::alloc::Global;
 use verilog_texts::read_module;
 
-// The netlist that a text spells.
+// The netlist that a text spells, with this library.
 #[tactic(auto, using(crate::proofs::Made::linked_made))]
-fn linked_of<'a>(alloc: Global, net: Text) -> Result<Linked, Fault<'a>>
-    ensures linked { IfOk result (SpellsLinked net) }
-    ensures fault { IfErr result (StandsInNetlist net) }
+fn linked_of<'a>(alloc: Global, net: Text, library: Library) -> Result<Linked, Fault<'a>>
+    ensures linked { IfOk result (SpellsLinked library net) }
+    ensures fault { IfErr result (StandsInNetlist library net) }
 {
+    // Asked so that the proof knows that it is a library.
+    let _count = library.count();
     let tree = read_module(alloc, net)?;
-    Ok(link(alloc, &tree)?)
+    Ok(link(alloc, &tree, library)?)
 }
 
 // The device that a text spells, if its ports are those of the netlist.
@@ -58,12 +61,19 @@ fn checked_linked<'a>(
     Ok(check_lines(alloc, linked, &device, &lines)?)
 }
 
-/// Checks the netlist that one text spells by the device and the events that two others spell.
+/// Checks the netlist that one text spells with this library by the device and the events that two others spell.
 #[tactic(auto, using(crate::proofs::Made::netlist_stands))]
-pub fn checked<'a>(alloc: Global, net: Text, text: Text, events: Text) -> Result<Checked, Fault<'a>>
-    ensures checked { IfOk result (λ checked. IsCheck net text events checked.text checked.missed) }
-    ensures fault { IfErr result (StandsInAll net text events) }
+pub fn checked<'a>(
+    alloc: Global,
+    net: Text,
+    text: Text,
+    events: Text,
+    library: Library,
+) -> Result<Checked, Fault<'a>>
+    ensures checked { IfOk result (λ checked.
+        IsCheck library net text events checked.text checked.missed) }
+    ensures fault { IfErr result (StandsInAll library net text events) }
 {
-    let linked = linked_of(alloc, net)?;
+    let linked = linked_of(alloc, net, library)?;
     checked_linked(alloc, &linked, text, events)
 }

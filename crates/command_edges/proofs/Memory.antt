@@ -1,17 +1,24 @@
--- A fault of a netlist's text that is free of them, or of linking one that can be linked, is want of memory.
-use Rattle.std.proofs.Common.{◌≡◌, ℕ, List, subst, refl}
+-- A fault of a text that is free of them, or of linking a netlist that can be linked, is want of memory.
+use Rattle.std.proofs.Common.{◌≡◌, ℕ, List, [], ◌∷◌, sym, ◌∙◌, subst, refl}
+use Rattle.list_laws.proofs.Options.{none_some}
+use Rattle.cell_text.specs.Laws as libraries
+use Rattle.cell_text.specs.declared.fault.LibFault.TheVariants as lib
 use Rattle.verilog_lexicon.specs.declared.word.Spanned.{Spanned}
 use Rattle.verilog_tree.specs.declared.tree.Module.{Module}
 use Rattle.verilog_tree.specs.Texts.{SpellsModule, SpellsText}
 use Rattle.verilog_texts.specs.declared.fault.TextFault.{TextFault}
 use Rattle.verilog_texts.specs.declared.fault.TextFault.TheVariants as text
 use Rattle.verilog_texts.specs.TextFaults.{IsTextFault}
+use Rattle.cell_library.specs.declared.listed.ListedCell.{ListedCell}
 use Rattle.link_model.specs.declared.fault.LinkFault.{LinkFault}
 use Rattle.link_model.specs.Late.{IsLinkable}
 use Rattle.netlist_link.specs.Links.{IsLinkFault, HasLinkFault}
 use Rattle.netlist_link.specs.Laws.{FaultsForbidLinks}
 use Rattle.command_faults.specs.declared.status.Status.TheVariants as status
-use Rattle.command_faults.specs.Statuses.{text_status, link_status}
+use Rattle.command_faults.specs.declared.fault.Fault.{Fault}
+use Rattle.command_faults.specs.declared.fault.Fault.TheVariants as fault
+use Rattle.command_faults.specs.Statuses.{text_status, link_status, status_of}
+use Rattle.command_edges.specs.Libraries.{IsLibraryOf, StandsInLibrary}
 
 pub text_memory : (bytes : List ℕ) (tree : Module) (f : TextFault) → SpellsText bytes tree → IsTextFault bytes f → text_status f ≡ status.Memory
 text_memory bytes tree (text.BadWord place) spells bad = absurd (bad.none spells.words spells.cut)
@@ -19,9 +26,25 @@ text_memory bytes tree (text.BadSyntax place word) spells bad =
     absurd (bad.syntax.unspelled tree (subst (λ (ws : List Spanned). SpellsModule ws tree) (bad.has.only spells.words spells.cut) spells.spells))
 text_memory bytes tree text.OutOfMemory spells bad = refl
 
-link_memory : FaultsForbidLinks → (m : Module) (f : LinkFault) → IsLinkable m → IsLinkFault m f → link_status f ≡ status.Memory
-link_memory law m f ok (IsLinkFault.stands s) = absurd (law m f s ok)
-link_memory law m f ok IsLinkFault.memory = refl
+link_memory : FaultsForbidLinks → (library : List ListedCell) (m : Module) (f : LinkFault) → IsLinkable library m → IsLinkFault library m f → link_status f ≡ status.Memory
+link_memory law library m f ok (IsLinkFault.stands s) = absurd (law library m f s ok)
+link_memory law library m f ok IsLinkFault.memory = refl
 
-pub has_link_memory : FaultsForbidLinks → (net : List ℕ) (tree : Module) (f : LinkFault) → SpellsText net tree → IsLinkable tree → HasLinkFault f net → link_status f ≡ status.Memory
-has_link_memory law net tree f spells ok bad = link_memory law bad.tree f (subst IsLinkable (bad.only tree spells) ok) bad.fault
+pub has_link_memory : FaultsForbidLinks → (library : List ListedCell) (net : List ℕ) (tree : Module) (f : LinkFault) → SpellsText net tree → IsLinkable library tree → HasLinkFault library f net → link_status f ≡ status.Memory
+has_link_memory law library net tree f spells ok bad = link_memory law library bad.tree f (subst (IsLinkable library) (bad.only tree spells) ok) bad.fault
+
+-- A library's text.
+
+pub library_memory : libraries.SpelledIsFaultless → (more : List (List ℕ)) (library : List ListedCell) (f : Fault) → IsLibraryOf more library → StandsInLibrary more f → status_of f ≡ status.Memory
+library_memory law [] library f is bad = absurd bad
+library_memory law (text ∷ more) library (fault.Library (lib.LibLine line)) is bad = none_some (sym (law text library is) ∙ bad)
+library_memory law (text ∷ more) library (fault.Library (lib.TooMany count)) is bad = none_some (sym (law text library is) ∙ bad)
+library_memory law (text ∷ more) library (fault.Library (lib.LibName name)) is bad = none_some (sym (law text library is) ∙ bad)
+library_memory law (text ∷ more) library (fault.Library (lib.LibBody name)) is bad = none_some (sym (law text library is) ∙ bad)
+library_memory law (text ∷ more) library (fault.Library lib.OutOfMemory) is bad = refl
+library_memory law (text ∷ more) library f is bad = absurd bad
+
+-- the texts come to one library
+pub one_library : libraries.SpelledOnce → (more : List (List ℕ)) (one other : List ListedCell) → IsLibraryOf more one → IsLibraryOf more other → one ≡ other
+one_library law [] one other a b = a ∙ sym b
+one_library law (text ∷ more) one other a b = law text one other a b

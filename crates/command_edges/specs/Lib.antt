@@ -7,3 +7,4 @@ pub mod Texts
 pub mod Tasks
 pub mod OneText
 pub mod Spelled
+pub mod Libraries

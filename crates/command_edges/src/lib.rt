@@ -10,15 +10,18 @@
 //   what stays whatever comes of it.
 // - `read_all`, `write_all`: all texts of a list of names, in order, up to the first that can't be read or
 //   written; `put_text` puts one.
+// - `library_of` reads the library that a command may take as its last text.
 // - `run_task` runs whatever makes texts of texts (a `TextCommand`) and meets its task.
 // By the contract of these calls.
 #![tactic(auto)]
 
+mod libraries;
 mod reading;
 mod taking;
 mod tasks;
 mod writing;
 
+pub use libraries::library_of;
 pub use reading::{read_all, read_text};
 pub use taking::{take_one, take_three, take_two};
 pub use tasks::{Made, TextCommand, run_task};

@@ -6,6 +6,8 @@ use Rattle.link_model.specs.declared.fault.LinkFault.{LinkFault}
 use Rattle.link_model.specs.declared.fault.LinkFault.TheVariants as link
 use Rattle.verilog_texts.specs.declared.fault.TextFault.{TextFault}
 use Rattle.verilog_texts.specs.declared.fault.TextFault.TheVariants as text
+use Rattle.cell_text.specs.declared.fault.LibFault.{LibFault}
+use Rattle.cell_text.specs.declared.fault.LibFault.TheVariants as library
 use Rattle.scan_vectors.specs.declared.fault.EventFault.{EventFault}
 use Rattle.scan_vectors.specs.declared.fault.EventFault.TheVariants as event
 use Rattle.event_scripts.specs.declared.fault.ScriptFault.{ScriptFault}
@@ -73,6 +75,13 @@ link_line (link.DerivedClock flop net) = words_line (codes "DerivedClock") (flop
 link_line (link.TooMany what count limit) = many_line (what_word what) count limit
 link_line link.OutOfMemory = memory_line
 
+abbrev pub library_line : LibFault → List ℕ
+library_line (library.LibLine line) = place_line (codes "LibLine") line
+library_line (library.TooMany count) = words_line (codes "TooMany") (codes "listed" ∷ decimal count ∷ decimal 4096 ∷ [])
+library_line (library.LibName name) = named_line (codes "LibName") name
+library_line (library.LibBody name) = named_line (codes "LibBody") name
+library_line library.OutOfMemory = memory_line
+
 abbrev pub event_line : EventFault → List ℕ
 event_line (event.EventLine line) = place_line (codes "EventLine") line
 event_line (event.TooMany what count limit) = many_line (what_word what) count limit
@@ -113,6 +122,7 @@ line_of (fault.ReadFault name) = named_line (codes "ReadFault") name.now
 line_of (fault.TooLong name) = named_line (codes "TooLong") name.now
 line_of (fault.Netlist f) = text_line f
 line_of (fault.Link f) = link_line f
+line_of (fault.Library f) = library_line f
 line_of (fault.Events f) = event_line f
 line_of (fault.Script f) = script_line f
 line_of (fault.Device f) = device_line f

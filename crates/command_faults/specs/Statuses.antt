@@ -8,6 +8,8 @@ use Rattle.verilog_texts.specs.declared.fault.TextFault.{TextFault}
 use Rattle.verilog_texts.specs.declared.fault.TextFault.TheVariants as text
 use Rattle.link_model.specs.declared.fault.LinkFault.{LinkFault}
 use Rattle.link_model.specs.declared.fault.LinkFault.TheVariants as link
+use Rattle.cell_text.specs.declared.fault.LibFault.{LibFault}
+use Rattle.cell_text.specs.declared.fault.LibFault.TheVariants as library
 use Rattle.scan_vectors.specs.declared.fault.EventFault.{EventFault}
 use Rattle.scan_vectors.specs.declared.fault.EventFault.TheVariants as event
 use Rattle.event_scripts.specs.declared.fault.ScriptFault.{ScriptFault}
@@ -26,6 +28,10 @@ text_status f = status.Refused
 abbrev pub link_status : LinkFault → Status
 link_status link.OutOfMemory = status.Memory
 link_status f = status.Refused
+
+abbrev pub library_status : LibFault → Status
+library_status library.OutOfMemory = status.Memory
+library_status f = status.Refused
 
 abbrev pub event_status : EventFault → Status
 event_status event.OutOfMemory = status.Memory
@@ -54,6 +60,7 @@ status_of (fault.ReadFault name) = status.ReadFault
 status_of (fault.TooLong name) = status.Refused
 status_of (fault.Netlist f) = text_status f
 status_of (fault.Link f) = link_status f
+status_of (fault.Library f) = library_status f
 status_of (fault.Events f) = event_status f
 status_of (fault.Script f) = script_status f
 status_of (fault.Device f) = device_status f

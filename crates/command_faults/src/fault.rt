@@ -4,6 +4,7 @@ ghost use Rattle.command_faults.specs.declared.fault.Fault.TheVariants as made;
 
 use crate::status::Status;
 use bsdl_device::DeviceTextFault;
+use cell_text::LibFault;
 use edge_io::OutOfMemory;
 use event_scripts::ScriptFault;
 use link_model::LinkFault;
@@ -31,6 +32,9 @@ pub enum Fault<'a> {
     /// A module is no netlist.
     #[error("{0}")]
     Link(LinkFault),
+    /// A text is no library of cells.
+    #[error("{0}")]
+    Library(LibFault),
     /// A text is none of events.
     #[error("{0}")]
     Events(EventFault),
@@ -68,6 +72,14 @@ impl From<LinkFault> for Fault<'_> {
 
     fn from(fault: LinkFault) -> Self {
         Fault::Link(fault)
+    }
+}
+
+impl From<LibFault> for Fault<'_> {
+    ghost from_gives = { λ fault given. given ≡ made.Library fault };
+
+    fn from(fault: LibFault) -> Self {
+        Fault::Library(fault)
     }
 }
 
@@ -114,6 +126,7 @@ impl Fault<'_> {
             Fault::TooLong { .. } => Status::Refused,
             Fault::Netlist(TextFault::OutOfMemory)
             | Fault::Link(LinkFault::OutOfMemory)
+            | Fault::Library(LibFault::OutOfMemory)
             | Fault::Events(EventFault::OutOfMemory)
             | Fault::Script(ScriptFault::OutOfMemory)
             | Fault::Device(DeviceTextFault::OutOfMemory)
@@ -122,6 +135,7 @@ impl Fault<'_> {
             | Fault::OutOfMemory => Status::Memory,
             Fault::Netlist(_)
             | Fault::Link(_)
+            | Fault::Library(_)
             | Fault::Events(_)
             | Fault::Script(_)
             | Fault::Device(_)

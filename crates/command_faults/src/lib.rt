@@ -12,6 +12,7 @@
 #![tactic(auto)]
 
 mod fault;
+mod library_lines;
 mod lines;
 mod link_lines;
 mod plan_lines;

@@ -1,10 +1,11 @@
 -- No fault stands in the texts of a demonstration, and a fault that stands in such texts is want of memory.
-use Rattle.std.proofs.Common.{◌≡◌, ℕ, ◌+◌, ◌*◌, ◌<◌, ◌≤◌, Bool, cond, length, Option, Some, None, sym, ap, ◌∙◌, subst, arith, le-ltb}
+use Rattle.std.proofs.Common.{◌≡◌, ℕ, [], ◌+◌, ◌*◌, ◌<◌, ◌≤◌, Bool, cond, length, Option, Some, None, sym, ap, ◌∙◌, subst, arith, le-ltb}
 use Rattle.std.specs.Option.{option_or}
 use Rattle.verilog_tree.specs.declared.tree.Module.{Module}
 use Rattle.verilog_tree.specs.IsTree.{IsTree}
 use Rattle.verilog_tree.specs.Texts.{SpellsText}
 use Rattle.verilog_tree.specs.Canonical.{canonical}
+use Rattle.cell_library.specs.Sound.{IsSoundCell, IsLibrary}
 use Rattle.netlist_model.specs.declared.What.{What}
 use Rattle.netlist_model.specs.declared.What.TheVariants.{Cells, Nets, Ports}
 use Rattle.netlist_model.specs.Lists.{NetlistView, cell_count}
@@ -53,10 +54,20 @@ room_of_chip number L low cells counted f is = subst (HasRoomFor L) (sym is.is) 
     (omega (arith, rows_are, cells, low)) (omega (arith, rows_are, nets, low)) (omega (arith, bits))
     )
 
-free : Laws → (number : ℕ) (L : LinkedView) → number < 10000 → IsTree (demo_module number) → IsLinkOf (demo_module number) L → HasNoFault L demo_plan
-free laws number L low tree links =
-    let fits = laws.fits number L tree links in
-    record { named = fits.named; faultless = fits.faultless; room = λ f is. room_of_chip number L low (laws.cells number L links) (laws.counted number L tree links) f is }
+free : Laws → (number : ℕ) (L : LinkedView) → number < 10000 → IsTree (demo_module number) → IsLibrary L.arena.lists.library → IsLinkOf (demo_module number) L
+    → HasNoFault L demo_plan
+free laws number L low tree listed links =
+    let fits = laws.fits number L tree listed links in
+    record { named = fits.named; faultless = fits.faultless; room = λ f is. room_of_chip number L low (laws.cells number L links) (laws.counted number L tree listed links) f is }
+
+-- no cells make a library
+no_library : IsLibrary []
+no_library = record {
+  few = omega arith;
+  sound = All-nil IsSoundCell;
+  named = λ number cell at. absurd (cc);
+  once = λ i j cell other at there same. absurd (cc);
+}
 
 pub texts_are_insertable : Laws → TextsAreInsertable
 texts_are_insertable laws number low tree linkable = record {
@@ -67,5 +78,5 @@ texts_are_insertable laws number low tree linkable = record {
   linkable = linkable;
   plan = demo_plan;
   spells_plan = laws.spelled;
-  free = λ linked links. free laws number linked low tree links;
+  free = λ linked is links. free laws number linked low tree (subst IsLibrary (sym is) no_library) links;
 }

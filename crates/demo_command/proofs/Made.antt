@@ -1,9 +1,10 @@
 -- What a demonstration comes to, from what is inserted.
-use Rattle.std.proofs.Common.{◌≡◌, ℕ, List, length, sym, ◌∙◌, subst}
+use Rattle.std.proofs.Common.{◌≡◌, ℕ, List, [], length, sym, ◌∙◌, subst}
 use Rattle.std.proofs.lemmas.List.{length-map}
 use Rattle.verilog_tree.specs.declared.tree.Module.{Module}
 use Rattle.verilog_tree.specs.IsTree.{IsTree}
 use Rattle.verilog_tree.specs.Canonical.{canonical}
+use Rattle.cell_library.specs.Sound.{IsLibrary}
 use Rattle.netlist_link.specs.Linked.{LinkedView}
 use Rattle.netlist_link.specs.Links.{IsLinkOf}
 use Rattle.plan_texts.specs.declared.plan.Plan.{Plan}
@@ -28,10 +29,10 @@ cells_counted L p q seen same counts are =
     sym (length-map f.rows (cell_row f) ∙ here)
 
 pub demo_is : DemoHasItsCells → ChipsAreCounted → PlanIsAlone → (number : ℕ) (verilog bsdl report : List ℕ) → IsTree (demo_module number)
-    → (i : IsInsertionText (canonical (demo_module number)) (canonical_plan demo_plan) verilog bsdl report) → demo_module number ≡ i.is.tree → IsDemo number verilog bsdl
+    → (i : IsInsertionText [] (canonical (demo_module number)) (canonical_plan demo_plan) verilog bsdl report) → demo_module number ≡ i.is.tree → IsDemo number verilog bsdl
 demo_is cells counted alone number verilog bsdl report tree i same =
     let links = subst (λ (t : Module). IsLinkOf t i.is.linked) (sym same) i.is.links in
-    let counts = counted number i.is.linked tree links in
+    let counts = counted number i.is.linked tree (subst IsLibrary (sym i.is.library_is) i.is.listed) links in
     record {
       report = report;
       insertion = i;

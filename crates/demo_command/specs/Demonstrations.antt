@@ -27,7 +27,7 @@ demo_line number = words_line (codes "demo") (decimal number ∷ codes "kept" �
 -- that netlist and the boundary cells of the device.
 pub record IsDemo (number : ℕ) (verilog bsdl : List ℕ) : Type 0 where
   pub report : List ℕ
-  pub insertion : IsInsertionText (canonical (demo_module number)) (canonical_plan demo_plan) verilog bsdl report
+  pub insertion : IsInsertionText [] (canonical (demo_module number)) (canonical_plan demo_plan) verilog bsdl report
   pub kept : kept_cells number ≡ cell_count insertion.is.linked.arena.lists
   pub boundary : boundary_cells ≡ length (device_of insertion.is.linked insertion.is.wanted insertion.is.fits.seen).cells
 

@@ -1,5 +1,5 @@
 // From the number to the texts.
-ghost use Rattle.std.specs.Prelude.{◌≡◌, ◌<◌, ◌++◌, IfErr, IfOk, OnOk};
+ghost use Rattle.std.specs.Prelude.{◌≡◌, ◌<◌, ◌++◌, [], IfErr, IfOk, OnOk};
 ghost use Rattle.std.specs.Fmt.{decimal};
 ghost use Rattle.verilog_tree.specs.Canonical.{canonical};
 ghost use Rattle.verilog_tree.specs.IsTree.{IsTree};
@@ -15,6 +15,7 @@ ghost use Rattle.demo_chips.specs.Plans.{demo_plan};
 ghost use Rattle.demo_command.specs.Demonstrations.{IsDemo, demo_line};
 
 use crate::laws::demo_texts_are_insertable;
+use cell_library::Library;
 use command_faults::Fault;
 use demo_chips::{demo_module, demo_plan};
 use demo_netlists::demo_has_its_cells;
@@ -49,21 +50,21 @@ fn plan_text(alloc: Global) -> Result<Text, OutOfMemory>
 // Inserts into the netlist of a number.
 fn insert_demo(alloc: Global, number: u32) -> Result<Inserted, InsertFault>
     requires { number < 10000 }
-    ensures inserted { IfOk result (λ made. IsInsertionText (canonical (demo_module number))
+    ensures inserted { IfOk result (λ made. IsInsertionText [] (canonical (demo_module number))
         (canonical_plan demo_plan) made.verilog made.bsdl made.report) }
-    ensures fault { IfErr result (StandsInTexts (canonical (demo_module number))
+    ensures fault { IfErr result (StandsInTexts [] (canonical (demo_module number))
         (canonical_plan demo_plan)) }
 {
     let net = netlist_text(alloc, number)?;
     let plan = plan_text(alloc)?;
-    insert_texts(alloc, net, plan.as_bytes())
+    insert_texts(alloc, net, plan.as_bytes(), Library::new(alloc))
 }
 
 /// What comes of inserting into the netlist of a number. It is refused only where memory is short.
 pub fn inserted_demo<'a>(alloc: Global, number: u32) -> Result<Inserted, Fault<'a>>
     requires number { number < 10000 }
     requires tree { IsTree (demo_module number) }
-    requires linkable { IsLinkable (demo_module number) }
+    requires linkable { IsLinkable [] (demo_module number) }
     ensures made { IfOk result (λ made. IsDemo number made.verilog made.bsdl) }
     ensures fault { IfErr result (λ fault. status_of fault ≡ Status.Memory) }
 {

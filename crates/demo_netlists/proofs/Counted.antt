@@ -30,4 +30,4 @@ counted table N cells numbers are dense = elim (cases_order (cell_count N) (leng
 ]
 
 pub demo_has_its_cells : DenseNumbers → (n : ℕ) (linked : LinkedView) → IsLinkOf (demo_module n) linked → cell_count linked.arena.lists ≡ gate_count n + 48
-demo_has_its_cells numbers n linked is = counted linked.names linked.arena.lists (cells_in (demo_module n)) numbers is.denoted.cells is.dense ∙ cells_count n
+demo_has_its_cells numbers n linked is = counted linked.names linked.arena.lists (cells_in linked.arena.lists.library (demo_module n)) numbers is.denoted.cells is.dense ∙ cells_count linked.arena.lists.library n

@@ -3,6 +3,7 @@ use Rattle.std.proofs.Common.{◌≡◌, ℕ, ◌+◌, ◌-◌, ◌<◌, ◌≤�
 use Rattle.std.specs.Prelude.{slice_get}
 use Rattle.std.proofs.lemmas.Option.{same_Some}
 use Rattle.list_laws.proofs.Lists.{slice_get_there}
+use Rattle.cell_library.specs.declared.listed.ListedCell.{ListedCell}
 use Rattle.netlist_model.specs.declared.NetId.{NetId}
 use Rattle.link_model.specs.Nets.{NamedNet, declared_nets, nets_in}
 use Rattle.link_model.specs.Cells.{NamedCell}
@@ -60,9 +61,9 @@ has_drivers count nets cells w = record {
   bufif_unread = λ i j cell other place net d three r e. let bad : true ≡ false = sym three ∙ (w.each i cell d.there).steady in cc;
 }
 
-pub laid : (n : ℕ) → n < 10000 → IsLaid (gate_count n) (nets_in (declared_nets (demo_module n))) (cells_in (demo_module n))
-laid n low = record { each = demo_cells n low; all = cells_count n; directions = direction_at n }
+pub laid : (library : List ListedCell) (n : ℕ) → n < 10000 → IsLaid (gate_count n) (nets_in (declared_nets (demo_module n))) (cells_in library (demo_module n))
+laid library n low = record { each = demo_cells library n low; all = cells_count library n; directions = direction_at n }
 
-pub drivers_clear : (n : ℕ) → n < 10000 → driver_fault (nets_in (declared_nets (demo_module n))) (cells_in (demo_module n)) ≡ None
-drivers_clear n low =
-    no_driver_fault (nets_in (declared_nets (demo_module n))) (cells_in (demo_module n)) (has_drivers (gate_count n) (nets_in (declared_nets (demo_module n))) (cells_in (demo_module n)) (laid n low))
+pub drivers_clear : (library : List ListedCell) (n : ℕ) → n < 10000 → driver_fault (nets_in (declared_nets (demo_module n))) (cells_in library (demo_module n)) ≡ None
+drivers_clear library n low =
+    no_driver_fault (nets_in (declared_nets (demo_module n))) (cells_in library (demo_module n)) (has_drivers (gate_count n) (nets_in (declared_nets (demo_module n))) (cells_in library (demo_module n)) (laid library n low))

@@ -11,7 +11,7 @@ use Rattle.verilog_tree.specs.declared.tree.Item.{Item}
 use Rattle.verilog_tree.specs.declared.tree.Item.TheVariants as item
 use Rattle.verilog_tree.specs.declared.tree.Operand.TheVariants as operand
 use Rattle.verilog_tree.specs.Trees.{takes_inputs}
-use Rattle.cell_library.specs.Gates.{is_flop, is_three_state}
+use Rattle.cell_library.specs.Gates.{is_three_state}
 use Rattle.link_model.specs.Cells.{kind_of_gate}
 use Rattle.demo_chips.specs.Draws.{draw}
 use Rattle.demo_chips.specs.Netlists.{bit_of, demo_items, flop_item, from_zero, gate_count, gate_item, gate_kind, link_to, output_item, pool_bit, scalar}
@@ -21,15 +21,14 @@ use Rattle.demo_netlists.proofs.Places.{EachAt, from_zero_at, joined_at}
 pub record IsPlain (kind : GateKind) : Type 0 where
   pub takes : takes_inputs kind 2 ≡ true
   pub steady : is_three_state (kind_of_gate kind) ≡ false
-  pub gate : is_flop (kind_of_gate kind) ≡ false
 
 plain_by : (a b c d e : Bool) → IsPlain (if a then gate.And else if b then gate.Or else if c then gate.Nand else if d then gate.Nor else if e then gate.Xor else gate.Xnor)
-plain_by true b c d e = record { takes = refl; steady = refl; gate = refl }
-plain_by false true c d e = record { takes = refl; steady = refl; gate = refl }
-plain_by false false true d e = record { takes = refl; steady = refl; gate = refl }
-plain_by false false false true e = record { takes = refl; steady = refl; gate = refl }
-plain_by false false false false true = record { takes = refl; steady = refl; gate = refl }
-plain_by false false false false false = record { takes = refl; steady = refl; gate = refl }
+plain_by true b c d e = record { takes = refl; steady = refl }
+plain_by false true c d e = record { takes = refl; steady = refl }
+plain_by false false true d e = record { takes = refl; steady = refl }
+plain_by false false false true e = record { takes = refl; steady = refl }
+plain_by false false false false true = record { takes = refl; steady = refl }
+plain_by false false false false false = record { takes = refl; steady = refl }
 
 plain : (place : ℕ) → IsPlain (gate_kind place)
 plain place = plain_by (place == 0) (place == 1) (place == 2) (place == 3) (place == 4)

@@ -6,6 +6,7 @@ use Rattle.std.specs.List.{AllByRecursion, flat_map}
 use Rattle.std.proofs.lemmas.Bool.{cases_lt, le-ltb, lt-ltb}
 use Rattle.verilog_tree.specs.declared.tree.Bit.{Bit}
 use Rattle.netlist_model.specs.declared.Feed.TheVariants.{Net}
+use Rattle.cell_library.specs.declared.listed.ListedCell.{ListedCell}
 use Rattle.netlist_model.specs.declared.NetId.{NetId}
 use Rattle.link_model.specs.Nets.{Declared, NamedNet, declared_names, declared_nets, net_of, nets_in}
 use Rattle.link_model.specs.Cells.{NamedCell}
@@ -71,18 +72,18 @@ rising count nets cells w net other r =
 abbrev IsFirstInput : ControlLink → Type 0
 IsFirstInput link = link.net < 2
 
-flop_controls : (names : List (List ℕ × Declared)) (name : List ℕ) (datum clock clear output : Bit) → IsBit names clock 0 → IsBit names clear 1
-    → AllByRecursion IsFirstInput (item_links names (flop_with name datum clock clear output))
-flop_controls names name datum clock clear output ck rn = (first 0 clock ck (lit< tt), (first 1 clear rn (lit< tt), tt))
+flop_controls : (library : List ListedCell) (names : List (List ℕ × Declared)) (name : List ℕ) (datum clock clear output : Bit) → IsBit names clock 0 → IsBit names clear 1
+    → AllByRecursion IsFirstInput (item_links library names (flop_with name datum clock clear output))
+flop_controls library names name datum clock clear output ck rn = (first 0 clock ck (lit< tt), (first 1 clear rn (lit< tt), tt))
   where
     first : (net : ℕ) (bit : Bit) → IsBit names bit net → net < 2 → (net_of names bit).0 < 2
     first net bit is less = let P : NetId → Type 0 = λ x. x.0 < 2 in subst P (sym is.net_is) less
 
-controls : (n : ℕ) (names : List (List ℕ × Declared)) → Knows names (gate_count n) → AllByRecursion IsFirstInput (flat_map (item_links names) (demo_items n))
-controls n names w =
-    flat_all IsFirstInput (item_links names) (demo_items n) (items_at (λ place it. AllByRecursion IsFirstInput (item_links names it)) n (λ kind k a b plain less first second. tt)
+controls : (library : List ListedCell) (n : ℕ) (names : List (List ℕ × Declared)) → Knows names (gate_count n) → AllByRecursion IsFirstInput (flat_map (item_links library names) (demo_items n))
+controls library n names w =
+    flat_all IsFirstInput (item_links library names) (demo_items n) (items_at (λ place it. AllByRecursion IsFirstInput (item_links library names it)) n (λ kind k a b plain less first second. tt)
     (λ i a less inside.
-    flop_controls names (codes "f_" ++ decimal i) (pool_bit a) (scalar (codes "clk")) (scalar (codes "rn")) (bit_of (codes "f") i) (clock_bit names (gate_count n) w) (clear_bit names (gate_count n) w)) (λ j a less inside. tt))
+    flop_controls library names (codes "f_" ++ decimal i) (pool_bit a) (scalar (codes "clk")) (scalar (codes "rn")) (bit_of (codes "f") i) (clock_bit names (gate_count n) w) (clear_bit names (gate_count n) w)) (λ j a less inside. tt))
 
 -- no cell drives an input, so nothing stands in its cone but itself
 undriven : (count number net : ℕ) (nets : List NamedNet) (cells : List NamedCell) (cell : NamedCell) → IsLaid count nets cells → net < 18 → slice_get cells number ≡ Some cell → cell.output ≡ Some (record { 0 = net }) → ⊥
@@ -105,11 +106,11 @@ not_derived count root nets cells w first d = by (alone count nets cells root d.
     by same (inl kept) = undriven count kept.number d.net nets cells kept.cell w (omega arith) kept.there kept.drives
     by same (inr io) = (w.directions d.net).inout (ap (option_and_then (λ (named : NamedNet). named.dir)) io.there ∙ io.inout)
 
-pub demo_can_be_linked : (n : ℕ) → n < 10000 → IsLinkable (demo_module n)
-demo_can_be_linked n low = record {
-  early = ap (λ o. or_else o (driver_fault (nets_in (declared_nets (demo_module n))) (cells_in (demo_module n)))) (text_clear n low) ∙ drivers_clear n low;
-  loops = λ numbers l. no_loop (cells_in (demo_module n)) (rank (gate_count n)) numbers (rising (gate_count n) (nets_in (declared_nets (demo_module n))) (cells_in (demo_module n)) (laid n low)) l;
+pub demo_can_be_linked : (library : List ListedCell) (n : ℕ) → n < 10000 → IsLinkable library (demo_module n)
+demo_can_be_linked library n low = record {
+  early = ap (λ o. or_else o (driver_fault (nets_in (declared_nets (demo_module n))) (cells_in library (demo_module n)))) (text_clear library n low) ∙ drivers_clear library n low;
+  loops = λ numbers l. no_loop (cells_in library (demo_module n)) (rank (gate_count n)) numbers (rising (gate_count n) (nets_in (declared_nets (demo_module n))) (cells_in library (demo_module n)) (laid library n low)) l;
   derived = λ place link d.
-      let first : link.net < 2 = all_there IsFirstInput (control_links (demo_module n)) (controls n (declared_names (demo_module n)) (knows n)) place link d.there in
-      not_derived (gate_count n) link.net (nets_in (declared_nets (demo_module n))) (cells_in (demo_module n)) (laid n low) (omega arith) d.derived;
+      let first : link.net < 2 = all_there IsFirstInput (control_links library (demo_module n)) (controls library n (declared_names (demo_module n)) (knows n)) place link d.there in
+      not_derived (gate_count n) link.net (nets_in (declared_nets (demo_module n))) (cells_in library (demo_module n)) (laid library n low) (omega arith) d.derived;
 }

@@ -12,6 +12,7 @@ use Rattle.verilog_tree.specs.declared.tree.Link.{Link}
 use Rattle.cell_library.specs.declared.Edge.TheVariants.{Rise}
 use Rattle.cell_library.specs.declared.Kind.TheVariants as kind
 use Rattle.cell_library.specs.declared.ResetTo.TheVariants.{Zero as ToZero}
+use Rattle.cell_library.specs.declared.listed.ListedCell.{ListedCell}
 use Rattle.netlist_model.specs.declared.What.{What}
 use Rattle.netlist_model.specs.declared.What.TheVariants as what
 use Rattle.link_model.specs.declared.fault.LinkFault.{LinkFault}
@@ -25,18 +26,18 @@ use Rattle.demo_netlists.proofs.Bits.{IsBit, Knows, clear_bit, clock_bit, flop_b
 use Rattle.demo_netlists.proofs.Names.{names_once}
 
 -- no test of an item finds a fault
-record IsClear (names : List (List ℕ × Declared)) (it : Item) : Type 0 where
+record IsClear (library : List ListedCell) (names : List (List ℕ × Declared)) (it : Item) : Type 0 where
   few : too_many what.Operands 256 (gate_operands it) ≡ None
   known : first_in (at_bit name_unknown names) (item_bits it) ≡ None
   inside : first_in (at_bit bit_outside names) (item_bits it) ≡ None
-  cell : cell_unknown it ≡ None
-  ports : at_instance port_unknown it ≡ None
-  linked : at_instance port_missing it ≡ None
-  once : at_instance port_twice it ≡ None
-  width : item_width names it ≡ None
+  cell : cell_unknown library it ≡ None
+  ports : at_instance library (port_unknown library) it ≡ None
+  linked : at_instance library (port_missing library) it ≡ None
+  once : at_instance library port_twice it ≡ None
+  width : item_width library names it ≡ None
 
-gate_clear : (names : List (List ℕ × Declared)) (kind : GateKind) (output a b : Bit) (to one two : ℕ) → IsBit names output to → IsBit names a one → IsBit names b two → IsClear names (gate_with kind output a b)
-gate_clear names kind output a b to one two o x y = record {
+gate_clear : (library : List ListedCell) (names : List (List ℕ × Declared)) (kind : GateKind) (output a b : Bit) (to one two : ℕ) → IsBit names output to → IsBit names a one → IsBit names b two → IsClear library names (gate_with kind output a b)
+gate_clear library names kind output a b to one two o x y = record {
   few = refl;
   known = none_along (at_bit name_unknown names) (output ∷ a ∷ b ∷ []) (o.known, (x.known, (y.known, tt)));
   inside = none_along (at_bit bit_outside names) (output ∷ a ∷ b ∷ []) (o.inside, (x.inside, (y.inside, tt)));
@@ -47,8 +48,8 @@ gate_clear names kind output a b to one two o x y = record {
   width = none_along (at_bit wrong_width names) (output ∷ a ∷ b ∷ []) (o.width, (x.width, (y.width, tt)));
 }
 
-output_clear : (names : List (List ℕ × Declared)) (output a : Bit) (to one : ℕ) → IsBit names output to → IsBit names a one → IsClear names (output_with output a)
-output_clear names output a to one o x = record {
+output_clear : (library : List ListedCell) (names : List (List ℕ × Declared)) (output a : Bit) (to one : ℕ) → IsBit names output to → IsBit names a one → IsClear library names (output_with output a)
+output_clear library names output a to one o x = record {
   few = refl;
   known = none_along (at_bit name_unknown names) (output ∷ a ∷ []) (o.known, (x.known, tt));
   inside = none_along (at_bit bit_outside names) (output ∷ a ∷ []) (o.inside, (x.inside, tt));
@@ -62,9 +63,9 @@ output_clear names output a to one o x = record {
 abbrev links_with : Bit → Bit → Bit → Bit → List Link
 links_with datum clock clear output = link_to (codes "D") datum ∷ link_to (codes "CK") clock ∷ link_to (codes "RN") clear ∷ link_to (codes "Q") output ∷ []
 
-flop_clear : (names : List (List ℕ × Declared)) (name : List ℕ) (datum clock clear output : Bit) (one two three to : ℕ) → IsBit names datum one → IsBit names clock two → IsBit names clear three → IsBit names output to
-    → IsClear names (flop_with name datum clock clear output)
-flop_clear names name datum clock clear output one two three to x ck rn o = record {
+flop_clear : (library : List ListedCell) (names : List (List ℕ × Declared)) (name : List ℕ) (datum clock clear output : Bit) (one two three to : ℕ) → IsBit names datum one → IsBit names clock two → IsBit names clear three → IsBit names output to
+    → IsClear library names (flop_with name datum clock clear output)
+flop_clear library names name datum clock clear output one two three to x ck rn o = record {
   few = refl;
   known = none_along (at_bit name_unknown names) (datum ∷ clock ∷ clear ∷ output ∷ []) (x.known, (ck.known, (rn.known, (o.known, tt))));
   inside = none_along (at_bit bit_outside names) (datum ∷ clock ∷ clear ∷ output ∷ []) (x.inside, (ck.inside, (rn.inside, (o.inside, tt))));
@@ -73,25 +74,25 @@ flop_clear names name datum clock clear output one two three to x ck rn o = reco
   linked = refl;
   once = refl;
   width =
-      none_along (link_width names (record { cell = codes "DFFR"; name = name; links = links_with datum clock clear output }) (kind.Flop (record { edge = Rise; reset = ToZero }))) (links_with datum clock clear output)
+      none_along (link_width library names (record { cell = codes "DFFR"; name = name; links = links_with datum clock clear output }) (kind.Flop (record { edge = Rise; reset = ToZero }))) (links_with datum clock clear output)
       (x.width, (ck.width, (rn.width, (o.width, tt))));
 }
 
 -- of each item
-items_clear : (n : ℕ) (names : List (List ℕ × Declared)) → Knows names (gate_count n) → gate_count n < 10 ^ 9 → EachAt (λ place it. IsClear names it) (demo_items n)
-items_clear n names w small =
-    items_at (λ place it. IsClear names it) n
+items_clear : (library : List ListedCell) (n : ℕ) (names : List (List ℕ × Declared)) → Knows names (gate_count n) → gate_count n < 10 ^ 9 → EachAt (λ place it. IsClear library names it) (demo_items n)
+items_clear library n names w small =
+    items_at (λ place it. IsClear library names it) n
     (λ kind k a b plain less first second.
     let x = pool_bits names (gate_count n) k a w small (omega arith) first in
     let y = pool_bits names (gate_count n) k b w small (omega arith) second in
-    gate_clear names kind (bit_of (codes "g") k) (pool_bit a) (pool_bit b) (65 + gate_count n - k) x.net y.net (gate_bit names (gate_count n) k (65 + gate_count n - k) w small less (omega arith)) x.is y.is)
+    gate_clear library names kind (bit_of (codes "g") k) (pool_bit a) (pool_bit b) (65 + gate_count n - k) x.net y.net (gate_bit names (gate_count n) k (65 + gate_count n - k) w small less (omega arith)) x.is y.is)
     (λ i a less inside.
     let x = pool_bits names (gate_count n) (gate_count n) a w small inside inside in
-    flop_clear names (codes "f_" ++ decimal i) (pool_bit a) (scalar (codes "clk")) (scalar (codes "rn")) (bit_of (codes "f") i) x.net 0 1 (65 - i) x.is (clock_bit names (gate_count n) w)
+    flop_clear library names (codes "f_" ++ decimal i) (pool_bit a) (scalar (codes "clk")) (scalar (codes "rn")) (bit_of (codes "f") i) x.net 0 1 (65 - i) x.is (clock_bit names (gate_count n) w)
     (clear_bit names (gate_count n) w) (flop_bit names (gate_count n) i (65 - i) w less (omega arith)))
     (λ j a less inside.
     let x = pool_bits names (gate_count n) (gate_count n) a w small inside inside in
-    output_clear names (bit_of (codes "q") j) (pool_bit a) (33 - j) x.net (output_bit names (gate_count n) j (33 - j) w less (omega arith)) x.is)
+    output_clear library names (bit_of (codes "q") j) (pool_bit a) (33 - j) x.net (output_bit names (gate_count n) j (33 - j) w less (omega arith)) x.is)
 
 -- Counts.
 
@@ -124,28 +125,28 @@ none_of_five a b c d e one two three four five = rw (one, two, three, four) five
 none_of_four : (a b c d : Option LinkFault) → a ≡ None → b ≡ None → c ≡ None → d ≡ None → or_else a (or_else b (or_else c d)) ≡ None
 none_of_four a b c d one two three four = rw (one, two, three) four
 
-few : (n : ℕ) → n < 10000 → EachAt (λ place it. IsClear (declared_names (demo_module n)) it) (demo_items n) → too_many_in (demo_module n) ≡ None
-few n low clear =
+few : (library : List ListedCell) (n : ℕ) → n < 10000 → EachAt (λ place it. IsClear library (declared_names (demo_module n)) it) (demo_items n) → too_many_in (demo_module n) ≡ None
+few library n low clear =
     few_of (demo_items n) (gate_count n + 48) (bits_in (declared_nets (demo_module n))) 34 (omega arith) (let bits = bits_count n in omega arith) (omega arith) (items_count n)
     (none_found (λ (i : Item). too_many what.Operands 256 (gate_operands i)) (demo_items n) (λ k it at. (clear k it at).few))
 
-bits : (names : List (List ℕ × Declared)) (items : List Item) → EachAt (λ place it. IsClear names it) items
+bits : (library : List ListedCell) (names : List (List ℕ × Declared)) (items : List Item) → EachAt (λ place it. IsClear library names it) items
     → or_else (first_in (λ (i : Item). first_in (at_bit name_unknown names) (item_bits i)) items) (first_in (λ (i : Item). first_in (at_bit bit_outside names) (item_bits i)) items) ≡ None
-bits names items clear =
+bits library names items clear =
     none_or (first_in (λ (i : Item). first_in (at_bit name_unknown names) (item_bits i)) items) (first_in (λ (i : Item). first_in (at_bit bit_outside names) (item_bits i)) items)
     (none_found (λ (i : Item). first_in (at_bit name_unknown names) (item_bits i)) items (λ k it at. (clear k it at).known))
     (none_found (λ (i : Item). first_in (at_bit bit_outside names) (item_bits i)) items (λ k it at. (clear k it at).inside))
 
-instances : (names : List (List ℕ × Declared)) (items : List Item) → EachAt (λ place it. IsClear names it) items
-    → or_else (first_in cell_unknown items) (or_else (first_in (at_instance port_unknown) items) (or_else (first_in (at_instance port_missing) items) (first_in (at_instance port_twice) items))) ≡ None
-instances names items clear =
-    none_of_four (first_in cell_unknown items) (first_in (at_instance port_unknown) items) (first_in (at_instance port_missing) items) (first_in (at_instance port_twice) items)
-    (none_found cell_unknown items (λ k it at. (clear k it at).cell)) (none_found (at_instance port_unknown) items (λ k it at. (clear k it at).ports))
-    (none_found (at_instance port_missing) items (λ k it at. (clear k it at).linked)) (none_found (at_instance port_twice) items (λ k it at. (clear k it at).once))
+instances : (library : List ListedCell) (names : List (List ℕ × Declared)) (items : List Item) → EachAt (λ place it. IsClear library names it) items
+    → or_else (first_in (cell_unknown library) items) (or_else (first_in (at_instance library (port_unknown library)) items) (or_else (first_in (at_instance library (port_missing library)) items) (first_in (at_instance library port_twice) items))) ≡ None
+instances library names items clear =
+    none_of_four (first_in (cell_unknown library) items) (first_in (at_instance library (port_unknown library)) items) (first_in (at_instance library (port_missing library)) items) (first_in (at_instance library port_twice) items)
+    (none_found (cell_unknown library) items (λ k it at. (clear k it at).cell)) (none_found (at_instance library (port_unknown library)) items (λ k it at. (clear k it at).ports))
+    (none_found (at_instance library (port_missing library)) items (λ k it at. (clear k it at).linked)) (none_found (at_instance library port_twice) items (λ k it at. (clear k it at).once))
 
-pub text_clear : (n : ℕ) → n < 10000 → text_fault (demo_module n) ≡ None
-text_clear n low =
-    let clear = items_clear n (declared_names (demo_module n)) (knows n) (omega arith) in
-    none_of_five (too_many_in (demo_module n)) (name_twice (demo_module n)) (bit_faults (demo_module n)) (instance_faults (demo_module n)) (first_in (item_width (declared_names (demo_module n))) (demo_items n))
-    (few n low clear) (names_once n) (bits (declared_names (demo_module n)) (demo_items n) clear) (instances (declared_names (demo_module n)) (demo_items n) clear)
-    (none_found (item_width (declared_names (demo_module n))) (demo_items n) (λ k it at. (clear k it at).width))
+pub text_clear : (library : List ListedCell) (n : ℕ) → n < 10000 → text_fault library (demo_module n) ≡ None
+text_clear library n low =
+    let clear = items_clear library n (declared_names (demo_module n)) (knows n) (omega arith) in
+    none_of_five (too_many_in (demo_module n)) (name_twice (demo_module n)) (bit_faults (demo_module n)) (instance_faults library (demo_module n)) (first_in (item_width library (declared_names (demo_module n))) (demo_items n))
+    (few library n low clear) (names_once n) (bits library (declared_names (demo_module n)) (demo_items n) clear) (instances library (declared_names (demo_module n)) (demo_items n) clear)
+    (none_found (item_width library (declared_names (demo_module n))) (demo_items n) (λ k it at. (clear k it at).width))

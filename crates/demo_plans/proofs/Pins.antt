@@ -228,12 +228,12 @@ net_below a b low e = let same : a ≡ b = ap net_number e in omega (arith, same
 reads_low : (number : ℕ) (L : LinkedView) → IsLinkOf (demo_module number) L → (root : ℕ) → FlopReads L.arena.lists 1 root ⊎ FlopReads L.arena.lists 2 root → root < 2
 reads_low number L links root (inl r) =
     let one = cell_is number L links r.number r.cell r.reads.live in
-    let flop : is_flop one.named.kind ≡ true = ap is_flop (sym one.is.kind) ∙ ap is_some r.flop in
-    net_below root 0 (omega arith) (sym r.reads.operand ∙ ap (λ (fs : List Feed). slice_get fs 1) one.is.feeds ∙ (one.demo.controls flop).clock)
+    let flop : is_flop L.arena.lists.library one.named.kind ≡ true = ap (is_flop L.arena.lists.library) (sym one.is.kind) ∙ ap is_some r.flop in
+    net_below root 0 (omega arith) (sym r.reads.operand ∙ ap (λ (fs : List Feed). slice_get fs 1) one.is.feeds ∙ (one.demo.controls L.arena.lists.library flop).clock)
 reads_low number L links root (inr r) =
     let one = cell_is number L links r.number r.cell r.reads.live in
-    let flop : is_flop one.named.kind ≡ true = ap is_flop (sym one.is.kind) ∙ ap is_some r.flop in
-    net_below root 1 (omega arith) (sym r.reads.operand ∙ ap (λ (fs : List Feed). slice_get fs 2) one.is.feeds ∙ (one.demo.controls flop).clear)
+    let flop : is_flop L.arena.lists.library one.named.kind ≡ true = ap (is_flop L.arena.lists.library) (sym one.is.kind) ∙ ap is_some r.flop in
+    net_below root 1 (omega arith) (sym r.reads.operand ∙ ap (λ (fs : List Feed). slice_get fs 2) one.is.feeds ∙ (one.demo.controls L.arena.lists.library flop).clear)
 
 driven_high : (number : ℕ) (L : LinkedView) → IsLinkOf (demo_module number) L → (i : ℕ) (cell : CellView) (net : ℕ) → Drives L.arena.lists i cell net → 2 ≤ net
 driven_high number L links i cell net d =

@@ -138,11 +138,11 @@ live_is table (Some other) cell named e live = subst (λ (c : CellView). IsCell 
 pub cell_is : (number : ℕ) (L : LinkedView) → IsLinkOf (demo_module number) L → (i : ℕ) (cell : CellView) → cell_at L.arena.lists i ≡ Some cell → IsOneOf L.names cell
 cell_is number L links i cell at =
     let within = links.denoted.cells.only i (subst (λ (o : Option CellView). IsSome o) (sym at) refl) in
-    let there = slice_get_there (denoted (demo_module number)).cells i within in
+    let there = slice_get_there (denoted L.arena.lists.library (demo_module number)).cells i within in
     record {
       named = there.0;
       is = live_is L.names (cell_at L.arena.lists i) cell there.0 at (links.denoted.cells.each i there.0 there.1);
-      demo = all_at IsDemoCell (denoted (demo_module number)).cells i there.0 (cells_are number) there.1;
+      demo = all_at IsDemoCell (denoted L.arena.lists.library (demo_module number)).cells i there.0 (cells_are L.arena.lists.library number) there.1;
     }
 
 name_is : (table : List (List ℕ)) (view : Option Name) (named : Option (List ℕ)) (bytes : List ℕ) → IsName table view named → named_apart named ≡ true → option_and_then (name_bytes table) view ≡ Some bytes → is_apart bytes ≡ true

@@ -1,9 +1,10 @@
 -- A netlist to which cells are added stays well formed.
-use Rattle.std.proofs.Common.{◌≡◌, ◌≢◌, ℕ, ◌⊎◌, false, List, refl, ap, sym, ◌∙◌, inl, inr}
+use Rattle.std.proofs.Common.{◌≡◌, ◌≢◌, ℕ, ◌⊎◌, false, List, length, subst, refl, ap, sym, ◌∙◌, inl, inr}
 use Rattle.std.specs.Prelude.{Some, None, slice_get}
 use Rattle.std.specs.Option.{option_and_then}
 use Rattle.netlist_laws.proofs.Search.{cell_at_once}
-use Rattle.cell_library.specs.Gates.{is_three_state}
+use Rattle.cell_library.specs.declared.listed.ListedCell.{ListedCell}
+use Rattle.cell_library.specs.Gates.{is_three_state, is_flop, flop_of, Takes}
 use Rattle.netlist_model.specs.declared.Dir.TheVariants.{Input}
 use Rattle.netlist_model.specs.Lists.{PortView, CellView, NetlistView, bit_net, direction, Drives}
 use Rattle.netlist_model.specs.Cones.{InCone, itself, behind, GateReads, FlopReads}
@@ -24,7 +25,7 @@ driven_over old new part adds net d = record { number = d.number; cell = d.cell;
 
 combinational_over : (old new : NetlistView) (part : List CellView) → AddsCells old new part → (net : ℕ) → IsCombinational old net → IsCombinational new net
 combinational_over old new part adds net (inl e) = inl (dir_over old new part adds net ∙ e)
-combinational_over old new part adds net (inr d) = inr (driven_over old new part adds net d.0, d.1, λ e. d.2 (sym (dir_over old new part adds net) ∙ e))
+combinational_over old new part adds net (inr d) = inr (driven_over old new part adds net d.0, ap (λ (l : List ListedCell). is_flop l d.0.cell.kind) adds.library ∙ d.1, λ e. d.2 (sym (dir_over old new part adds net) ∙ e))
 
 -- the outputs of added cells are nets of no port
 abbrev DriveWires : NetlistView → List CellView → Type 0
@@ -90,7 +91,7 @@ operand_is_pure : (old new : NetlistView) (part : List CellView) → IsWellForme
 operand_is_pure old new part formed adds once sound place root is before reads =
     elim (adds.either reads.number reads.cell reads.reads.live) [
       | inl live ↦ pure_stays_so old new part root formed adds once (wires_of new part sound)
-          (before (record { number = reads.number; cell = reads.cell; kind = reads.kind; flop = reads.flop; reads = record { live = live; operand = reads.reads.operand } }))
+          (before (record { number = reads.number; cell = reads.cell; kind = reads.kind; flop = ap (λ (l : List ListedCell). flop_of l reads.cell.kind) (sym adds.library) ∙ reads.flop; reads = record { live = live; operand = reads.reads.operand } }))
       | inr of ↦ (sound reads.cell of).controls reads.kind place root reads.flop is reads.reads.operand
     ]
 
@@ -108,7 +109,7 @@ grown_formed old new part rank formed adds once numbered sound =
     let dirs : (net : ℕ) → direction new.ports net ≡ direction old.ports net = dir_over old new part adds in
     record {
       counts = λ i cell live. elim (adds.either i cell live) [
-        | inl before ↦ formed.counts i cell before
+        | inl before ↦ subst (λ (l : List ListedCell). Takes l cell.kind (length cell.feeds)) (sym adds.library) (formed.counts i cell before)
         | inr of ↦ (sound cell of).takes
       ];
       bits_apart = λ p q j k net a b. formed.bits_apart p q j k net (sym (bit_over old new part adds p j) ∙ a) (sym (bit_over old new part adds q k) ∙ b);

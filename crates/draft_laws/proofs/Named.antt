@@ -6,9 +6,10 @@ use Rattle.std.specs.Str.{bytes_eq}
 use Rattle.std.proofs.lemmas.Bool.{cases_Bool}
 use Rattle.std.proofs.lemmas.Option.{slice_get_within}
 use Rattle.list_laws.proofs.Lists.{at_push, last_push, before_push}
-use Rattle.cell_library.specs.declared.Kind.TheVariants.{Assign, Mux2}
-use Rattle.cell_library.specs.Gates.{is_flop}
+use Rattle.cell_library.specs.declared.Kind.TheVariants.{Assign}
+use Rattle.cell_library.specs.declared.listed.ListedCell.{ListedCell}
 use Rattle.cell_library.specs.Library.{cell_name}
+use Rattle.cell_library.specs.Sound.{IsLibrary}
 use Rattle.netlist_model.specs.declared.Dir.{Dir}
 use Rattle.netlist_model.specs.declared.NetId.{NetId}
 use Rattle.netlist_model.specs.declared.Name.{Name}
@@ -106,6 +107,7 @@ added_not_original number k cell a b = let no : Some (Added k) ≡ Some (Origina
 named_grown : (table : List (List ℕ)) (old new : NetlistView) (part : List CellView) → IsWellNamed table old → AddsNets old new → AddsCells old new part
     → ((net : ℕ) → length old.nets ≤ net → direction new.ports net ≡ None) → ((cell : CellView) → IsOneOf part cell → IsNamedCell cell) → IsWellNamed table new
 named_grown table old new part well nets cells past named = record {
+  library = subst IsLibrary (sym cells.library) well.library;
   once = well.once;
   spelled = well.spelled;
   net_names = λ net view at. elim (nets.either net view at) [
@@ -144,15 +146,15 @@ named_grown table old new part well nets cells past named = record {
     | inr of ↦ added_not_original number (named cell of).number cell (named cell of).name is
   ];
   library_named = λ i cell live library. elim (cells.either i cell live) [
-    | inl before ↦ well.library_named i cell before library
+    | inl before ↦ well.library_named i cell before (subst (λ (l : List ListedCell). IsSome (cell_name l cell.kind)) cells.library library)
     | inr of ↦ is_some_of cell (Added (named cell of).number) (named cell of).name
   ];
   assign_unnamed = λ i cell live kind. elim (cells.either i cell live) [
     | inl before ↦ well.assign_unnamed i cell before kind
     | inr of ↦ absurd ((named cell of).kind kind)
   ];
-  connected = λ i cell live flop mux. elim (cells.either i cell live) [
-    | inl before ↦ well.connected i cell before flop mux
+  connected = λ i cell live none. elim (cells.either i cell live) [
+    | inl before ↦ well.connected i cell before (ap (λ (l : List ListedCell). cell_name l cell.kind) (sym cells.library) ∙ none)
     | inr of ↦ (named cell of).connected
   ];
 }
@@ -201,7 +203,7 @@ lone_wire_stays_so old new count part number net added lone =
 
 -- no cell is added where a net is
 same_cells : (N : NetlistView) (view : NetView) → AddsCells N (with_net view N) []
-same_cells N view = record { ports = refl; kept = λ i cell live. live; either = λ i cell live. inl live }
+same_cells N view = record { library = refl; ports = refl; kept = λ i cell live. live; either = λ i cell live. inl live }
 
 wire_formed : (N : NetlistView) (view : NetView) → IsWellFormed N → IsWellFormed (with_net view N)
 wire_formed N view formed =
@@ -265,6 +267,7 @@ wire_name_of_more table N number net other well free outside w = elim (wire_of_m
 wire_named : (table : List (List ℕ)) (N : NetlistView) (number : ℕ) → IsWellNamed table N → number < length table → IsUnused N number → direction N.ports (length N.nets) ≡ None
     → IsWellNamed table (with_net (named_net number) N)
 wire_named table N number well low free outside = record {
+  library = well.library;
   once = well.once;
   spelled = well.spelled;
   net_names = λ net view at. elim (at_push N.nets (named_net number) view net at) [
@@ -351,6 +354,7 @@ pub port_named : PortIsNamed
 port_named table N number dir pin well low lone =
     let here = lone_is_wire N number pin.0 lone in
     record {
+      library = well.library;
       once = well.once;
       spelled = well.spelled;
       net_names = well.net_names;

@@ -13,19 +13,20 @@ pub record IsOneOf (part : List CellView) (cell : CellView) : Type 0 where
   pub place : ℕ
   pub at : slice_get part place ≡ Some cell
 
--- own: the new netlist has the old one's ports and its cells under their numbers, and beside them no cell but these
+-- own: the new netlist has the old one's library, ports and its cells under their numbers, and beside them no cell but these
 pub record AddsCells (old new : NetlistView) (part : List CellView) : Type 0 where
+  pub library : new.library ≡ old.library
   pub ports : new.ports ≡ old.ports
   pub kept : (i : ℕ) (cell : CellView) → cell_at old i ≡ Some cell → cell_at new i ≡ Some cell
   pub either : (i : ℕ) (cell : CellView) → cell_at new i ≡ Some cell → (cell_at old i ≡ Some cell) ⊎ IsOneOf part cell
 
 -- own: an added cell is no `bufif`, drives no port bit, reads nets that can be read, and is clocked, cleared and preset by pure ones
 pub record IsSoundCell (N : NetlistView) (cell : CellView) : Type 0 where
-  pub takes : Takes cell.kind (length cell.feeds)
+  pub takes : Takes N.library cell.kind (length cell.feeds)
   pub two_state : is_three_state cell.kind ≡ false
   pub output : (net : ℕ) → cell.output ≡ Some (record { 0 = net }) → direction N.ports net ≡ None
   pub reads : (place net : ℕ) → slice_get cell.feeds place ≡ Some (Net (record { 0 = net })) → CanBeRead N net
-  pub controls : (kind : FlopKind) (place net : ℕ) → flop_of cell.kind ≡ Some kind → (place ≡ 1) ⊎ (place ≡ 2)
+  pub controls : (kind : FlopKind) (place net : ℕ) → flop_of N.library cell.kind ≡ Some kind → (place ≡ 1) ⊎ (place ≡ 2)
       → slice_get cell.feeds place ≡ Some (Net (record { 0 = net })) → IsPure N net
 
 -- own: each cell of the list is sound

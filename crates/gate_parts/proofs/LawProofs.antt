@@ -111,12 +111,12 @@ flop_holds : (N : NetlistView) (given : (ℕ → Sig) → ℕ → Sig) (state va
     → value net ≡ state on.has.number
 flop_holds N given state value kind feeds net on meets =
     meets.cells on.has.number (record on.cell { name = on.has.name }) net (record { live = on.has.live; output = on.output }) on.inside
-    ∙ cell_value-flop on.cell.kind kind (feed_values value on.cell.feeds) (state on.has.number) (ap flop_of on.kind_is)
+    ∙ cell_value-flop N.library on.cell.kind kind (feed_values value on.cell.feeds) (state on.has.number) (ap (flop_of N.library) on.kind_is)
 
 pub flop_starts_by : FlopStarts
 flop_starts_by = λ N kind feeds net on given m start.
     let here = flop_holds N _ m.state m.value kind feeds net on start.settled in
-    let held = start.flops.each on.has.number (record on.cell { name = on.has.name }) kind on.has.live (ap flop_of on.kind_is) in
+    let held = start.flops.each on.has.number (record on.cell { name = on.has.name }) kind on.has.live (ap (flop_of N.library) on.kind_is) in
     let operands = ap (λ (fs : List Feed). flop_start kind (feed_values m.value fs) (given on.has.number)) on.feeds_are in
     here ∙ held ∙ operands
 
@@ -124,6 +124,6 @@ pub flop_steps_by : FlopSteps
 flop_steps_by = λ N kind feeds net on event m m' settled step.
     let before = flop_holds N _ m.state m.value kind feeds net on settled in
     let after = flop_holds N _ m'.state m'.value kind feeds net on step.settled in
-    let held = step.flops.each on.has.number (record on.cell { name = on.has.name }) kind on.has.live (ap flop_of on.kind_is) in
+    let held = step.flops.each on.has.number (record on.cell { name = on.has.name }) kind on.has.live (ap (flop_of N.library) on.kind_is) in
     let operands = ap (λ (fs : List Feed). flop_next kind (feed_values m.value fs) (feed_values m'.value fs) (m.state on.has.number)) on.feeds_are in
     rw before (after ∙ held ∙ operands)

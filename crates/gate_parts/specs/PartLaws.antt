@@ -2,6 +2,7 @@
 use Rattle.std.specs.Prelude.{◌≡◌, ℕ, ◌+◌, false, List, map, slice_get, Some}
 use Rattle.signal_values.specs.declared.Sig.{Sig}
 use Rattle.cell_library.specs.declared.FlopKind.{FlopKind}
+use Rattle.cell_library.specs.declared.listed.ListedCell.{ListedCell}
 use Rattle.cell_library.specs.declared.Kind.TheVariants.{Flop}
 use Rattle.cell_library.specs.Gates.{is_three_state}
 use Rattle.netlist_model.specs.declared.Feed.{Feed}
@@ -18,14 +19,14 @@ abbrev pub gate_feeds : ℕ → List Feed → Gate → List Feed
 gate_feeds first given gate = map (feed_of first given) (pins_of gate.pins)
 
 -- own: each net of the part has what its gate gives it; a flip-flop gives what it keeps
-abbrev pub PartMeets : List Gate → List Feed → ℕ → (ℕ → Sig) → Type 0
-PartMeets gates given first value = (k : ℕ) (gate : Gate) → slice_get gates k ≡ Some gate → is_three_state gate.kind ≡ false
-    → (kept : Sig) × (value (first + k) ≡ cell_value gate.kind (feed_values value (gate_feeds first given gate)) kept)
+abbrev pub PartMeets : List ListedCell → List Gate → List Feed → ℕ → (ℕ → Sig) → Type 0
+PartMeets library gates given first value = (k : ℕ) (gate : Gate) → slice_get gates k ≡ Some gate → is_three_state gate.kind ≡ false
+    → (kept : Sig) × (value (first + k) ≡ cell_value library gate.kind (feed_values value (gate_feeds first given gate)) kept)
 
 -- own: so it is wherever the part is contained, under any rule for the nets of pins
 abbrev pub ContainedPartMeets : Type 0
 ContainedPartMeets = (N : NetlistView) (gates : List Gate) (given : List Feed) (first number : ℕ) → IsWellFormed N → HasCells N (part_cells gates given first number)
-    → (rule : (ℕ → Sig) → ℕ → Sig) (state value : ℕ → Sig) → Meets N rule state value → PartMeets gates given first value
+    → (rule : (ℕ → Sig) → ℕ → Sig) (state value : ℕ → Sig) → Meets N rule state value → PartMeets N.library gates given first value
 
 -- own: and each flip-flop of the table is one on its net
 abbrev pub ContainedPartHasFlops : Type 0

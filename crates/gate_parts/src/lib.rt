@@ -95,7 +95,7 @@ pub fn add_driver(netlist: &mut Netlist, kind: Kind, feeds: &[Feed], output: Net
     requires dense { IsDense netlist.old.lists }
     requires cells { 0 < netlist.old.spare.cells }
     requires few { length feeds.now ≤ 4 }
-    requires takes { Takes kind (length feeds.now) }
+    requires takes { Takes netlist.old.lists.library kind (length feeds.now) }
     requires feeds { AreFeedsBelow (length netlist.old.lists.nets) feeds.now }
     requires there { output.0 < length netlist.old.lists.nets }
     requires free { IsFree netlist.old.lists output.0 }
@@ -128,7 +128,7 @@ fn add_nets(netlist: &mut Netlist, count: u32)
 }
 
 // Adds the cell of one gate, of a table of so many gates.
-#[tactic(auto, using(crate::proofs::Steps::three_below, crate::proofs::Steps::four_below))]
+#[tactic(auto, using(crate::proofs::Steps::three_below, crate::proofs::Steps::four_below, crate::proofs::PinCounts::takes_by))]
 fn add_gate(
     netlist: &mut Netlist,
     first: u32,

@@ -3,11 +3,13 @@ use Rattle.std.proofs.Common.{inl, inr}
 use Rattle.command_faults.specs.declared.fault.Fault.{Fault}
 use Rattle.command_faults.specs.declared.fault.Fault.TheVariants as fault
 use Rattle.command_faults.specs.declared.status.Status.TheVariants as status
-use Rattle.command_faults.specs.Statuses.{status_of, text_status, link_status, event_status, script_status, device_status, plan_status, fit_status}
+use Rattle.command_faults.specs.Statuses.{status_of, text_status, link_status, library_status, event_status, script_status, device_status, plan_status, fit_status}
 use Rattle.verilog_texts.specs.declared.fault.TextFault.{TextFault}
 use Rattle.verilog_texts.specs.declared.fault.TextFault.TheVariants as text
 use Rattle.link_model.specs.declared.fault.LinkFault.{LinkFault}
 use Rattle.link_model.specs.declared.fault.LinkFault.TheVariants as link
+use Rattle.cell_text.specs.declared.fault.LibFault.{LibFault}
+use Rattle.cell_text.specs.declared.fault.LibFault.TheVariants as library
 use Rattle.scan_vectors.specs.declared.fault.EventFault.{EventFault}
 use Rattle.scan_vectors.specs.declared.fault.EventFault.TheVariants as event
 use Rattle.event_scripts.specs.declared.fault.ScriptFault.{ScriptFault}
@@ -48,6 +50,10 @@ link_apart : (f : LinkFault) → IsEnd (link_status f) → ⊥
 link_apart link.OutOfMemory end = memory_apart end
 link_apart f end = refused_apart end
 
+library_apart : (f : LibFault) → IsEnd (library_status f) → ⊥
+library_apart library.OutOfMemory end = memory_apart end
+library_apart f end = refused_apart end
+
 event_apart : (f : EventFault) → IsEnd (event_status f) → ⊥
 event_apart event.OutOfMemory end = memory_apart end
 event_apart f end = refused_apart end
@@ -75,6 +81,7 @@ fault_apart (fault.ReadFault name) end = read_apart end
 fault_apart (fault.TooLong name) end = refused_apart end
 fault_apart (fault.Netlist f) end = text_apart f end
 fault_apart (fault.Link f) end = link_apart f end
+fault_apart (fault.Library f) end = library_apart f end
 fault_apart (fault.Events f) end = event_apart f end
 fault_apart (fault.Script f) end = script_apart f end
 fault_apart (fault.Device f) end = device_apart f end

@@ -9,16 +9,22 @@ use Rattle.insert_cli.specs.declared.command.Command.{Command}
 use Rattle.insert_cli.specs.Forms.{Form, HasWords, HasForm, begins_with_dash}
 use Rattle.insert_cli.specs.Parsed.{IsPlainOf, IsCommandOf}
 
--- the command of two names, or of four, with this word
+-- the command of two names, three or four, with this word
 abbrev from_two : List ℕ → List ℕ → List ℕ → Option Form
 from_two word a b =
     if bytes_eq word (codes "canon") then Some (Form.Converts Canon a b)
     else if bytes_eq word (codes "showbsdl") then Some (Form.Converts ShowBsdl a b)
-    else if bytes_eq word (codes "sim") then Some (Form.Simulates a b)
+    else if bytes_eq word (codes "sim") then Some (Form.Simulates a b None)
     else Some (Form.MakesVectors a b)
 
 abbrev from_three : List ℕ → List ℕ → List ℕ → List ℕ → Option Form
-from_three word a b c = if bytes_eq word (codes "check") then Some (Form.Checks a b c) else Some (Form.Demonstrates (value_after 10 0 a) b c)
+from_three word a b c =
+    if bytes_eq word (codes "check") then Some (Form.Checks a b c None)
+    else if bytes_eq word (codes "sim") then Some (Form.Simulates a b (Some c))
+    else Some (Form.Demonstrates (value_after 10 0 a) b c)
+
+abbrev from_four : List ℕ → List ℕ → List ℕ → List ℕ → List ℕ → Option Form
+from_four word a b c d = if bytes_eq word (codes "check") then Some (Form.Checks a b c (Some d)) else Some (Form.Inserts a b c d None)
 
 abbrev form_from : List (List ℕ) → Option Form
 form_from [] = None
@@ -26,16 +32,20 @@ form_from (word ∷ []) = None
 form_from (word ∷ a ∷ []) = None
 form_from (word ∷ a ∷ b ∷ []) = from_two word a b
 form_from (word ∷ a ∷ b ∷ c ∷ []) = from_three word a b c
-form_from (word ∷ a ∷ b ∷ c ∷ d ∷ []) = Some (Form.Inserts a b c d)
-form_from (word ∷ a ∷ b ∷ c ∷ d ∷ e ∷ more) = None
+form_from (word ∷ a ∷ b ∷ c ∷ d ∷ []) = from_four word a b c d
+form_from (word ∷ a ∷ b ∷ c ∷ d ∷ e ∷ []) = Some (Form.Inserts a b c d (Some e))
+form_from (word ∷ a ∷ b ∷ c ∷ d ∷ e ∷ f ∷ more) = None
 
 from_words : (words : List (List ℕ)) (form : Form) → HasWords words form → form_from words ≡ Some form
 from_words words (Form.Converts Canon input output) are = ap form_from are
 from_words words (Form.Converts ShowBsdl input output) are = ap form_from are
-from_words words (Form.Simulates netlist events) are = ap form_from are
-from_words words (Form.Inserts netlist plan outnet outbsdl) are = ap form_from are
+from_words words (Form.Simulates netlist events None) are = ap form_from are
+from_words words (Form.Simulates netlist events (Some library)) are = ap form_from are
+from_words words (Form.Inserts netlist plan outnet outbsdl None) are = ap form_from are
+from_words words (Form.Inserts netlist plan outnet outbsdl (Some library)) are = ap form_from are
 from_words words (Form.MakesVectors bsdl output) are = ap form_from are
-from_words words (Form.Checks netlist bsdl events) are = ap form_from are
+from_words words (Form.Checks netlist bsdl events None) are = ap form_from are
+from_words words (Form.Checks netlist bsdl events (Some library)) are = ap form_from are
 from_words words (Form.Demonstrates number outnet outbsdl) (digits, (numeral, are)) =
     ap form_from are ∙ ap (λ (n : ℕ). Some (Form.Demonstrates n outnet outbsdl)) (sym numeral.value)
 

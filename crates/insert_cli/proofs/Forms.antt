@@ -23,3 +23,26 @@ words_of_five words ws a b c d e v w x y z seen are va wb xc yd ze =
     ∙ ap (λ (l : List ℕ). v ∷ l ∷ string_bytes c ∷ string_bytes d ∷ string_bytes e ∷ []) (sym wb)
     ∙ ap (λ (l : List ℕ). v ∷ w ∷ l ∷ string_bytes d ∷ string_bytes e ∷ []) (sym xc)
     ∙ ap (λ (l : List ℕ). v ∷ w ∷ x ∷ l ∷ string_bytes e ∷ []) (sym yd) ∙ ap (λ (l : List ℕ). v ∷ w ∷ x ∷ y ∷ l ∷ []) (sym ze)
+
+-- a list of six elements, read by their places
+pub six_are : {X : Type 0} (ws : List X) (a b c d e f : X) → 6 ≤ length ws → length ws < 7 → a ≡ get_or ws 0 a → b ≡ get_or ws 1 b → c ≡ get_or ws 2 c → d ≡ get_or ws 3 d → e ≡ get_or ws 4 e → f ≡ get_or ws 5 f
+    → ws ≡ a ∷ b ∷ c ∷ d ∷ e ∷ f ∷ []
+six_are [] a b c d e f long short i j k l m n = absurd (omega arith)
+six_are (x ∷ []) a b c d e f long short i j k l m n = absurd (omega arith)
+six_are (x ∷ y ∷ []) a b c d e f long short i j k l m n = absurd (omega arith)
+six_are (x ∷ y ∷ z ∷ []) a b c d e f long short i j k l m n = absurd (omega arith)
+six_are (x ∷ y ∷ z ∷ v ∷ []) a b c d e f long short i j k l m n = absurd (omega arith)
+six_are (x ∷ y ∷ z ∷ v ∷ w ∷ []) a b c d e f long short i j k l m n = absurd (omega arith)
+six_are (x ∷ y ∷ z ∷ v ∷ w ∷ u ∷ []) a b c d e f long short i j k l m n = cc (i, j, k, l, m, n)
+six_are (x ∷ y ∷ z ∷ v ∷ w ∷ u ∷ t ∷ ws) a b c d e f long short i j k l m n = absurd (omega arith)
+
+-- six words, read by their places
+pub words_of_six : (words : List (List ℕ)) (ws : List (String Global)) (a b c d e f : String Global) (u v w x y z : List ℕ) → map string_bytes ws ≡ words → ws ≡ a ∷ b ∷ c ∷ d ∷ e ∷ f ∷ []
+    → u ≡ string_bytes a → v ≡ string_bytes b → w ≡ string_bytes c → x ≡ string_bytes d → y ≡ string_bytes e → z ≡ string_bytes f → words ≡ u ∷ v ∷ w ∷ x ∷ y ∷ z ∷ []
+words_of_six words ws a b c d e f u v w x y z seen are ua vb wc xd ye zf =
+    sym seen ∙ ap (map string_bytes) are
+    ∙ ap (λ (l : List ℕ). l ∷ string_bytes b ∷ string_bytes c ∷ string_bytes d ∷ string_bytes e ∷ string_bytes f ∷ []) (sym ua)
+    ∙ ap (λ (l : List ℕ). u ∷ l ∷ string_bytes c ∷ string_bytes d ∷ string_bytes e ∷ string_bytes f ∷ []) (sym vb)
+    ∙ ap (λ (l : List ℕ). u ∷ v ∷ l ∷ string_bytes d ∷ string_bytes e ∷ string_bytes f ∷ []) (sym wc)
+    ∙ ap (λ (l : List ℕ). u ∷ v ∷ w ∷ l ∷ string_bytes e ∷ string_bytes f ∷ []) (sym xd)
+    ∙ ap (λ (l : List ℕ). u ∷ v ∷ w ∷ x ∷ l ∷ string_bytes f ∷ []) (sym ye) ∙ ap (λ (l : List ℕ). u ∷ v ∷ w ∷ x ∷ y ∷ l ∷ []) (sym zf)

@@ -1,19 +1,20 @@
 -- The commands, with the names of their files, and the words that they are, without the program's own name. Own.
-use Rattle.std.specs.Prelude.{◌≡◌, ◌≤◌, ℕ, ◌==◌, List, [], ◌∷◌, length, Bool, false, IsTrue, codes}
+use Rattle.std.specs.Prelude.{◌≡◌, ◌≤◌, ℕ, ◌==◌, List, [], ◌∷◌, length, Bool, false, IsTrue, Option, codes}
 use Rattle.std.specs.Bool.{IsFalse}
 use Rattle.std.specs.List.{list_all, list_any}
 use Rattle.bsdl_lexicon.specs.Bytes.{is_digit}
 use Rattle.bsdl_device.specs.Runs.{value_after}
+use Rattle.command_edges.specs.Libraries.{names_if}
 use Rattle.convert_command.specs.declared.conversion.Conversion.{Conversion}
 use Rattle.convert_command.specs.declared.conversion.Conversion.TheVariants as conversion
 
 -- a command with the names of its files
 pub data Form : Type 0 where
   Converts : (c : Conversion) (input output : List ℕ) → Form
-  Simulates : (netlist events : List ℕ) → Form
-  Inserts : (netlist plan outnet outbsdl : List ℕ) → Form
+  Simulates : (netlist events : List ℕ) (library : Option (List ℕ)) → Form
+  Inserts : (netlist plan outnet outbsdl : List ℕ) (library : Option (List ℕ)) → Form
   MakesVectors : (bsdl output : List ℕ) → Form
-  Checks : (netlist bsdl events : List ℕ) → Form
+  Checks : (netlist bsdl events : List ℕ) (library : Option (List ℕ)) → Form
   Demonstrates : (number : ℕ) (outnet outbsdl : List ℕ) → Form
 
 -- the word of a conversion's command
@@ -29,13 +30,13 @@ pub record IsNumeral (digits : List ℕ) (number : ℕ) : Type 0 where
   pub value : number ≡ value_after 10 0 digits
 
 -- `canon IN OUT`, `showbsdl IN OUT`, `sim NET EVENTS`, `insert NET PLAN OUTNET OUTBSDL`, `vectors BSDL OUT`, `check NET BSDL EVENTS`
--- and `demo NUMBER OUTNET OUTBSDL`
+-- and `demo NUMBER OUTNET OUTBSDL`; behind those of `sim`, `insert` and `check` the word LIB may stand
 abbrev pub HasWords : List (List ℕ) → Form → Type 0
 HasWords words (Form.Converts c input output) = words ≡ conversion_word c ∷ input ∷ output ∷ []
-HasWords words (Form.Simulates netlist events) = words ≡ codes "sim" ∷ netlist ∷ events ∷ []
-HasWords words (Form.Inserts netlist plan outnet outbsdl) = words ≡ codes "insert" ∷ netlist ∷ plan ∷ outnet ∷ outbsdl ∷ []
+HasWords words (Form.Simulates netlist events library) = words ≡ codes "sim" ∷ netlist ∷ events ∷ names_if library
+HasWords words (Form.Inserts netlist plan outnet outbsdl library) = words ≡ codes "insert" ∷ netlist ∷ plan ∷ outnet ∷ outbsdl ∷ names_if library
 HasWords words (Form.MakesVectors bsdl output) = words ≡ codes "vectors" ∷ bsdl ∷ output ∷ []
-HasWords words (Form.Checks netlist bsdl events) = words ≡ codes "check" ∷ netlist ∷ bsdl ∷ events ∷ []
+HasWords words (Form.Checks netlist bsdl events library) = words ≡ codes "check" ∷ netlist ∷ bsdl ∷ events ∷ names_if library
 HasWords words (Form.Demonstrates number outnet outbsdl) = (digits : List ℕ) × (IsNumeral digits number × (words ≡ codes "demo" ∷ digits ∷ outnet ∷ outbsdl ∷ []))
 
 -- a word that begins with `-`

@@ -1,15 +1,16 @@
 -- own: the commands of the code, as forms.
 use Rattle.std.specs.Prelude.{ℕ, ◌<◌, List, Option, Some, None}
+use Rattle.command_edges.specs.Libraries.{name_of}
 use Rattle.insert_cli.specs.declared.command.Command.{Command}
 use Rattle.insert_cli.specs.declared.command.Command.TheVariants as command
 use Rattle.insert_cli.specs.Forms.{Form, HasWords, HasForm, IsNoCommand, IsNumeral}
 
 abbrev pub form_of : Command → Form
 form_of (command.Convert conversion input output) = Form.Converts conversion input.now output.now
-form_of (command.Sim netlist events) = Form.Simulates netlist.now events.now
-form_of (command.Insert netlist plan outnet outbsdl) = Form.Inserts netlist.now plan.now outnet.now outbsdl.now
+form_of (command.Sim netlist events library) = Form.Simulates netlist.now events.now (name_of library)
+form_of (command.Insert netlist plan outnet outbsdl library) = Form.Inserts netlist.now plan.now outnet.now outbsdl.now (name_of library)
 form_of (command.Vectors bsdl output) = Form.MakesVectors bsdl.now output.now
-form_of (command.Check netlist bsdl events) = Form.Checks netlist.now bsdl.now events.now
+form_of (command.Check netlist bsdl events library) = Form.Checks netlist.now bsdl.now events.now (name_of library)
 form_of (command.Demo number outnet outbsdl) = Form.Demonstrates number outnet.now outbsdl.now
 
 -- the number of a demonstration is small

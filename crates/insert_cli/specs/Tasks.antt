@@ -11,8 +11,8 @@ use Rattle.insert_cli.specs.Forms.{Form}
 
 abbrev pub task_of : Form → Task
 task_of (Form.Converts c input output) = convert_task c input output
-task_of (Form.Simulates netlist events) = sim_task netlist events
-task_of (Form.Inserts netlist plan outnet outbsdl) = insert_task netlist plan outnet outbsdl
+task_of (Form.Simulates netlist events library) = sim_task netlist events library
+task_of (Form.Inserts netlist plan outnet outbsdl library) = insert_task netlist plan outnet outbsdl library
 task_of (Form.MakesVectors bsdl output) = vectors_task bsdl output
-task_of (Form.Checks netlist bsdl events) = check_task netlist bsdl events
+task_of (Form.Checks netlist bsdl events library) = check_task netlist bsdl events library
 task_of (Form.Demonstrates number outnet outbsdl) = demo_task number outnet outbsdl

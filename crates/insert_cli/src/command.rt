@@ -17,10 +17,11 @@ pub enum Command<'a> {
         input: &'a str,
         output: &'a str,
     },
-    /// Plays the events of one text on the netlist of another.
+    /// Plays the events of one text on the netlist of another, with the library of a third if there is one.
     Sim {
         netlist: &'a str,
         events: &'a str,
+        library: Option<&'a str>,
     },
     /// Builds the test logic of a plan into a netlist, and writes the netlist and its BSDL file.
     Insert {
@@ -28,6 +29,7 @@ pub enum Command<'a> {
         plan: &'a str,
         outnet: &'a str,
         outbsdl: &'a str,
+        library: Option<&'a str>,
     },
     /// Writes the program of a device.
     Vectors {
@@ -39,6 +41,7 @@ pub enum Command<'a> {
         netlist: &'a str,
         bsdl: &'a str,
         events: &'a str,
+        library: Option<&'a str>,
     },
     /// Builds test logic into the demonstration netlist of a number, and writes the netlist and its BSDL file.
     Demo {
@@ -86,6 +89,7 @@ fn of_two<'a>(word: &str, first: &'a str, second: &'a str) -> Option<Command<'a>
         "sim" => Some(Command::Sim {
             netlist: first,
             events: second,
+            library: None,
         }),
         "vectors" => Some(Command::Vectors {
             bsdl: first,
@@ -107,7 +111,7 @@ fn number_of(word: &str) -> Option<u32>
     }
 }
 
-// The command of three names, or of a number and two.
+// The command of three names, or of a number and two; the last of three may be that of a library.
 fn of_three<'a>(word: &str, first: &'a str, second: &'a str, third: &'a str) -> Option<Command<'a>>
     ensures { IsPlainOf (word.now ∷ first.now ∷ second.now ∷ third.now ∷ []) result }
 {
@@ -116,6 +120,12 @@ fn of_three<'a>(word: &str, first: &'a str, second: &'a str, third: &'a str) -> 
             netlist: first,
             bsdl: second,
             events: third,
+            library: None,
+        }),
+        "sim" => Some(Command::Sim {
+            netlist: first,
+            events: second,
+            library: Some(third),
         }),
         "demo" => match number_of(first) {
             Some(number) => Some(Command::Demo {
@@ -139,12 +149,42 @@ fn of_four<'a>(
 ) -> Option<Command<'a>>
     ensures { IsPlainOf (word.now ∷ first.now ∷ second.now ∷ third.now ∷ fourth.now ∷ []) result }
 {
+    match word {
+        "insert" => Some(Command::Insert {
+            netlist: first,
+            plan: second,
+            outnet: third,
+            outbsdl: fourth,
+            library: None,
+        }),
+        "check" => Some(Command::Check {
+            netlist: first,
+            bsdl: second,
+            events: third,
+            library: Some(fourth),
+        }),
+        _ => None,
+    }
+}
+
+// The command of five names.
+fn of_five<'a>(
+    word: &str,
+    first: &'a str,
+    second: &'a str,
+    third: &'a str,
+    fourth: &'a str,
+    fifth: &'a str,
+) -> Option<Command<'a>>
+    ensures { IsPlainOf (word.now ∷ first.now ∷ second.now ∷ third.now ∷ fourth.now ∷ fifth.now ∷ []) result }
+{
     if word == "insert" {
         return Some(Command::Insert {
             netlist: first,
             plan: second,
             outnet: third,
             outbsdl: fourth,
+            library: Some(fifth),
         });
     }
     None
@@ -168,6 +208,14 @@ fn plain_command(words: &[String]) -> Option<Command<'_>>
             second.as_str(),
             third.as_str(),
             fourth.as_str(),
+        ),
+        [word, first, second, third, fourth, fifth] => of_five(
+            word.as_str(),
+            first.as_str(),
+            second.as_str(),
+            third.as_str(),
+            fourth.as_str(),
+            fifth.as_str(),
         ),
         _ => None,
     }

@@ -12,7 +12,7 @@ fn taken<'a>(output: &'a str, other: &str) -> Option<&'a str>
     if output == other { Some(output) } else { None }
 }
 
-// The first output of `insert` that has the name of another of its files.
+// The first output of `insert` without a library that has the name of another of its files.
 fn taken_in_insert<'a>(
     netlist: &str,
     plan: &str,
@@ -33,6 +33,28 @@ fn taken_in_insert<'a>(
     None
 }
 
+// The first output of `insert` with a library that has the name of another of its files.
+fn taken_beside_library<'a>(
+    netlist: &str,
+    plan: &str,
+    library: &str,
+    outnet: &'a str,
+    outbsdl: &'a str,
+) -> Option<&'a str>
+    ensures same { IfSome result (λ name. IsRepeated name.now
+        (netlist.now ∷ plan.now ∷ library.now ∷ []) (outnet.now ∷ outbsdl.now ∷ [])) }
+    ensures apart { result ≡ None → AreApart (netlist.now ∷ plan.now ∷ library.now ∷ [])
+        (outnet.now ∷ outbsdl.now ∷ []) }
+{
+    if outnet == netlist || outnet == plan || outnet == library || outnet == outbsdl {
+        return Some(outnet);
+    }
+    if outbsdl == netlist || outbsdl == plan || outbsdl == library {
+        return Some(outbsdl);
+    }
+    None
+}
+
 /// The first output that has the name of another file of the command.
 pub fn same_name<'a>(command: Command<'a>) -> Option<&'a str>
     ensures same { IfSome result (λ name. IsRepeated name.now (inputs (form_of command.entry))
@@ -48,7 +70,15 @@ pub fn same_name<'a>(command: Command<'a>) -> Option<&'a str>
             plan,
             outnet,
             outbsdl,
+            library: None,
         } => taken_in_insert(netlist, plan, outnet, outbsdl),
+        Command::Insert {
+            netlist,
+            plan,
+            outnet,
+            outbsdl,
+            library: Some(library),
+        } => taken_beside_library(netlist, plan, library, outnet, outbsdl),
         Command::Vectors { bsdl, output } => taken(output, bsdl),
         Command::Check { .. } => None,
         Command::Demo {

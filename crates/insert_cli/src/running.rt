@@ -1,7 +1,10 @@
-ghost use Rattle.std.specs.Prelude.{IfErr, IfOk};
+ghost use Rattle.std.specs.Prelude.{[], ◌∷◌, IfErr, IfOk};
 ghost use Rattle.command_faults.specs.Statuses.{status_of};
 ghost use Rattle.command_edges.specs.Ends.{IsEnd};
-ghost use Rattle.command_edges.specs.Names.{IsOneOf};
+ghost use Rattle.command_edges.specs.Libraries.{name_of};
+ghost use Rattle.command_edges.specs.Names.{IsOneOf, StandOnce};
+ghost use Rattle.check_command.specs.Tasks.{check_task};
+ghost use Rattle.demo_command.specs.InsertTasks.{insert_task};
 ghost use Rattle.command_edges.specs.Seen.{shelf_seen, sink_seen};
 ghost use Rattle.command_edges.specs.Tasks.{Completes, Finishes, Keeps, Stands};
 ghost use Rattle.insert_cli.specs.Names.{AreApart, inputs, outputs};
@@ -19,6 +22,94 @@ use edge_io::sink::Sink;
 use sim_command::simulate;
 use std::alloc::Global;
 use vectors_command::Vectors;
+
+// Inserts, with a library if there is one.
+fn run_insert<'a, S: Shelf, O: Sink>(
+    alloc: Global,
+    shelf: &mut S,
+    out: &mut O,
+    insert: Insert<'a>,
+) -> Result<Status, Fault<'a>>
+    requires { StandOnce (insert.outnet.now ∷ insert.outbsdl.now ∷ []) }
+    ensures done { IfOk result (Finishes (insert_task insert.netlist.now insert.plan.now insert.outnet.now insert.outbsdl.now (name_of insert.library))
+        (shelf_seen S.tells S.held S.written S.faults shelf.old shelf.new)
+        (sink_seen O.given O.faults out.old out.new)) }
+    ensures ended { IfOk result IsEnd }
+    ensures fault { IfErr result (λ fault. Stands (insert_task insert.netlist.now insert.plan.now insert.outnet.now insert.outbsdl.now (name_of insert.library))
+        (shelf_seen S.tells S.held S.written S.faults shelf.old shelf.new)
+        (sink_seen O.given O.faults out.old out.new) fault (O.given out.new)) }
+    ensures complete { IfErr result (λ fault. Completes (insert_task insert.netlist.now insert.plan.now insert.outnet.now insert.outbsdl.now (name_of insert.library))
+        (shelf_seen S.tells S.held S.written S.faults shelf.old shelf.new)
+        (sink_seen O.given O.faults out.old out.new) (status_of fault)) }
+    ensures keeps { Keeps (λ name. IsOneOf name (insert_task insert.netlist.now insert.plan.now insert.outnet.now insert.outbsdl.now (name_of insert.library)).writes)
+        (shelf_seen S.tells S.held S.written S.faults shelf.old shelf.new)
+        (sink_seen O.given O.faults out.old out.new) }
+{
+    let outputs = [insert.outnet, insert.outbsdl];
+    match insert.library {
+        Some(library) => run_task(
+            alloc,
+            shelf,
+            out,
+            insert,
+            &[insert.netlist, insert.plan, library],
+            &outputs,
+            true,
+        ),
+        None => run_task(
+            alloc,
+            shelf,
+            out,
+            insert,
+            &[insert.netlist, insert.plan],
+            &outputs,
+            true,
+        ),
+    }
+}
+
+// Checks, with a library if there is one.
+fn run_check<'a, S: Shelf, O: Sink>(
+    alloc: Global,
+    shelf: &mut S,
+    out: &mut O,
+    check: Check<'a>,
+) -> Result<Status, Fault<'a>>
+    ensures done { IfOk result (Finishes (check_task check.netlist.now check.bsdl.now check.events.now (name_of check.library))
+        (shelf_seen S.tells S.held S.written S.faults shelf.old shelf.new)
+        (sink_seen O.given O.faults out.old out.new)) }
+    ensures ended { IfOk result IsEnd }
+    ensures fault { IfErr result (λ fault. Stands (check_task check.netlist.now check.bsdl.now check.events.now (name_of check.library))
+        (shelf_seen S.tells S.held S.written S.faults shelf.old shelf.new)
+        (sink_seen O.given O.faults out.old out.new) fault (O.given out.new)) }
+    ensures complete { IfErr result (λ fault. Completes (check_task check.netlist.now check.bsdl.now check.events.now (name_of check.library))
+        (shelf_seen S.tells S.held S.written S.faults shelf.old shelf.new)
+        (sink_seen O.given O.faults out.old out.new) (status_of fault)) }
+    ensures keeps { Keeps (λ name. IsOneOf name (check_task check.netlist.now check.bsdl.now check.events.now (name_of check.library)).writes)
+        (shelf_seen S.tells S.held S.written S.faults shelf.old shelf.new)
+        (sink_seen O.given O.faults out.old out.new) }
+{
+    match check.library {
+        Some(library) => run_task(
+            alloc,
+            shelf,
+            out,
+            check,
+            &[check.netlist, check.bsdl, check.events, library],
+            &[],
+            true,
+        ),
+        None => run_task(
+            alloc,
+            shelf,
+            out,
+            check,
+            &[check.netlist, check.bsdl, check.events],
+            &[],
+            true,
+        ),
+    }
+}
 
 /// Runs a command whose outputs have names of their own, up to its fault.
 pub fn run_command<'a, S: Shelf, O: Sink>(
@@ -56,28 +147,26 @@ pub fn run_command<'a, S: Shelf, O: Sink>(
             };
             run_task(alloc, shelf, out, convert, &[input], &[output], false)
         }
-        Command::Sim { netlist, events } => simulate(alloc, shelf, out, netlist, events),
+        Command::Sim {
+            netlist,
+            events,
+            library,
+        } => simulate(alloc, shelf, out, netlist, events, library),
         Command::Insert {
             netlist,
             plan,
             outnet,
             outbsdl,
+            library,
         } => {
             let insert = Insert {
                 netlist,
                 plan,
                 outnet,
                 outbsdl,
+                library,
             };
-            run_task(
-                alloc,
-                shelf,
-                out,
-                insert,
-                &[netlist, plan],
-                &[outnet, outbsdl],
-                true,
-            )
+            run_insert(alloc, shelf, out, insert)
         }
         Command::Vectors { bsdl, output } => {
             let vectors = Vectors { bsdl, output };
@@ -87,21 +176,15 @@ pub fn run_command<'a, S: Shelf, O: Sink>(
             netlist,
             bsdl,
             events,
+            library,
         } => {
             let check = Check {
                 netlist,
                 bsdl,
                 events,
+                library,
             };
-            run_task(
-                alloc,
-                shelf,
-                out,
-                check,
-                &[netlist, bsdl, events],
-                &[],
-                true,
-            )
+            run_check(alloc, shelf, out, check)
         }
         Command::Demo {
             number,

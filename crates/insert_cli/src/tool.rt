@@ -13,6 +13,7 @@ use crate::command::command_of;
 use crate::names::same_name;
 use crate::running::run_command;
 use crate::words::WordList;
+use cell_text::texts_of_libraries_are_spelled_or_at_fault;
 use command_faults::{Fault, Status, put_fault};
 use edge_io::shelf::Shelf;
 use edge_io::sink::Sink;
@@ -86,12 +87,13 @@ pub fn run_tool<S: Shelf, O: Sink>(
         (sink_seen O.given O.faults out.old out.new) result }
 
     // A check of a netlist that keeps another's ports and cells and realises its chip, by the program of that chip's device,
-    // never misses, however the texts are spelled.
+    // never misses, however the texts are spelled; the library is the one that the word LIB names, or none.
     ensures meets { MissesNothing words.now
         (shelf_seen S.tells S.held S.written S.faults shelf.old shelf.new) result }
 {
-    // A law that the proof uses.
+    // Laws that the proof uses.
     written_programs_miss_nothing();
+    texts_of_libraries_are_spelled_or_at_fault();
     let fault = match run(alloc, words, shelf, out) {
         Ok(status) => return status,
         Err(fault) => fault,

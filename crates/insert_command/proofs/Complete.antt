@@ -1,8 +1,12 @@
 -- A fault that stands where both texts are free of faults is want of memory.
-use Rattle.std.proofs.Common.{◌≡◌, ℕ, List, None, sym, subst, ◌∙◌, refl}
+use Rattle.std.proofs.Common.{◌≡◌, ℕ, List, [], ◌∷◌, Result, Ok, Err, IfOk, inl, inr, None, sym, subst, ◌∙◌, refl}
 use Rattle.list_laws.proofs.Options.{none_some}
-use Rattle.command_edges.proofs.Memory.{text_memory, has_link_memory}
+use Rattle.command_edges.proofs.Memory.{text_memory, has_link_memory, library_memory, one_library}
+use Rattle.cell_text.specs.Laws as libraries
+use Rattle.command_edges.specs.Libraries.{IsLibraryOf, StandsInLibrary}
+use Rattle.insert_command.specs.Tasks.{HaveFault, AreInsertable}
 use Rattle.verilog_tree.specs.declared.tree.Module.{Module}
+use Rattle.cell_library.specs.declared.listed.ListedCell.{ListedCell}
 use Rattle.netlist_link.specs.Linked.{LinkedView}
 use Rattle.netlist_link.specs.Links.{IsLinkOf}
 use Rattle.netlist_link.specs.Laws.{FaultsForbidLinks}
@@ -29,6 +33,8 @@ pub record Laws : Type 0 where
   pub links : FaultsForbidLinks
   pub once : SpelledOnce
   pub faultless : SpelledIsFaultless
+  pub one_library : libraries.SpelledOnce
+  pub no_library_fault : libraries.SpelledIsFaultless
 
 -- The plan.
 
@@ -54,27 +60,40 @@ fit_memory linked p (fit.PrefixTaken word) free bad = absurd (has_fault linked p
 fit_memory linked p fit.OutOfMemory free bad = refl
 
 -- a plan that is spelled beside the free one is that
-same_free : SpelledOnce → (net text : List ℕ) (linked : LinkedView) (m : Module) (p : Plan) → (ok : IsInsertable net text) → ok.tree ≡ m → IsLinkOf m linked → SpellsPlan text p → HasNoFault linked p
-same_free once net text linked m p ok same links spells =
-    subst (λ (q : Plan). HasNoFault linked q) (once text ok.plan p ok.spells_plan spells) (ok.free linked (subst (λ (t : Module). IsLinkOf t linked) (sym same) links))
+same_free : SpelledOnce → (library : List ListedCell) (net text : List ℕ) (linked : LinkedView) (m : Module) (p : Plan) → (ok : IsInsertable library net text) → ok.tree ≡ m → linked.arena.lists.library ≡ library → IsLinkOf m linked → SpellsPlan text p → HasNoFault linked p
+same_free once library net text linked m p ok same is links spells =
+    subst (λ (q : Plan). HasNoFault linked q) (once text ok.plan p ok.spells_plan spells) (ok.free linked is (subst (λ (t : Module). IsLinkOf t linked) (sym same) links))
 
 -- Both texts.
 
-inputs_memory : Laws → (net text : List ℕ) (f : InsertFault) → IsInsertable net text → StandsInTexts net text f → status_of (fault_of f) ≡ status.Memory
-inputs_memory laws net text (insert.Netlist f) ok stands = text_memory net ok.tree f ok.spells stands
-inputs_memory laws net text (insert.Link f) ok stands = has_link_memory laws.links net ok.tree f ok.spells ok.linkable stands
-inputs_memory laws net text (insert.Plan f) ok stands = plan_memory laws.faultless text ok.plan f ok.spells_plan stands.stands
-inputs_memory laws net text (insert.Fit f) ok h =
-    let free = same_free laws.once net text h.linked h.netlist.tree h.stands.plan ok (h.netlist.only ok.tree ok.spells) h.netlist.links h.stands.spells in
+inputs_memory : Laws → (library : List ListedCell) (net text : List ℕ) (f : InsertFault) → IsInsertable library net text → StandsInTexts library net text f → status_of (fault_of f) ≡ status.Memory
+inputs_memory laws library net text (insert.Netlist f) ok stands = text_memory net ok.tree f ok.spells stands
+inputs_memory laws library net text (insert.Link f) ok stands = has_link_memory laws.links library net ok.tree f ok.spells ok.linkable stands
+inputs_memory laws library net text (insert.Plan f) ok stands = plan_memory laws.faultless text ok.plan f ok.spells_plan stands.stands
+inputs_memory laws library net text (insert.Fit f) ok h =
+    let free = same_free laws.once library net text h.linked h.netlist.tree h.stands.plan ok (h.netlist.only ok.tree ok.spells) h.netlist.library_is h.netlist.links h.stands.spells in
     fit_memory h.linked h.stands.plan f free h.stands.stands
-inputs_memory laws net text (insert.TooMany what count limit) ok h =
-    let free = same_free laws.once net text h.linked h.netlist.tree h.stands.plan ok (h.netlist.only ok.tree ok.spells) h.netlist.links h.stands.spells in
+inputs_memory laws library net text (insert.TooMany what count limit) ok h =
+    let free = same_free laws.once library net text h.linked h.netlist.tree h.stands.plan ok (h.netlist.only ok.tree ok.spells) h.netlist.library_is h.netlist.links h.stands.spells in
     let bad = h.stands.stands in
     none_some (sym (free.room bad.fitted bad.is) ∙ bad.passes)
-inputs_memory laws net text insert.OutOfMemory ok stands = refl
+inputs_memory laws library net text insert.OutOfMemory ok stands = refl
 
 pub free_memory : Laws → FreeTextsWantMemory
-free_memory laws net text f ok stands = inputs_memory laws net text f ok stands
+free_memory laws library net text f ok stands = inputs_memory laws library net text f ok stands
 
-pub refused_memory : Laws → (net text : List ℕ) (f : Fault) → IsInsertable net text → StandsInInputs net text f → status_of f ≡ status.Memory
-refused_memory laws net text f ok bad = subst (λ (g : Fault). status_of g ≡ status.Memory) (sym bad.fault_is) (inputs_memory laws net text bad.one ok bad.stands)
+pub refused_memory : Laws → (library : List ListedCell) (net text : List ℕ) (f : Fault) → IsInsertable library net text → StandsInInputs library net text f → status_of f ≡ status.Memory
+refused_memory laws library net text f ok bad = subst (λ (g : Fault). status_of g ≡ status.Memory) (sym bad.fault_is) (inputs_memory laws library net text bad.one ok bad.stands)
+
+-- with the library behind both
+pub all_memory : Laws → (f : Fault) (texts : List (List ℕ)) → AreInsertable texts → HaveFault texts f → status_of f ≡ status.Memory
+all_memory laws f (net ∷ text ∷ more) ok (inl bad) = library_memory laws.no_library_fault more ok.0 f ok.1 bad
+all_memory laws f (net ∷ text ∷ more) ok (inr (library, (is, stands))) =
+    let same : library ≡ ok.0 = one_library laws.one_library more library ok.0 is ok.1 in
+    refused_memory laws ok.0 net text f ok.2 (subst (λ (l : List ListedCell). StandsInInputs l net text f) same stands)
+all_memory laws f [] ok stands = absurd stands
+all_memory laws f (net ∷ []) ok stands = absurd stands
+
+pub ok_with : {T E : Type 0} (r : Result T E) (P Q : T → Type 0) → ((x : T) → P x → Q x) → IfOk r P → IfOk r Q
+ok_with (Ok x) P Q law is = law x is
+ok_with (Err e) P Q law is = tt

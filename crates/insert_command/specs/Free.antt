@@ -2,6 +2,7 @@
 use Rattle.std.specs.Prelude.{◌≡◌, ℕ, List, slice_get, Some, None}
 use Rattle.verilog_tree.specs.declared.tree.Module.{Module}
 use Rattle.verilog_tree.specs.Texts.{SpellsText}
+use Rattle.cell_library.specs.declared.listed.ListedCell.{ListedCell}
 use Rattle.link_model.specs.Late.{IsLinkable}
 use Rattle.netlist_model.specs.declared.PinBit.{PinBit}
 use Rattle.netlist_link.specs.Linked.{LinkedView}
@@ -27,17 +28,17 @@ pub record HasNoFault (linked : LinkedView) (p : Plan) : Type 0 where
   pub faultless : (seen : List PinSeen) → AreSeen linked p.pins seen → fault_with linked p seen ≡ None
   pub room : (f : Fitted) → IsFitted linked p f → HasRoomFor linked f
 
--- no fault stands in the bytes of the netlist and of the plan
-pub record IsInsertable (net text : List ℕ) : Type 0 where
+-- no fault stands in the bytes of the netlist, with this library, and of the plan
+pub record IsInsertable (library : List ListedCell) (net text : List ℕ) : Type 0 where
   pub short : IsShort net
   pub short_plan : IsShort text
   pub tree : Module
   pub spells : SpellsText net tree
-  pub linkable : IsLinkable tree
+  pub linkable : IsLinkable library tree
   pub plan : Plan
   pub spells_plan : SpellsPlan text plan
-  pub free : (linked : LinkedView) → IsLinkOf tree linked → HasNoFault linked plan
+  pub free : (linked : LinkedView) → linked.arena.lists.library ≡ library → IsLinkOf tree linked → HasNoFault linked plan
 
 -- a fault of such texts is want of memory
 abbrev pub FreeTextsWantMemory : Type 0
-FreeTextsWantMemory = (net text : List ℕ) (f : InsertFault) → IsInsertable net text → StandsInTexts net text f → status_of (fault_of f) ≡ status.Memory
+FreeTextsWantMemory = (library : List ListedCell) (net text : List ℕ) (f : InsertFault) → IsInsertable library net text → StandsInTexts library net text f → status_of (fault_of f) ≡ status.Memory

@@ -2,8 +2,9 @@
 ghost use Rattle.std.specs.Prelude.{◌≡◌, [], ◌∷◌, IfErr, IfOk};
 ghost use Rattle.command_faults.specs.declared.status.Status.{Status};
 ghost use Rattle.insert_command.specs.Faults.{fault_of, StandsInInputs};
-ghost use Rattle.insert_command.specs.Tasks.{AreInserted};
+ghost use Rattle.insert_command.specs.Tasks.{IsInserted};
 
+use cell_library::Library;
 use command_edges::Made;
 use command_faults::{Fault, Status};
 use edge_io::{OutOfMemory, Row, Text};
@@ -45,12 +46,18 @@ pub fn written_and_put(
     })
 }
 
-/// Builds the test logic of the plan that one text spells into the netlist that the other spells.
-pub fn inserted<'a>(alloc: Global, net: Text, plan: Text) -> Result<Made, Fault<'a>>
-    ensures made { IfOk result (λ made. AreInserted (net ∷ plan ∷ []) made.outputs made.put made.status) }
-    ensures fault { IfErr result (StandsInInputs net plan) }
+/// Builds the test logic of the plan that one text spells into the netlist that the other spells with this library.
+pub fn inserted<'a>(
+    alloc: Global,
+    net: Text,
+    plan: Text,
+    library: Library,
+) -> Result<Made, Fault<'a>>
+    ensures made { IfOk result (λ made.
+        IsInserted library net plan made.outputs made.put made.status) }
+    ensures fault { IfErr result (StandsInInputs library net plan) }
 {
-    match insert_texts(alloc, net, plan.as_bytes()) {
+    match insert_texts(alloc, net, plan.as_bytes(), library) {
         Ok(made) => Ok(written_and_put(alloc, made.verilog, made.bsdl, made.report)?),
         Err(fault) => Err(fault_of(fault)),
     }

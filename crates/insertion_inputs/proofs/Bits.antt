@@ -14,6 +14,7 @@ use Rattle.netlist_model.specs.declared.What.TheVariants as what
 use Rattle.netlist_model.specs.declared.NetId.{NetId}
 use Rattle.netlist_model.specs.Lists.{PortView}
 use Rattle.netlist_arena.specs.Arena.{bit_count}
+use Rattle.cell_library.specs.declared.listed.ListedCell.{ListedCell}
 use Rattle.link_model.specs.declared.fault.LinkFault.{LinkFault}
 use Rattle.link_model.specs.declared.fault.LinkFault.TheVariants as fault
 use Rattle.link_model.specs.Lists.{or_else, first_in}
@@ -30,12 +31,12 @@ within things limit count none = by (nat_lt limit count) refl none
     by true e told = absurd (cc)
     by false e told = ltb-false limit count e
 
-ports_few : (m : Module) → early_fault m ≡ None → bits_in (map port_nets m.ports) ≤ 4096
-ports_few m early =
+ports_few : (library : List ListedCell) (m : Module) → early_fault library m ≡ None → bits_in (map port_nets m.ports) ≤ 4096
+ports_few library m early =
     let operands : Option LinkFault = first_in (λ (i : Item). too_many what.Operands 256 (gate_operands i)) m.items in
-    let widths : Option LinkFault = first_in (item_width (declared_names m)) m.items in
-    let text = or_else-parts (text_fault m) (driver_fault (nets_in (declared_nets m)) (cells_in m)) early in
-    let many = or_else-parts (too_many_in m) (or_else (name_twice m) (or_else (bit_faults m) (or_else (instance_faults m) widths))) text.0 in
+    let widths : Option LinkFault = first_in (item_width library (declared_names m)) m.items in
+    let text = or_else-parts (text_fault library m) (driver_fault (nets_in (declared_nets m)) (cells_in library m)) early in
+    let many = or_else-parts (too_many_in m) (or_else (name_twice m) (or_else (bit_faults m) (or_else (instance_faults library m) widths))) text.0 in
     let one = or_else-parts (too_many what.Cells 262144 (length m.items)) (or_else (too_many what.Nets 524288 (bits_in (declared_nets m))) (or_else (too_many what.Ports 4096 (bits_in (map port_nets m.ports))) operands)) many.0 in
     let two = or_else-parts (too_many what.Nets 524288 (bits_in (declared_nets m))) (or_else (too_many what.Ports 4096 (bits_in (map port_nets m.ports))) operands) one.1 in
     let three = or_else-parts (too_many what.Ports 4096 (bits_in (map port_nets m.ports))) operands two.1 in
@@ -56,5 +57,5 @@ bits_same table first (port ∷ ports) (q ∷ qs) all =
 pub bits_few : (m : Module) (linked : LinkedView) → IsLinkOf m linked → bit_count linked.arena.lists.ports ≤ 4096
 bits_few m linked links =
     let same : bit_count linked.arena.lists.ports ≡ bits_in (map port_nets m.ports) = bits_same linked.names 0 linked.arena.lists.ports m.ports links.denoted.ports in
-    let few : bits_in (map port_nets m.ports) ≤ 4096 = ports_few m links.linkable.early in
+    let few : bits_in (map port_nets m.ports) ≤ 4096 = ports_few linked.arena.lists.library m links.linkable.early in
     omega arith

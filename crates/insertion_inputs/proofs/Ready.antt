@@ -46,7 +46,7 @@ pub record Laws : Type 0 where
   pub there : FittedBitsAreThere
 
 fitting_of : FittedIsFitting → (L : LinkedView) (p : Plan) (f : Fitted) → IsLinkedTree L → IsPlan p → (is : IsFitted L p f) → IsFitting L p is.seen
-fitting_of law L p f linked plan is = law linked.tree L p f linked.is linked.links plan is
+fitting_of law L p f linked plan is = law linked.tree L p f linked.is linked.listed linked.links plan is
 
 -- Counts.
 

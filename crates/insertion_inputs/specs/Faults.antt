@@ -1,6 +1,7 @@
 -- When each fault of an insertion stands: in the netlist's text, the module, the plan's text, how it fits, and the room. Own.
 use Rattle.std.specs.Prelude.{◌≡◌, ℕ, List, Some}
 use Rattle.verilog_texts.specs.TextFaults.{IsTextFault}
+use Rattle.cell_library.specs.declared.listed.ListedCell.{ListedCell}
 use Rattle.netlist_model.specs.declared.What.{What}
 use Rattle.netlist_arena.specs.declared.room.ReserveFault.TheVariants as reserve
 use Rattle.netlist_arena.specs.Room.{too_many}
@@ -20,12 +21,12 @@ use Rattle.insertion_inputs.specs.Inputs.{IsNetlistOf}
 
 -- The netlist.
 
--- the fault stands in the bytes of a netlist
-abbrev pub StandsInNetlist : List ℕ → InsertFault → Type 0
-StandsInNetlist net (fault.Netlist f) = IsTextFault net f
-StandsInNetlist net (fault.Link f) = HasLinkFault f net
-StandsInNetlist net fault.OutOfMemory = Unit {0}
-StandsInNetlist net f = ⊥
+-- the fault stands in the bytes of a netlist, with this library
+abbrev pub StandsInNetlist : List ListedCell → List ℕ → InsertFault → Type 0
+StandsInNetlist library net (fault.Netlist f) = IsTextFault net f
+StandsInNetlist library net (fault.Link f) = HasLinkFault library f net
+StandsInNetlist library net fault.OutOfMemory = Unit {0}
+StandsInNetlist library net f = ⊥
 
 -- A plan at a netlist.
 
@@ -57,16 +58,16 @@ StandsInPlan linked text f = ⊥
 -- Both texts.
 
 -- the netlist's bytes spell a netlist at which the plan's have this fault
-pub record HasPlanFault (net text : List ℕ) (f : InsertFault) : Type 0 where
+pub record HasPlanFault (library : List ListedCell) (net text : List ℕ) (f : InsertFault) : Type 0 where
   pub linked : LinkedView
-  pub netlist : IsNetlistOf net linked
+  pub netlist : IsNetlistOf library net linked
   pub stands : StandsInPlan linked text f
 
--- The fault stands in the bytes of a netlist and of a plan; the netlist is looked at first.
-abbrev pub StandsInTexts : List ℕ → List ℕ → InsertFault → Type 0
-StandsInTexts net text (fault.Netlist f) = IsTextFault net f
-StandsInTexts net text (fault.Link f) = HasLinkFault f net
-StandsInTexts net text (fault.Plan f) = HasPlanFault net text (fault.Plan f)
-StandsInTexts net text (fault.Fit f) = HasPlanFault net text (fault.Fit f)
-StandsInTexts net text (fault.TooMany what count limit) = HasPlanFault net text (fault.TooMany what count limit)
-StandsInTexts net text fault.OutOfMemory = Unit {0}
+-- The fault stands in the bytes of a netlist, with this library, and of a plan; the netlist is looked at first.
+abbrev pub StandsInTexts : List ListedCell → List ℕ → List ℕ → InsertFault → Type 0
+StandsInTexts library net text (fault.Netlist f) = IsTextFault net f
+StandsInTexts library net text (fault.Link f) = HasLinkFault library f net
+StandsInTexts library net text (fault.Plan f) = HasPlanFault library net text (fault.Plan f)
+StandsInTexts library net text (fault.Fit f) = HasPlanFault library net text (fault.Fit f)
+StandsInTexts library net text (fault.TooMany what count limit) = HasPlanFault library net text (fault.TooMany what count limit)
+StandsInTexts library net text fault.OutOfMemory = Unit {0}

@@ -4,6 +4,8 @@ use Rattle.std.specs.Prelude.{◌≡◌, ℕ, ◌+◌, ◌^◌, ◌<◌, List, l
 use Rattle.verilog_tree.specs.declared.tree.Module.{Module}
 use Rattle.verilog_tree.specs.Texts.{SpellsText}
 use Rattle.verilog_tree.specs.IsTree.{IsTree}
+use Rattle.cell_library.specs.declared.listed.ListedCell.{ListedCell}
+use Rattle.cell_library.specs.Sound.{IsLibrary}
 use Rattle.netlist_arena.specs.Room.{too_many}
 use Rattle.netlist_link.specs.Linked.{LinkedView}
 use Rattle.netlist_link.specs.Links.{IsLinkOf}
@@ -16,18 +18,21 @@ use Rattle.bsdl_device.specs.IsDevice.{IsDevice}
 use Rattle.stitch_names.specs.Prepared.{room_of, ports_of, prepared}
 use Rattle.scan_stitch.specs.Ready.{IsSmall, HasTapNames, AreBitsInRange}
 
--- The bytes spell one tree, which is linked to this netlist.
-pub record IsNetlistOf (net : List ℕ) (linked : LinkedView) : Type 0 where
+-- The bytes spell one tree, which is linked with this library to this netlist.
+pub record IsNetlistOf (library : List ListedCell) (net : List ℕ) (linked : LinkedView) : Type 0 where
   pub tree : Module
   pub spells : SpellsText net tree
   pub only : (other : Module) → SpellsText net other → other ≡ tree
   pub is : IsTree tree
+  pub listed : IsLibrary library
+  pub library_is : linked.arena.lists.library ≡ library
   pub links : IsLinkOf tree linked
 
 -- own: some tree is linked to the netlist
 pub record IsLinkedTree (linked : LinkedView) : Type 0 where
   pub tree : Module
   pub is : IsTree tree
+  pub listed : IsLibrary linked.arena.lists.library
   pub links : IsLinkOf tree linked
 
 -- own: present and asked, nothing passes a limit

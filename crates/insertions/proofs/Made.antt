@@ -9,6 +9,8 @@ use Rattle.bsdl_device.specs.IsDevice.{IsDevice}
 use Rattle.bsdl_device.specs.Canonical.{canonical_device}
 use Rattle.bsdl_device.specs.Spelled.{SpellsText as SpellsDeviceText}
 use Rattle.bsdl_values.specs.Laws.{DevicesAreReadBack}
+use Rattle.cell_library.specs.declared.listed.ListedCell.{ListedCell}
+use Rattle.cell_library.specs.Sound.{IsLibrary}
 use Rattle.netlist_model.specs.Lists.{PortView, cell_count}
 use Rattle.netlist_model.specs.Formed.{IsLaidOut}
 use Rattle.netlist_arena.specs.Arena.{bit_count}
@@ -41,28 +43,32 @@ use Rattle.insertions.proofs.Trees.{tree_is}
 
 -- Faults.
 
-pub netlist_stands : (net text : List ℕ) (f : InsertFault) → StandsInNetlist net f → StandsInTexts net text f
-netlist_stands net text (fault.Netlist f) stands = stands
-netlist_stands net text (fault.Link f) stands = stands
-netlist_stands net text fault.OutOfMemory stands = tt
-netlist_stands net text f stands = absurd stands
+pub netlist_stands : (library : List ListedCell) (net text : List ℕ) (f : InsertFault) → StandsInNetlist library net f → StandsInTexts library net text f
+netlist_stands library net text (fault.Netlist f) stands = stands
+netlist_stands library net text (fault.Link f) stands = stands
+netlist_stands library net text fault.OutOfMemory stands = tt
+netlist_stands library net text f stands = absurd stands
 
-pub plan_stands : (net text : List ℕ) (linked : LinkedView) (f : InsertFault) → IsNetlistOf net linked → StandsInPlan linked text f → StandsInTexts net text f
-plan_stands net text linked (fault.Plan f) is stands = record { linked = linked; netlist = is; stands = stands }
-plan_stands net text linked (fault.Fit f) is stands = record { linked = linked; netlist = is; stands = stands }
-plan_stands net text linked (fault.TooMany what count limit) is stands = record { linked = linked; netlist = is; stands = stands }
-plan_stands net text linked fault.OutOfMemory is stands = tt
-plan_stands net text linked f is stands = absurd stands
+pub plan_stands : (library : List ListedCell) (net text : List ℕ) (linked : LinkedView) (f : InsertFault) → IsNetlistOf library net linked → StandsInPlan linked text f → StandsInTexts library net text f
+plan_stands library net text linked (fault.Plan f) is stands = record { linked = linked; netlist = is; stands = stands }
+plan_stands library net text linked (fault.Fit f) is stands = record { linked = linked; netlist = is; stands = stands }
+plan_stands library net text linked (fault.TooMany what count limit) is stands = record { linked = linked; netlist = is; stands = stands }
+plan_stands library net text linked fault.OutOfMemory is stands = tt
+plan_stands library net text linked f is stands = absurd stands
 
 -- The netlist with its test logic.
 
-pub linked_tree : (net : List ℕ) (linked : LinkedView) → IsNetlistOf net linked → IsLinkedTree linked
-linked_tree net linked is = record { tree = is.tree; is = is.is; links = is.links }
+listed_of : (library : List ListedCell) (net : List ℕ) (linked : LinkedView) → IsNetlistOf library net linked → IsLibrary linked.arena.lists.library
+listed_of library net linked is = subst IsLibrary (sym is.library_is) is.listed
 
-abbrev pub stitching : (net text : List ℕ) (before readied after : LinkedView) (p : Plan) (f : Fitted) (d : Device) → (is : IsNetlistOf net before) → IsLaidOut before.arena.lists
+pub linked_tree : (library : List ListedCell) (net : List ℕ) (linked : LinkedView) → IsNetlistOf library net linked → IsLinkedTree linked
+linked_tree library net linked is = record { tree = is.tree; is = is.is; listed = listed_of library net linked is; links = is.links }
+
+abbrev pub stitching : (library : List ListedCell) (net text : List ℕ) (before readied after : LinkedView) (p : Plan) (f : Fitted) (d : Device) → (is : IsNetlistOf library net before) → IsLaidOut before.arena.lists
     → IsFittingAs text before p f d readied → IsStitchedOf before f after → IsStitching is.tree before p f after
-stitching net text before readied after p f d is laid made stitched = record {
+stitching library net text before readied after p f d is laid made stitched = record {
   tree = is.is;
+  listed = listed_of library net before is;
   linked = is.links;
   laid = laid;
   plan = (text, made.spells);
@@ -71,17 +77,17 @@ stitching net text before readied after p f d is laid made stitched = record {
   is = stitched;
 }
 
-stitching_fits : (net text : List ℕ) (before readied after : LinkedView) (p : Plan) (f : Fitted) (d : Device) → (is : IsNetlistOf net before) → (laid : IsLaidOut before.arena.lists)
-    → (made : IsFittingAs text before p f d readied) → (stitched : IsStitchedOf before f after) → (stitching net text before readied after p f d is laid made stitched).fits ≡ made.prepares.ready.fits
-stitching_fits net text before readied after p f d is laid made stitched = refl
+stitching_fits : (library : List ListedCell) (net text : List ℕ) (before readied after : LinkedView) (p : Plan) (f : Fitted) (d : Device) → (is : IsNetlistOf library net before) → (laid : IsLaidOut before.arena.lists)
+    → (made : IsFittingAs text before p f d readied) → (stitched : IsStitchedOf before f after) → (stitching library net text before readied after p f d is laid made stitched).fits ≡ made.prepares.ready.fits
+stitching_fits library net text before readied after p f d is laid made stitched = refl
 
-pub can_stitch : FittedIsFitting → (net text : List ℕ) (before readied : LinkedView) (p : Plan) (f : Fitted) (d : Device) → IsNetlistOf net before → IsFittingAs text before p f d readied
+pub can_stitch : FittedIsFitting → (library : List ListedCell) (net text : List ℕ) (before readied : LinkedView) (p : Plan) (f : Fitted) (d : Device) → IsNetlistOf library net before → IsFittingAs text before p f d readied
     → CanStitch readied f
-can_stitch law net text before readied p f d is made = record {
+can_stitch law library net text before readied p f d is made = record {
   before = before;
   plan = p;
   fitted = made.prepares.ready.fits;
-  fitting = law is.tree before p f is.is is.links (text, made.spells) made.prepares.ready.fits;
+  fitting = law is.tree before p f is.is (listed_of library net before is) is.links (text, made.spells) made.prepares.ready.fits;
   dense = is.links.dense;
   prepared_is = made.prepares.after_is;
   small = made.prepares.ready.small;
@@ -109,10 +115,10 @@ five_more before after f s =
 
 -- What writing needs.
 
-pub free_prefix : StitchedCanBeWritten → (net text : List ℕ) (before readied after : LinkedView) (p : Plan) (f : Fitted) (d : Device) → IsNetlistOf net before → IsLaidOut before.arena.lists
+pub free_prefix : StitchedCanBeWritten → (library : List ListedCell) (net text : List ℕ) (before readied after : LinkedView) (p : Plan) (f : Fitted) (d : Device) → IsNetlistOf library net before → IsLaidOut before.arena.lists
     → IsFittingAs text before p f d readied → IsStitched readied after f → IsFreePrefix after p.prefix
-free_prefix law net text before readied after p f d is laid made built =
-    law is.tree before p f after (stitching net text before readied after p f d is laid made (stitched_of before readied after f made.prepares.after_is built))
+free_prefix law library net text before readied after p f d is laid made built =
+    law is.tree before p f after (stitching library net text before readied after p f d is laid made (stitched_of before readied after f made.prepares.after_is built))
 
 pub device_kept : (text : List ℕ) (before readied : LinkedView) (p : Plan) (f : Fitted) (d : Device) → IsFittingAs text before p f d readied → IsDevice d
 device_kept text before readied p f d made = subst IsDevice (sym made.device_is) made.prepares.device
@@ -120,18 +126,19 @@ device_kept text before readied p f d made = subst IsDevice (sym made.device_is)
 -- The whole.
 
 -- what it does
-insertion_does : SpelledOnce → StitchedIsWritten → WrittenRealises → WrittenIsAlone → WrittenHasControls → WrittenFindsHome → WrittenIsAloneFromHome → (net text verilog bsdl report : List ℕ) (before after : LinkedView) (p : Plan) (f : Fitted) (d : Device) → (is : IsNetlistOf net before)
+insertion_does : SpelledOnce → StitchedIsWritten → WrittenRealises → WrittenIsAlone → WrittenHasControls → WrittenFindsHome → WrittenIsAloneFromHome → (library : List ListedCell) (net text verilog bsdl report : List ℕ) (before after : LinkedView) (p : Plan) (f : Fitted) (d : Device) → (is : IsNetlistOf library net before)
     → (s : IsStitching is.tree before p f after) → IsLaidOut after.arena.lists → SpellsPlan text p → d ≡ device_of before p s.fits.seen → IsNetlistText after p.prefix verilog → IsDeviceText d bsdl
-    → report ≡ report_of (bit_count after.arena.lists.ports) f.kept d → IsInsertion net text verilog bsdl report
-insertion_does once law realise single steer find stay net text verilog bsdl report before after p f d is s laid_after spelled device_is out device told =
+    → report ≡ report_of (bit_count after.arena.lists.ports) f.kept d → IsInsertion library net text verilog bsdl report
+insertion_does once law realise single steer find stay library net text verilog bsdl report before after p f d is s laid_after spelled device_is out device told =
     let w : WritesStitched before p out.tree = law is.tree before p f after s out.tree out.is out.writes in
-    written_made once realise single steer find stay net text verilog bsdl report before after p f d is s laid_after spelled device_is out device told w w.linked.0 w.linked.1
+    written_made once realise single steer find stay library net text verilog bsdl report before after p f d is s laid_after spelled device_is out device told w w.linked.0 w.linked.1 w.linked.2
   where
-    written_made : SpelledOnce → WrittenRealises → WrittenIsAlone → WrittenHasControls → WrittenFindsHome → WrittenIsAloneFromHome → (net text verilog bsdl report : List ℕ) (before after : LinkedView) (p : Plan) (f : Fitted) (d : Device) → (is : IsNetlistOf net before)
+    written_made : SpelledOnce → WrittenRealises → WrittenIsAlone → WrittenHasControls → WrittenFindsHome → WrittenIsAloneFromHome → (library : List ListedCell) (net text verilog bsdl report : List ℕ) (before after : LinkedView) (p : Plan) (f : Fitted) (d : Device) → (is : IsNetlistOf library net before)
         → (s : IsStitching is.tree before p f after) → IsLaidOut after.arena.lists → SpellsPlan text p → d ≡ device_of before p s.fits.seen → (out : IsNetlistText after p.prefix verilog) → IsDeviceText d bsdl
-        → report ≡ report_of (bit_count after.arena.lists.ports) f.kept d → WritesStitched before p out.tree → (written : LinkedView) → IsLinkOf out.tree written → IsInsertion net text verilog bsdl report
-    written_made once realise single steer find stay net text verilog bsdl report before after p f d is s laid_after spelled device_is out device told w written links =
-        let bits : bit_count after.arena.lists.ports ≡ bit_count written.arena.lists.ports = five_more before after f s.is ∙ sym (w.bits written links) in
+        → report ≡ report_of (bit_count after.arena.lists.ports) f.kept d → WritesStitched before p out.tree → (written : LinkedView)
+        → written.arena.lists.library ≡ before.arena.lists.library → IsLinkOf out.tree written → IsInsertion library net text verilog bsdl report
+    written_made once realise single steer find stay library net text verilog bsdl report before after p f d is s laid_after spelled device_is out device told w written same links =
+        let bits : bit_count after.arena.lists.ports ≡ bit_count written.arena.lists.ports = five_more before after f s.is ∙ sym (w.bits written same links) in
         let kept : f.kept ≡ cell_count before.arena.lists = ap (λ (g : Fitted). g.kept) s.fits.is in
         record {
           tree = is.tree;
@@ -139,6 +146,8 @@ insertion_does once law realise single steer find stay net text verilog bsdl rep
           only = is.only;
           is = is.is;
           linked = before;
+          listed = is.listed;
+          library_is = is.library_is;
           links = is.links;
           wanted = p;
           spells_plan = spelled;
@@ -149,17 +158,18 @@ insertion_does once law realise single steer find stay net text verilog bsdl rep
           spells_written = subst (λ (t : List ℕ). SpellsText t out.tree) (sym out.text_is) w.spells;
           only_written = λ other spells. w.only other (subst (λ (t : List ℕ). SpellsText t other) out.text_is spells);
           written = written;
+          written_library = same ∙ is.library_is;
           links_written = links;
-          one = λ other other_links. w.one written other links other_links;
-          keeps = w.keeps written links;
+          one = λ other other_same other_links. w.one written other same (other_same ∙ sym is.library_is) links other_links;
+          keeps = w.keeps written same links;
           device = subst (λ (e : Device). IsDeviceText e bsdl) device_is device;
           report_is = told ∙ ap (λ (n : ℕ). report_of n f.kept d) bits ∙ ap (λ (n : ℕ). report_of (bit_count written.arena.lists.ports) n d) kept
               ∙ ap (λ (e : Device). report_of (bit_count written.arena.lists.ports) (cell_count before.arena.lists) e) device_is;
-          realises = realise is.tree before p f after s laid_after out.tree out.writes written links;
-          alone = single is.tree before p f after s laid_after out.tree out.writes written links;
-          controls = steer is.tree before p f after s laid_after out.tree out.writes written links;
-          finds_home = find is.tree before p f after s laid_after out.tree out.writes written links;
-          alone_from_home = stay is.tree before p f after s laid_after out.tree out.writes written links;
+          realises = realise is.tree before p f after s laid_after out.tree out.writes written same links;
+          alone = single is.tree before p f after s laid_after out.tree out.writes written same links;
+          controls = steer is.tree before p f after s laid_after out.tree out.writes written same links;
+          finds_home = find is.tree before p f after s laid_after out.tree out.writes written same links;
+          alone_from_home = stay is.tree before p f after s laid_after out.tree out.writes written same links;
         }
 
 -- the tree that was written, in the words of what was fitted
@@ -168,12 +178,12 @@ written_tree : (m : Module) (before after : LinkedView) (p : Plan) (f : Fitted) 
 written_tree m before after p f s title tree is =
     is ∙ tree_is before after s.is.names f p.prefix title s.is.table s.is.same ∙ ap (λ (g : Fitted). tree_of (with_test_logic before s.is.names g) p.prefix) s.fits.is
 
-pub insertion_made : SpelledOnce → StitchedIsWritten → WrittenRealises → WrittenIsAlone → WrittenHasControls → WrittenFindsHome → WrittenIsAloneFromHome → (net text verilog bsdl report : List ℕ) (before after : LinkedView) (p : Plan) (f : Fitted) (d : Device) → (is : IsNetlistOf net before)
+pub insertion_made : SpelledOnce → StitchedIsWritten → WrittenRealises → WrittenIsAlone → WrittenHasControls → WrittenFindsHome → WrittenIsAloneFromHome → (library : List ListedCell) (net text verilog bsdl report : List ℕ) (before after : LinkedView) (p : Plan) (f : Fitted) (d : Device) → (is : IsNetlistOf library net before)
     → (s : IsStitching is.tree before p f after) → after.module_name ≡ before.module_name → IsLaidOut after.arena.lists → SpellsPlan text p → d ≡ device_of before p s.fits.seen → IsNetlistText after p.prefix verilog
-    → IsDeviceText d bsdl → report ≡ report_of (bit_count after.arena.lists.ports) f.kept d → IsInsertionText net text verilog bsdl report
+    → IsDeviceText d bsdl → report ≡ report_of (bit_count after.arena.lists.ports) f.kept d → IsInsertionText library net text verilog bsdl report
 unfolding insertion_does
-insertion_made once law realise single steer find stay net text verilog bsdl report before after p f d is s title laid_after spelled device_is out device told = record {
-  is = insertion_does once law realise single steer find stay net text verilog bsdl report before after p f d is s laid_after spelled device_is out device told;
+insertion_made once law realise single steer find stay library net text verilog bsdl report before after p f d is s title laid_after spelled device_is out device told = record {
+  is = insertion_does once law realise single steer find stay library net text verilog bsdl report before after p f d is s laid_after spelled device_is out device told;
   names = s.is.names;
   names_are = subst (λ (g : Fitted). AreTapNames (with_tap_names g before.names) g s.is.names) s.fits.is s.is.are;
   written_is = written_tree is.tree before after p f s title out.tree out.tree_is;
@@ -191,14 +201,14 @@ device_told law (Ok text) d is told =
 device_told law (Err e) d is told = tt
 
 -- so it is of whatever was written, where memory lasted
-pub insertions_made : {E : Type 0} → SpelledOnce → StitchedIsWritten → WrittenRealises → WrittenIsAlone → WrittenHasControls → WrittenFindsHome → WrittenIsAloneFromHome → (net text : List ℕ) (r : Result Inserted E) (before readied after : LinkedView) (p : Plan) (f : Fitted) (d : Device)
-    → IsNetlistOf net before → IsLaidOut before.arena.lists → IsLaidOut after.arena.lists → IsFittingAs text before p f d readied → IsStitched readied after f
+pub insertions_made : {E : Type 0} → SpelledOnce → StitchedIsWritten → WrittenRealises → WrittenIsAlone → WrittenHasControls → WrittenFindsHome → WrittenIsAloneFromHome → (library : List ListedCell) (net text : List ℕ) (r : Result Inserted E) (before readied after : LinkedView) (p : Plan) (f : Fitted) (d : Device)
+    → IsNetlistOf library net before → IsLaidOut before.arena.lists → IsLaidOut after.arena.lists → IsFittingAs text before p f d readied → IsStitched readied after f
     → IfOk r (λ made. IsNetlistText after p.prefix made.verilog) → IfOk r (λ made. IsDeviceText d made.bsdl)
-    → IfOk r (λ made. made.report ≡ report_of (bit_count after.arena.lists.ports) f.kept d) → IfOk r (λ made. IsInsertionText net text made.verilog made.bsdl made.report)
-insertions_made once law realise single steer find stay net text (Ok made) before readied after p f d is laid laid_after fitting built out device told =
+    → IfOk r (λ made. made.report ≡ report_of (bit_count after.arena.lists.ports) f.kept d) → IfOk r (λ made. IsInsertionText library net text made.verilog made.bsdl made.report)
+insertions_made once law realise single steer find stay library net text (Ok made) before readied after p f d is laid laid_after fitting built out device told =
     let stitched = stitched_of before readied after f fitting.prepares.after_is built in
-    let same = stitching_fits net text before readied after p f d is laid fitting stitched in
-    insertion_made once law realise single steer find stay net text made.verilog made.bsdl made.report before after p f d is (stitching net text before readied after p f d is laid fitting stitched)
+    let same = stitching_fits library net text before readied after p f d is laid fitting stitched in
+    insertion_made once law realise single steer find stay library net text made.verilog made.bsdl made.report before after p f d is (stitching library net text before readied after p f d is laid fitting stitched)
     (title_kept before readied after f fitting.prepares.after_is built) laid_after fitting.spells
     (fitting.device_is ∙ sym (ap (λ (fits : IsFitted before p f). device_of before p fits.seen) same)) out device told
-insertions_made once law realise single steer find stay net text (Err e) before readied after p f d is laid laid_after fitting built out device told = tt
+insertions_made once law realise single steer find stay library net text (Err e) before readied after p f d is laid laid_after fitting built out device told = tt

@@ -1,7 +1,8 @@
--- The tree of a netlist is that of each netlist with the same ports, nets and live cells.
+-- The tree of a netlist is that of each netlist with the same library, ports, nets and live cells.
 use Rattle.std.proofs.Common.{◌≡◌, ℕ, zero, suc, ◌+◌, List, [], ◌∷◌, ◌++◌, map, refl, ap, ◌∙◌, Option, Some, None, slice_get}
 use Rattle.verilog_tree.specs.declared.tree.Item.{Item}
 use Rattle.verilog_tree.specs.declared.tree.Module.{Module}
+use Rattle.cell_library.specs.declared.listed.ListedCell.{ListedCell}
 use Rattle.netlist_model.specs.Lists.{PortView, NetView, CellView, NetlistView, live_cell}
 use Rattle.netlist_link.specs.Linked.{LinkedView}
 use Rattle.netlist_unlink.specs.Rows.{rows}
@@ -45,8 +46,8 @@ tree_from title table prefix ports nets items = record {
   items = items;
 }
 
-abbrev items_of : List (List ℕ) → List ℕ → List NetView → List (Option CellView) → List Item
-items_of table prefix nets cells = items_from (record { table = table; prefix = prefix; nets = nets }) 0 cells
+abbrev items_of : List ListedCell → List (List ℕ) → List ℕ → List NetView → List (Option CellView) → List Item
+items_of library table prefix nets cells = items_from (record { library = library; table = table; prefix = prefix; nets = nets }) 0 cells
 
 pub tree_is : (L after : LinkedView) (names : TapNames) (f : Fitted) (prefix : List ℕ) → after.module_name ≡ L.module_name → after.names ≡ with_tap_names f L.names
     → IsSameNetlist after.arena.lists (stitched L.arena.lists names f) → tree_of after prefix ≡ tree_of (with_test_logic L names f) prefix
@@ -54,8 +55,9 @@ tree_is L after names f prefix title table same =
     let A : NetlistView = after.arena.lists in
     let S : NetlistView = stitched L.arena.lists names f in
     let table' : List (List ℕ) = with_tap_names f L.names in
-    ap (λ (t : List ℕ). tree_from t after.names prefix A.ports A.nets (items_of after.names prefix A.nets A.cells)) title
-    ∙ ap (λ (t : List (List ℕ)). tree_from L.module_name t prefix A.ports A.nets (items_of t prefix A.nets A.cells)) table
-    ∙ ap (λ (ports : List PortView). tree_from L.module_name table' prefix ports A.nets (items_of table' prefix A.nets A.cells)) same.ports
-    ∙ ap (λ (nets : List NetView). tree_from L.module_name table' prefix S.ports nets (items_of table' prefix nets A.cells)) same.nets
-    ∙ ap (tree_from L.module_name table' prefix S.ports S.nets) (same_items (record { table = table'; prefix = prefix; nets = S.nets }) 0 A.cells S.cells same.cells)
+    ap (λ (l : List ListedCell). tree_from after.module_name after.names prefix A.ports A.nets (items_of l after.names prefix A.nets A.cells)) same.library
+    ∙ ap (λ (t : List ℕ). tree_from t after.names prefix A.ports A.nets (items_of S.library after.names prefix A.nets A.cells)) title
+    ∙ ap (λ (t : List (List ℕ)). tree_from L.module_name t prefix A.ports A.nets (items_of S.library t prefix A.nets A.cells)) table
+    ∙ ap (λ (ports : List PortView). tree_from L.module_name table' prefix ports A.nets (items_of S.library table' prefix A.nets A.cells)) same.ports
+    ∙ ap (λ (nets : List NetView). tree_from L.module_name table' prefix S.ports nets (items_of S.library table' prefix nets A.cells)) same.nets
+    ∙ ap (tree_from L.module_name table' prefix S.ports S.nets) (same_items (record { library = S.library; table = table'; prefix = prefix; nets = S.nets }) 0 A.cells S.cells same.cells)

@@ -5,6 +5,8 @@ use Rattle.verilog_tree.specs.declared.tree.Module.{Module}
 use Rattle.verilog_tree.specs.Texts.{SpellsText}
 use Rattle.verilog_tree.specs.IsTree.{IsTree}
 use Rattle.verilog_tree.specs.Canonical.{canonical}
+use Rattle.cell_library.specs.declared.listed.ListedCell.{ListedCell}
+use Rattle.cell_library.specs.Sound.{IsLibrary}
 use Rattle.bsdl_device.specs.declared.values.Device.{Device}
 use Rattle.bsdl_device.specs.Spelled.{SpellsText as SpellsDeviceText}
 use Rattle.bsdl_device.specs.Canonical.{canonical_device}
@@ -49,18 +51,20 @@ pub record IsDeviceText (device : Device) (text : List ℕ) : Type 0 where
 
 -- The whole.
 
--- The netlist's bytes spell one tree, which is linked to this netlist, and the plan's bytes spell one plan, which fits it. The
--- written text is the canonical text of a tree, which it spells alone; no fault stands in that tree, which has one netlist, and
+-- The netlist's bytes spell one tree, which is linked with the library to this netlist, and the plan's bytes spell one plan, which fits it. The
+-- written text is the canonical text of a tree, which it spells alone; no fault stands in that tree, which has one netlist with the same library, and
 -- that keeps the first one's ports and cells, with the test access port. The BSDL text is the canonical text of the plan's device,
 -- which it spells alone. The report is on that device. The written netlist behaves as the first one wrapped in that device's test
 -- logic, and as the first one alone while a transparent instruction is in effect; its control ports are the first one's, TCK and TRST.
 -- Five ones on TMS lead it there from whatever its test logic holds.
-pub record IsInsertion (net plan verilog bsdl report : List ℕ) : Type 0 where
+pub record IsInsertion (library : List ListedCell) (net plan verilog bsdl report : List ℕ) : Type 0 where
   pub tree : Module
   pub spells : SpellsText net tree
   pub only : (other : Module) → SpellsText net other → other ≡ tree
   pub is : IsTree tree
   pub linked : LinkedView
+  pub listed : IsLibrary library
+  pub library_is : linked.arena.lists.library ≡ library
   pub links : IsLinkOf tree linked
   pub wanted : Plan
   pub spells_plan : SpellsPlan plan wanted
@@ -71,8 +75,9 @@ pub record IsInsertion (net plan verilog bsdl report : List ℕ) : Type 0 where
   pub spells_written : SpellsText verilog written_tree
   pub only_written : (other : Module) → SpellsText verilog other → other ≡ written_tree
   pub written : LinkedView
+  pub written_library : written.arena.lists.library ≡ library
   pub links_written : IsLinkOf written_tree written
-  pub one : (other : LinkedView) → IsLinkOf written_tree other → IsSameView written other
+  pub one : (other : LinkedView) → other.arena.lists.library ≡ library → IsLinkOf written_tree other → IsSameView written other
   pub keeps : Keeps written.arena.lists linked.arena.lists (spelt written.names) (spelt linked.names) (tap_of wanted)
   pub device : IsDeviceText (device_of linked wanted fits.seen) bsdl
   pub report_is : report ≡ report_of (bit_count written.arena.lists.ports) (cell_count linked.arena.lists) (device_of linked wanted fits.seen)
@@ -92,7 +97,7 @@ pub record IsInsertion (net plan verilog bsdl report : List ℕ) : Type 0 where
 -- The whole, byte by byte.
 
 -- own: what was fitted
-abbrev pub fitted_in : {net plan verilog bsdl report : List ℕ} → IsInsertion net plan verilog bsdl report → Fitted
+abbrev pub fitted_in : {library : List ListedCell} {net plan verilog bsdl report : List ℕ} → IsInsertion library net plan verilog bsdl report → Fitted
 fitted_in i = fitted_of i.linked i.wanted i.fits.seen
 
 -- own: a linked netlist with the test logic of what was fitted built in, by these names of the test access port; the module's name stays
@@ -101,8 +106,8 @@ with_test_logic L names f = record L { arena = record L.arena { lists = stitched
 
 -- The insertion, of which the written text tells the gates of the test logic one by one: it is the canonical text of the tree of the
 -- netlist with the test logic built in, under the module's own name, where added nets and cells have the plan's prefix.
-pub record IsInsertionText (net plan verilog bsdl report : List ℕ) : Type 0 where
-  pub is : IsInsertion net plan verilog bsdl report
+pub record IsInsertionText (library : List ListedCell) (net plan verilog bsdl report : List ℕ) : Type 0 where
+  pub is : IsInsertion library net plan verilog bsdl report
   pub names : TapNames
   pub names_are : AreTapNames (with_tap_names (fitted_in is) is.linked.names) (fitted_in is) names
   pub written_is : is.written_tree ≡ tree_of (with_test_logic is.linked names (fitted_in is)) is.wanted.prefix
@@ -111,9 +116,10 @@ pub record IsInsertionText (net plan verilog bsdl report : List ℕ) : Type 0 wh
 
 -- own: the netlist was made ready for what was fitted, as some texts tell
 pub record IsReadied (readied : LinkedView) (p : Plan) (f : Fitted) (d : Device) : Type 0 where
+  pub library : List ListedCell
   pub net : List ℕ
   pub text : List ℕ
   pub before : LinkedView
-  pub netlist : IsNetlistOf net before
+  pub netlist : IsNetlistOf library net before
   pub laid : IsLaidOut before.arena.lists
   pub fitting : IsFittingAs text before p f d readied

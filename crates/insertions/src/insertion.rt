@@ -1,5 +1,6 @@
 // Inserting, from texts to texts.
 ghost use Rattle.std.specs.Prelude.{ℕ, List, IfErr, IfOk};
+ghost use Rattle.cell_library.specs.declared.listed.ListedCell.{ListedCell};
 ghost use Rattle.netlist_model.specs.Formed.{IsLaidOut};
 ghost use Rattle.netlist_link.specs.Linked.{LinkedView};
 ghost use Rattle.insertion_inputs.specs.Faults.{StandsInTexts};
@@ -7,6 +8,7 @@ ghost use Rattle.insertion_inputs.specs.Inputs.{IsNetlistOf, IsFittingAs};
 ghost use Rattle.insertions.specs.Insertions.{IsInsertionText, IsReadied};
 
 use crate::written_texts::{Inserted, write_texts};
+use cell_library::Library;
 use insertion_inputs::{Fitting, InsertFault, fit_text, link_text, stitch};
 use netlist_link::Linked;
 use plan_devices::fitted_is_fitting;
@@ -25,10 +27,11 @@ fn write_stitched(
     fitting: &Fitting,
 ) -> Result<Inserted, OutOfMemory>
     requires { IsReadied linked.old fitting.now.plan fitting.now.fitted fitting.now.device }
-    ensures { (net text : List ℕ) (before : LinkedView) → IsNetlistOf net before
+    ensures { (library : List ListedCell) (net text : List ℕ) (before : LinkedView)
+        → IsNetlistOf library net before
         → IsLaidOut before.arena.lists
         → IsFittingAs text before fitting.now.plan fitting.now.fitted fitting.now.device linked.old
-        → IfOk result (λ made. IsInsertionText net text made.verilog made.bsdl made.report) }
+        → IfOk result (λ made. IsInsertionText library net text made.verilog made.bsdl made.report) }
 {
     // Laws that the proof uses.
     texts_of_plans_are_spelled_or_at_fault();
@@ -47,24 +50,31 @@ fn write_stitched(
 
 // Fits the plan that a text spells to a netlist, and inserts.
 fn insert_into(alloc: Global, linked: &mut Linked, plan: &[u8]) -> Result<Inserted, InsertFault>
-    requires { (net : List ℕ) × IsNetlistOf net linked.old }
-    ensures inserted { (net : List ℕ) → IsNetlistOf net linked.old
-        → IfOk result (λ made. IsInsertionText net plan.now made.verilog made.bsdl made.report) }
-    ensures fault { (net : List ℕ) → IsNetlistOf net linked.old
-        → IfErr result (StandsInTexts net plan.now) }
+    requires { (library : List ListedCell) × (net : List ℕ) × IsNetlistOf library net linked.old }
+    ensures inserted { (library : List ListedCell) (net : List ℕ)
+        → IsNetlistOf library net linked.old
+        → IfOk result (λ made. IsInsertionText library net plan.now made.verilog made.bsdl made.report) }
+    ensures fault { (library : List ListedCell) (net : List ℕ)
+        → IsNetlistOf library net linked.old
+        → IfErr result (StandsInTexts library net plan.now) }
 {
     linked.netlist().is_laid_out();
     let fitting = fit_text(alloc, plan, linked)?;
     Ok(write_stitched(alloc, linked, &fitting)?)
 }
 
-/// Builds the test logic of the plan that one text spells into the netlist that the other spells. The netlist's text is let go
-/// before the netlist is made.
-pub fn insert_texts(alloc: Global, net: Text, plan: &[u8]) -> Result<Inserted, InsertFault>
-    ensures inserted { IfOk result (λ made. IsInsertionText net plan.now made.verilog made.bsdl
-        made.report) }
-    ensures fault { IfErr result (StandsInTexts net plan.now) }
+/// Builds the test logic of the plan that one text spells into the netlist that the other spells with this library. The netlist's
+/// text is let go before the netlist is made.
+pub fn insert_texts(
+    alloc: Global,
+    net: Text,
+    plan: &[u8],
+    library: Library,
+) -> Result<Inserted, InsertFault>
+    ensures inserted { IfOk result (λ made. IsInsertionText library net plan.now made.verilog
+        made.bsdl made.report) }
+    ensures fault { IfErr result (StandsInTexts library net plan.now) }
 {
-    let mut linked = link_text(alloc, net)?;
+    let mut linked = link_text(alloc, net, library)?;
     insert_into(alloc, &mut linked, plan)
 }

@@ -2,7 +2,7 @@
 // The contract of `insert_texts` cites specs/Insertions.antt, and insertion_inputs' specs/Faults.antt for the first fault.
 // IEEE Std 1149.1-2001: test logic architecture, the annex on BSDL; IEEE Std 1364-2001 for the netlists; the report is own.
 //
-// - `insert_texts` gives, of a text that spells one netlist and one that spells one plan, which fits it: the
+// - `insert_texts` gives, of a text that spells one netlist with the library and one that spells one plan, which fits it: the
 //   canonical text of a module that it alone spells, in which no fault stands and which tells one netlist; that
 //   keeps the first one's ports, with the test access port behind them, and its cells' places, kinds and names,
 //   behaves as `written_runs` says, has the control ports that it says, and finds home; the canonical text of the

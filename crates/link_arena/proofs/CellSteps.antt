@@ -1,10 +1,21 @@
 -- One cell more in a netlist whose live cells are the first named ones.
 use Rattle.std.proofs.Common.{◌≡◌, ◌≢◌, ◌⊎◌, inl, inr, ℕ, ◌+◌, ◌<◌, ◌≤◌, List, length, take, get_or, refl, ap, sym, ◌∙◌, Option, Some, None, arith, subst}
-use Rattle.std.specs.Prelude.{slice_get, IsSome, MatchOption, ⊤}
+use Rattle.std.specs.Prelude.{slice_get, IsSome, MatchOption, ⊤, ◌==◌, ◌&&◌, nat_le, true, false}
 use Rattle.std.proofs.lemmas.List.{length-take}
-use Rattle.std.proofs.lemmas.Bool.Decides.{eqb_tells}
+use Rattle.std.proofs.lemmas.Bool.Decides.{eqb_tells, leb_tells}
 use Rattle.std.proofs.lemmas.Option.{slice_get_within}
 use Rattle.list_laws.proofs.Lists.{slice_get_there}
+use Rattle.list_laws.proofs.Tests.{and_left}
+use Rattle.netlist_arena.proofs.Laid.{All-slice_get}
+use Rattle.cell_library.specs.declared.ResetTo.{ResetTo}
+use Rattle.cell_library.specs.declared.ResetTo.TheVariants as reset
+use Rattle.cell_library.specs.declared.Kind.{Kind}
+use Rattle.cell_library.specs.declared.Kind.TheVariants as kind
+use Rattle.cell_library.specs.declared.listed.Body.{Body}
+use Rattle.cell_library.specs.declared.listed.Body.TheVariants as body
+use Rattle.cell_library.specs.declared.listed.ListedCell.{ListedCell}
+use Rattle.cell_library.specs.Gates.{Takes, flop_operand_count}
+use Rattle.cell_library.specs.Sound.{IsLibrary, IsSoundCell, is_sound_body, leaves_one}
 use Rattle.netlist_model.specs.declared.NetId.{NetId}
 use Rattle.netlist_model.specs.Lists.{CellView, NetlistView, cell_at, cell_count}
 use Rattle.netlist_model.specs.Contained.{IsDense}
@@ -15,6 +26,52 @@ use Rattle.link_model.specs.Denoted.{AreCells, IsLive, IsCell}
 use Rattle.link_drivers.specs.Drivers.{DrivesNet}
 use Rattle.link_arena.specs.Named.{DriveApart}
 use Rattle.link_arena.proofs.Rows.{at-take}
+
+few_flop : (r : ResetTo) → flop_operand_count r ≤ 3
+few_flop reset.Nothing = omega arith
+few_flop reset.Zero = omega arith
+few_flop reset.One = omega arith
+
+at_most : (a b : ℕ) → nat_le a b ≡ true → a ≤ b
+at_most a b h = elim (leb_tells a b) [
+  | inl e ↦ e.1
+  | inr e ↦ absurd (let clash : true ≡ false = sym h ∙ e.0 in cc)
+]
+
+equal : (a b : ℕ) → (a == b) ≡ true → a ≡ b
+equal a b h = elim (eqb_tells a b) [
+  | inl e ↦ e.1
+  | inr e ↦ absurd (let clash : true ≡ false = sym h ∙ e.0 in cc)
+]
+
+few_inputs : (count : ℕ) (b : Body) → is_sound_body count b ≡ true → count ≤ 256
+few_inputs count (body.Gate steps) sound =
+    let few = at_most count 16 (and_left (nat_le count 16) (nat_le 1 (length steps) && (nat_le (length steps) 64 && leaves_one count 0 steps)) sound) in omega (arith, few)
+few_inputs count (body.Flop k) sound =
+    let few = few_flop k.reset in let is = equal count (flop_operand_count k.reset) sound in omega (arith, few, is)
+
+-- a cell of a kind has at most 256 operands
+pub few_taken : (library : List ListedCell) (k : Kind) (count : ℕ) → IsLibrary library → Takes library k count → count ≤ 256
+few_taken library kind.And count is takes = takes.1
+few_taken library kind.Or count is takes = takes.1
+few_taken library kind.Nand count is takes = takes.1
+few_taken library kind.Nor count is takes = takes.1
+few_taken library kind.Xor count is takes = takes.1
+few_taken library kind.Xnor count is takes = takes.1
+few_taken library kind.Buf count is takes = omega (arith, takes)
+few_taken library kind.Not count is takes = omega (arith, takes)
+few_taken library kind.Assign count is takes = omega (arith, takes)
+few_taken library kind.Bufif0 count is takes = omega (arith, takes)
+few_taken library kind.Bufif1 count is takes = omega (arith, takes)
+few_taken library kind.Mux2 count is takes = omega (arith, takes)
+few_taken library (kind.Flop k) count is takes = let few = few_flop k.reset in omega (arith, few, takes)
+few_taken library (kind.Listed n) count is takes = by (slice_get library n) refl takes
+  where
+    by : (o : Option ListedCell) → slice_get library n ≡ o → MatchOption o ⊥ (λ (cell : ListedCell). count ≡ length cell.inputs) → count ≤ 256
+    by None at t = absurd t
+    by (Some cell) at t =
+        let sound = All-slice_get IsSoundCell library n cell is.sound at in
+        let few = few_inputs (length cell.inputs) cell.body sound.body in omega (arith, few, t)
 
 same-number : (a b : ℕ) → (a ≡ b) ⊎ (a ≢ b)
 same-number a b = elim (eqb_tells a b) [ inl e ↦ inl e.1 | inr e ↦ inr e.1 ]
@@ -41,7 +98,7 @@ named-drives table N cells i j cell net are few at output =
     (less, (named.0, record { there = sym (at-take cells i j less) ∙ named.1; output = sym is.output ∙ output }))
 
 pub can_drive : (table : List (List ℕ)) (old N : NetlistView) (cells : List NamedCell) (i : ℕ) (cell : NamedCell) (output : Option NetId) → i < length cells → slice_get cells i ≡ Some cell → output ≡ cell.output
-    → AreCells table N (take i cells) → N.ports ≡ old.ports → N.nets ≡ old.nets → FitsCell (length old.nets) cell → DriveApart old cells → CanDrive N output
+    → AreCells table N (take i cells) → N.ports ≡ old.ports → N.nets ≡ old.nets → FitsCell old.library (length old.nets) cell → DriveApart old cells → CanDrive N output
 can_drive table old N cells i cell output h here same are ports nets fits apart = by output same
   where
     by : (o : Option NetId) → o ≡ cell.output → MatchOption o ⊤ (λ net. (net.0 < length N.nets) × IsFree N net.0)

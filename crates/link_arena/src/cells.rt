@@ -1,4 +1,5 @@
 ghost use Rattle.std.specs.Prelude.{◌≡◌, ◌≤◌, [], length, OnOk, IfSome};
+ghost use Rattle.cell_library.specs.Sound.{IsLibrary};
 ghost use Rattle.netlist_model.specs.Lists.{cell_count};
 ghost use Rattle.netlist_model.specs.Contained.{IsDense};
 ghost use Rattle.link_model.specs.Cells.{bytes_of};
@@ -22,10 +23,12 @@ pub fn add_cells(
     requires room { length cells.now ≤ netlist.old.spare.cells }
     requires none { netlist.old.lists.cells ≡ [] }
     requires names { AreCellsEntered names.now cells.now }
-    requires fits { FitCells (length netlist.old.lists.nets) cells.now }
+    requires library { IsLibrary netlist.old.lists.library }
+    requires fits { FitCells netlist.old.lists.library (length netlist.old.lists.nets) cells.now }
     requires apart { DriveApart netlist.old.lists cells.now }
     ensures cells { OnOk result (AreCells names.now netlist.new.lists cells.now) }
     ensures dense { OnOk result (IsDense netlist.new.lists) }
+    ensures library { OnOk result (netlist.new.lists.library ≡ netlist.old.lists.library) }
     ensures ports { OnOk result (netlist.new.lists.ports ≡ netlist.old.lists.ports) }
     ensures nets { OnOk result (netlist.new.lists.nets ≡ netlist.old.lists.nets) }
 {

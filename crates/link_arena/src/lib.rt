@@ -4,13 +4,14 @@
 //
 // - `build`, for a module whose text and drivers have no fault, and for its nets and cells, answers the netlist
 //   that the module denotes: ports, nets and cells with the right names, indexes, ranges, directions, operands and
-//   outputs.
+//   outputs; it holds the library that was given.
 // - The live cells have the numbers from 0 on without gaps.
 // - The table has the names of ports, wires and items, in the order of the text.
 // By the contract of `build`.
 #![tactic(auto)]
 
 ghost use Rattle.std.specs.Prelude.{◌≡◌, IfOk, None, length};
+ghost use Rattle.cell_library.specs.Sound.{IsLibrary};
 ghost use Rattle.verilog_tree.specs.IsTree.{IsTree};
 ghost use Rattle.netlist_model.specs.Contained.{IsDense};
 ghost use Rattle.link_model.specs.Nets.{declared_nets, nets_in};
@@ -29,6 +30,7 @@ use crate::names::names_of_module;
 use crate::nets::add_nets;
 use crate::ports::add_ports;
 use crate::room::netlist_with_room;
+use cell_library::Library;
 use link_drivers::nets_have_their_drivers;
 use link_model::{ItemCell, NetBit};
 use name_table::NameTable;
@@ -47,24 +49,27 @@ pub struct Built {
 /// The netlist that the module denotes, and the table of its names. The nets are given back before the cells are added.
 pub fn build(
     alloc: Global,
+    library: Library,
     tree: &Module,
     nets: Vec<NetBit>,
     cells: &[ItemCell],
 ) -> Result<Built, OutOfMemory>
     requires tree { IsTree tree.now }
-    requires clear { text_fault tree.now ≡ None }
+    requires library { IsLibrary library }
+    requires clear { text_fault library tree.now ≡ None }
     requires nets { nets.items ≡ nets_in (declared_nets tree.now) }
-    requires cells { cells.now ≡ cells_in tree.now }
-    requires fits { FitCells (length nets.items) cells.now }
+    requires cells { cells.now ≡ cells_in library tree.now }
+    requires fits { FitCells library (length nets.items) cells.now }
     requires driven { driver_fault nets.items cells.now ≡ None }
-    ensures named { IfOk result (λ built. IsNamed built.names built.netlist.lists (denoted tree.now)) }
+    ensures named { IfOk result (λ built. IsNamed built.names built.netlist.lists (denoted library tree.now)) }
+    ensures library { IfOk result (λ built. built.netlist.lists.library ≡ library) }
     ensures dense { IfOk result (λ built. IsDense built.netlist.lists) }
     ensures names { IfOk result (λ built. built.names ≡ names_of tree.now) }
 {
     // A law that the proof uses.
     nets_have_their_drivers();
     let names = names_of_module(alloc, tree)?;
-    let mut netlist = netlist_with_room(alloc, tree, nets.len(), cells.len())?;
+    let mut netlist = netlist_with_room(alloc, library, tree, nets.len(), cells.len())?;
     add_nets(&mut netlist, &names, nets);
     add_ports(alloc, &mut netlist, &names, tree.ports.as_slice())?;
     add_cells(&mut netlist, &names, cells)?;

@@ -27,6 +27,7 @@ pub fn add_ports(
     requires names { ArePortsEntered names.now ports.now }
     ensures ports { OnOk result (AreAll (IsPort names.now) netlist.new.lists.ports
         (ports_from 0 ports.now)) }
+    ensures library { OnOk result (netlist.new.lists.library ≡ netlist.old.lists.library) }
     ensures nets { OnOk result (netlist.new.lists.nets ≡ netlist.old.lists.nets) }
     ensures cells { OnOk result (netlist.new.lists.cells ≡ netlist.old.lists.cells) }
     ensures spare { OnOk result (netlist.new.spare.cells ≡ netlist.old.spare.cells) }

@@ -3,6 +3,7 @@ ghost use Rattle.link_model.specs.Nets.{bits_in, width as width_in, port_nets};
 ghost use Rattle.link_model.specs.Faults.{text_fault, too_many_in};
 ghost use Rattle.link_arena.specs.Room.{HasRoomFor};
 
+use cell_library::Library;
 use netlist_arena::{Netlist, ReserveFault};
 use std::alloc::Global;
 use texts::OutOfMemory;
@@ -11,6 +12,7 @@ use verilog_tree::{Module, Port, Range};
 /// An empty netlist with room for the module's.
 pub fn netlist_with_room(
     alloc: Global,
+    library: Library,
     tree: &Module,
     nets: usize,
     cells: usize,
@@ -18,10 +20,10 @@ pub fn netlist_with_room(
     requires cells { cells ≤ 262144 }
     requires nets { nets ≤ 524288 }
     requires ports { bits_in (map port_nets tree.now.ports) ≤ 4096 }
-    ensures { IfOk result (λ netlist. HasRoomFor netlist cells nets
+    ensures { IfOk result (λ netlist. HasRoomFor library netlist cells nets
         (bits_in (map port_nets tree.now.ports))) }
 {
-    let mut netlist = Netlist::new(alloc);
+    let mut netlist = Netlist::new(alloc, library);
     match netlist.reserve(cells as u32, nets as u32, port_bits(tree.ports.as_slice())) {
         Ok(()) => Ok(netlist),
         Err(ReserveFault::OutOfMemory) => Err(OutOfMemory),

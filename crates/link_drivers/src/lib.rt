@@ -11,7 +11,7 @@
 #![tactic(auto)]
 
 ghost use Rattle.std.specs.Prelude.{◌≡◌, IfOk, length};
-ghost use Rattle.link_model.specs.Fits.{FitCells};
+ghost use Rattle.link_model.specs.Fits.{CellsBelow};
 ghost use Rattle.link_model.specs.Faults.{driver_fault};
 
 mod laws;
@@ -31,7 +31,7 @@ pub fn find_driver_fault(
     nets: &[NetBit],
     cells: &[ItemCell],
 ) -> Result<Option<LinkFault>, OutOfMemory>
-    requires fits { FitCells (length nets.now) cells.now }
+    requires fits { CellsBelow (length nets.now) cells.now }
     ensures { IfOk result (λ found. found ≡ driver_fault nets.now cells.now) }
 {
     let uses = uses_of_nets(alloc, nets.len(), cells)?;

@@ -1,7 +1,7 @@
 ghost use Rattle.std.specs.Prelude.{◌≡◌, ℕ, ◌<◌, ◌^◌, IfOk, length, slice_set};
 ghost use Rattle.cell_library.specs.Gates.{is_three_state};
 ghost use Rattle.netlist_model.specs.Below.{AreFeedsBelow};
-ghost use Rattle.link_model.specs.Fits.{FitCells, FitsCell};
+ghost use Rattle.link_model.specs.Fits.{CellsBelow, IsCellBelow};
 ghost use Rattle.link_drivers.specs.Uses.{uses_at, uses_among, driven, with_output, with_feeds};
 
 use cell_library::Kind;
@@ -27,7 +27,7 @@ pub fn uses_of_nets(
     nets: usize,
     cells: &[ItemCell],
 ) -> Result<Vec<NetUses>, OutOfMemory>
-    requires { FitCells nets cells.now }
+    requires { CellsBelow nets cells.now }
     ensures length { IfOk result (λ uses. length uses.items ≡ nets) }
     ensures each { IfOk result (λ uses. (net : ℕ) → net < nets
         → uses_at uses.items net ≡ uses_among cells.now net) }
@@ -47,7 +47,7 @@ pub fn uses_of_nets(
 
 // Notes what the cell drives.
 fn note_output(uses: &mut [NetUses], cell: &ItemCell)
-    requires fits { FitsCell (length uses.old) cell.now }
+    requires fits { IsCellBelow (length uses.old) cell.now }
     requires few { (net : ℕ) → net < length uses.old → (uses_at uses.old net).drivers < 2 ^ 63 }
     ensures { (net : ℕ) → net < length uses.old
         → uses_at uses.new net ≡ with_output net cell.now (uses_at uses.old net) }

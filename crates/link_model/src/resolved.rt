@@ -72,6 +72,7 @@ impl<'a> NetBit<'a> {
 #[derive(Drop)]
 pub struct ItemCell<'a> {
     kind: Kind,
+    keeps: bool,
     name: Option<&'a [u8]>,
     feeds: SmallVec<Feed, 4>,
     output: Option<NetId>,
@@ -84,6 +85,7 @@ impl<'a> Model for ItemCell<'a> {
 
     ghost view = { λ c. record {
       kind = c.kind;
+      keeps = c.keeps;
       name = bytes_of c.name;
       feeds = c.feeds.items;
       output = c.output;
@@ -94,12 +96,14 @@ impl<'a> ItemCell<'a> {
     /// A cell of these parts.
     pub fn new(
         kind: Kind,
+        keeps: bool,
         name: Option<&'a [u8]>,
         feeds: SmallVec<Feed, 4>,
         output: Option<NetId>,
     ) -> ItemCell<'a>
         ensures { result ≡ record {
           kind = kind;
+          keeps = keeps;
           name = bytes_of name.entry;
           feeds = feeds.items;
           output = output;
@@ -107,6 +111,7 @@ impl<'a> ItemCell<'a> {
     {
         ItemCell {
             kind,
+            keeps,
             name,
             feeds,
             output,
@@ -118,6 +123,13 @@ impl<'a> ItemCell<'a> {
         ensures { result ≡ self.now.kind }
     {
         self.kind
+    }
+
+    /// Whether the cell keeps a value.
+    pub fn keeps(&self) -> bool
+        ensures { result ≡ self.now.keeps }
+    {
+        self.keeps
     }
 
     /// The instance's name, where the text gives one.

@@ -22,7 +22,7 @@ use Rattle.verilog_tree.specs.IsTree.{IsTreeItem}
 use Rattle.cell_library.specs.declared.Kind.{Kind}
 use Rattle.cell_library.specs.declared.Kind.TheVariants.{Buf}
 use Rattle.cell_library.specs.Gates.{Takes}
-use Rattle.cell_library.proofs.PortLaws.{found_has_ports, takes_ports}
+use Rattle.cell_library.proofs.PortLaws.{found_takes}
 use Rattle.cell_library.specs.Library.{kind_named, operand_ports, output_port}
 use Rattle.netlist_model.specs.declared.Feed.TheVariants.{Const}
 use Rattle.netlist_model.specs.declared.What.{What}
@@ -36,6 +36,7 @@ use Rattle.link_model.specs.Faults.{too_many, gate_operands, operand_bits, link_
 use Rattle.link_model.specs.Fits.{FitsCell}
 use Rattle.link_names.specs.FitItems.{FitsBit, FitsOperand, FitsConnected, FitsLink, FitsItem}
 use Rattle.link_names.proofs.NetCounts.{net_fits}
+use Rattle.cell_library.specs.declared.listed.ListedCell.{ListedCell}
 
 -- no fault stands at these bits
 pub record AreBits (names : List (List ℕ × Declared)) (bits : List Bit) : Type 0 where
@@ -101,49 +102,49 @@ both_none : {X : Type 0} (a b : Option X) → a ≡ None → b ≡ None → or_e
 both_none None b h k = k
 both_none (Some x) b h k = absurd (cc)
 
-connected_wide : (names : List (List ℕ × Declared)) (i : Instance) (kind : Kind) (port : List ℕ) (o : Option Operand)
-    → link_width names i kind (record { port = port; operand = o }) ≡ None → first_in (at_bit wrong_width names) (option_map_or operand_bits o []) ≡ None
-connected_wide names i kind port None h = refl
-connected_wide names i kind port (Some (operand.Bit bit)) h = or_none_right (at_bit wrong_width names bit) h
-connected_wide names i kind port (Some (operand.Const value)) h = refl
+connected_wide : (library : List ListedCell) (names : List (List ℕ × Declared)) (i : Instance) (kind : Kind) (port : List ℕ) (o : Option Operand)
+    → link_width library names i kind (record { port = port; operand = o }) ≡ None → first_in (at_bit wrong_width names) (option_map_or operand_bits o []) ≡ None
+connected_wide library names i kind port None h = refl
+connected_wide library names i kind port (Some (operand.Bit bit)) h = or_none_right (at_bit wrong_width names bit) h
+connected_wide library names i kind port (Some (operand.Const value)) h = refl
 
-links_wide : (names : List (List ℕ × Declared)) (i : Instance) (kind : Kind) (links : List Link) → first_in (link_width names i kind) links ≡ None → first_in (at_bit wrong_width names) (flat_map link_bits links) ≡ None
-links_wide names i kind [] h = refl
-links_wide names i kind (l ∷ links) h =
-    let two = or_else-parts (link_width names i kind l) (first_in (link_width names i kind) links) h in
+links_wide : (library : List ListedCell) (names : List (List ℕ × Declared)) (i : Instance) (kind : Kind) (links : List Link) → first_in (link_width library names i kind) links ≡ None → first_in (at_bit wrong_width names) (flat_map link_bits links) ≡ None
+links_wide library names i kind [] h = refl
+links_wide library names i kind (l ∷ links) h =
+    let two = or_else-parts (link_width library names i kind l) (first_in (link_width library names i kind) links) h in
     first_in-append (at_bit wrong_width names) (link_bits l) (flat_map link_bits links)
-    ∙ both_none (first_in (at_bit wrong_width names) (link_bits l)) (first_in (at_bit wrong_width names) (flat_map link_bits links)) (connected_wide names i kind l.port l.operand two.0) (links_wide names i kind links two.1)
+    ∙ both_none (first_in (at_bit wrong_width names) (link_bits l)) (first_in (at_bit wrong_width names) (flat_map link_bits links)) (connected_wide library names i kind l.port l.operand two.0) (links_wide library names i kind links two.1)
 
 -- Items.
 
 -- no fault stands at an item
-pub record IsSound (names : List (List ℕ × Declared)) (i : Item) : Type 0 where
+pub record IsSound (library : List ListedCell) (names : List (List ℕ × Declared)) (i : Item) : Type 0 where
   pub named : first_in (at_bit name_unknown names) (item_bits i) ≡ None
   pub within : first_in (at_bit bit_outside names) (item_bits i) ≡ None
-  pub cell : cell_unknown i ≡ None
-  pub wide : item_width names i ≡ None
+  pub cell : cell_unknown library i ≡ None
+  pub wide : item_width library names i ≡ None
 
 driver_bits : (names : List (List ℕ × Declared)) (bit : Bit) (bits : List Bit) → first_in (at_bit name_unknown names) (bit ∷ bits) ≡ None → first_in (at_bit bit_outside names) (bit ∷ bits) ≡ None
     → first_in (at_bit wrong_width names) (bit ∷ bits) ≡ None → AreBits names ((bit ∷ []) ++ bits)
 driver_bits names bit bits n w d = record { named = n; within = w; wide = d }
 
-known_kind : (i : Instance) (r : Option Kind) → kind_named i.cell ≡ r → cell_unknown (item.Instance i) ≡ None → (kind : Kind) × (kind_named i.cell ≡ Some kind)
-known_kind i (Some kind) e h = (kind, e)
-known_kind i None e h = let there : Some (CellUnknown i.cell) ≡ None = sym (ap (λ (r : Option Kind). if is_none r then Some (CellUnknown i.cell) else None) e) ∙ h in absurd (cc)
+known_kind : (library : List ListedCell) (i : Instance) (r : Option Kind) → kind_named library i.cell ≡ r → cell_unknown library (item.Instance i) ≡ None → (kind : Kind) × (kind_named library i.cell ≡ Some kind)
+known_kind library i (Some kind) e h = (kind, e)
+known_kind library i None e h = let there : Some (CellUnknown i.cell) ≡ None = sym (ap (λ (r : Option Kind). if is_none r then Some (CellUnknown i.cell) else None) e) ∙ h in absurd (cc)
 
-pub item_fits : (nets : List NetDeclaration) (bound : ℕ) (i : Item) → bits_in nets ≤ bound → IsSound (names_from 0 nets) i → FitsItem bound (names_from 0 nets) i
-item_fits nets bound (item.Gate g) few h =
+pub item_fits : (library : List ListedCell) (nets : List NetDeclaration) (bound : ℕ) (i : Item) → bits_in nets ≤ bound → IsSound library (names_from 0 nets) i → FitsItem bound (names_from 0 nets) i
+item_fits library nets bound (item.Gate g) few h =
     let bits = driver_bits (names_from 0 nets) g.output (flat_map operand_bits g.inputs) h.named h.within h.wide in
     record {
       output = bit_fits nets bound g.output few (front_bits (names_from 0 nets) (g.output ∷ []) (flat_map operand_bits g.inputs) bits);
       inputs = operands_fit nets bound g.inputs few (back_bits (names_from 0 nets) (g.output ∷ []) (flat_map operand_bits g.inputs) bits);
     }
-item_fits nets bound (item.Instance i) few h =
+item_fits library nets bound (item.Instance i) few h =
     let names : List (List ℕ × Declared) = names_from 0 nets in
-    let k = known_kind i (kind_named i.cell) refl h.cell in
-    let wide : first_in (link_width names i k.0) i.links ≡ None = sym (ap (option_and_then (λ kind. first_in (link_width names i kind) i.links)) k.1) ∙ h.wide in
-    links_fit nets bound i.links few (record { named = h.named; within = h.within; wide = links_wide names i k.0 i.links wide })
-item_fits nets bound (item.Assign output input) few h =
+    let k = known_kind library i (kind_named library i.cell) refl h.cell in
+    let wide : first_in (link_width library names i k.0) i.links ≡ None = sym (ap (option_and_then (λ kind. first_in (link_width library names i kind) i.links)) k.1) ∙ h.wide in
+    links_fit nets bound i.links few (record { named = h.named; within = h.within; wide = links_wide library names i k.0 i.links wide })
+item_fits library nets bound (item.Assign output input) few h =
     let bits = driver_bits (names_from 0 nets) output (operand_bits input) h.named h.within h.wide in (
       bit_fits nets bound output few (front_bits (names_from 0 nets) (output ∷ []) (operand_bits input) bits),
       operand_fits nets bound input few (back_bits (names_from 0 nets) (output ∷ []) (operand_bits input) bits),
@@ -194,36 +195,36 @@ output_below : (nets : ℕ) (names : List (List ℕ × Declared)) (links : List 
 output_below nets names links None h = tt
 output_below nets names links (Some port) h = connected_net nets names (linked_operand links port) (linked_connected nets names links port h)
 
-gate_takes : (kind : GateKind) (n : ℕ) → IsTrue (takes_inputs kind n) → 0 < n → n ≤ 256 → Takes (kind_of_gate kind) n
-gate_takes gate.And n t some most = (omega arith, most)
-gate_takes gate.Or n t some most = (omega arith, most)
-gate_takes gate.Nand n t some most = (omega arith, most)
-gate_takes gate.Nor n t some most = (omega arith, most)
-gate_takes gate.Xor n t some most = (omega arith, most)
-gate_takes gate.Xnor n t some most = (omega arith, most)
-gate_takes gate.Buf n t some most = grind (arith, nat_tests, t)
-gate_takes gate.Not n t some most = grind (arith, nat_tests, t)
-gate_takes gate.Bufif0 n t some most = grind (arith, nat_tests, t)
-gate_takes gate.Bufif1 n t some most = grind (arith, nat_tests, t)
+gate_takes : (library : List ListedCell) (kind : GateKind) (n : ℕ) → IsTrue (takes_inputs kind n) → 0 < n → n ≤ 256 → Takes library (kind_of_gate kind) n
+gate_takes library gate.And n t some most = (omega arith, most)
+gate_takes library gate.Or n t some most = (omega arith, most)
+gate_takes library gate.Nand n t some most = (omega arith, most)
+gate_takes library gate.Nor n t some most = (omega arith, most)
+gate_takes library gate.Xor n t some most = (omega arith, most)
+gate_takes library gate.Xnor n t some most = (omega arith, most)
+gate_takes library gate.Buf n t some most = grind (arith, nat_tests, t)
+gate_takes library gate.Not n t some most = grind (arith, nat_tests, t)
+gate_takes library gate.Bufif0 n t some most = grind (arith, nat_tests, t)
+gate_takes library gate.Bufif1 n t some most = grind (arith, nat_tests, t)
 
 pub within_limit : (things : What) (limit n : ℕ) → too_many things limit n ≡ None → n ≤ limit
 within_limit things limit n h = grind (arith, nat_tests, h)
 
-pub cell_fits : (nets : ℕ) (names : List (List ℕ × Declared)) (i : Item) → IsTreeItem i → cell_unknown i ≡ None → too_many Operands 256 (gate_operands i) ≡ None → FitsItem nets names i → FitsCell nets (cell_of names i)
-cell_fits nets names (item.Gate g) tree cell few h = record {
-  count = subst (Takes (kind_of_gate g.kind)) (sym (length-map g.inputs (feed_of names))) (gate_takes g.kind (length g.inputs) tree.takes tree.reads (within_limit Operands 256 (length g.inputs) few));
+pub cell_fits : (library : List ListedCell) (nets : ℕ) (names : List (List ℕ × Declared)) (i : Item) → IsTreeItem i → cell_unknown library i ≡ None → too_many Operands 256 (gate_operands i) ≡ None → FitsItem nets names i → FitsCell library nets (cell_of library names i)
+cell_fits library nets names (item.Gate g) tree cell few h = record {
+  count = subst (Takes library (kind_of_gate g.kind)) (sym (length-map g.inputs (feed_of names))) (gate_takes library g.kind (length g.inputs) tree.takes tree.reads (within_limit Operands 256 (length g.inputs) few));
   feeds = feeds_below nets names g.inputs h.inputs;
   output = h.output;
 }
-cell_fits nets names (item.Instance i) tree cell few h =
-    let k = known_kind i (kind_named i.cell) refl cell in
-    let fits : FitsCell nets (library_cell names i k.0) = record {
-      count = subst (Takes k.0) (sym (length-map (operand_ports k.0) (port_feed names i.links))) (takes_ports k.0 (found_has_ports i.cell k.0 k.1));
-      feeds = port_feeds_below nets names i.links (operand_ports k.0) h;
-      output = output_below nets names i.links (output_port k.0) h;
+cell_fits library nets names (item.Instance i) tree cell few h =
+    let k = known_kind library i (kind_named library i.cell) refl cell in
+    let fits : FitsCell library nets (library_cell library names i k.0) = record {
+      count = subst (Takes library k.0) (sym (length-map (operand_ports library k.0) (port_feed names i.links))) (found_takes library i.cell k.0 k.1);
+      feeds = port_feeds_below nets names i.links (operand_ports library k.0) h;
+      output = output_below nets names i.links (output_port library k.0) h;
     } in
-    subst (λ (r : Option Kind). FitsCell nets (library_cell names i (unwrap_or r Buf))) (sym k.1) fits
-cell_fits nets names (item.Assign output input) tree cell few h = record {
+    subst (λ (r : Option Kind). FitsCell library nets (library_cell library names i (unwrap_or r Buf))) (sym k.1) fits
+cell_fits library nets names (item.Assign output input) tree cell few h = record {
   count = refl;
   feeds = All-cons (IsFeedBelow nets) (feed_of names input) [] (feed_below nets names input h.1) (All-nil _);
   output = h.0;

@@ -1,4 +1,5 @@
 pub mod Tables
+pub mod Numbering
 pub mod Firsts
 pub mod Repeats
 pub mod NetCounts

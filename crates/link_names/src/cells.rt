@@ -1,15 +1,17 @@
 // The cells of items, by the table of what is declared.
-ghost use Rattle.std.specs.Prelude.{◌≡◌, ◌^◌, map, All, IfOk, option_and_then};
-ghost use Rattle.cell_library.specs.Library as library;
+ghost use Rattle.std.specs.Prelude.{◌≡◌, ◌^◌, [], map, All, IfOk, option_and_then};
+ghost use Rattle.cell_library.specs.Library as ports;
 ghost use Rattle.std.specs.Option.{option_copied};
 ghost use Rattle.link_model.specs.Nets.{net_of};
 ghost use Rattle.link_model.specs.Cells as model;
+ghost use Rattle.link_names.specs.Numbering.{HasNumbers};
 ghost use Rattle.link_names.specs.Views.{entries_of};
 ghost use Rattle.link_names.specs.FitItems.{FitsBit, FitsOperand, FitsLink, FitsGate, FitsItem};
 
+use crate::cell_numbers::kind_of;
 use crate::declarations::{Declaration, find};
 use crate::names::gate_name;
-use cell_library::{Kind, kind_of, operand_port, operand_port_count, output_port};
+use cell_library::{Kind, Library, is_flop, operand_port, operand_port_count, output_port};
 use indexmap::IndexMap;
 use link_model::ItemCell;
 use netlist_model::{Feed, NetId};
@@ -81,11 +83,12 @@ fn gate_cell<'a>(
 ) -> Result<ItemCell<'a>, OutOfMemory>
     requires { FitsGate (2 ^ 32) (entries_of table.now) gate.now }
     ensures { IfOk result (λ cell. cell
-        ≡ model.cell_of (entries_of table.now) (Item.Gate gate.now)) }
+        ≡ model.cell_of [] (entries_of table.now) (Item.Gate gate.now)) }
 {
     let feeds = feeds_of(alloc, table, gate.inputs.as_slice())?;
     Ok(ItemCell::new(
         kind_of_gate(gate.kind),
+        false,
         gate_name(gate),
         feeds,
         Some(net_number(table, &gate.output)),
@@ -136,27 +139,34 @@ fn port_net(table: &IndexMap<&[u8], Declaration>, links: &[Link], port: &[u8]) -
 
 fn port_feeds(
     alloc: Global,
+    library: &Library,
     table: &IndexMap<&[u8], Declaration>,
     links: &[Link],
     kind: Kind,
 ) -> Result<SmallVec<Feed, 4>, OutOfMemory>
     requires { All (FitsLink (2 ^ 32) (entries_of table.now)) links.now }
     ensures { IfOk result (λ feeds. feeds.items
-        ≡ map (model.port_feed (entries_of table.now) links.now) (library.operand_ports kind)) }
+        ≡ map (model.port_feed (entries_of table.now) links.now)
+        (ports.operand_ports library.now kind)) }
 {
     let mut feeds = SmallVec::new(alloc);
-    for place in 0..operand_port_count(kind) {
-        feeds.push(port_feed(table, links, operand_port(kind, place)))?;
+    for place in 0..operand_port_count(library, kind) {
+        feeds.push(port_feed(table, links, operand_port(library, kind, place)))?;
     }
     Ok(feeds)
 }
 
-fn output_net(table: &IndexMap<&[u8], Declaration>, links: &[Link], kind: Kind) -> Option<NetId>
+fn output_net(
+    library: &Library,
+    table: &IndexMap<&[u8], Declaration>,
+    links: &[Link],
+    kind: Kind,
+) -> Option<NetId>
     requires { All (FitsLink (2 ^ 32) (entries_of table.now)) links.now }
     ensures { result
-        ≡ option_and_then (model.port_net (entries_of table.now) links.now) (library.output_port kind) }
+        ≡ option_and_then (model.port_net (entries_of table.now) links.now) (ports.output_port library.now kind) }
 {
-    match output_port(kind) {
+    match output_port(library, kind) {
         Some(port) => port_net(table, links, port),
         None => None,
     }
@@ -164,21 +174,23 @@ fn output_net(table: &IndexMap<&[u8], Declaration>, links: &[Link], kind: Kind) 
 
 fn library_cell<'a>(
     alloc: Global,
+    library: &Library,
     table: &IndexMap<&[u8], Declaration>,
     instance: &'a Instance,
     kind: Kind,
 ) -> Result<ItemCell<'a>, OutOfMemory>
     requires { All (FitsLink (2 ^ 32) (entries_of table.now)) instance.now.links }
     ensures { IfOk result (λ cell. cell
-        ≡ model.library_cell (entries_of table.now) instance.now kind) }
+        ≡ model.library_cell library.now (entries_of table.now) instance.now kind) }
 {
     let links = instance.links.as_slice();
-    let feeds = port_feeds(alloc, table, links, kind)?;
+    let feeds = port_feeds(alloc, library, table, links, kind)?;
     Ok(ItemCell::new(
         kind,
+        is_flop(library, kind),
         Some(instance.name.as_bytes()),
         feeds,
-        output_net(table, links, kind),
+        output_net(library, table, links, kind),
     ))
 }
 
@@ -191,28 +203,37 @@ fn assign_cell<'a>(
     requires output { FitsBit (2 ^ 32) (entries_of table.now) output.now }
     requires input { FitsOperand (2 ^ 32) (entries_of table.now) input.now }
     ensures { IfOk result (λ cell. cell
-        ≡ model.cell_of (entries_of table.now) (Item.Assign output.now input.now)) }
+        ≡ model.cell_of [] (entries_of table.now) (Item.Assign output.now input.now)) }
 {
     let mut feeds = SmallVec::new(alloc);
     feeds.push(feed_of(table, input))?;
-    Ok(ItemCell::new(Kind::Assign, None, feeds, Some(net_number(table, output))))
+    Ok(ItemCell::new(
+        Kind::Assign,
+        false,
+        None,
+        feeds,
+        Some(net_number(table, output)),
+    ))
 }
 
 // An instance of no library cell, which is a fault, counts as a `buf`.
 fn cell_of<'a>(
     alloc: Global,
+    library: &Library,
+    numbers: &IndexMap<&[u8], u32>,
     table: &IndexMap<&[u8], Declaration>,
     item: &'a Item,
 ) -> Result<ItemCell<'a>, OutOfMemory>
-    requires { FitsItem (2 ^ 32) (entries_of table.now) item.now }
+    requires numbers { HasNumbers library.now numbers.now }
+    requires fits { FitsItem (2 ^ 32) (entries_of table.now) item.now }
     ensures { IfOk result (λ cell. cell
-        ≡ model.cell_of (entries_of table.now) item.now) }
+        ≡ model.cell_of library.now (entries_of table.now) item.now) }
 {
     match item {
         Item::Gate(gate) => gate_cell(alloc, table, gate),
         Item::Instance(instance) => {
-            let kind = kind_of(instance.cell.as_bytes()).unwrap_or(Kind::Buf);
-            library_cell(alloc, table, instance, kind)
+            let kind = kind_of(library, numbers, instance.cell.as_bytes()).unwrap_or(Kind::Buf);
+            library_cell(alloc, library, table, instance, kind)
         }
         Item::Assign { output, input } => assign_cell(alloc, table, output, input),
     }
@@ -221,16 +242,19 @@ fn cell_of<'a>(
 /// The cells in order. Item i gives cell i.
 pub fn cells_of<'a>(
     alloc: Global,
+    library: &Library,
+    numbers: &IndexMap<&[u8], u32>,
     table: &IndexMap<&[u8], Declaration>,
     items: &'a [Item],
 ) -> Result<Vec<ItemCell<'a>>, OutOfMemory>
-    requires { All (FitsItem (2 ^ 32) (entries_of table.now)) items.now }
+    requires numbers { HasNumbers library.now numbers.now }
+    requires fits { All (FitsItem (2 ^ 32) (entries_of table.now)) items.now }
     ensures { IfOk result (λ cells. cells.items
-        ≡ map (model.cell_of (entries_of table.now)) items.now) }
+        ≡ map (model.cell_of library.now (entries_of table.now)) items.now) }
 {
     let mut cells = Vec::new(alloc);
     for item in items {
-        cells.push(cell_of(alloc, table, item)?)?;
+        cells.push(cell_of(alloc, library, numbers, table, item)?)?;
     }
     Ok(cells)
 }

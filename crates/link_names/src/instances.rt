@@ -7,9 +7,12 @@ ghost use Rattle.verilog_tree.specs.declared.tree.Link.{Link};
 ghost use Rattle.link_model.specs.Lists.{first_in, repeated};
 ghost use Rattle.link_model.specs.Cells.{bytes_of};
 ghost use Rattle.link_model.specs.Faults as text;
+ghost use Rattle.link_names.specs.Numbering.{HasNumbers};
 ghost use Rattle.link_names.specs.Tests.{unknown_port, missing_port, port_linked_twice, port_test, instance_faults_in};
 
-use cell_library::{Kind, kind_of, operand_port, operand_port_count, port_of};
+use crate::cell_numbers::kind_of;
+use cell_library::{Kind, Library, operand_port, operand_port_count, port_of};
+use indexmap::IndexMap;
 use link_model::LinkFault;
 use std::alloc::Global;
 use texts::{OutOfMemory, Text};
@@ -23,12 +26,18 @@ pub enum PortTest {
     PortTwice,
 }
 
-fn find_cell_unknown(alloc: Global, items: &[Item]) -> Result<Option<LinkFault>, OutOfMemory>
-    ensures { IfOk result (λ fault. fault ≡ first_in text.cell_unknown items.now) }
+fn find_cell_unknown(
+    alloc: Global,
+    library: &Library,
+    numbers: &IndexMap<&[u8], u32>,
+    items: &[Item],
+) -> Result<Option<LinkFault>, OutOfMemory>
+    requires numbers { HasNumbers library.now numbers.now }
+    ensures { IfOk result (λ fault. fault ≡ first_in (text.cell_unknown library.now) items.now) }
 {
     for item in items {
         if let Item::Instance(instance) = item {
-            if kind_of(instance.cell.as_bytes()).is_none() {
+            if kind_of(library, numbers, instance.cell.as_bytes()).is_none() {
                 let name = Text::from_bytes(alloc, instance.cell.as_bytes())?;
                 return Ok(Some(LinkFault::CellUnknown { name }));
             }
@@ -39,14 +48,15 @@ fn find_cell_unknown(alloc: Global, items: &[Item]) -> Result<Option<LinkFault>,
 
 fn find_port_unknown(
     alloc: Global,
+    library: &Library,
     name: &[u8],
     links: &[Link],
     kind: Kind,
 ) -> Result<Option<LinkFault>, OutOfMemory>
-    ensures { IfOk result (λ fault. fault ≡ unknown_port name.now kind links.now) }
+    ensures { IfOk result (λ fault. fault ≡ unknown_port library.now name.now kind links.now) }
 {
     for link in links {
-        if port_of(kind, link.port.as_bytes()).is_none() {
+        if port_of(library, kind, link.port.as_bytes()).is_none() {
             let instance = Text::from_bytes(alloc, name)?;
             let port = Text::from_bytes(alloc, link.port.as_bytes())?;
             return Ok(Some(LinkFault::PortUnknown { instance, port }));
@@ -76,14 +86,16 @@ fn is_connected(links: &[Link], port: &[u8]) -> bool
 
 fn find_port_missing(
     alloc: Global,
+    library: &Library,
     name: &[u8],
     links: &[Link],
     kind: Kind,
 ) -> Result<Option<LinkFault>, OutOfMemory>
-    ensures { IfOk result (λ fault. fault ≡ missing_port name.now links.now (operand_ports kind)) }
+    ensures { IfOk result (λ fault. fault ≡ missing_port name.now links.now
+        (operand_ports library.now kind)) }
 {
-    for place in 0..operand_port_count(kind) {
-        let port = operand_port(kind, place);
+    for place in 0..operand_port_count(library, kind) {
+        let port = operand_port(library, kind, place);
         if !is_connected(links, port) {
             let instance = Text::from_bytes(alloc, name)?;
             let port = Text::from_bytes(alloc, port)?;
@@ -126,42 +138,55 @@ fn find_port_twice(
 
 fn check_instance(
     alloc: Global,
+    library: &Library,
     test: PortTest,
     instance: &Instance,
     kind: Kind,
 ) -> Result<Option<LinkFault>, OutOfMemory>
-    ensures { IfOk result (λ fault. fault ≡ port_test test instance.now kind) }
+    ensures { IfOk result (λ fault. fault ≡ port_test library.now test instance.now kind) }
 {
     let name = instance.name.as_bytes();
     let links = instance.links.as_slice();
     match test {
-        PortTest::PortUnknown => find_port_unknown(alloc, name, links, kind),
-        PortTest::PortMissing => find_port_missing(alloc, name, links, kind),
+        PortTest::PortUnknown => find_port_unknown(alloc, library, name, links, kind),
+        PortTest::PortMissing => find_port_missing(alloc, library, name, links, kind),
         PortTest::PortTwice => find_port_twice(alloc, name, links),
     }
 }
 
-fn check_item(alloc: Global, test: PortTest, item: &Item) -> Result<Option<LinkFault>, OutOfMemory>
-    ensures { IfOk result (λ fault. fault ≡ text.at_instance (port_test test) item.now) }
+fn check_item(
+    alloc: Global,
+    library: &Library,
+    numbers: &IndexMap<&[u8], u32>,
+    test: PortTest,
+    item: &Item,
+) -> Result<Option<LinkFault>, OutOfMemory>
+    requires numbers { HasNumbers library.now numbers.now }
+    ensures { IfOk result (λ fault. fault
+        ≡ text.at_instance library.now (port_test library.now test) item.now) }
 {
     let Item::Instance(instance) = item else {
         return Ok(None);
     };
-    match kind_of(instance.cell.as_bytes()) {
-        Some(kind) => check_instance(alloc, test, instance, kind),
+    match kind_of(library, numbers, instance.cell.as_bytes()) {
+        Some(kind) => check_instance(alloc, library, test, instance, kind),
         None => Ok(None),
     }
 }
 
 fn find_port(
     alloc: Global,
+    library: &Library,
+    numbers: &IndexMap<&[u8], u32>,
     test: PortTest,
     items: &[Item],
 ) -> Result<Option<LinkFault>, OutOfMemory>
-    ensures { IfOk result (λ fault. fault ≡ first_in (text.at_instance (port_test test)) items.now) }
+    requires numbers { HasNumbers library.now numbers.now }
+    ensures { IfOk result (λ fault. fault
+        ≡ first_in (text.at_instance library.now (port_test library.now test)) items.now) }
 {
     for item in items {
-        match check_item(alloc, test, item)? {
+        match check_item(alloc, library, numbers, test, item)? {
             Some(fault) => return Ok(Some(fault)),
             None => {}
         }
@@ -170,20 +195,26 @@ fn find_port(
 }
 
 /// The first fault of the instances: of their cells, and then of their ports.
-pub fn find_instance_fault(alloc: Global, items: &[Item]) -> Result<Option<LinkFault>, OutOfMemory>
-    ensures { IfOk result (λ fault. fault ≡ instance_faults_in items.now) }
+pub fn find_instance_fault(
+    alloc: Global,
+    library: &Library,
+    numbers: &IndexMap<&[u8], u32>,
+    items: &[Item],
+) -> Result<Option<LinkFault>, OutOfMemory>
+    requires numbers { HasNumbers library.now numbers.now }
+    ensures { IfOk result (λ fault. fault ≡ instance_faults_in library.now items.now) }
 {
-    match find_cell_unknown(alloc, items)? {
+    match find_cell_unknown(alloc, library, numbers, items)? {
         Some(fault) => return Ok(Some(fault)),
         None => {}
     }
-    match find_port(alloc, PortTest::PortUnknown, items)? {
+    match find_port(alloc, library, numbers, PortTest::PortUnknown, items)? {
         Some(fault) => return Ok(Some(fault)),
         None => {}
     }
-    match find_port(alloc, PortTest::PortMissing, items)? {
+    match find_port(alloc, library, numbers, PortTest::PortMissing, items)? {
         Some(fault) => return Ok(Some(fault)),
         None => {}
     }
-    find_port(alloc, PortTest::PortTwice, items)
+    find_port(alloc, library, numbers, PortTest::PortTwice, items)
 }

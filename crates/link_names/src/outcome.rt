@@ -4,10 +4,12 @@ ghost use Rattle.verilog_tree.specs.IsTree.{IsTree};
 ghost use Rattle.link_model.specs.Nets.{declared_nets, declared_names, nets_in};
 ghost use Rattle.link_model.specs.Faults.{text_fault, cells_in};
 ghost use Rattle.link_model.specs.Fits.{FitCells};
+ghost use Rattle.link_names.specs.Numbering.{HasNumbers};
 ghost use Rattle.link_names.specs.Views.{net_views, entries_of};
 ghost use Rattle.link_names.specs.Resolving.{head_fault, bit_fault, item_fault, IsResolved, IsOutcome};
 
 use crate::bits::{BitTest, find_bit};
+use crate::cell_numbers::numbers_of;
 use crate::cells::cells_of;
 use crate::counts::find_too_many;
 use crate::declarations::{Declaration, declare};
@@ -16,6 +18,7 @@ use crate::names::find_name_twice;
 use crate::net_bits::nets_of;
 use crate::nets::{Net, gather_nets};
 use crate::widths::find_width;
+use cell_library::Library;
 use indexmap::IndexMap;
 use link_model::{ItemCell, LinkFault, NetBit};
 use std::alloc::Global;
@@ -55,82 +58,95 @@ fn find_bit_fault(
 
 fn find_item_fault(
     alloc: Global,
+    library: &Library,
+    numbers: &IndexMap<&[u8], u32>,
     table: &IndexMap<&[u8], Declaration>,
     items: &[Item],
 ) -> Result<Option<LinkFault>, OutOfMemory>
-    ensures { IfOk result (λ fault. fault ≡ item_fault (entries_of table.now) items.now) }
+    requires numbers { HasNumbers library.now numbers.now }
+    ensures { IfOk result (λ fault. fault ≡ item_fault library.now (entries_of table.now) items.now) }
 {
     match find_bit_fault(alloc, table, items)? {
         Some(fault) => return Ok(Some(fault)),
         None => {}
     }
-    match find_instance_fault(alloc, items)? {
+    match find_instance_fault(alloc, library, numbers, items)? {
         Some(fault) => return Ok(Some(fault)),
         None => {}
     }
-    find_width(alloc, table, items)
+    find_width(alloc, library, numbers, table, items)
 }
 
 fn build<'a>(
     alloc: Global,
+    library: &Library,
+    numbers: &IndexMap<&[u8], u32>,
     tree: &'a Module,
     declarations: &[Net<'a>],
     table: &IndexMap<&[u8], Declaration>,
 ) -> Result<Resolved<'a>, OutOfMemory>
+    requires numbers { HasNumbers library.now numbers.now }
     requires tree { IsTree tree.now }
     requires nets { net_views declarations.now ≡ declared_nets tree.now }
     requires names { entries_of table.now ≡ declared_names tree.now }
-    requires clear { text_fault tree.now ≡ None }
-    ensures { IfOk result (IsResolved tree.now) }
+    requires clear { text_fault library.now tree.now ≡ None }
+    ensures { IfOk result (IsResolved library.now tree.now) }
 {
     let nets = nets_of(alloc, declarations)?;
-    let cells = cells_of(alloc, table, tree.items.as_slice())?;
+    let cells = cells_of(alloc, library, numbers, table, tree.items.as_slice())?;
     Ok(Resolved { nets, cells })
 }
 
 fn resolve_items<'a>(
     alloc: Global,
+    library: &Library,
     tree: &'a Module,
     declarations: &[Net<'a>],
 ) -> Result<Result<Resolved<'a>, LinkFault>, OutOfMemory>
     requires tree { IsTree tree.now }
     requires nets { net_views declarations.now ≡ declared_nets tree.now }
     requires head { head_fault tree.now ≡ None }
-    ensures { IfOk result (IsOutcome tree.now) }
+    ensures { IfOk result (IsOutcome library.now tree.now) }
 {
     let table = declare(alloc, declarations)?;
-    match find_item_fault(alloc, &table, tree.items.as_slice())? {
+    let numbers = numbers_of(alloc, library)?;
+    match find_item_fault(alloc, library, &numbers, &table, tree.items.as_slice())? {
         Some(fault) => Ok(Err(fault)),
-        None => Ok(Ok(build(alloc, tree, declarations, &table)?)),
+        None => Ok(Ok(build(alloc, library, &numbers, tree, declarations, &table)?)),
     }
 }
 
 fn resolve_or_refuse<'a>(
     alloc: Global,
+    library: &Library,
     tree: &'a Module,
 ) -> Result<Result<Resolved<'a>, LinkFault>, OutOfMemory>
     requires { IsTree tree.now }
-    ensures { IfOk result (IsOutcome tree.now) }
+    ensures { IfOk result (IsOutcome library.now tree.now) }
 {
     match find_head_fault(alloc, tree)? {
         Some(fault) => return Ok(Err(fault)),
         None => {}
     }
     let declarations = gather_nets(alloc, tree)?;
-    resolve_items(alloc, tree, &declarations)
+    resolve_items(alloc, library, tree, &declarations)
 }
 
 /// The nets and cells of a module, or the first fault of counts, names, bits, instances and widths.
-pub fn resolve<'a>(alloc: Global, tree: &'a Module) -> Result<Resolved<'a>, LinkFault>
+pub fn resolve<'a>(
+    alloc: Global,
+    library: &Library,
+    tree: &'a Module,
+) -> Result<Resolved<'a>, LinkFault>
     requires { IsTree tree.now }
-    ensures clear { IfOk result (λ r. text_fault tree.now ≡ None) }
+    ensures clear { IfOk result (λ r. text_fault library.now tree.now ≡ None) }
     ensures nets { IfOk result (λ r. r.nets.items ≡ nets_in (declared_nets tree.now)) }
-    ensures cells { IfOk result (λ r. r.cells.items ≡ cells_in tree.now) }
-    ensures fits { IfOk result (λ r. FitCells (length r.nets.items) r.cells.items) }
+    ensures cells { IfOk result (λ r. r.cells.items ≡ cells_in library.now tree.now) }
+    ensures fits { IfOk result (λ r. FitCells library.now (length r.nets.items) r.cells.items) }
     ensures fault { IfErr result (λ f. f ≢ LinkFault.OutOfMemory
-        → text_fault tree.now ≡ Some f) }
+        → text_fault library.now tree.now ≡ Some f) }
 {
-    match resolve_or_refuse(alloc, tree) {
+    match resolve_or_refuse(alloc, library, tree) {
         Ok(outcome) => outcome,
         Err(OutOfMemory) => Err(LinkFault::OutOfMemory),
     }

@@ -2,11 +2,13 @@
 ghost use Rattle.std.specs.Prelude.{◌≡◌, IfOk};
 ghost use Rattle.link_model.specs.Lists.{first_in};
 ghost use Rattle.link_model.specs.Faults.{link_width, item_width};
+ghost use Rattle.link_names.specs.Numbering.{HasNumbers};
 ghost use Rattle.link_names.specs.Views.{entries_of};
 
 use crate::bits::{BitTest, check_bit, check_item};
+use crate::cell_numbers::kind_of;
 use crate::declarations::Declaration;
-use cell_library::{Kind, PortPlace, kind_of, port_of};
+use cell_library::{Kind, Library, PortPlace, port_of};
 use indexmap::IndexMap;
 use link_model::LinkFault;
 use std::alloc::Global;
@@ -15,17 +17,18 @@ use verilog_tree::{Instance, Item, Link, Operand};
 
 fn check_link(
     alloc: Global,
+    library: &Library,
     table: &IndexMap<&[u8], Declaration>,
     instance: &Instance,
     kind: Kind,
     link: &Link,
 ) -> Result<Option<LinkFault>, OutOfMemory>
     ensures { IfOk result (λ fault. fault
-        ≡ link_width (entries_of table.now) instance.now kind link.now) }
+        ≡ link_width library.now (entries_of table.now) instance.now kind link.now) }
 {
     match &link.operand {
         Some(Operand::Bit(bit)) => check_bit(alloc, table, BitTest::WrongWidth, bit),
-        Some(Operand::Const(_)) => match port_of(kind, link.port.as_bytes()) {
+        Some(Operand::Const(_)) => match port_of(library, kind, link.port.as_bytes()) {
             Some(PortPlace::Output) => Ok(Some(LinkFault::WrongWidth {
                 name: Text::from_bytes(alloc, instance.name.as_bytes())?,
             })),
@@ -37,16 +40,17 @@ fn check_link(
 
 fn check_links(
     alloc: Global,
+    library: &Library,
     table: &IndexMap<&[u8], Declaration>,
     instance: &Instance,
     kind: Kind,
     links: &[Link],
 ) -> Result<Option<LinkFault>, OutOfMemory>
     ensures { IfOk result (λ fault. fault
-        ≡ first_in (link_width (entries_of table.now) instance.now kind) links.now) }
+        ≡ first_in (link_width library.now (entries_of table.now) instance.now kind) links.now) }
 {
     for link in links {
-        match check_link(alloc, table, instance, kind, link)? {
+        match check_link(alloc, library, table, instance, kind, link)? {
             Some(fault) => return Ok(Some(fault)),
             None => {}
         }
@@ -56,16 +60,26 @@ fn check_links(
 
 fn check_width(
     alloc: Global,
+    library: &Library,
+    numbers: &IndexMap<&[u8], u32>,
     table: &IndexMap<&[u8], Declaration>,
     item: &Item,
 ) -> Result<Option<LinkFault>, OutOfMemory>
-    ensures { IfOk result (λ fault. fault ≡ item_width (entries_of table.now) item.now) }
+    requires numbers { HasNumbers library.now numbers.now }
+    ensures { IfOk result (λ fault. fault ≡ item_width library.now (entries_of table.now) item.now) }
 {
     let Item::Instance(instance) = item else {
         return check_item(alloc, table, BitTest::WrongWidth, item);
     };
-    match kind_of(instance.cell.as_bytes()) {
-        Some(kind) => check_links(alloc, table, instance, kind, instance.links.as_slice()),
+    match kind_of(library, numbers, instance.cell.as_bytes()) {
+        Some(kind) => check_links(
+            alloc,
+            library,
+            table,
+            instance,
+            kind,
+            instance.links.as_slice(),
+        ),
         None => Ok(None),
     }
 }
@@ -73,13 +87,17 @@ fn check_width(
 /// The first fault of width in the items.
 pub fn find_width(
     alloc: Global,
+    library: &Library,
+    numbers: &IndexMap<&[u8], u32>,
     table: &IndexMap<&[u8], Declaration>,
     items: &[Item],
 ) -> Result<Option<LinkFault>, OutOfMemory>
-    ensures { IfOk result (λ fault. fault ≡ first_in (item_width (entries_of table.now)) items.now) }
+    requires numbers { HasNumbers library.now numbers.now }
+    ensures { IfOk result (λ fault. fault
+        ≡ first_in (item_width library.now (entries_of table.now)) items.now) }
 {
     for item in items {
-        match check_width(alloc, table, item)? {
+        match check_width(alloc, library, numbers, table, item)? {
             Some(fault) => return Ok(Some(fault)),
             None => {}
         }

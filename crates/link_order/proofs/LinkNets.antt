@@ -10,6 +10,7 @@ use Rattle.std.proofs.lemmas.List.Quantifiers.{position-Some}
 use Rattle.std.proofs.lemmas.Option.{slice_get-map, slice_get-get_or, none-some, same_Some}
 use Rattle.list_laws.proofs.Options.{or_else-parts, first_in-at, not_there}
 use Rattle.list_laws.proofs.Bytes.{bytes_eq-same}
+use Rattle.cell_library.specs.declared.listed.ListedCell.{ListedCell}
 use Rattle.cell_library.specs.declared.Kind.{Kind}
 use Rattle.cell_library.specs.declared.Kind.TheVariants as kind
 use Rattle.cell_library.specs.declared.PortPlace.{PortPlace}
@@ -131,24 +132,24 @@ linked_once i kind k l once here = ap (option_and_then (λ (m : Link). m.operand
     unmapped (Some name) e = absurd (none-some (fault.PortTwice i.name name) (sym e))
 
 -- the port that stands at a place of the operands
-port_at : (kind : Kind) (name : List ℕ) (number : ℕ) → port_named kind name ≡ Some (place.Input number) → slice_get (operand_ports kind) number ≡ Some name
-port_at kind name number e = by (option_map_or (λ (port : List ℕ). bytes_eq name port) (output_port kind) false) refl
+port_at : (library : List ListedCell) (kind : Kind) (name : List ℕ) (number : ℕ) → port_named library kind name ≡ Some (place.Input number) → slice_get (operand_ports library kind) number ≡ Some name
+port_at library kind name number e = by (option_map_or (λ (port : List ℕ). bytes_eq name port) (output_port library kind) false) refl
   where
     placed : Bool → Option PortPlace
-    placed b = if b then Some place.Output else option_map (λ (n : ℕ). place.Input n) (position (λ (port : List ℕ). bytes_eq name port) (operand_ports kind))
+    placed b = if b then Some place.Output else option_map (λ (n : ℕ). place.Input n) (position (λ (port : List ℕ). bytes_eq name port) (operand_ports library kind))
 
-    at : (o : Option ℕ) → position (λ (port : List ℕ). bytes_eq name port) (operand_ports kind) ≡ o → option_map (λ (n : ℕ). place.Input n) o ≡ Some (place.Input number) → slice_get (operand_ports kind) number ≡ Some name
+    at : (o : Option ℕ) → position (λ (port : List ℕ). bytes_eq name port) (operand_ports library kind) ≡ o → option_map (λ (n : ℕ). place.Input n) o ≡ Some (place.Input number) → slice_get (operand_ports library kind) number ≡ Some name
     at None f g = absurd (none-some (place.Input number) g)
     at (Some n) f g =
         let ports : place.Input n ≡ place.Input number = same_Some (place.Input n) (place.Input number) g in
         let same : n ≡ number = cc in
-        let found = position-Some (λ (port : List ℕ). bytes_eq name port) (operand_ports kind) n name f in
-        let named : name ≡ get_or (operand_ports kind) n name = (bytes_decides name (get_or (operand_ports kind) n name)).0 found.1 in
-        ap (slice_get (operand_ports kind)) (sym same) ∙ slice_get-get_or (operand_ports kind) n name found.0 ∙ ap (λ (x : List ℕ). Some x) (sym named)
+        let found = position-Some (λ (port : List ℕ). bytes_eq name port) (operand_ports library kind) n name f in
+        let named : name ≡ get_or (operand_ports library kind) n name = (bytes_decides name (get_or (operand_ports library kind) n name)).0 found.1 in
+        ap (slice_get (operand_ports library kind)) (sym same) ∙ slice_get-get_or (operand_ports library kind) n name found.0 ∙ ap (λ (x : List ℕ). Some x) (sym named)
 
-    by : (b : Bool) → option_map_or (λ (port : List ℕ). bytes_eq name port) (output_port kind) false ≡ b → slice_get (operand_ports kind) number ≡ Some name
+    by : (b : Bool) → option_map_or (λ (port : List ℕ). bytes_eq name port) (output_port library kind) false ≡ b → slice_get (operand_ports library kind) number ≡ Some name
     by true f = let ports : place.Output ≡ place.Input number = same_Some place.Output (place.Input number) (sym (ap placed f) ∙ e) in absurd (cc)
-    by false f = at (position (λ (port : List ℕ). bytes_eq name port) (operand_ports kind)) refl (sym (ap placed f) ∙ e)
+    by false f = at (position (λ (port : List ℕ). bytes_eq name port) (operand_ports library kind)) refl (sym (ap placed f) ∙ e)
 
 -- Links, items and modules.
 
@@ -163,7 +164,7 @@ link_pair link = (link.flop, link.net)
 abbrev pub is_found_link : List (Option ℕ) → List Bool → ControlLink → Bool
 is_found_link drivers found link = is_found_net drivers found link.net
 
-module _ (drivers : List (Option ℕ)) (found : List Bool) (names : List (List ℕ × Declared)) where
+module _ (library : List ListedCell) (drivers : List (Option ℕ)) (found : List Bool) (names : List (List ℕ × Declared)) where
   bit_pair : (flop : List ℕ) (net : ℕ) (b : Bool) → option_map (λ (n : ℕ). (flop, n)) (if b then Some net else None) ≡ option_map link_pair (cond b (Some (record { flop = flop; net = net })) None)
   bit_pair flop net true = refl
   bit_pair flop net false = refl
@@ -175,79 +176,79 @@ module _ (drivers : List (Option ℕ)) (found : List Bool) (names : List (List �
   operand_pair flop (Some (operand.Bit bit)) = bit_pair flop (net_of names bit).0 (is_found_net drivers found (net_of names bit).0)
 
   -- the operand of a port is that of its link
-  port_operand : (i : Instance) (kind : Kind) (l : Link) (number : ℕ) → port_named kind l.port ≡ Some (place.Input number) → linked_operand i.links l.port ≡ l.operand
-      → operand_net (map (port_feed names i.links) (operand_ports kind)) number ≡ feed_net (unwrap_or (option_map (feed_of names) l.operand) (Const false))
+  port_operand : (i : Instance) (kind : Kind) (l : Link) (number : ℕ) → port_named library kind l.port ≡ Some (place.Input number) → linked_operand i.links l.port ≡ l.operand
+      → operand_net (map (port_feed names i.links) (operand_ports library kind)) number ≡ feed_net (unwrap_or (option_map (feed_of names) l.operand) (Const false))
   port_operand i kind l number named once =
-      ap (option_and_then feed_net) (slice_get-map (port_feed names i.links) (operand_ports kind) number ∙ ap (option_map (port_feed names i.links)) (port_at kind l.port number named))
+      ap (option_and_then feed_net) (slice_get-map (port_feed names i.links) (operand_ports library kind) number ∙ ap (option_map (port_feed names i.links)) (port_at library kind l.port number named))
       ∙ ap (λ (o : Option Operand). feed_net (unwrap_or (option_map (feed_of names) o) (Const false))) once
 
-  link_pair_of : (i : Instance) (kind : Kind) (l : Link) → is_flop kind ≡ true → linked_operand i.links l.port ≡ l.operand
-      → option_map (λ (n : ℕ). (i.name, n)) (found_link drivers found (library_cell names i kind) l) ≡ option_map link_pair (find (is_found_link drivers found) (if is_control_place (port_named kind l.port) then bit_links i.name names l.operand else []))
+  link_pair_of : (i : Instance) (kind : Kind) (l : Link) → is_flop library kind ≡ true → linked_operand i.links l.port ≡ l.operand
+      → option_map (λ (n : ℕ). (i.name, n)) (found_link library drivers found (library_cell library names i kind) l) ≡ option_map link_pair (find (is_found_link drivers found) (if is_control_place (port_named library kind l.port) then bit_links i.name names l.operand else []))
   link_pair_of i kind l flop once =
-      ap (λ (b : Bool). option_map (λ (n : ℕ). (i.name, n)) (option_and_then (found_net drivers found) (if b then placed_net (map (port_feed names i.links) (operand_ports kind)) (port_named kind l.port) else None))) flop
-      ∙ placed (port_named kind l.port) refl
+      ap (λ (b : Bool). option_map (λ (n : ℕ). (i.name, n)) (option_and_then (found_net drivers found) (if b then placed_net (map (port_feed names i.links) (operand_ports library kind)) (port_named library kind l.port) else None))) flop
+      ∙ placed (port_named library kind l.port) refl
     where
-      chosen : (number : ℕ) (b : Bool) → operand_net (map (port_feed names i.links) (operand_ports kind)) number ≡ feed_net (unwrap_or (option_map (feed_of names) l.operand) (Const false))
-          → option_map (λ (n : ℕ). (i.name, n)) (option_and_then (found_net drivers found) (if b then operand_net (map (port_feed names i.links) (operand_ports kind)) number else None))
+      chosen : (number : ℕ) (b : Bool) → operand_net (map (port_feed names i.links) (operand_ports library kind)) number ≡ feed_net (unwrap_or (option_map (feed_of names) l.operand) (Const false))
+          → option_map (λ (n : ℕ). (i.name, n)) (option_and_then (found_net drivers found) (if b then operand_net (map (port_feed names i.links) (operand_ports library kind)) number else None))
           ≡ option_map link_pair (find (is_found_link drivers found) (if b then bit_links i.name names l.operand else []))
       chosen number false e = refl
       chosen number true e = ap (λ (o : Option ℕ). option_map (λ (n : ℕ). (i.name, n)) (option_and_then (found_net drivers found) o)) e ∙ operand_pair i.name l.operand
 
-      placed : (o : Option PortPlace) → port_named kind l.port ≡ o
-          → option_map (λ (n : ℕ). (i.name, n)) (option_and_then (found_net drivers found) (placed_net (map (port_feed names i.links) (operand_ports kind)) o))
+      placed : (o : Option PortPlace) → port_named library kind l.port ≡ o
+          → option_map (λ (n : ℕ). (i.name, n)) (option_and_then (found_net drivers found) (placed_net (map (port_feed names i.links) (operand_ports library kind)) o))
           ≡ option_map link_pair (find (is_found_link drivers found) (if is_control_place o then bit_links i.name names l.operand else []))
       placed None e = refl
       placed (Some place.Output) e = refl
       placed (Some (place.Input number)) e = chosen number (number == 1 || number == 2) (port_operand i kind l number e once)
 
   -- a cell that is no flip-flop has no such link
-  gate_links : (i : Instance) (kind : Kind) → is_flop kind ≡ false → first_in (found_link drivers found (library_cell names i kind)) i.links ≡ None
-  gate_links i kind gate = first_in-none (found_link drivers found (library_cell names i kind)) i.links (λ l.
-      ap (λ (b : Bool). option_and_then (found_net drivers found) (if b then placed_net (map (port_feed names i.links) (operand_ports kind)) (port_named kind l.port) else None)) gate)
+  gate_links : (i : Instance) (kind : Kind) → is_flop library kind ≡ false → first_in (found_link library drivers found (library_cell library names i kind)) i.links ≡ None
+  gate_links i kind gate = first_in-none (found_link library drivers found (library_cell library names i kind)) i.links (λ l.
+      ap (λ (b : Bool). option_and_then (found_net drivers found) (if b then placed_net (map (port_feed names i.links) (operand_ports library kind)) (port_named library kind l.port) else None)) gate)
 
-  kind_pair : (i : Instance) (kind : Kind) (b : Bool) → is_flop kind ≡ b → port_twice i kind ≡ None
-      → option_map (λ (n : ℕ). (i.name, n)) (first_in (found_link drivers found (library_cell names i kind)) i.links) ≡ option_map link_pair (find (is_found_link drivers found) (flop_links names i (Some kind)))
+  kind_pair : (i : Instance) (kind : Kind) (b : Bool) → is_flop library kind ≡ b → port_twice i kind ≡ None
+      → option_map (λ (n : ℕ). (i.name, n)) (first_in (found_link library drivers found (library_cell library names i kind)) i.links) ≡ option_map link_pair (find (is_found_link drivers found) (flop_links library names i (Some kind)))
   kind_pair i kind false gate once =
       ap (option_map (λ (n : ℕ). (i.name, n))) (gate_links i kind gate)
-      ∙ sym (ap (λ (b : Bool). option_map link_pair (find (is_found_link drivers found) (if b then flat_map (λ (l : Link). if is_control_place (port_named kind l.port) then bit_links i.name names l.operand else []) i.links else []))) gate)
+      ∙ sym (ap (λ (b : Bool). option_map link_pair (find (is_found_link drivers found) (if b then flat_map (λ (l : Link). if is_control_place (port_named library kind l.port) then bit_links i.name names l.operand else []) i.links else []))) gate)
   kind_pair i kind true flop once =
-      first_in-map (λ (n : ℕ). (i.name, n)) (found_link drivers found (library_cell names i kind)) i.links
-      ∙ first_in-joined (is_found_link drivers found) link_pair (λ (l : Link). if is_control_place (port_named kind l.port) then bit_links i.name names l.operand else [])
-      (λ (l : Link). option_map (λ (n : ℕ). (i.name, n)) (found_link drivers found (library_cell names i kind) l)) i.links (λ k l here. link_pair_of i kind l flop (linked_once i kind k l once here))
-      ∙ sym (ap (λ (b : Bool). option_map link_pair (find (is_found_link drivers found) (if b then flat_map (λ (l : Link). if is_control_place (port_named kind l.port) then bit_links i.name names l.operand else []) i.links else []))) flop)
+      first_in-map (λ (n : ℕ). (i.name, n)) (found_link library drivers found (library_cell library names i kind)) i.links
+      ∙ first_in-joined (is_found_link drivers found) link_pair (λ (l : Link). if is_control_place (port_named library kind l.port) then bit_links i.name names l.operand else [])
+      (λ (l : Link). option_map (λ (n : ℕ). (i.name, n)) (found_link library drivers found (library_cell library names i kind) l)) i.links (λ k l here. link_pair_of i kind l flop (linked_once i kind k l once here))
+      ∙ sym (ap (λ (b : Bool). option_map link_pair (find (is_found_link drivers found) (if b then flat_map (λ (l : Link). if is_control_place (port_named library kind l.port) then bit_links i.name names l.operand else []) i.links else []))) flop)
 
-  item_pair : (x : Item) → at_instance port_twice x ≡ None → found_item drivers found names x ≡ option_map link_pair (find (is_found_link drivers found) (item_links names x))
+  item_pair : (x : Item) → at_instance library port_twice x ≡ None → found_item library drivers found names x ≡ option_map link_pair (find (is_found_link drivers found) (item_links library names x))
   item_pair (item.Gate g) once = refl
   item_pair (item.Assign output input) once = refl
-  item_pair (item.Instance i) once = by (kind_named i.cell) refl
+  item_pair (item.Instance i) once = by (kind_named library i.cell) refl
     where
-      by : (o : Option Kind) → kind_named i.cell ≡ o → found_item drivers found names (item.Instance i) ≡ option_map link_pair (find (is_found_link drivers found) (item_links names (item.Instance i)))
+      by : (o : Option Kind) → kind_named library i.cell ≡ o → found_item library drivers found names (item.Instance i) ≡ option_map link_pair (find (is_found_link drivers found) (item_links library names (item.Instance i)))
       by None e =
-          ap (λ (o : Option Kind). option_map (λ (n : ℕ). (i.name, n)) (first_in (found_link drivers found (library_cell names i (unwrap_or o kind.Buf))) i.links)) e
+          ap (λ (o : Option Kind). option_map (λ (n : ℕ). (i.name, n)) (first_in (found_link library drivers found (library_cell library names i (unwrap_or o kind.Buf))) i.links)) e
           ∙ ap (option_map (λ (n : ℕ). (i.name, n))) (gate_links i kind.Buf refl)
-          ∙ sym (ap (λ (o : Option Kind). option_map link_pair (find (is_found_link drivers found) (flop_links names i o))) e)
+          ∙ sym (ap (λ (o : Option Kind). option_map link_pair (find (is_found_link drivers found) (flop_links library names i o))) e)
       by (Some k) e =
-          ap (λ (o : Option Kind). option_map (λ (n : ℕ). (i.name, n)) (first_in (found_link drivers found (library_cell names i (unwrap_or o kind.Buf))) i.links)) e
-          ∙ kind_pair i k (is_flop k) refl (sym (ap (option_and_then (port_twice i)) e) ∙ once)
-          ∙ sym (ap (λ (o : Option Kind). option_map link_pair (find (is_found_link drivers found) (flop_links names i o))) e)
+          ap (λ (o : Option Kind). option_map (λ (n : ℕ). (i.name, n)) (first_in (found_link library drivers found (library_cell library names i (unwrap_or o kind.Buf))) i.links)) e
+          ∙ kind_pair i k (is_flop library k) refl (sym (ap (option_and_then (port_twice i)) e) ∙ once)
+          ∙ sym (ap (λ (o : Option Kind). option_map link_pair (find (is_found_link drivers found) (flop_links library names i o))) e)
 
 -- no port of an instance is linked twice
-pub linked_apart : (m : Module) → text_fault m ≡ None → (k : ℕ) (x : Item) → slice_get m.items k ≡ Some x → at_instance port_twice x ≡ None
-linked_apart m clear k x here =
-    let width : Option LinkFault = first_in (item_width (declared_names m)) m.items in
-    let twice : Option LinkFault = first_in (at_instance port_twice) m.items in
-    let missing : Option LinkFault = or_else (first_in (at_instance port_missing) m.items) twice in
-    let unknown : Option LinkFault = or_else (first_in (at_instance port_unknown) m.items) missing in
-    let after_count = or_else-parts (too_many_in m) (or_else (name_twice m) (or_else (bit_faults m) (or_else (instance_faults m) width))) clear in
-    let after_names = or_else-parts (name_twice m) (or_else (bit_faults m) (or_else (instance_faults m) width)) after_count.1 in
-    let after_bits = or_else-parts (bit_faults m) (or_else (instance_faults m) width) after_names.1 in
-    let instances = or_else-parts (instance_faults m) width after_bits.1 in
-    let after_cells = or_else-parts (first_in cell_unknown m.items) unknown instances.0 in
-    let after_unknown = or_else-parts (first_in (at_instance port_unknown) m.items) missing after_cells.1 in
-    let after_missing = or_else-parts (first_in (at_instance port_missing) m.items) twice after_unknown.1 in
-    first_in-at (at_instance port_twice) m.items k x after_missing.1 here
+pub linked_apart : (library : List ListedCell) (m : Module) → text_fault library m ≡ None → (k : ℕ) (x : Item) → slice_get m.items k ≡ Some x → at_instance library port_twice x ≡ None
+linked_apart library m clear k x here =
+    let width : Option LinkFault = first_in (item_width library (declared_names m)) m.items in
+    let twice : Option LinkFault = first_in (at_instance library port_twice) m.items in
+    let missing : Option LinkFault = or_else (first_in (at_instance library (port_missing library)) m.items) twice in
+    let unknown : Option LinkFault = or_else (first_in (at_instance library (port_unknown library)) m.items) missing in
+    let after_count = or_else-parts (too_many_in m) (or_else (name_twice m) (or_else (bit_faults m) (or_else (instance_faults library m) width))) clear in
+    let after_names = or_else-parts (name_twice m) (or_else (bit_faults m) (or_else (instance_faults library m) width)) after_count.1 in
+    let after_bits = or_else-parts (bit_faults m) (or_else (instance_faults library m) width) after_names.1 in
+    let instances = or_else-parts (instance_faults library m) width after_bits.1 in
+    let after_cells = or_else-parts (first_in (cell_unknown library) m.items) unknown instances.0 in
+    let after_unknown = or_else-parts (first_in (at_instance library (port_unknown library)) m.items) missing after_cells.1 in
+    let after_missing = or_else-parts (first_in (at_instance library (port_missing library)) m.items) twice after_unknown.1 in
+    first_in-at (at_instance library port_twice) m.items k x after_missing.1 here
 
-pub found_along : (m : Module) (drivers : List (Option ℕ)) (found : List Bool) → text_fault m ≡ None
-    → first_in (found_item drivers found (declared_names m)) m.items ≡ option_map link_pair (find (is_found_link drivers found) (control_links m))
-found_along m drivers found clear =
-    first_in-joined (is_found_link drivers found) link_pair (item_links (declared_names m)) (found_item drivers found (declared_names m)) m.items (λ k x here. item_pair drivers found (declared_names m) x (linked_apart m clear k x here))
+pub found_along : (library : List ListedCell) (m : Module) (drivers : List (Option ℕ)) (found : List Bool) → text_fault library m ≡ None
+    → first_in (found_item library drivers found (declared_names m)) m.items ≡ option_map link_pair (find (is_found_link drivers found) (control_links library m))
+found_along library m drivers found clear =
+    first_in-joined (is_found_link drivers found) link_pair (item_links library (declared_names m)) (found_item library drivers found (declared_names m)) m.items (λ k x here. item_pair library drivers found (declared_names m) x (linked_apart library m clear k x here))

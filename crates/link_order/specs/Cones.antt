@@ -1,7 +1,8 @@
 -- The nets in the cones of clocks, clears and presets.
 use Rattle.std.specs.Prelude.{◌≡◌, ℕ, ◌⊎◌, ◌||◌, Bool, true, false, List, slice_get, Some}
 use Rattle.std.specs.Option.{option_map_or}
-use Rattle.cell_library.specs.Gates.{is_flop}
+use Rattle.cell_library.specs.declared.listed.ListedCell.{ListedCell}
+use Rattle.cell_library.specs.Sound.{IsLibrary}
 use Rattle.netlist_model.specs.declared.Feed.TheVariants.{Net}
 use Rattle.netlist_model.specs.declared.NetId.{NetId}
 use Rattle.verilog_tree.specs.declared.tree.Module.{Module}
@@ -15,7 +16,7 @@ pub record FlopReads (cells : List NamedCell) (place net : ℕ) : Type 0 where
   pub number : ℕ
   pub cell : NamedCell
   pub there : slice_get cells number ≡ Some cell
-  pub flop : is_flop cell.kind ≡ true
+  pub flop : cell.keeps ≡ true
   pub operand : slice_get cell.feeds place ≡ Some (Net (record { 0 = net }))
 
 -- own: the net stands in the cone of a clock, clear or preset operand
@@ -30,8 +31,9 @@ drives_inout nets cell = option_map_or (λ (n : NetId). option_map_or (λ (net :
 
 -- own: the cell is a flip-flop, or drives an inout net
 abbrev pub is_state_cell : List NamedNet → NamedCell → Bool
-is_state_cell nets cell = is_flop cell.kind || drives_inout nets cell
+is_state_cell nets cell = cell.keeps || drives_inout nets cell
 
 -- own: where no link of a clock, clear or preset is derived, no such operand of a cell is
 abbrev pub ControlsAreLinks : Type 0
-ControlsAreLinks = (m : Module) → HasNoDerived m → (root : ℕ) → FlopReads (cells_in m) 1 root ⊎ FlopReads (cells_in m) 2 root → IsDerived (nets_in (declared_nets m)) (cells_in m) root → ⊥
+ControlsAreLinks = (library : List ListedCell) (m : Module) → IsLibrary library → HasNoDerived library m → (root : ℕ) → FlopReads (cells_in library m) 1 root ⊎ FlopReads (cells_in library m) 2 root
+    → IsDerived (nets_in (declared_nets m)) (cells_in library m) root → ⊥

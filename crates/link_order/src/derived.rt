@@ -1,6 +1,6 @@
 ghost use Rattle.std.specs.Prelude.{◌≡◌, ◌↔◌, ℕ, ◌<◌, None, Some, true, length, map, MatchOption, IfOk};
 ghost use Rattle.gate_order.specs.Cone.{Marked};
-ghost use Rattle.link_model.specs.Fits.{FitCells, FitsCell};
+ghost use Rattle.link_model.specs.Fits.{CellsBelow, IsCellBelow};
 ghost use Rattle.link_model.specs.Nets.{declared_nets, declared_names, nets_in};
 ghost use Rattle.link_model.specs.Faults.{bit_name, cells_in, text_fault};
 ghost use Rattle.link_model.specs.Late.{HasNoDerived, IsDerived};
@@ -13,7 +13,7 @@ ghost use Rattle.link_order.specs.Links.{control_net, found_link, found_net, is_
 
 use crate::drivers::operand_net;
 use crate::order::CellOrder;
-use cell_library::{PortPlace, is_flop, port_of};
+use cell_library::{Library, PortPlace, port_of};
 use gate_order::cones_holding;
 use link_model::{ItemCell, LinkFault, NetBit, is_inout};
 use std::alloc::Global;
@@ -23,26 +23,37 @@ use verilog_tree::{Item, Link, Module};
 /// The first clock, clear or preset in the text that has a flip-flop or an inout in its cone.
 pub fn find_derived(
     alloc: Global,
+    library: &Library,
     tree: &Module,
     nets: &[NetBit],
     cells: &[ItemCell],
     order: &CellOrder,
 ) -> Result<Option<LinkFault>, OutOfMemory>
     requires nets { nets.now ≡ nets_in (declared_nets tree.now) }
-    requires cells { cells.now ≡ cells_in tree.now }
-    requires fits { FitCells (length nets.now) cells.now }
-    requires text { text_fault tree.now ≡ None }
+    requires cells { cells.now ≡ cells_in library.now tree.now }
+    requires fits { CellsBelow (length nets.now) cells.now }
+    requires text { text_fault library.now tree.now ≡ None }
     requires drivers { HasItsDrivers nets.now cells.now }
     requires order { AreOrdered (length nets.now) cells.now order.now }
-    ensures { IfOk result (λ found. MatchOption found (HasNoDerived tree.now) (IsDerivedFault tree.now)) }
+    ensures { IfOk result (λ found. MatchOption found (HasNoDerived library.now tree.now)
+        (IsDerivedFault library.now tree.now)) }
 {
     let found = cones_of_state(alloc, nets, cells, order)?;
-    first_derived(alloc, tree, nets, cells, order.drivers(), found.as_slice())
+    first_derived(
+        alloc,
+        library,
+        tree,
+        nets,
+        cells,
+        order.drivers(),
+        found.as_slice(),
+    )
 }
 
 // The first clock, clear or preset in the text whose net has a driver that is found.
 fn first_derived(
     alloc: Global,
+    library: &Library,
     tree: &Module,
     nets: &[NetBit],
     cells: &[ItemCell],
@@ -50,21 +61,22 @@ fn first_derived(
     found: &[bool],
 ) -> Result<Option<LinkFault>, OutOfMemory>
     requires nets { nets.now ≡ nets_in (declared_nets tree.now) }
-    requires cells { cells.now ≡ cells_in tree.now }
-    requires fits { FitCells (length nets.now) cells.now }
-    requires text { text_fault tree.now ≡ None }
+    requires cells { cells.now ≡ cells_in library.now tree.now }
+    requires fits { CellsBelow (length nets.now) cells.now }
+    requires text { text_fault library.now tree.now ≡ None }
     requires drivers { length drivers.now ≡ length nets.now }
     requires found { (net number : ℕ) → driver_in drivers.now net ≡ Some number
         → number < length found.now }
     requires derived { (net : ℕ) → (is_found_net drivers.now found.now net ≡ true)
         ↔ IsDerived nets.now cells.now net }
-    ensures { IfOk result (λ fault. MatchOption fault (HasNoDerived tree.now) (IsDerivedFault tree.now)) }
+    ensures { IfOk result (λ fault. MatchOption fault (HasNoDerived library.now tree.now)
+        (IsDerivedFault library.now tree.now)) }
 {
     for (number, item) in tree.items.as_slice().iter().enumerate() {
         match item {
             Item::Instance(instance) => {
                 let links = instance.links.as_slice();
-                match first_found(drivers, found, &cells[number], links) {
+                match first_found(library, drivers, found, &cells[number], links) {
                     Some(net) => {
                         let fault = derived_fault(alloc, &instance.name, &nets[net as usize])?;
                         return Ok(Some(fault));
@@ -86,7 +98,7 @@ fn cones_of_state(
     cells: &[ItemCell],
     order: &CellOrder,
 ) -> Result<Row<bool>, OutOfMemory>
-    requires fits { FitCells (length nets.now) cells.now }
+    requires fits { CellsBelow (length nets.now) cells.now }
     requires drivers { HasItsDrivers nets.now cells.now }
     requires order { AreOrdered (length nets.now) cells.now order.now }
     ensures length { IfOk result (λ found. length found ≡ length cells.now) }
@@ -99,19 +111,19 @@ fn cones_of_state(
 
 // Of each cell, whether it is a flip-flop, or drives an inout.
 fn state_cells(alloc: Global, nets: &[NetBit], cells: &[ItemCell]) -> Result<Row<bool>, OutOfMemory>
-    requires { FitCells (length nets.now) cells.now }
+    requires { CellsBelow (length nets.now) cells.now }
     ensures { IfOk result (λ marks. marks ≡ map (is_state_cell nets.now) cells.now) }
 {
     let mut marks = Row::new(alloc);
     for cell in cells {
-        marks.push(is_flop(cell.kind()) || drives_inout(nets, cell))?;
+        marks.push(cell.keeps() || drives_inout(nets, cell))?;
     }
     Ok(marks)
 }
 
 // Whether the cell drives an inout.
 fn drives_inout(nets: &[NetBit], cell: &ItemCell) -> bool
-    requires { FitsCell (length nets.now) cell.now }
+    requires { IsCellBelow (length nets.now) cell.now }
     ensures { result ≡ drives_inout nets.now cell.now }
 {
     match cell.output() {
@@ -122,18 +134,19 @@ fn drives_inout(nets: &[NetBit], cell: &ItemCell) -> bool
 
 // The net of the first link of the cell's clock, clear or preset whose driver is found.
 fn first_found(
+    library: &Library,
     drivers: &[Option<u32>],
     found: &[bool],
     cell: &ItemCell,
     links: &[Link],
 ) -> Option<u32>
-    requires fits { FitsCell (length drivers.now) cell.now }
+    requires fits { IsCellBelow (length drivers.now) cell.now }
     requires found { (net number : ℕ) → driver_in drivers.now net ≡ Some number
         → number < length found.now }
-    ensures { result ≡ first_in (found_link drivers.now found.now cell.now) links.now }
+    ensures { result ≡ first_in (found_link library.now drivers.now found.now cell.now) links.now }
 {
     for link in links {
-        if let Some(net) = control_net(cell, link) {
+        if let Some(net) = control_net(library, cell, link) {
             if is_found_net(drivers, found, net) {
                 return Some(net);
             }
@@ -155,13 +168,13 @@ fn is_found_net(drivers: &[Option<u32>], found: &[bool], net: u32) -> bool
 }
 
 // The net of a link, if that is of a flip-flop's clock, clear or preset.
-fn control_net(cell: &ItemCell, link: &Link) -> Option<u32>
-    ensures { result ≡ control_net cell.now link.now }
+fn control_net(library: &Library, cell: &ItemCell, link: &Link) -> Option<u32>
+    ensures { result ≡ control_net library.now cell.now link.now }
 {
-    if !is_flop(cell.kind()) {
+    if !cell.keeps() {
         return None;
     }
-    match port_of(cell.kind(), link.port.as_bytes()) {
+    match port_of(library, cell.kind(), link.port.as_bytes()) {
         Some(PortPlace::Input(place)) if place == 1 || place == 2 => {
             operand_net(cell.feeds(), place as usize)
         }

@@ -1,11 +1,10 @@
 ghost use Rattle.std.specs.Prelude.{◌≡◌, ◌≤◌, ◌^◌, [], length, map, filter_map, IfOk, OnOk};
 ghost use Rattle.netlist_model.specs.Below.{AreFeedsBelow, IsFeedBelow};
-ghost use Rattle.link_model.specs.Fits.{FitCells, FitsCell};
+ghost use Rattle.link_model.specs.Fits.{CellsBelow, IsCellBelow};
 ghost use Rattle.link_drivers.specs.Drivers.{HasItsDrivers};
 ghost use Rattle.link_order.specs.Drivers.{cell_reads, feed_driver, IsDriverTable};
 ghost use Rattle.link_order.specs.Links.{operand_net};
 
-use cell_library::is_flop;
 use gate_order::Graph;
 use link_model::{ItemCell, NetBit};
 use netlist_model::Feed;
@@ -19,7 +18,7 @@ pub fn driver_table(
     cells: &[ItemCell],
 ) -> Result<Row<Option<u32>>, OutOfMemory>
     requires count { length cells.now ≤ 2 ^ 32 }
-    requires fits { FitCells (length nets.now) cells.now }
+    requires fits { CellsBelow (length nets.now) cells.now }
     requires drivers { HasItsDrivers nets.now cells.now }
     ensures { IfOk result (λ table. IsDriverTable (length nets.now) cells.now (length cells.now) table) }
 {
@@ -39,7 +38,7 @@ pub fn cell_graph(
     drivers: &[Option<u32>],
     cells: &[ItemCell],
 ) -> Result<Graph, OutOfMemory>
-    requires { FitCells (length drivers.now) cells.now }
+    requires { CellsBelow (length drivers.now) cells.now }
     ensures { IfOk result (λ graph. graph ≡ map (cell_reads drivers.now) cells.now) }
 {
     let mut graph = Graph::new(alloc);
@@ -57,11 +56,11 @@ fn gather_reads(
     drivers: &[Option<u32>],
     cell: &ItemCell,
 ) -> Result<(), OutOfMemory>
-    requires { FitsCell (length drivers.now) cell.now }
+    requires { IsCellBelow (length drivers.now) cell.now }
     ensures { OnOk result (reads.new.items ≡ cell_reads drivers.now cell.now) }
 {
     reads.clear();
-    if is_flop(cell.kind()) {
+    if cell.keeps() {
         return Ok(());
     }
     gather_drivers(reads, drivers, cell.feeds())

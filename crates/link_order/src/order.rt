@@ -1,5 +1,5 @@
 ghost use Rattle.std.specs.Prelude.{◌≡◌, ℕ, ◌≤◌, ◌^◌, List, None, length, map, IfErr, IfOk, OnOk};
-ghost use Rattle.link_model.specs.Fits.{FitCells};
+ghost use Rattle.link_model.specs.Fits.{CellsBelow};
 ghost use Rattle.link_model.specs.Late.{IsLoop};
 ghost use Rattle.link_drivers.specs.Drivers.{HasItsDrivers};
 ghost use Rattle.link_order.specs.Orders.{IsItemOrder};
@@ -61,7 +61,7 @@ pub fn order_cells(
     cells: &[ItemCell],
 ) -> Result<CellOrder, LinkFault>
     requires count { length cells.now ≤ 2 ^ 32 }
-    requires fits { FitCells (length nets.now) cells.now }
+    requires fits { CellsBelow (length nets.now) cells.now }
     requires drivers { HasItsDrivers nets.now cells.now }
     ensures order { IfOk result (λ ordered. IsItemOrder cells.now ordered.order) }
     ensures of_these { IfOk result (λ ordered. AreOrdered (length nets.now) cells.now ordered) }
@@ -78,7 +78,7 @@ pub fn order_cells(
 // The order, or a loop as the cycle of a graph.
 fn order_driven(alloc: Global, nets: &[NetBit], cells: &[ItemCell]) -> Result<CellOrder, OrderFault>
     requires count { length cells.now ≤ 2 ^ 32 }
-    requires fits { FitCells (length nets.now) cells.now }
+    requires fits { CellsBelow (length nets.now) cells.now }
     requires drivers { HasItsDrivers nets.now cells.now }
     ensures order { IfOk result (λ ordered. IsItemOrder cells.now ordered.order) }
     ensures of_these { IfOk result (λ ordered. AreOrdered (length nets.now) cells.now ordered) }

@@ -2,25 +2,62 @@
 // first reader, in numbered places.
 // - `connect`, `give_all`, `clear_all` and `move_all` change exactly those operands, and afterwards the links of each
 //   net again visit exactly the slots on it. `move_all` looks at the readers that move and at no other cell.
+// - The links from a net's first reader visit each slot on the net once and no other (`links_visit_once`).
 // - `copied_cells`, `copied_nets`: the same cells and nets, with their links and as much room.
-// Contracts cite specs/Cells.antt.
+// Contracts cite specs/Cells.antt and specs/Links.antt.
 // Own: no chapter of a standard speaks of it.
 #![tactic(auto)]
 
+ghost use Rattle.std.specs.Prelude.{◌≡◌, None, false};
+ghost use Rattle.linked_cells.specs.Links.{LinksVisitOnce};
+
 mod copies;
+mod link;
 mod links;
 mod slots;
 
 use cell_library::Kind;
 pub use copies::{copied_cells, copied_nets};
+pub use link::Link;
 pub use links::{clear_all, connect, give_all, move_all};
-use netlist_model::{CellId, Name, NetId};
+use netlist_model::{CellId, Feed, Name, NetId};
 use numbered_places::Places;
-use reader_links::{Link, Slot};
-pub use slots::{driver, first, set_driver, slot};
+pub use slots::{driver, first, set_driver, slot_of};
 use smallvec::SmallVec;
 use std::alloc::{AllocError, Global};
 use std::marker::Model;
+
+/// An operand slot of a cell: its feed, and the slots before and after it among the readers of the same net.
+#[derive(Clone, Copy)]
+pub struct Slot {
+    pub feed: Feed,
+    pub before: Link,
+    pub after: Link,
+}
+
+/// The slot with the constant 0, which stands in no list.
+impl Default for Slot {
+    ghost use Rattle.netlist_model.specs.declared.Feed.TheVariants.{Const};
+
+    ghost is_default = { λ s. s ≡ record { feed = Const false; before = None; after = None } };
+
+    fn default() -> Self {
+        Slot::loose(Feed::Const(false))
+    }
+}
+
+impl Slot {
+    /// A slot of this feed without links.
+    pub fn loose(feed: Feed) -> Slot
+        ensures { result ≡ record { feed = feed; before = None; after = None } }
+    {
+        Slot {
+            feed,
+            before: Link::none(),
+            after: Link::none(),
+        }
+    }
+}
 
 /// A net, with its driver and its first reader.
 #[derive(Drop)]
@@ -154,3 +191,8 @@ impl Cell {
         self.slots.as_mut_slice()[place as usize] = slot;
     }
 }
+
+/// The links visit each slot on a net once and no other.
+pub fn links_visit_once()
+    ensures { LinksVisitOnce }
+{}

@@ -1,15 +1,14 @@
 ghost use Rattle.std.specs.Prelude.{◌≡◌, ◌≢◌, ℕ, ◌<◌, ◌^◌, [], length, get_or, None, Some, false, IsSome, map, option_map};
 ghost use Rattle.netlist_model.specs.declared.Feed.TheVariants.{Net as OnNet, Const as Fixed};
-ghost use Rattle.reader_links.specs.Links.{Threaded, SetsFirst, IsMoving};
+ghost use Rattle.linked_cells.specs.Links.{Threaded, SetsFirst, IsMoving};
 ghost use Rattle.netlist_model.specs.declared.NetId.{NetId as NetNumber};
 ghost use Rattle.numbered_places.specs.Places.{place_at};
 ghost use Rattle.linked_cells.specs.Cells.{slot_at, first_at, slot_count, cells_of, SameShapes, with_slot_feed, with_moved_feeds, feed_in, given_upto, KeepsNets, IsLoose, IsOnNet, IsSlotThere, IsFeedThere};
 
-use crate::slots::{first, link_to, set_after, set_before, set_first, slot, write_slot};
-use crate::{Cell, Net};
+use crate::slots::{first, link_to, set_after, set_before, set_first, slot_of, write_slot};
+use crate::{Cell, Link, Net, Slot};
 use netlist_model::{CellId, Feed, NetId, Reader};
 use numbered_places::Places;
-use reader_links::{Link, Slot};
 
 // Links a loose slot in front of the readers of a net.
 fn link(cells: &mut Places<Cell>, nets: &mut Places<Net>, reader: Reader, net: NetId)
@@ -51,7 +50,7 @@ fn unlink(cells: &mut Places<Cell>, nets: &mut Places<Net>, reader: Reader, net:
     ensures spare_cells { cells.new.spare ≡ cells.old.spare }
     ensures spare_nets { nets.new.spare ≡ nets.old.spare }
 {
-    let found = slot(cells, reader);
+    let found = slot_of(cells, reader);
     write_slot(cells, reader, Slot::loose(Feed::Const(false)));
     set_after(cells, found.before, found.after);
     set_before(cells, found.after, found.before);
@@ -106,7 +105,7 @@ fn turn_all(cells: &mut Places<Cell>, start: Link, from: NetId, to: NetId) -> Li
     let mut at = start;
     let mut last = Link::none();
     while let Some(reader) = at.reader() {
-        let found = slot(cells, reader);
+        let found = slot_of(cells, reader);
         write_slot(
             cells,
             reader,
@@ -154,7 +153,7 @@ fn take(cells: &mut Places<Cell>, nets: &mut Places<Net>, reader: Reader)
     ensures spare_cells { cells.new.spare ≡ cells.old.spare }
     ensures spare_nets { nets.new.spare ≡ nets.old.spare }
 {
-    let found = slot(cells, reader);
+    let found = slot_of(cells, reader);
     match found.feed {
         Feed::Net(net) => unlink(cells, nets, reader, net),
         Feed::Const(_) => write_slot(cells, reader, Slot::loose(Feed::Const(false))),

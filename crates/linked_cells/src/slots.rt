@@ -1,16 +1,15 @@
 ghost use Rattle.std.specs.Prelude.{◌≡◌, ◌≢◌, ℕ, ⊤, IsSome, Some, MatchOption};
 ghost use Rattle.netlist_model.specs.declared.Reader.{Reader as ReaderView};
-ghost use Rattle.reader_links.specs.Links.{Writes, SetsBefore, SetsAfter, WritesFirst};
+ghost use Rattle.linked_cells.specs.Links.{Writes, SetsBefore, SetsAfter, WritesFirst};
 ghost use Rattle.numbered_places.specs.Places.{place_at};
 ghost use Rattle.linked_cells.specs.Cells.{slot_at, first_at, driver_at, WritesDriver, cells_of, with_slot_feed, IsSlotThere, SameShapes, KeepsNets};
 
-use crate::{Cell, Net};
+use crate::{Cell, Link, Net, Slot};
 use netlist_model::{CellId, NetId, Reader};
 use numbered_places::Places;
-use reader_links::{Link, Slot};
 
 /// The slot of a reader.
-pub fn slot(cells: &Places<Cell>, reader: Reader) -> Slot
+pub fn slot_of(cells: &Places<Cell>, reader: Reader) -> Slot
     requires { IsSlotThere cells.now.items reader }
     ensures { slot_at cells.now.items reader ≡ Some result }
 {
@@ -57,7 +56,7 @@ pub(crate) fn set_before(cells: &mut Places<Cell>, reader: Link, before: Link)
     ensures spare { cells.new.spare ≡ cells.old.spare }
 {
     if let Some(reader) = reader.reader() {
-        let found = slot(cells, reader);
+        let found = slot_of(cells, reader);
         write_slot(
             cells,
             reader,
@@ -79,7 +78,7 @@ pub(crate) fn set_after(cells: &mut Places<Cell>, reader: Link, after: Link)
     ensures spare { cells.new.spare ≡ cells.old.spare }
 {
     if let Some(reader) = reader.reader() {
-        let found = slot(cells, reader);
+        let found = slot_of(cells, reader);
         write_slot(
             cells,
             reader,

@@ -3,11 +3,7 @@ use Rattle.std.proofs.Common.{◌≡◌, ℕ, suc, zero, ◌<◌, ◌≤◌, Lis
 use Rattle.std.specs.Option.{MatchOption}
 use Rattle.std.specs.List.{All, slice_get}
 use Rattle.std.proofs.lemmas.List.Elements.{All-head, All-tail}
-use Rattle.cell_library.specs.declared.Kind.{Kind}
-use Rattle.cell_library.specs.declared.Kind.TheVariants.{And, Or, Nand, Nor, Xor, Xnor, Buf, Not, Bufif0, Bufif1, Assign, Mux2, Flop}
-use Rattle.cell_library.specs.declared.ResetTo.{ResetTo}
-use Rattle.cell_library.specs.declared.ResetTo.TheVariants.{Nothing, Zero as ToZero, One as ToOne}
-use Rattle.cell_library.specs.Gates.{Takes, flop_operand_count}
+use Rattle.cell_library.specs.declared.listed.ListedCell.{ListedCell}
 use Rattle.netlist_model.specs.declared.NetId.{NetId}
 use Rattle.netlist_model.specs.Lists.{PortView, CellView, NetlistView, live_cell, is_among, direction, IsUndriven}
 use Rattle.netlist_model.specs.Below.{IsNetBelow}
@@ -20,10 +16,10 @@ place_at n (p ∷ ps) zero cell below here = rw here at (All-head (IsPlaceBelow 
 place_at n (p ∷ ps) (suc i) cell below here = place_at n ps i cell (All-tail (IsPlaceBelow n) p ps below) here
 
 -- a live cell has a count of operands that its kind takes
-pub count_at : (cells : List (Option CellView)) (i : ℕ) (cell : CellView) → All HasItsOperands cells → live_cell (slice_get cells i) ≡ Some cell → HasItsOperands (Some cell)
-count_at [] i cell counts here = absurd (cc)
-count_at (p ∷ ps) zero cell counts here = rw here at (All-head HasItsOperands p ps counts)
-count_at (p ∷ ps) (suc i) cell counts here = count_at ps i cell (All-tail HasItsOperands p ps counts) here
+pub count_at : (library : List ListedCell) (cells : List (Option CellView)) (i : ℕ) (cell : CellView) → All (HasItsOperands library) cells → live_cell (slice_get cells i) ≡ Some cell → HasItsOperands library (Some cell)
+count_at library [] i cell counts here = absurd (cc)
+count_at library (p ∷ ps) zero cell counts here = rw here at (All-head (HasItsOperands library) p ps counts)
+count_at library (p ∷ ps) (suc i) cell counts here = count_at library ps i cell (All-tail (HasItsOperands library) p ps counts) here
 
 pub output_below : (n net : ℕ) (output : Option NetId) → MatchOption output (Unit {0}) (IsNetBelow n) → output ≡ Some (record { 0 = net }) → net < n
 output_below n net output below is = rw is at below
@@ -49,24 +45,3 @@ direction_past (p ∷ ps) n net below past =
     let out = among_below n net p.nets head.there past in
     let rest = direction_past ps n net (All-tail (IsPortBelow n) p ps below) past in
     rw out rest
-
--- no kind takes more than 256 operands
-pub takes_few : (kind : Kind) (count : ℕ) → Takes kind count → count ≤ 256
-takes_few And count takes = takes.1
-takes_few Or count takes = takes.1
-takes_few Nand count takes = takes.1
-takes_few Nor count takes = takes.1
-takes_few Xor count takes = takes.1
-takes_few Xnor count takes = takes.1
-takes_few Buf count takes = omega arith
-takes_few Not count takes = omega arith
-takes_few Assign count takes = omega arith
-takes_few Bufif0 count takes = omega arith
-takes_few Bufif1 count takes = omega arith
-takes_few Mux2 count takes = omega arith
-takes_few (Flop kind) count takes = let few = flop_few kind.reset in omega arith
-  where
-    flop_few : (reset : ResetTo) → flop_operand_count reset ≤ 3
-    flop_few Nothing = omega arith
-    flop_few ToZero = omega arith
-    flop_few ToOne = omega arith

@@ -7,6 +7,7 @@ use Rattle.std.proofs.lemmas.List.{length-map, map-append}
 use Rattle.std.proofs.lemmas.List.Sums.{sum_by-cons}
 use Rattle.std.proofs.lemmas.List.Elements.{All-set}
 use Rattle.std.proofs.lemmas.Option.{slice_get-map, slice_get_within}
+use Rattle.cell_library.specs.declared.listed.ListedCell.{ListedCell}
 use Rattle.netlist_model.specs.declared.NetId.{NetId}
 use Rattle.netlist_model.specs.declared.Reader.{Reader}
 use Rattle.netlist_model.specs.declared.Feed.{Feed}
@@ -19,8 +20,8 @@ use Rattle.netlist_arena.specs.Walks.{IsReader, IsWalk}
 use Rattle.netlist_arena.proofs.Growth.{place_at as found_below, count_at}
 use Rattle.netlist_arena.proofs.Laid.{feed_below}
 use Rattle.netlist_arena.proofs.Changes.{with_feed_below, with_feed_count}
-use Rattle.reader_links.specs.Links.{Threaded}
-use Rattle.reader_links.proofs.Threads.{visits_once}
+use Rattle.linked_cells.specs.Links.{Threaded}
+use Rattle.linked_cells.proofs.Threads.{visits_once}
 use Rattle.numbered_places.specs.Places.{there_at, place_at, Puts}
 use Rattle.linked_cells.specs.Views.{CellSlots}
 use Rattle.linked_cells.specs.declared.Net.{Net}
@@ -64,14 +65,14 @@ connected_below n number place feed cells new below =
     live (Some None) e = tt
     live (Some (Some cell)) e = found_below n cells number cell below (rw e refl)
 
-pub connected_counts : (number place : ℕ) (feed : Feed) (cells : List (Option CellView)) → All HasItsOperands cells → All HasItsOperands (with_slot_feed number place feed cells)
-connected_counts number place feed cells counts =
-    All-set HasItsOperands cells number (option_map (with_feed place feed) (live_cell (slice_get cells number))) (with_feed_count place feed (live_cell (slice_get cells number)) (live (slice_get cells number) refl)) counts
+pub connected_counts : (library : List ListedCell) (number place : ℕ) (feed : Feed) (cells : List (Option CellView)) → All (HasItsOperands library) cells → All (HasItsOperands library) (with_slot_feed number place feed cells)
+connected_counts library number place feed cells counts =
+    All-set (HasItsOperands library) cells number (option_map (with_feed place feed) (live_cell (slice_get cells number))) (with_feed_count library place feed (live_cell (slice_get cells number)) (live (slice_get cells number) refl)) counts
   where
-    live : (o : Option (Option CellView)) → slice_get cells number ≡ o → HasItsOperands (live_cell o)
+    live : (o : Option (Option CellView)) → slice_get cells number ≡ o → HasItsOperands library (live_cell o)
     live None e = tt
     live (Some None) e = tt
-    live (Some (Some cell)) e = count_at cells number cell counts (rw e refl)
+    live (Some (Some cell)) e = count_at library cells number cell counts (rw e refl)
 
 -- readers that move to their own net
 pub moved_nowhere : (from to : NetId) (cells : List (Option CellView)) → from.0 ≡ to.0 → map (option_map (with_moved_feeds from to)) cells ≡ cells

@@ -8,7 +8,7 @@ use Rattle.list_laws.proofs.Options.{some_there}
 use Rattle.netlist_model.specs.declared.CellId.{CellId}
 use Rattle.netlist_model.specs.Lists.{CellView, NetlistView, live_cell, cell_at, Drives, IsUndriven}
 use Rattle.netlist_arena.specs.Looks.{feed_at}
-use Rattle.reader_links.specs.declared.Slot.{Slot}
+use Rattle.linked_cells.specs.declared.Slot.{Slot}
 use Rattle.numbered_places.specs.Places.{there_at, place_at}
 use Rattle.linked_cells.specs.Views.{CellSlots}
 use Rattle.linked_cells.specs.declared.Net.{Net}

@@ -12,7 +12,7 @@ use Rattle.netlist_arena.specs.Arena.{DrivesIn, HasSingleDrivers}
 use Rattle.netlist_arena.specs.Adds.{CanDrive, AddsCell}
 use Rattle.netlist_arena.proofs.Single.{removed_back}
 use Rattle.linked_cells.specs.Cells.{with_slot_feed, with_moved_feeds, slot_at, first_at, driver_at}
-use Rattle.reader_links.specs.Links.{Threaded}
+use Rattle.linked_cells.specs.Links.{Threaded}
 use Rattle.netlist_arena.specs.Drivers.{AreDrivers, DriverAdded, DriverDropped}
 
 abbrev pub outputs_of : List (Option CellView) → List (Option (Option NetId))

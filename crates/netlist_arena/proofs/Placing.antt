@@ -13,9 +13,9 @@ use Rattle.netlist_model.specs.declared.Feed.TheVariants.{Net as OnNet, Const as
 use Rattle.netlist_model.specs.Lists.{CellView, live_cell}
 use Rattle.netlist_arena.specs.Adds.{PutsCell}
 use Rattle.netlist_arena.proofs.Places.{slice_get-push_other}
-use Rattle.reader_links.specs.declared.Slot.{Slot}
-use Rattle.reader_links.specs.Links.{Threaded}
-use Rattle.reader_links.proofs.Threads.{threaded_loosely}
+use Rattle.linked_cells.specs.declared.Slot.{Slot}
+use Rattle.linked_cells.specs.Links.{Threaded}
+use Rattle.linked_cells.proofs.Threads.{threaded_loosely}
 use Rattle.numbered_places.specs.Places.{there_at, place_at, Puts}
 use Rattle.linked_cells.specs.Views.{CellSlots}
 use Rattle.linked_cells.specs.Cells.{cell_view, cells_of, slot_at, blank_slot, given_upto, feed_in}

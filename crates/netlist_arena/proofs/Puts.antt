@@ -7,6 +7,7 @@ use Rattle.std.proofs.lemmas.List.Elements.{All-set, All-push}
 use Rattle.std.proofs.lemmas.List.Sums.{sum_by-cons}
 use Rattle.std.proofs.lemmas.Option.{slice_get_within, slice_get_past}
 use Rattle.list_laws.proofs.Lists.{last_push}
+use Rattle.cell_library.specs.declared.listed.ListedCell.{ListedCell}
 use Rattle.netlist_model.specs.Lists.{CellView, NetlistView, live_cell, cell_at, cell_count}
 use Rattle.netlist_model.specs.Contained.{IsDense}
 use Rattle.netlist_arena.specs.Arena.{HasItsOperands, IsPlaceBelow, live_count}
@@ -80,6 +81,7 @@ puts_adds N cells free number cell counted (inl fills) =
     let empty = fills.empty in
     let below = slice_get_within N.cells free None empty in
     record {
+      library = refl;
       ports = refl;
       nets = refl;
       fresh = rw is (ap live_cell empty);
@@ -92,6 +94,7 @@ puts_adds N cells free number cell counted (inr follows) =
     let places = follows.places in
     let is = follows.is in
     record {
+      library = refl;
       ports = refl;
       nets = refl;
       fresh = let past : slice_get N.cells number ≡ None = slice_get_past N.cells number (omega arith) in ap live_cell past;
@@ -106,13 +109,14 @@ pub puts_below : (n : ℕ) (old new : List (Option CellView)) (free number : ℕ
 puts_below n old new free number cell (inl fills) here below = let places = fills.places in rw places (All-set (IsPlaceBelow n) old free (Some cell) here below)
 puts_below n old new free number cell (inr follows) here below = let places = follows.places in rw places (All-push (IsPlaceBelow n) old (Some cell) below here)
 
-pub puts_counts : (old new : List (Option CellView)) (free number : ℕ) (cell : CellView) → PutsCell old new free number cell → HasItsOperands (Some cell) → All HasItsOperands old → All HasItsOperands new
-puts_counts old new free number cell (inl fills) here counts = let places = fills.places in rw places (All-set HasItsOperands old free (Some cell) here counts)
-puts_counts old new free number cell (inr follows) here counts = let places = follows.places in rw places (All-push HasItsOperands old (Some cell) counts here)
+pub puts_counts : (library : List ListedCell) (old new : List (Option CellView)) (free number : ℕ) (cell : CellView) → PutsCell old new free number cell → HasItsOperands library (Some cell) → All (HasItsOperands library) old → All (HasItsOperands library) new
+puts_counts library old new free number cell (inl fills) here counts = let places = fills.places in rw places (All-set (HasItsOperands library) old free (Some cell) here counts)
+puts_counts library old new free number cell (inr follows) here counts = let places = follows.places in rw places (All-push (HasItsOperands library) old (Some cell) counts here)
 
 -- a cell whose place was emptied
 pub emptied : (N : NetlistView) (number : ℕ) → IsSome (cell_at N number) → number < length N.cells → RemovesCell N (record N { cells = set N.cells number None }) number
 emptied N number live below = record {
+  library = refl;
   ports = refl;
   nets = refl;
   gone = ap live_cell (slice_get-set_same N.cells number None below);

@@ -14,7 +14,7 @@ use Rattle.netlist_arena.specs.Arena.{IsPlaceBelow}
 use Rattle.netlist_arena.proofs.Growth.{place_at as found_below}
 use Rattle.netlist_arena.proofs.Single.{live_below}
 use Rattle.numbered_places.specs.Places.{place_at}
-use Rattle.reader_links.specs.declared.Slot.{Slot}
+use Rattle.linked_cells.specs.declared.Slot.{Slot}
 use Rattle.linked_cells.specs.Views.{CellSlots}
 use Rattle.linked_cells.specs.Cells.{cell_view, cells_of, given_upto, feed_in}
 use Rattle.netlist_arena.proofs.Placing.{live_place, place_view, taken_blank}

@@ -1,5 +1,5 @@
 ghost use Rattle.std.specs.Prelude.{◌≡◌, ℕ, ◌-◌, ◌<◌, ◌≤◌, ◌↔◌, length, replicate, option_map, Some, IfOk, IfSome, OnErr, IsSome, IsTrue, MatchOption, ⊤, is_ok, if◌then◌else◌};
-ghost use Rattle.cell_library.specs.Gates.{Takes};
+ghost use Rattle.cell_library.specs.Gates.{Takes, flop_of};
 ghost use Rattle.netlist_model.specs.Lists.{CellView, cell_at, cell_count};
 ghost use Rattle.netlist_model.specs.Below.{AreFeedsBelow, IsFeedBelow, IsNetBelow};
 ghost use Rattle.linked_cells.specs.Cells.{blank_slot, cell_view};
@@ -9,7 +9,7 @@ ghost use Rattle.netlist_arena.specs.Looks.{IsLive, feed_at};
 
 use crate::Netlist;
 use crate::links::{add_loose, note_driver};
-use cell_library::Kind;
+use cell_library::{FlopKind, Kind, flop_of};
 use linked_cells::Cell;
 use netlist_model::{CellId, Feed, Name, NetId};
 use texts::OutOfMemory;
@@ -25,7 +25,7 @@ impl Netlist {
     ) -> CellId
         requires room { 0 < self.old.spare.cells }
         requires few { length feeds.now ≤ 4 }
-        requires count { Takes kind (length feeds.now) }
+        requires count { Takes self.old.lists.library kind (length feeds.now) }
         requires feeds { AreFeedsBelow (length self.old.lists.nets) feeds.now }
         requires output { CanDrive self.old.lists output }
         ensures added { AddsCell self.old.lists self.new.lists result.0
@@ -38,9 +38,8 @@ impl Netlist {
         }
     }
 
-    /// Adds a cell of any count of operands, which takes one spare cell and, past four operands, memory. Without
+    /// Adds a cell of any count of operands up to 256, which takes one spare cell and, past four operands, memory. Without
     /// memory nothing changes.
-    #[tactic(auto, using(crate::proofs::Growth::takes_few))]
     pub fn add_wide_cell(
         &mut self,
         kind: Kind,
@@ -49,7 +48,8 @@ impl Netlist {
         output: Option<NetId>,
     ) -> Result<CellId, OutOfMemory>
         requires room { 0 < self.old.spare.cells }
-        requires count { Takes kind (length feeds.now) }
+        requires few { length feeds.now ≤ 256 }
+        requires count { Takes self.old.lists.library kind (length feeds.now) }
         requires feeds { AreFeedsBelow (length self.old.lists.nets) feeds.now }
         requires output { CanDrive self.old.lists output }
         ensures added { IfOk result (λ id. AddsCell self.old.lists self.new.lists id.0
@@ -68,7 +68,8 @@ impl Netlist {
     fn place_cell(&mut self, cell: Cell, feeds: &[Feed], output: Option<NetId>) -> CellId
         requires room { 0 < self.old.spare.cells }
         requires blank { cell.slots ≡ replicate (length feeds.now) blank_slot }
-        requires count { Takes cell.kind (length feeds.now) }
+        requires few { length feeds.now ≤ 256 }
+        requires count { Takes self.old.lists.library cell.kind (length feeds.now) }
         requires feeds { AreFeedsBelow (length self.old.lists.nets) feeds.now }
         requires is { cell.output ≡ output }
         requires output { CanDrive self.old.lists output }
@@ -87,7 +88,7 @@ impl Netlist {
         requires { IsLive self.now.lists id.0 }
         ensures found { cell_at self.now.lists id.0 ≡ Some (cell_view result.now) }
         ensures below { IsPlaceBelow (length self.now.lists.nets) (Some (cell_view result.now)) }
-        ensures count { HasItsOperands (Some (cell_view result.now)) }
+        ensures count { HasItsOperands self.now.lists.library (Some (cell_view result.now)) }
     {
         match self.cells.get(id.0) {
             Some(cell) => cell,
@@ -128,6 +129,15 @@ impl Netlist {
         self.cell(cell).kind()
     }
 
+    /// The flip-flop that a cell is; none for a gate.
+    pub fn flop(&self, cell: CellId) -> Option<FlopKind>
+        requires { IsLive self.now.lists cell.0 }
+        ensures { option_map (λ (found : CellView). flop_of self.now.lists.library found.kind)
+            (cell_at self.now.lists cell.0) ≡ Some result }
+    {
+        flop_of(self.library(), self.cell(cell).kind())
+    }
+
     /// The name of a cell, if it has one.
     pub fn cell_name(&self, cell: CellId) -> Option<Name>
         requires { IsLive self.now.lists cell.0 }
@@ -151,7 +161,7 @@ impl Netlist {
     pub fn feed_count(&self, cell: CellId) -> u32
         requires { IsLive self.now.lists cell.0 }
         ensures few { result ≤ 256 }
-        ensures takes { IfSome (cell_at self.now.lists cell.0) (λ found. Takes found.kind result) }
+        ensures takes { IfSome (cell_at self.now.lists cell.0) (λ found. Takes self.now.lists.library found.kind result) }
         ensures count { option_map (λ (found : CellView). length found.feeds)
             (cell_at self.now.lists cell.0) ≡ Some result }
     {

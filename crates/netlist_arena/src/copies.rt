@@ -13,10 +13,12 @@ impl Netlist {
         ensures spare { IfOk result (λ copy. copy.spare ≡ self.now.spare) }
         ensures walks { IfOk result (λ copy. copy.walks ≡ self.now.walks) }
     {
+        let library = self.library.copy(alloc)?;
         let ports = copied_ports(alloc, &self.ports, self.spare_pins)?;
         let nets = copied_nets(alloc, &self.nets)?;
         let cells = copied_cells(alloc, &self.cells)?;
         Ok(Netlist {
+            library,
             ports,
             pins: self.pins,
             spare_pins: self.spare_pins,

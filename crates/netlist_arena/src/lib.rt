@@ -12,9 +12,11 @@
 //   a Result can't refuse. A refusal leaves lists, spare numbers and walks as they were.
 // - `reserve` answers TooMany exactly where present plus asked passes 262,144 cells, 524,288 nets or 4,096 port
 //   bits, the first in this order; where it is Ok the spare numbers are at least what was asked.
+// - `library` gives the cells that the netlist's listed kinds are, which no call changes; `flop` the flip-flop that a
+//   cell is, by its kind and the library.
 // - `driver` says what drives a net. `first_reader` and `next_reader` visit each operand on the net once and no
 //   other. The other looking calls answer what the lists hold.
-// - `copy`, where Ok, has the same lists and spare numbers. A walk that was begun goes on after a `reserve`, and
+// - `copy`, where Ok, has the same library, lists and spare numbers. A walk that was begun goes on after a `reserve`, and
 //   in a copy.
 // - At all times each port has a net for each bit, each named net is there, and no net has two drivers
 //   (`is_laid_out`). A net names the cell that drives it, and the links from its first reader visit exactly the
@@ -34,6 +36,7 @@ mod ports;
 mod readers;
 mod room;
 
+use cell_library::Library;
 use linked_cells::{Cell, Net};
 use netlist_model::{Dir, Name, NetId, Range};
 use numbered_places::Places;
@@ -69,6 +72,7 @@ impl Model for Port {
 /// keeps its number until it is removed.
 #[derive(Drop)]
 pub struct Netlist {
+    library: Library,
     ports: Vec<Port>,
     // How many bits the ports have.
     pins: u32,
@@ -82,7 +86,7 @@ pub struct Netlist {
 
 impl Model for Netlist {
     ghost use Rattle.std.specs.Prelude.{◌≡◌, ℕ, ◌+◌, ◌<◌, ◌≤◌, ◌^◌, length, vec_len, vec_capacity, All, IsSome};
-    ghost use Rattle.reader_links.specs.Links.{Threaded};
+    ghost use Rattle.linked_cells.specs.Links.{Threaded};
     ghost use Rattle.numbered_places.specs.Places.{place_at};
     ghost use Rattle.linked_cells.specs.Cells.{slot_at, first_at, driver_at, cells_of, nets_of};
     ghost use Rattle.linked_cells.specs.Walks.{walks_of};
@@ -92,7 +96,8 @@ impl Model for Netlist {
     ghost Value = { ArenaView };
 
     ghost view = { λ n. record {
-      lists = record { ports = n.ports.items; nets = nets_of n.nets.items; cells = cells_of n.cells.items };
+      lists = record
+          { library = n.library; ports = n.ports.items; nets = nets_of n.nets.items; cells = cells_of n.cells.items };
       spare = record { cells = n.spare_cells; nets = n.spare_nets; port_bits = n.spare_pins };
       walks = walks_of n.cells.items n.nets.items;
     } };
@@ -106,19 +111,20 @@ impl Model for Netlist {
       nets_there : (k : ℕ) → k < length n.nets.items → IsSome (place_at n.nets.items k);
       ports_below : All (IsPortBelow (length (nets_of n.nets.items))) n.ports.items;
       cells_below : All (IsPlaceBelow (length (nets_of n.nets.items))) (cells_of n.cells.items);
-      counts : All HasItsOperands (cells_of n.cells.items);
+      counts : All (HasItsOperands n.library) (cells_of n.cells.items);
       threaded : Threaded (slot_at n.cells.items) (first_at n.nets.items);
       drivers : AreDrivers (driver_at n.nets.items) (cells_of n.cells.items);
     } };
 }
 
 impl Netlist {
-    /// An empty netlist, which takes no memory and has no room.
-    pub fn new(alloc: Global) -> Netlist
-        ensures lists { result.lists ≡ record { ports = []; nets = []; cells = [] } }
+    /// An empty netlist with this library. It takes no memory and has no room.
+    pub fn new(alloc: Global, library: Library) -> Netlist
+        ensures lists { result.lists ≡ record { library = library; ports = []; nets = []; cells = [] } }
         ensures spare { result.spare ≡ record { cells = 0; nets = 0; port_bits = 0 } }
     {
         Netlist {
+            library,
             ports: Vec::new(alloc),
             pins: 0,
             spare_pins: 0,
@@ -128,5 +134,12 @@ impl Netlist {
             spare_cells: 0,
             alloc,
         }
+    }
+
+    /// The library of its listed cells.
+    pub fn library(&self) -> &Library
+        ensures { result.now ≡ self.now.lists.library }
+    {
+        &self.library
     }
 }

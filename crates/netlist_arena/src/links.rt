@@ -2,7 +2,7 @@ ghost use Rattle.std.specs.Prelude.{◌≡◌, ℕ, ◌<◌, ◌≤◌, ◌-◌,
 ghost use Rattle.netlist_model.specs.declared.Feed.TheVariants.{Const as Fixed};
 ghost use Rattle.netlist_model.specs.declared.Reader.{Reader as ReaderView};
 ghost use Rattle.netlist_model.specs.Lists.{live_cell};
-ghost use Rattle.reader_links.specs.Links.{Threaded};
+ghost use Rattle.linked_cells.specs.Links.{Threaded};
 ghost use Rattle.numbered_places.specs.Places.{place_at};
 ghost use Rattle.linked_cells.specs.Cells.{slot_at, first_at, driver_at, cells_of, blank_slot, net_view, IsFeedThere, KeepsNets};
 ghost use Rattle.netlist_arena.specs.Arena.{live_count};

@@ -1,7 +1,8 @@
 -- A netlist with new numbers stays well formed.
-use Rattle.std.proofs.Common.{◌≡◌, ℕ, List, [], ◌∷◌, map, length, refl, ap, sym, ◌∙◌, inl, inr}
+use Rattle.std.proofs.Common.{◌≡◌, ℕ, List, [], ◌∷◌, map, length, refl, ap, sym, subst, ◌∙◌, inl, inr}
 use Rattle.std.specs.Prelude.{Some, None}
-use Rattle.cell_library.specs.Gates.{Takes}
+use Rattle.cell_library.specs.declared.listed.ListedCell.{ListedCell}
+use Rattle.cell_library.specs.Gates.{is_flop, Takes}
 use Rattle.netlist_model.specs.declared.Feed.{Feed}
 use Rattle.netlist_model.specs.declared.Feed.TheVariants.{Net, Const}
 use Rattle.netlist_model.specs.declared.Name.{Name}
@@ -32,7 +33,7 @@ below_back back rank (Const b ∷ feeds) bound h = below_back back rank feeds bo
 combinational_over : (N M : NetlistView) (to at : ℕ → ℕ) → Nested N M to at → ((n : ℕ) → direction M.ports (to n) ≡ direction N.ports n) → (net : ℕ)
     → IsCombinational N net → IsCombinational M (to net)
 combinational_over N M to at n dirs net (inl e) = inl (dirs net ∙ e)
-combinational_over N M to at n dirs net (inr d) = inr (driven_over N M to at n net d.0, d.1, λ e. d.2 (sym (dirs net) ∙ e))
+combinational_over N M to at n dirs net (inr d) = inr (driven_over N M to at n net d.0, ap (λ (l : List ListedCell). is_flop l d.0.cell.kind) n.library ∙ d.1, λ e. d.2 (sym (dirs net) ∙ e))
 
 -- own: what is numbered anew stays well formed
 pub renumbered_is_formed : (N M : NetlistView) (to at : ℕ → ℕ) → IsRenumbering N M to at → IsWellFormed N → IsWellFormed M
@@ -46,8 +47,10 @@ renumbered_is_formed N M to at r formed =
     record {
       counts = λ i cell live.
           let there = m.cells i cell live in
-          let count : Takes cell.kind (length (map (renamed_feed back) cell.feeds)) = formed.counts (from i) (renamed_cell back there.name cell) there.live in
-          rw (length-map cell.feeds (renamed_feed back)) at count;
+          let count : Takes N.library cell.kind (length (map (renamed_feed back) cell.feeds)) = formed.counts (from i) (renamed_cell back there.name cell) there.live in
+          let here : Takes M.library cell.kind (length (map (renamed_feed back) cell.feeds))
+          = subst (λ (l : List ListedCell). Takes l cell.kind (length (map (renamed_feed back) cell.feeds))) m.library count in
+          rw (length-map cell.feeds (renamed_feed back)) at here;
       bits_apart = λ p q j k net a b.
           formed.bits_apart p q j k (record { 0 = back net.0 }) (copied_bit M N back from to at r.here p j net a) (copied_bit M N back from to at r.here q k net b);
       inputs_free = λ i cell net d e.
@@ -75,7 +78,8 @@ renumbered_is_formed N M to at r formed =
         record {
           gates = λ i cell net d gate.
               below_back back formed.ordered.0 cell.feeds (formed.ordered.0 (back net))
-              (formed.ordered.1.gates (from i) (renamed_cell back (m.cells i cell d.live).name cell) (back net) (drives_over M N back from m i cell net d) gate);
+              (formed.ordered.1.gates (from i) (renamed_cell back (m.cells i cell d.live).name cell) (back net) (drives_over M N back from m i cell net d)
+              (ap (λ (l : List ListedCell). is_flop l cell.kind) m.library ∙ gate));
         },
       );
       cones = λ net c.
@@ -122,6 +126,7 @@ copy_is_renumbering N M to at back from c undo covers = record {
   from = from;
   there = c;
   here = record {
+    library = sym c.library;
     nets = undo;
     ports = ports_undone to back c.nets N.ports M.ports c.ports;
     cells = λ j cell live.

@@ -2,6 +2,8 @@
 use Rattle.std.proofs.Common.{◌≡◌, ℕ, List, [], ◌∷◌, map, refl, ap, ◌∙◌, Option, Some}
 use Rattle.std.specs.Option.{option_map}
 use Rattle.signal_values.specs.declared.Sig.{Sig}
+use Rattle.cell_library.specs.declared.listed.ListedCell.{ListedCell}
+use Rattle.cell_library.specs.Gates.{flop_of}
 use Rattle.cell_library.specs.Flops.{flop_next, flop_start}
 use Rattle.netlist_model.specs.declared.Feed.{Feed}
 use Rattle.netlist_model.specs.declared.Feed.TheVariants.{Net, Const}
@@ -27,7 +29,8 @@ nested_meets N M to at given state value nested meets = record {
   cells = λ i cell net drives g.
       let there = nested.cells i cell drives.live in
       meets.cells (at i) (renamed_cell to there.name cell) (to net) (record { live = there.live; output = output_renamed to cell.output net drives.output }) (nested.inside net g)
-      ∙ ap (λ xs. cell_value cell.kind xs (state (at i))) (feeds_renamed to value cell.feeds);
+      ∙ ap (λ xs. cell_value M.library cell.kind xs (state (at i))) (feeds_renamed to value cell.feeds)
+      ∙ ap (λ (l : List ListedCell). cell_value l cell.kind (feed_values (λ n. value (to n)) cell.feeds) (state (at i))) nested.library;
   undriven = λ net g none. meets.undriven (to net) (nested.inside net g) (nested.undriven net g none);
 }
 
@@ -37,7 +40,7 @@ pub nested_steps : (N M : NetlistView) (to at : ℕ → ℕ) (before after state
 nested_steps N M to at before after state next nested step = record {
   each = λ i cell kind live is.
       let there = nested.cells i cell live in
-      step.each (at i) (renamed_cell to there.name cell) kind there.live is
+      step.each (at i) (renamed_cell to there.name cell) kind there.live (ap (λ (l : List ListedCell). flop_of l cell.kind) nested.library ∙ is)
       ∙ ap (λ xs. flop_next kind xs (feed_values after (map (renamed_feed to) cell.feeds)) (state (at i))) (feeds_renamed to before cell.feeds)
       ∙ ap (λ xs. flop_next kind (feed_values (λ n. before (to n)) cell.feeds) xs (state (at i))) (feeds_renamed to after cell.feeds);
 }
@@ -48,6 +51,6 @@ pub nested_starts : (N M : NetlistView) (to at : ℕ → ℕ) (given value state
 nested_starts N M to at given value state nested start = record {
   each = λ i cell kind live is.
       let there = nested.cells i cell live in
-      start.each (at i) (renamed_cell to there.name cell) kind there.live is
+      start.each (at i) (renamed_cell to there.name cell) kind there.live (ap (λ (l : List ListedCell). flop_of l cell.kind) nested.library ∙ is)
       ∙ ap (λ xs. flop_start kind xs (given (at i))) (feeds_renamed to value cell.feeds);
 }

@@ -1,5 +1,7 @@
 -- Ports, operands, drivers and cones under other numbers.
 use Rattle.std.proofs.Common.{◌≡◌, ℕ, zero, suc, ◌⊎◌, List, [], ◌∷◌, map, refl, ap, sym, ◌∙◌, inl, inr}
+use Rattle.cell_library.specs.declared.listed.ListedCell.{ListedCell}
+use Rattle.cell_library.specs.Gates.{flop_of, is_flop}
 use Rattle.std.specs.Prelude.{Option, Some, None, slice_get, ◌==◌}
 use Rattle.std.specs.Option.{option_map}
 use Rattle.std.proofs.lemmas.Bool.Decides.{eqb_tells}
@@ -105,7 +107,7 @@ gate_reads_over N M to at n net other g = record {
   number = at g.number;
   cell = renamed_cell to (n.cells g.number g.cell g.drives.live).name g.cell;
   place = g.place;
-  gate = g.gate;
+  gate = ap (λ (l : List ListedCell). is_flop l g.cell.kind) n.library ∙ g.gate;
   drives = drives_over N M to at n g.number g.cell net g.drives;
   reads = record {
     live = (n.cells g.number g.cell g.drives.live).live;
@@ -122,7 +124,7 @@ flop_reads_over N M to at n place net f = record {
   number = at f.number;
   cell = renamed_cell to (n.cells f.number f.cell f.reads.live).name f.cell;
   kind = f.kind;
-  flop = f.flop;
+  flop = ap (λ (l : List ListedCell). flop_of l f.cell.kind) n.library ∙ f.flop;
   reads = reads_over N M to at n f.number f.cell place net f.reads;
 }
 
@@ -139,6 +141,7 @@ clock_over N M to at n net c = record { root = to c.root; operand = flop_reads_o
 -- a renumbered netlist holds the other
 pub copied_nested : (N M : NetlistView) (to at back from : ℕ → ℕ) → IsCopied N M to at back from → IsCopied M N back from to at → Nested N M to at
 copied_nested N M to at back from c b = record {
+  library = c.library;
   cells = c.cells;
   inside = λ net g. ap follows_pin (copied_direction N M to at back from c net) ∙ g;
   undriven = λ net g none j cell live out.

@@ -5,6 +5,7 @@ use Rattle.signal_values.specs.declared.Sig.{Sig}
 use Rattle.signal_values.specs.declared.Sig.TheVariants.{Unknown}
 use Rattle.cell_library.specs.declared.Kind.{Kind}
 use Rattle.cell_library.specs.declared.FlopKind.{FlopKind}
+use Rattle.cell_library.specs.declared.listed.ListedCell.{ListedCell}
 use Rattle.netlist_model.specs.Lists.{CellView, NetlistView, direction, Drives, IsUndriven}
 use Rattle.netlist_model.specs.Settled.{feed_values, cell_value, follows_pin, Meets}
 use Rattle.cell_library.specs.Gates.{flop_of, is_flop}
@@ -19,17 +20,17 @@ HoldsBelow C R rank v v' net = (other : ℕ) → C other → rank other < rank n
 pub record Carries (N : NetlistView) (C : ℕ → Type 0) (R : Sig → Sig → Type 0) (rank : ℕ → ℕ) (given given' : (ℕ → Sig) → ℕ → Sig) (state state' v v' : ℕ → Sig) : Type 0 where
   pub pins : (net : ℕ) → C net → follows_pin (direction N.ports net) ≡ true → HoldsBelow C R rank v v' net → R (given v net) (given' v' net)
   pub flops : (i : ℕ) (cell : CellView) (kind : FlopKind) (net : ℕ) → Drives N i cell net → C net → follows_pin (direction N.ports net) ≡ false
-      → flop_of cell.kind ≡ Some kind → R (state i) (state' i)
-  pub gates : (i : ℕ) (cell : CellView) (net : ℕ) → Drives N i cell net → C net → follows_pin (direction N.ports net) ≡ false → is_flop cell.kind ≡ false
-      → HoldsBelow C R rank v v' net → R (cell_value cell.kind (feed_values v cell.feeds) (state i)) (cell_value cell.kind (feed_values v' cell.feeds) (state' i))
+      → flop_of N.library cell.kind ≡ Some kind → R (state i) (state' i)
+  pub gates : (i : ℕ) (cell : CellView) (net : ℕ) → Drives N i cell net → C net → follows_pin (direction N.ports net) ≡ false → is_flop N.library cell.kind ≡ false
+      → HoldsBelow C R rank v v' net → R (cell_value N.library cell.kind (feed_values v cell.feeds) (state i)) (cell_value N.library cell.kind (feed_values v' cell.feeds) (state' i))
   pub undriven : (net : ℕ) → C net → follows_pin (direction N.ports net) ≡ false → IsUndriven N net → R Unknown Unknown
 
 along : (R : Sig → Sig → Type 0) (a b a' b' : Sig) → a ≡ a' → b ≡ b' → R a' b' → R a b
 along R a b a' b' e e' h = rw (e, e') h
 
-flop_value : (kind : Kind) (k : FlopKind) (xs ys : List Sig) (s s' : Sig) (R : Sig → Sig → Type 0) → flop_of kind ≡ Some k → R s s'
-    → R (cell_value kind xs s) (cell_value kind ys s')
-flop_value kind k xs ys s s' R e h = rw (cell_value-flop kind k xs s e, cell_value-flop kind k ys s' e) h
+flop_value : (library : List ListedCell) (kind : Kind) (k : FlopKind) (xs ys : List Sig) (s s' : Sig) (R : Sig → Sig → Type 0) → flop_of library kind ≡ Some k → R s s'
+    → R (cell_value library kind xs s) (cell_value library kind ys s')
+flop_value library kind k xs ys s s' R e h = rw (cell_value-flop library kind k xs s e, cell_value-flop library kind k ys s' e) h
 
 carried_below : (N : NetlistView) (C : ℕ → Type 0) (R : Sig → Sig → Type 0) (rank : ℕ → ℕ) (given given' : (ℕ → Sig) → ℕ → Sig) (state state' v v' : ℕ → Sig)
     → Carries N C R rank given given' state state' v v' → Meets N given state v → Meets N given' state' v'
@@ -42,8 +43,8 @@ carried_below N C R rank given given' state state' v v' c a b (suc bound) net he
       | inr g ↦ elim (search_driver N.cells net) [
         | inl f ↦ (let d : Drives N f.number f.cell net = record { live = f.live; output = f.output } in
             along R _ _ _ _ (a.cells f.number f.cell net d g) (b.cells f.number f.cell net d g)
-            (elim (flop_or_gate f.cell.kind) [
-              | inl k ↦ flop_value f.cell.kind k.0 _ _ _ _ R k.1 (c.flops f.number f.cell k.0 net d here g k.1)
+            (elim (flop_or_gate N.library f.cell.kind) [
+              | inl k ↦ flop_value N.library f.cell.kind k.0 _ _ _ _ R k.1 (c.flops f.number f.cell k.0 net d here g k.1)
               | inr gate ↦ c.gates f.number f.cell net d here g gate lower
             ]))
         | inr none ↦ along R _ _ _ _ (a.undriven net g none) (b.undriven net g none) (c.undriven net here g none)

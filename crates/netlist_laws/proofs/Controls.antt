@@ -45,14 +45,14 @@ pub control_closed : (N : NetlistView) (net other : ℕ) → IsControlNet N net 
 control_closed N net other c g = record { root = c.root; operand = c.operand; cone = behind c.cone g }
 
 -- no flip-flop drives a control net
-pub control_no_flop : (N : NetlistView) (i : ℕ) (cell : CellView) (kind : FlopKind) (net : ℕ) → IsWellFormed N → Drives N i cell net → IsControlNet N net → flop_of cell.kind ≡ Some kind → ⊥
+pub control_no_flop : (N : NetlistView) (i : ℕ) (cell : CellView) (kind : FlopKind) (net : ℕ) → IsWellFormed N → Drives N i cell net → IsControlNet N net → flop_of N.library cell.kind ≡ Some kind → ⊥
 control_no_flop N i cell kind net formed drives c e =
     elim (formed.cones net c) [
       | inl input ↦ formed.inputs_free i cell net drives input
       | inr found ↦ (let d : IsDriven N net = found.0 in
           let same = cell_at_once N i d.number cell d.cell (formed.one_driver i d.number cell d.cell net drives d.drives) drives.live d.drives.live in
-          let flop : is_flop d.cell.kind ≡ true = ap (λ (x : CellView). is_flop x.kind) (sym same) ∙ ap is_some e in
-          let gate : is_flop d.cell.kind ≡ false = found.1 in
+          let flop : is_flop N.library d.cell.kind ≡ true = ap (λ (x : CellView). is_flop N.library x.kind) (sym same) ∙ ap is_some e in
+          let gate : is_flop N.library d.cell.kind ≡ false = found.1 in
           let clash : true ≡ false = sym flop ∙ gate in cc)
     ]
 
@@ -101,18 +101,18 @@ controls_known_under N given state value formed meets ports =
     })
     meets meets
   where
-    at_gate : (i : ℕ) (cell : CellView) (net : ℕ) → Drives N i cell net → IsControlNet N net → follows_pin (direction N.ports net) ≡ false → is_flop cell.kind ≡ false
+    at_gate : (i : ℕ) (cell : CellView) (net : ℕ) → Drives N i cell net → IsControlNet N net → follows_pin (direction N.ports net) ≡ false → is_flop N.library cell.kind ≡ false
         → HoldsBelow (IsControlNet N) (λ a b. IsKnown a) formed.ordered.0 value value net
-        → (is_three_state cell.kind ≡ true) ⊎ (is_three_state cell.kind ≡ false) → IsKnown (cell_value cell.kind (feed_values value cell.feeds) (state i))
+        → (is_three_state cell.kind ≡ true) ⊎ (is_three_state cell.kind ≡ false) → IsKnown (cell_value N.library cell.kind (feed_values value cell.feeds) (state i))
     at_gate i cell net d c g gate lower (inl three) = absurd (control_no_bufif N i cell net formed d c g three)
     at_gate i cell net d c g gate lower (inr two) =
         let known = all_known value cell.feeds (λ k other at.
         let read : Reads N i cell k other = record { live = d.live; operand = at } in
         lower other (control_closed N net other c (record { number = i; cell = cell; place = k; gate = gate; drives = d; reads = read }))
         (feeds_below_at formed.ordered.0 cell.feeds (formed.ordered.0 net) k other (formed.ordered.1.gates i cell net d gate) at)) in
-        let count : Takes cell.kind (length (feed_values value cell.feeds)) = rw (length-feed_values value cell.feeds) (formed.counts i cell d.live) in
-        rw (cell_value-two_state cell.kind (feed_values value cell.feeds) (state i) gate two)
-        (is_known-gate_output cell.kind (feed_values value cell.feeds) (two_state cell.kind gate two) count known)
+        let count : Takes N.library cell.kind (length (feed_values value cell.feeds)) = rw (length-feed_values value cell.feeds) (formed.counts i cell d.live) in
+        rw (cell_value-two_state N.library cell.kind (feed_values value cell.feeds) (state i) gate two)
+        (is_known-gate_output N.library cell.kind (feed_values value cell.feeds) (two_state N.library cell.kind gate two) count known)
 
 -- control nets hang on control ports alone
 pub controls_once : (N : NetlistView) (given given' : (ℕ → Sig) → ℕ → Sig) (state state' v v' : ℕ → Sig) → IsWellFormed N → Meets N given state v → Meets N given' state' v'

@@ -5,6 +5,7 @@ use Rattle.list_laws.proofs.Tests.{true_or_false}
 use Rattle.signal_values.specs.declared.Sig.{Sig}
 use Rattle.signal_values.specs.declared.Sig.TheVariants.{Unknown}
 use Rattle.cell_library.specs.declared.Kind.{Kind}
+use Rattle.cell_library.specs.declared.listed.ListedCell.{ListedCell}
 use Rattle.netlist_model.specs.declared.Feed.{Feed}
 use Rattle.netlist_model.specs.Lists.{CellView, NetlistView, direction, Drives, IsUndriven}
 use Rattle.netlist_model.specs.Settled.{feed_values, cell_value, follows_pin, Meets}
@@ -17,7 +18,7 @@ use Rattle.netlist_laws.proofs.Once.{feeds_below_at, feed_values_same}
 
 -- what the driver of a net gives it
 abbrev inside_value : (N : NetlistView) → (ℕ → Sig) → (ℕ → Sig) → (net : ℕ) → Found N.cells net ⊎ NoneDrives N.cells net → Sig
-inside_value N state v net (inl f) = cell_value f.cell.kind (feed_values v f.cell.feeds) (state f.number)
+inside_value N state v net (inl f) = cell_value N.library f.cell.kind (feed_values v f.cell.feeds) (state f.number)
 inside_value N state v net (inr none) = Unknown
 
 -- what a net's equation gives it
@@ -29,19 +30,19 @@ abbrev round_value : NetlistView → ((ℕ → Sig) → ℕ → Sig) → (ℕ �
 round_value N given state zero net = Unknown
 round_value N given state (suc k) net = net_value N given state (round_value N given state k) net
 
-cell_value-same : (kind : Kind) (feeds : List Feed) (rank : ℕ → ℕ) (net : ℕ) (v v' : ℕ → Sig) (s : Sig) → (is_flop kind ≡ false → FeedsBelow rank feeds (rank net))
-    → ((other : ℕ) → rank other < rank net → v other ≡ v' other) → cell_value kind (feed_values v feeds) s ≡ cell_value kind (feed_values v' feeds) s
-cell_value-same kind feeds rank net v v' s below same =
-    elim (flop_or_gate kind) [
-      | inl k ↦ cell_value-flop kind k.0 (feed_values v feeds) s k.1 ∙ sym (cell_value-flop kind k.0 (feed_values v' feeds) s k.1)
-      | inr gate ↦ ap (λ xs. cell_value kind xs s) (feed_values_same v v' feeds (λ k other at. same other (feeds_below_at rank feeds (rank net) k other (below gate) at)))
+cell_value-same : (library : List ListedCell) (kind : Kind) (feeds : List Feed) (rank : ℕ → ℕ) (net : ℕ) (v v' : ℕ → Sig) (s : Sig) → (is_flop library kind ≡ false → FeedsBelow rank feeds (rank net))
+    → ((other : ℕ) → rank other < rank net → v other ≡ v' other) → cell_value library kind (feed_values v feeds) s ≡ cell_value library kind (feed_values v' feeds) s
+cell_value-same library kind feeds rank net v v' s below same =
+    elim (flop_or_gate library kind) [
+      | inl k ↦ cell_value-flop library kind k.0 (feed_values v feeds) s k.1 ∙ sym (cell_value-flop library kind k.0 (feed_values v' feeds) s k.1)
+      | inr gate ↦ ap (λ xs. cell_value library kind xs s) (feed_values_same v v' feeds (λ k other at. same other (feeds_below_at rank feeds (rank net) k other (below gate) at)))
     ]
 
 inside_value-same : (N : NetlistView) (rank : ℕ → ℕ) (state v v' : ℕ → Sig) (net : ℕ) → IsNumbered N rank → ((other : ℕ) → rank other < rank net → v other ≡ v' other)
     → (d : Found N.cells net ⊎ NoneDrives N.cells net) → inside_value N state v net d ≡ inside_value N state v' net d
 inside_value-same N rank state v v' net numbered same (inr none) = refl
 inside_value-same N rank state v v' net numbered same (inl f) =
-    cell_value-same f.cell.kind f.cell.feeds rank net v v' (state f.number) (numbered.gates f.number f.cell net (record { live = f.live; output = f.output })) same
+    cell_value-same N.library f.cell.kind f.cell.feeds rank net v v' (state f.number) (numbered.gates f.number f.cell net (record { live = f.live; output = f.output })) same
 
 -- what a net's equation gives hangs on nets with smaller numbers alone
 net_value-same : (N : NetlistView) (rank : ℕ → ℕ) (given : (ℕ → Sig) → ℕ → Sig) (state v v' : ℕ → Sig) (net : ℕ) → IsNumbered N rank → IsCausal N rank given
@@ -87,7 +88,7 @@ net_value-inside : (N : NetlistView) (given : (ℕ → Sig) → ℕ → Sig) (st
 net_value-inside N given state v net g = rw g refl
 
 inside_value-driven : (N : NetlistView) (state v : ℕ → Sig) (i : ℕ) (cell : CellView) (net : ℕ) → IsDrivenOnce N → Drives N i cell net
-    → (d : Found N.cells net ⊎ NoneDrives N.cells net) → inside_value N state v net d ≡ cell_value cell.kind (feed_values v cell.feeds) (state i)
+    → (d : Found N.cells net ⊎ NoneDrives N.cells net) → inside_value N state v net d ≡ cell_value N.library cell.kind (feed_values v cell.feeds) (state i)
 inside_value-driven N state v i cell net once drives (inr none) = absurd (none i cell drives.live drives.output)
 inside_value-driven N state v i cell net once drives (inl f) =
     let number : f.number ≡ i = once f.number i f.cell cell net (record { live = f.live; output = f.output }) drives in

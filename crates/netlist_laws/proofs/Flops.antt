@@ -29,14 +29,14 @@ operand_same v v' (Const b ∷ feeds) zero same = refl
 operand_same v v' (f ∷ feeds) (suc k) same = operand_same v v' feeds k same
 
 -- what clocks, clears or presets a flip-flop has the same value where control nets have
-pub clock_same : (N : NetlistView) (i : ℕ) (cell : CellView) (kind : FlopKind) (v v' : ℕ → Sig) → cell_at N i ≡ Some cell → flop_of cell.kind ≡ Some kind
+pub clock_same : (N : NetlistView) (i : ℕ) (cell : CellView) (kind : FlopKind) (v v' : ℕ → Sig) → cell_at N i ≡ Some cell → flop_of N.library cell.kind ≡ Some kind
     → ((net : ℕ) → IsControlNet N net → v net ≡ v' net) → operand (feed_values v cell.feeds) 1 ≡ operand (feed_values v' cell.feeds) 1
 clock_same N i cell kind v v' live flop same =
     operand_same v v' cell.feeds 1 (λ net at.
     let f : FlopReads N 1 net = record { number = i; cell = cell; kind = kind; flop = flop; reads = record { live = live; operand = at } } in
     same net (record { root = net; operand = inl f; cone = itself }))
 
-pub reset_same : (N : NetlistView) (i : ℕ) (cell : CellView) (kind : FlopKind) (v v' : ℕ → Sig) → cell_at N i ≡ Some cell → flop_of cell.kind ≡ Some kind
+pub reset_same : (N : NetlistView) (i : ℕ) (cell : CellView) (kind : FlopKind) (v v' : ℕ → Sig) → cell_at N i ≡ Some cell → flop_of N.library cell.kind ≡ Some kind
     → ((net : ℕ) → IsControlNet N net → v net ≡ v' net) → operand (feed_values v cell.feeds) 2 ≡ operand (feed_values v' cell.feeds) 2
 reset_same N i cell kind v v' live flop same =
     operand_same v v' cell.feeds 2 (λ net at.

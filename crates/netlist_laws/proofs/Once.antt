@@ -40,7 +40,7 @@ feed_values_same v v' (Const b ∷ feeds) same =
 pub agree_inside : (N : NetlistView) (C : ℕ → Type 0) (rank : ℕ → ℕ) (given given' : (ℕ → Sig) → ℕ → Sig) (state state' v v' : ℕ → Sig)
     → IsNumbered N rank
     → ((net other : ℕ) → C net → GateReads N net other → C other)
-    → ((i : ℕ) (cell : CellView) (kind : FlopKind) (net : ℕ) → Drives N i cell net → C net → flop_of cell.kind ≡ Some kind → state i ≡ state' i)
+    → ((i : ℕ) (cell : CellView) (kind : FlopKind) (net : ℕ) → Drives N i cell net → C net → flop_of N.library cell.kind ≡ Some kind → state i ≡ state' i)
     → ((net : ℕ) → C net → follows_pin (direction N.ports net) ≡ true → HoldsBelow C (λ a b. a ≡ b) rank v v' net → given v net ≡ given' v' net)
     → Meets N given state v → Meets N given' state' v' → (net : ℕ) → C net → v net ≡ v' net
 agree_inside N C rank given given' state state' v v' numbered closed flops pins a b =
@@ -52,7 +52,7 @@ agree_inside N C rank given given' state state' v v' numbered closed flops pins 
           let read : (k other : ℕ) → slice_get cell.feeds k ≡ Some (Net (record { 0 = other })) → v other ≡ v' other
           = λ k other at. lower other (closed net other here (record { number = i; cell = cell; place = k; gate = gate; drives = d; reads = record { live = d.live; operand = at } }))
           (feeds_below_at rank cell.feeds (rank net) k other (numbered.gates i cell net d gate) at) in
-          ap (λ xs. cell_value cell.kind xs (state i)) (feed_values_same v v' cell.feeds read) ∙ cell_value-gate cell.kind (feed_values v' cell.feeds) (state i) (state' i) gate;
+          ap (λ xs. cell_value N.library cell.kind xs (state i)) (feed_values_same v v' cell.feeds read) ∙ cell_value-gate N.library cell.kind (feed_values v' cell.feeds) (state i) (state' i) gate;
       undriven = λ net here g none. refl;
     })
     a b

@@ -4,6 +4,7 @@ use Rattle.signal_values.specs.declared.Sig.{Sig}
 use Rattle.signal_values.specs.declared.PinSig.{PinSig}
 use Rattle.cell_library.specs.declared.Kind.{Kind}
 use Rattle.cell_library.specs.declared.FlopKind.{FlopKind}
+use Rattle.cell_library.specs.declared.listed.ListedCell.{ListedCell}
 use Rattle.cell_library.specs.Gates.{flop_of}
 use Rattle.cell_library.specs.Flops.{flop_next, flop_start}
 use Rattle.netlist_model.specs.Lists.{CellView, NetlistView}
@@ -22,24 +23,24 @@ abbrev pub start_if : Option FlopKind → List Sig → Sig → Sig
 start_if None inputs given = given
 start_if (Some kind) inputs given = flop_start kind inputs given
 
-abbrev pub kind_start : Kind → List Sig → Sig → Sig
-kind_start kind inputs given = start_if (flop_of kind) inputs given
+abbrev pub kind_start : List ListedCell → Kind → List Sig → Sig → Sig
+kind_start library kind inputs given = start_if (flop_of library kind) inputs given
 
-abbrev pub cell_start : Option CellView → (ℕ → Sig) → Sig → Sig
-cell_start None value given = given
-cell_start (Some cell) value given = kind_start cell.kind (feed_values value cell.feeds) given
+abbrev pub cell_start : List ListedCell → Option CellView → (ℕ → Sig) → Sig → Sig
+cell_start library None value given = given
+cell_start library (Some cell) value given = kind_start library cell.kind (feed_values value cell.feeds) given
 
 -- own: what a cell holds after a step: a flip-flop its next value, and a gate what was held
 abbrev pub next_if : Option FlopKind → List Sig → List Sig → Sig → Sig
 next_if None before after kept = kept
 next_if (Some kind) before after kept = flop_next kind before after kept
 
-abbrev pub kind_next : Kind → List Sig → List Sig → Sig → Sig
-kind_next kind before after kept = next_if (flop_of kind) before after kept
+abbrev pub kind_next : List ListedCell → Kind → List Sig → List Sig → Sig → Sig
+kind_next library kind before after kept = next_if (flop_of library kind) before after kept
 
-abbrev pub cell_next : Option CellView → (ℕ → Sig) → (ℕ → Sig) → Sig → Sig
-cell_next None before after kept = kept
-cell_next (Some cell) before after kept = kind_next cell.kind (feed_values before cell.feeds) (feed_values after cell.feeds) kept
+abbrev pub cell_next : List ListedCell → Option CellView → (ℕ → Sig) → (ℕ → Sig) → Sig → Sig
+cell_next library None before after kept = kept
+cell_next library (Some cell) before after kept = kind_next library cell.kind (feed_values before cell.feeds) (feed_values after cell.feeds) kept
 
 -- own: two moments have the same pins, the same flip-flops and the same nets
 pub record SameMoment (N : NetlistView) (m m' : Moment) : Type 0 where

@@ -4,7 +4,8 @@ use Rattle.signal_values.specs.declared.Sig.{Sig}
 use Rattle.signal_values.specs.declared.PinSig.{PinSig}
 use Rattle.cell_library.specs.declared.FlopKind.{FlopKind}
 use Rattle.cell_library.specs.Gates.{flop_of}
-use Rattle.netlist_model.specs.Lists.{CellView, NetlistView, cell_at, direction, Drives}
+use Rattle.netlist_model.specs.Lists.{CellView, NetlistView, cell_at, direction}
+pub use Rattle.netlist_model.specs.Lists.{IsDrivenOnce}
 use Rattle.netlist_model.specs.Settled.{follows_pin, IsSettled}
 use Rattle.netlist_model.specs.Formed.{IsWellFormed}
 
@@ -13,17 +14,13 @@ pub record IsCausal (N : NetlistView) (rank : ℕ → ℕ) (given : (ℕ → Sig
   pub below : (net : ℕ) → follows_pin (direction N.ports net) ≡ true → (v v' : ℕ → Sig)
       → ((other : ℕ) → rank other < rank net → v other ≡ v' other) → given v net ≡ given v' net
 
--- own: no net has two drivers
-abbrev pub IsDrivenOnce : NetlistView → Type 0
-IsDrivenOnce N = (i j : ℕ) (cell other : CellView) (net : ℕ) → Drives N i cell net → Drives N j other net → i ≡ j
-
 -- own: the pins of input and inout bits are the same
 abbrev pub SamePins : NetlistView → (ℕ → PinSig) → (ℕ → PinSig) → Type 0
 SamePins N pins pins' = (net : ℕ) → follows_pin (direction N.ports net) ≡ true → pins net ≡ pins' net
 
 -- own: the flip-flops hold the same
 abbrev pub SameFlops : NetlistView → (ℕ → Sig) → (ℕ → Sig) → Type 0
-SameFlops N state state' = (i : ℕ) (cell : CellView) (kind : FlopKind) → cell_at N i ≡ Some cell → flop_of cell.kind ≡ Some kind → state i ≡ state' i
+SameFlops N state state' = (i : ℕ) (cell : CellView) (kind : FlopKind) → cell_at N i ≡ Some cell → flop_of N.library cell.kind ≡ Some kind → state i ≡ state' i
 
 -- own: a well-formed netlist has a settled valuation for any pins and flip-flops
 abbrev pub SettledExists : Type 0

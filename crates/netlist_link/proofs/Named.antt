@@ -16,10 +16,11 @@ use Rattle.verilog_tree.specs.declared.tree.Item.TheVariants as item
 use Rattle.verilog_tree.specs.declared.tree.Range as tree
 use Rattle.verilog_tree.specs.IsTree.{IsTree, IsTreeRange, IsTreePort, IsTreeWire}
 use Rattle.verilog_tree.specs.declared.tree.Instance.{Instance}
+use Rattle.cell_library.specs.declared.listed.ListedCell.{ListedCell}
 use Rattle.cell_library.specs.declared.Kind.{Kind}
 use Rattle.cell_library.specs.declared.Kind.TheVariants as kind
-use Rattle.cell_library.specs.Gates.{is_flop}
 use Rattle.cell_library.specs.Library.{cell_name, kind_named}
+use Rattle.cell_library.specs.Sound.{IsLibrary}
 use Rattle.netlist_model.specs.declared.Name.{Name}
 use Rattle.netlist_model.specs.declared.Name.TheVariants.{Original, Added}
 use Rattle.netlist_model.specs.declared.NetId.{NetId}
@@ -190,7 +191,8 @@ items_apart (x ∷ items) (suc i) (suc j) item other name once at there named al
 
 -- What is known of a netlist that a module denotes, with its names in the table.
 pub record Denotes (table : List (List ℕ)) (N : NetlistView) (m : Module) : Type 0 where
-  pub is : IsNamed table N (denoted m)
+  pub is : IsNamed table N (denoted N.library m)
+  pub library : IsLibrary N.library
   pub names : table ≡ names_of m
   pub once : Once table
 
@@ -218,28 +220,28 @@ port_at table N m p view d at =
     let found = port_in table 0 N.ports m.ports p view d.is.ports at in record { port = found.0; there = found.1; name = found.2; range = found.3 }
 
 -- a cell is that of an item
-record CellAt (table : List (List ℕ)) (m : Module) (i : ℕ) (cell : CellView) : Type 0 where
+record CellAt (table : List (List ℕ)) (library : List ListedCell) (m : Module) (i : ℕ) (cell : CellView) : Type 0 where
   item : Item
   there : slice_get m.items i ≡ Some item
-  is : IsCell table cell (cell_of (declared_names m) item)
+  is : IsCell table cell (cell_of library (declared_names m) item)
 
-cell_in : (table : List (List ℕ)) (N : NetlistView) (m : Module) (i : ℕ) (cell : CellView) → Denotes table N m → cell_at N i ≡ Some cell → CellAt table m i cell
+cell_in : (table : List (List ℕ)) (N : NetlistView) (m : Module) (i : ℕ) (cell : CellView) → Denotes table N m → cell_at N i ≡ Some cell → CellAt table N.library m i cell
 cell_in table N m i cell d at =
-    let n = named_at table N (cells_in m) i cell d.is.cells at in
-    go n.named n.is (slice_get m.items i) refl (sym (slice_get-map (cell_of (declared_names m)) m.items i) ∙ n.there)
+    let n = named_at table N (cells_in N.library m) i cell d.is.cells at in
+    go n.named n.is (slice_get m.items i) refl (sym (slice_get-map (cell_of N.library (declared_names m)) m.items i) ∙ n.there)
   where
-    go : (named : NamedCell) → IsCell table cell named → (o : Option Item) → slice_get m.items i ≡ o → option_map (cell_of (declared_names m)) o ≡ Some named → CellAt table m i cell
+    go : (named : NamedCell) → IsCell table cell named → (o : Option Item) → slice_get m.items i ≡ o → option_map (cell_of N.library (declared_names m)) o ≡ Some named → CellAt table N.library m i cell
     go named is None e map_is = absurd (cc)
     go named is (Some item) e map_is =
-        let same : cell_of (declared_names m) item ≡ named = same_Some (cell_of (declared_names m) item) named map_is in
+        let same : cell_of N.library (declared_names m) item ≡ named = same_Some (cell_of N.library (declared_names m) item) named map_is in
         let P : NamedCell → Type 0 = IsCell table cell in
         record { item = item; there = e; is = subst P (sym same) is }
 
 -- the name of a cell is that of its item
-pub cell_name_is : (m : Module) (item : Item) → (cell_of (declared_names m) item).name ≡ item_name item
-cell_name_is m (item.Gate g) = refl
-cell_name_is m (item.Instance i) = refl
-cell_name_is m (item.Assign output input) = refl
+pub cell_name_is : (library : List ListedCell) (m : Module) (item : Item) → (cell_of library (declared_names m) item).name ≡ item_name item
+cell_name_is library m (item.Gate g) = refl
+cell_name_is library m (item.Instance i) = refl
+cell_name_is library m (item.Assign output input) = refl
 
 name_is : (table : List (List ℕ)) (mine : Option Name) (bytes : Option (List ℕ)) (name : Name) → IsName table mine bytes → mine ≡ Some name
     → (b : List ℕ) × (bytes ≡ Some b) × (name_bytes table name ≡ Some b)
@@ -247,11 +249,11 @@ name_is table None bytes name is e = absurd (cc)
 name_is table (Some own) None name is e = absurd is
 name_is table (Some own) (Some b) name is e = let same : own ≡ name = same_Some own name e in (b, refl, ap (name_bytes table) (sym same) ∙ is)
 
-cell_bytes : (table : List (List ℕ)) (m : Module) (i : ℕ) (cell : CellView) (name : Name) (c : CellAt table m i cell) → cell.name ≡ Some name
+cell_bytes : (table : List (List ℕ)) (library : List ListedCell) (m : Module) (i : ℕ) (cell : CellView) (name : Name) (c : CellAt table library m i cell) → cell.name ≡ Some name
     → (b : List ℕ) × (item_name c.item ≡ Some b) × (name_bytes table name ≡ Some b)
-cell_bytes table m i cell name c e =
-    let found = name_is table cell.name (cell_of (declared_names m) c.item).name name c.is.name e in
-    (found.0, sym (cell_name_is m c.item) ∙ found.1, found.2)
+cell_bytes table library m i cell name c e =
+    let found = name_is table cell.name (cell_of library (declared_names m) c.item).name name c.is.name e in
+    (found.0, sym (cell_name_is library m c.item) ∙ found.1, found.2)
 
 -- a net under its declaration
 record NetAt (table : List (List ℕ)) (m : Module) (net : ℕ) (view : NetView) : Type 0 where
@@ -383,8 +385,8 @@ wire_of table N m net number tree d is =
 
 -- Cells.
 
-kind_unnamed : (kind : Kind) → cell_name kind ≡ None → IsSome (cell_name kind) → ⊥
-kind_unnamed kind none some = let no : IsSome {T = List ℕ} None = rw none at some in cc
+kind_unnamed : (library : List ListedCell) (kind : Kind) → cell_name library kind ≡ None → IsSome (cell_name library kind) → ⊥
+kind_unnamed library kind none some = let no : IsSome {T = List ℕ} None = rw none at some in cc
 
 some_name : (table : List (List ℕ)) (mine : Option Name) (bytes : List ℕ) → IsName table mine (Some bytes) → IsSome mine
 some_name table None bytes is = absurd is
@@ -394,37 +396,33 @@ no_name : (table : List (List ℕ)) (mine : Option Name) → IsName table mine N
 no_name table None is = refl
 no_name table (Some name) is = absurd is
 
-named_cell : (table : List (List ℕ)) (m : Module) (cell : CellView) (x : Item) → IsCell table cell (cell_of (declared_names m) x) → IsSome (cell_name cell.kind) → IsSome cell.name
-named_cell table m cell (item.Gate g) is library =
-    absurd (kind_unnamed (kind_of_gate g.kind) (gate_unnamed g.kind) (rw (sym is.kind) library))
-named_cell table m cell (item.Instance i) is library = some_name table cell.name i.name is.name
-named_cell table m cell (item.Assign output input) is library = let no : IsSome {T = List ℕ} None = rw is.kind at library in absurd (cc)
+named_cell : (table : List (List ℕ)) (library : List ListedCell) (m : Module) (cell : CellView) (x : Item) → IsCell table cell (cell_of library (declared_names m) x) → IsSome (cell_name library cell.kind) → IsSome cell.name
+named_cell table library m cell (item.Gate g) is named =
+    absurd (kind_unnamed library (kind_of_gate g.kind) (gate_unnamed library g.kind) (rw (sym is.kind) named))
+named_cell table library m cell (item.Instance i) is named = some_name table cell.name i.name is.name
+named_cell table library m cell (item.Assign output input) is named = let no : IsSome {T = List ℕ} None = rw is.kind at named in absurd (cc)
 
-instance_no_assign : (name : List ℕ) (o : Option Kind) → kind_named name ≡ o → unwrap_or o kind.Buf ≡ kind.Assign → ⊥
-instance_no_assign name None e is = cc
-instance_no_assign name (Some k) e is =
-    elim (library_kind name k e) [
-      | inl flop ↦ let no : is_flop kind.Assign ≡ true = rw is at flop in cc
-      | inr mux ↦ let no : kind.Mux2 ≡ kind.Assign = sym mux ∙ is in cc
-    ]
+instance_no_assign : (library : List ListedCell) (name : List ℕ) (o : Option Kind) → kind_named library name ≡ o → unwrap_or o kind.Buf ≡ kind.Assign → ⊥
+instance_no_assign library name None e is = cc
+instance_no_assign library name (Some k) e is =
+    let some = library_kind library name k e in
+    let no : IsSome {T = List ℕ} None = rw is at some in cc
 
-assign_cell : (table : List (List ℕ)) (m : Module) (cell : CellView) (x : Item) → IsCell table cell (cell_of (declared_names m) x) → cell.kind ≡ kind.Assign → cell.name ≡ None
-assign_cell table m cell (item.Gate g) is assign = absurd (gate_no_assign g.kind (sym is.kind ∙ assign))
-assign_cell table m cell (item.Instance i) is assign = absurd (instance_no_assign i.cell (kind_named i.cell) refl (sym is.kind ∙ assign))
-assign_cell table m cell (item.Assign output input) is assign = no_name table cell.name is.name
+assign_cell : (table : List (List ℕ)) (library : List ListedCell) (m : Module) (cell : CellView) (x : Item) → IsCell table cell (cell_of library (declared_names m) x) → cell.kind ≡ kind.Assign → cell.name ≡ None
+assign_cell table library m cell (item.Gate g) is assign = absurd (gate_no_assign g.kind (sym is.kind ∙ assign))
+assign_cell table library m cell (item.Instance i) is assign = absurd (instance_no_assign library i.cell (kind_named library i.cell) refl (sym is.kind ∙ assign))
+assign_cell table library m cell (item.Assign output input) is assign = no_name table cell.name is.name
 
-connected_instance : (i : Instance) (o : Option Kind) → kind_named i.cell ≡ o → cell_unknown (item.Instance i) ≡ None → is_flop (unwrap_or o kind.Buf) ≡ false
-    → (unwrap_or o kind.Buf ≡ kind.Mux2 → ⊥) → ⊥
-connected_instance i None e known gate other = let no : Some (fault.CellUnknown i.cell) ≡ None = rw e at known in cc
-connected_instance i (Some k) e known gate other =
-    elim (library_kind i.cell k e) [ inl flop ↦ let no : true ≡ false = sym flop ∙ gate in cc | inr mux ↦ other mux ]
+connected_instance : (library : List ListedCell) (i : Instance) (o : Option Kind) → kind_named library i.cell ≡ o → cell_unknown library (item.Instance i) ≡ None → cell_name library (unwrap_or o kind.Buf) ≡ None → ⊥
+connected_instance library i None e known none = let no : Some (fault.CellUnknown i.cell) ≡ None = rw e at known in cc
+connected_instance library i (Some k) e known none = kind_unnamed library k none (library_kind library i.cell k e)
 
-connected_cell : (table : List (List ℕ)) (m : Module) (cell : CellView) (x : Item) → IsCell table cell (cell_of (declared_names m) x) → cell_unknown x ≡ None
-    → is_flop cell.kind ≡ false → (cell.kind ≡ kind.Mux2 → ⊥) → IsSome cell.output
-connected_cell table m cell (item.Gate g) is known gate other = rw is.output refl
-connected_cell table m cell (item.Instance i) is known gate other =
-    absurd (connected_instance i (kind_named i.cell) refl known (ap is_flop (sym is.kind) ∙ gate) (λ mux. other (is.kind ∙ mux)))
-connected_cell table m cell (item.Assign output input) is known gate other = rw is.output refl
+connected_cell : (table : List (List ℕ)) (library : List ListedCell) (m : Module) (cell : CellView) (x : Item) → IsCell table cell (cell_of library (declared_names m) x) → cell_unknown library x ≡ None
+    → cell_name library cell.kind ≡ None → IsSome cell.output
+connected_cell table library m cell (item.Gate g) is known none = rw is.output refl
+connected_cell table library m cell (item.Instance i) is known none =
+    absurd (connected_instance library i (kind_named library i.cell) refl known (ap (cell_name library) (sym is.kind) ∙ none))
+connected_cell table library m cell (item.Assign output input) is known none = rw is.output refl
 
 port_bit_view : (table : List (List ℕ)) (N : NetlistView) (m : Module) (p bit : ℕ) (view : PortView) (net : NetId) (t : PortAt table m p view) → Denotes table N m
     → slice_get N.ports p ≡ Some view → slice_get view.nets bit ≡ Some net → slice_get N.nets net.0 ≡ Some (record { name = view.name; index = index_from view.range bit })
@@ -442,16 +440,17 @@ port_bit_view table N m p bit view net t d at bit_at =
     ∙ ap (λ i. Some (record { name = view.name; index = i })) (sym (index_from_is t.port.range bit) ∙ ap (λ r. index_from r bit) (sym t.range))
 
 -- the netlist of a module without faults of its text
-pub well_named : (table : List (List ℕ)) (N : NetlistView) (m : Module) → IsTree m → text_fault m ≡ None → Denotes table N m → IsWellNamed table N
+pub well_named : (table : List (List ℕ)) (N : NetlistView) (m : Module) → IsTree m → text_fault N.library m ≡ None → Denotes table N m → IsWellNamed table N
 well_named table N m tree text d =
     let names_once = once_names table N m d in
     let port : (p : ℕ) (view : PortView) → slice_get N.ports p ≡ Some view → PortAt table m p view = λ p view at. port_at table N m p view d at in
-    let cell : (i : ℕ) (view : CellView) → cell_at N i ≡ Some view → CellAt table m i view = λ i view at. cell_in table N m i view d at in
+    let cell : (i : ℕ) (view : CellView) → cell_at N i ≡ Some view → CellAt table N.library m i view = λ i view at. cell_in table N m i view d at in
     record {
+      library = d.library;
       once = d.once;
       spelled = λ number name at. spelled_names m number name tree (ap (λ (names : List (List ℕ)). slice_get names number) (sym d.names) ∙ at);
       net_names = λ net view at. let n = net_in table N m net view d at in known table view.name n.named.name n.is.name;
-      cell_names = λ i view name at named. let b = cell_bytes table m i view name (cell i view at) named in known table name b.0 b.2;
+      cell_names = λ i view name at named. let b = cell_bytes table N.library m i view name (cell i view at) named in known table name b.0 b.2;
       port_names = λ p view at.
           let t = port p view at in
           let h = has_bytes table view.name t.port.name t.name in
@@ -474,15 +473,15 @@ well_named table N m tree text d =
       cells_apart = λ i j number one other at there named also.
           let c = cell i one at in
           let e = cell j other there in
-          let b = cell_bytes table m i one (Original number) c named in
-          let f = cell_bytes table m j other (Original number) e also in
+          let b = cell_bytes table N.library m i one (Original number) c named in
+          let f = cell_bytes table N.library m j other (Original number) e also in
           let bytes : Some f.0 ≡ Some b.0 = sym f.2 ∙ b.2 in
           items_apart m.items i j c.item e.item b.0 (once_right (map (λ (x : Port). x.name) m.ports ++ map (λ (w : Wire). w.name) m.wires) (filter_map item_name m.items) names_once)
           c.there e.there b.1 (f.1 ∙ bytes);
       port_or_cell = λ p i view one at there named.
           let t = port p view at in
           let c = cell i one there in
-          let b = cell_bytes table m i one view.name c named in
+          let b = cell_bytes table N.library m i one view.name c named in
           let place = port_name_at m p t.port t.there in
           let r = item_name_at m i c.item b.0 c.there b.1 in
           let bytes : Some b.0 ≡ Some t.port.name = sym b.2 ∙ t.name in
@@ -503,7 +502,7 @@ well_named table N m tree text d =
           omega arith;
       cell_or_wire = λ i net number one at named is.
           let c = cell i one at in
-          let b = cell_bytes table m i one (Original number) c named in
+          let b = cell_bytes table N.library m i one (Original number) c named in
           let w = wire_net_at table N m net number d is in
           let n = wire_name_of table N m net number d w in
           let r = item_name_at m i c.item b.0 c.there b.1 in
@@ -511,7 +510,7 @@ well_named table N m tree text d =
           let high : w.bit.d < length m.ports + length m.wires = n.2 in
           let same : length m.ports + length m.wires + r.0 ≡ w.bit.d = names_once (length m.ports + length m.wires + r.0) w.bit.d b.0 r.1 (n.0 ∙ bytes) in
           omega arith;
-      library_named = λ i one at library. let c = cell i one at in named_cell table m one c.item c.is library;
-      assign_unnamed = λ i one at assign. let c = cell i one at in assign_cell table m one c.item c.is assign;
-      connected = λ i one at gate other. let c = cell i one at in connected_cell table m one c.item c.is (known_cells m text i c.item c.there) gate other;
+      library_named = λ i one at library. let c = cell i one at in named_cell table N.library m one c.item c.is library;
+      assign_unnamed = λ i one at assign. let c = cell i one at in assign_cell table N.library m one c.item c.is assign;
+      connected = λ i one at none. let c = cell i one at in connected_cell table N.library m one c.item c.is (known_cells N.library m text i c.item c.there) none;
     }

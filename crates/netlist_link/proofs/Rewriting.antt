@@ -5,8 +5,10 @@ use Rattle.std.specs.Option.{option_or}
 use Rattle.std.specs.List.{list_any}
 use Rattle.std.specs.Str.{bytes_eq}
 use Rattle.std.proofs.lemmas.Bool.{ltb-false}
+use Rattle.std.proofs.lemmas.List.Elements.{All-nil}
 use Rattle.std.proofs.lemmas.Option.{same_Some}
 use Rattle.verilog_tree.specs.IsTree.{IsTreeName}
+use Rattle.cell_library.specs.Sound.{IsLibrary, IsSoundCell}
 use Rattle.netlist_model.specs.declared.What.{What}
 use Rattle.netlist_model.specs.declared.What.TheVariants.{Cells, Nets, Ports}
 use Rattle.netlist_model.specs.declared.Name.{Name}
@@ -22,7 +24,7 @@ use Rattle.netlist_link.specs.WellNamed.{IsKnown, IsWellNamed}
 use Rattle.netlist_link.proofs.PinLaws.{number_found}
 
 abbrev pub no_lists : NetlistView
-no_lists = record { ports = []; nets = []; cells = [] }
+no_lists = record { library = []; ports = []; nets = []; cells = [] }
 
 -- nothing at all is well formed
 pub none_formed : IsWellFormed no_lists
@@ -41,9 +43,19 @@ none_formed = record {
   cones = λ net control. elim control.operand [ inl f ↦ absurd (let no = f.reads.live in cc) | inr f ↦ absurd (let no = f.reads.live in cc) ];
 }
 
+-- it has no cell of a library
+no_library : IsLibrary []
+no_library = record {
+  few = omega arith;
+  sound = All-nil IsSoundCell;
+  named = λ number cell at. absurd (cc);
+  once = λ i j cell other at there same. absurd (cc);
+}
+
 -- and well named by any table of names
 pub none_named : (table : List (List ℕ)) (N : NetlistView) → IsWellNamed table N → IsWellNamed table no_lists
 none_named table N well = record {
+  library = no_library;
   once = well.once;
   spelled = well.spelled;
   net_names = λ net view at. absurd (cc);
@@ -60,7 +72,7 @@ none_named table N well = record {
   cell_or_wire = λ i net number cell live is wire. absurd (cc);
   library_named = λ i cell live is. absurd (cc);
   assign_unnamed = λ i cell live is. absurd (cc);
-  connected = λ i cell live gate other. absurd (cc);
+  connected = λ i cell live none. absurd (cc);
 }
 
 known_more : (table longer : List (List ℕ)) → length table ≤ length longer → (name : Name) → IsKnown table name → IsKnown longer name
@@ -71,6 +83,7 @@ known_more table longer more (Added number) known = known
 pub named_more : (table longer : List (List ℕ)) (N : NetlistView) → length table ≤ length longer → IsOnce longer
     → ((number : ℕ) (name : List ℕ) → slice_get longer number ≡ Some name → IsTreeName name) → IsWellNamed table N → IsWellNamed longer N
 named_more table longer N more once spelled well = record {
+  library = well.library;
   once = once;
   spelled = spelled;
   net_names = λ net view at. known_more table longer more view.name (well.net_names net view at);

@@ -1,6 +1,7 @@
 -- Two link views of one tree are the same, and each is well named.
-use Rattle.std.proofs.Common.{◌≡◌, subst, ℕ, List, [], ◌∷◌, refl, ap, sym, ◌∙◌, Option, Some, None}
+use Rattle.std.proofs.Common.{◌≡◌, subst, ℕ, List, [], ◌∷◌, length, refl, ap, sym, ◌∙◌, Option, Some, None}
 use Rattle.list_laws.proofs.Options.{or_else-parts}
+use Rattle.cell_library.specs.declared.listed.ListedCell.{ListedCell}
 use Rattle.verilog_tree.specs.declared.tree.Module.{Module}
 use Rattle.netlist_model.specs.declared.Name.{Name}
 use Rattle.netlist_model.specs.Lists.{PortView, NetView, CellView, NetlistView, cell_at}
@@ -14,6 +15,7 @@ use Rattle.link_drivers.specs.Drivers.{HaveTheirDrivers}
 use Rattle.link_order.specs.Cones.{ControlsAreLinks}
 use Rattle.link_order.specs.Orders.{LooplessHasOrder}
 use Rattle.name_table.specs.Names.{IsOnce}
+use Rattle.link_arena.proofs.Parts.{are_below}
 use Rattle.netlist_link.specs.Linked.{LinkedView}
 use Rattle.netlist_link.specs.Links.{IsLinkOf}
 use Rattle.netlist_link.specs.ViewLaws.{LinkViewsAgree, LinkViewIsFormed, LinkViewIsNamed}
@@ -72,38 +74,43 @@ same_cells table once N M cells f g i = by (cell_at N i) (cell_at M i) refl refl
         let is : IsLive table (Some b) n.named = rw h at (g.each i n.named n.there) in
         ap (λ (c : CellView). Some c) (same_cell table once a b n.named n.is is)
 
-pub clear_text : (m : Module) → IsLinkable m → text_fault m ≡ None
-clear_text m linkable = (or_else-parts (text_fault m) _ linkable.early).0
+pub clear_text : (library : List ListedCell) (m : Module) → IsLinkable library m → text_fault library m ≡ None
+clear_text library m linkable = (or_else-parts (text_fault library m) _ linkable.early).0
 
 -- the netlist of a link view, by the names of the text
-by_text : (m : Module) (linked : LinkedView) → IsLinkOf m linked → IsNamed (names_of m) linked.arena.lists (denoted m)
-by_text m linked link = let P : List (List ℕ) → Type 0 = λ table. IsNamed table linked.arena.lists (denoted m) in subst P link.names link.denoted
+by_text : (m : Module) (linked : LinkedView) → IsLinkOf m linked → IsNamed (names_of m) linked.arena.lists (denoted linked.arena.lists.library m)
+by_text m linked link = let P : List (List ℕ) → Type 0 = λ table. IsNamed table linked.arena.lists (denoted linked.arena.lists.library m) in subst P link.names link.denoted
 
 pub link_views_agree : LinkViewsAgree
-link_views_agree m one other f g =
-    let once : IsOnce (names_of m) = names_once m (clear_text m f.linkable) in
-    let here = by_text m one f in
-    let there = by_text m other g in
+link_views_agree m one other same f g =
+    let library : List ListedCell = one.arena.lists.library in
+    let once : IsOnce (names_of m) = names_once library m (clear_text library m f.linkable) in
+    let here : IsNamed (names_of m) one.arena.lists (denoted library m) = by_text m one f in
+    let there : IsNamed (names_of m) other.arena.lists (denoted library m) = subst (λ (l : List ListedCell). IsNamed (names_of m) other.arena.lists (denoted l m)) (sym same) (by_text m other g) in
     record {
       title = f.title ∙ sym g.title;
       names = f.names ∙ sym g.names;
-      ports = same_all (IsPort (names_of m)) (same_port (names_of m) once) one.arena.lists.ports other.arena.lists.ports (denoted m).ports here.ports there.ports;
-      nets = same_all (IsNet (names_of m)) (same_net (names_of m) once) one.arena.lists.nets other.arena.lists.nets (denoted m).nets here.nets there.nets;
-      cells = same_cells (names_of m) once one.arena.lists other.arena.lists (denoted m).cells here.cells there.cells;
+      library = same;
+      ports = same_all (IsPort (names_of m)) (same_port (names_of m) once) one.arena.lists.ports other.arena.lists.ports (denoted library m).ports here.ports there.ports;
+      nets = same_all (IsNet (names_of m)) (same_net (names_of m) once) one.arena.lists.nets other.arena.lists.nets (denoted library m).nets here.nets there.nets;
+      cells = same_cells (names_of m) once one.arena.lists other.arena.lists (denoted library m).cells here.cells there.cells;
     }
 
 pub link_view_is_named : LinkViewIsNamed
-link_view_is_named m linked tree link =
-    let clear = clear_text m link.linkable in
+link_view_is_named m linked tree is link =
+    let clear = clear_text linked.arena.lists.library m link.linkable in
     let P : List (List ℕ) → Type 0 = λ table. IsOnce table in
-    well_named linked.names linked.arena.lists m tree clear (record { is = link.denoted; names = link.names; once = subst P (sym link.names) (names_once m clear) })
+    well_named linked.names linked.arena.lists m tree clear
+    (record { is = link.denoted; library = is; names = link.names; once = subst P (sym link.names) (names_once linked.arena.lists.library m clear) })
 
 pub link_view_is_formed : ClearTextFits → HaveTheirDrivers → LooplessHasOrder → ControlsAreLinks → LinkViewIsFormed
-link_view_is_formed fit drive order control m linked tree link =
+link_view_is_formed fit drive order control m linked tree listed link =
+    let library : List ListedCell = linked.arena.lists.library in
     let nets : List NamedNet = nets_in (declared_nets m) in
-    let cells : List NamedCell = cells_in m in
-    let faults = or_else-parts (text_fault m) (driver_fault nets cells) link.linkable.early in
-    let fits = fit m tree faults.0 in
-    let driven = drive nets cells fits faults.1 in
-    let ordered = order nets cells fits driven link.linkable.loops in
-    well_formed linked.names linked.arena.lists m ordered.0 link.denoted fits driven ordered.1 (control m link.linkable.derived)
+    let cells : List NamedCell = cells_in library m in
+    let faults = or_else-parts (text_fault library m) (driver_fault nets cells) link.linkable.early in
+    let fits = fit library m tree faults.0 in
+    let below = are_below library (length nets) cells fits in
+    let driven = drive nets cells below faults.1 in
+    let ordered = order nets cells below driven link.linkable.loops in
+    well_formed linked.names linked.arena.lists m ordered.0 link.denoted fits driven ordered.1 (control library m listed link.linkable.derived)

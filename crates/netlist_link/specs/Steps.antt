@@ -1,5 +1,7 @@
 -- What is known of a module on the way to its link.
 use Rattle.std.specs.Prelude.{◌≡◌, ℕ, List, length, None}
+use Rattle.cell_library.specs.declared.listed.ListedCell.{ListedCell}
+use Rattle.cell_library.specs.Sound.{IsLibrary}
 use Rattle.verilog_tree.specs.declared.tree.Module.{Module}
 use Rattle.verilog_tree.specs.IsTree.{IsTree}
 use Rattle.netlist_model.specs.Lists.{NetlistView}
@@ -13,12 +15,13 @@ use Rattle.link_model.specs.Denoted.{IsNamed, denoted}
 use Rattle.link_order.specs.Orders.{IsItemOrder}
 
 -- own: these are the nets and cells of a tree in whose text no fault stands
-pub record AreNetsAndCells (m : Module) (nets : List NamedNet) (cells : List NamedCell) : Type 0 where
+pub record AreNetsAndCells (library : List ListedCell) (m : Module) (nets : List NamedNet) (cells : List NamedCell) : Type 0 where
   pub tree : IsTree m
-  pub clear : text_fault m ≡ None
+  pub listed : IsLibrary library
+  pub clear : text_fault library m ≡ None
   pub nets_are : nets ≡ nets_in (declared_nets m)
-  pub cells_are : cells ≡ cells_in m
-  pub fits : FitCells (length nets) cells
+  pub cells_are : cells ≡ cells_in library m
+  pub fits : FitCells library (length nets) cells
 
 -- own: the cells are in order, and none reads in a loop
 pub record AreInOrder (cells : List NamedCell) (order : List ℕ) : Type 0 where
@@ -26,18 +29,19 @@ pub record AreInOrder (cells : List NamedCell) (order : List ℕ) : Type 0 where
   pub no_loop : (numbers : List ℕ) → IsLoop cells numbers → ⊥
 
 -- own: a tree in which no fault stands
-pub record IsSound (m : Module) : Type 0 where
+pub record IsSound (library : List ListedCell) (m : Module) : Type 0 where
   pub tree : IsTree m
-  pub clear : text_fault m ≡ None
-  pub fits : FitCells (length (nets_in (declared_nets m))) (cells_in m)
-  pub drivers : driver_fault (nets_in (declared_nets m)) (cells_in m) ≡ None
-  pub no_loop : (numbers : List ℕ) → IsLoop (cells_in m) numbers → ⊥
-  pub derived : HasNoDerived m
+  pub listed : IsLibrary library
+  pub clear : text_fault library m ≡ None
+  pub fits : FitCells library (length (nets_in (declared_nets m))) (cells_in library m)
+  pub drivers : driver_fault (nets_in (declared_nets m)) (cells_in library m) ≡ None
+  pub no_loop : (numbers : List ℕ) → IsLoop (cells_in library m) numbers → ⊥
+  pub derived : HasNoDerived library m
   pub numbers : List ℕ
-  pub ordered : IsItemOrder (cells_in m) numbers
+  pub ordered : IsItemOrder (cells_in library m) numbers
 
 -- own: the module's netlist with its names
 pub record IsBuilt (m : Module) (N : NetlistView) (names : List (List ℕ)) : Type 0 where
-  pub named : IsNamed names N (denoted m)
+  pub named : IsNamed names N (denoted N.library m)
   pub dense : IsDense N
   pub names_are : names ≡ names_of m

@@ -1,10 +1,10 @@
 -- When a netlist is well named by a table of names: it can be written as a module again.
 -- IEEE Std 1364-2001: data types (vectors), hierarchical names; names that were added later are own.
-use Rattle.std.specs.Prelude.{◌≡◌, ℕ, ◌+◌, ◌-◌, ◌<◌, ◌≤◌, ◌^◌, nat_le, false, List, length, slice_get, Option, Some, None, IsSome, IfSome, if◌then◌else◌, ⊤}
+use Rattle.std.specs.Prelude.{◌≡◌, ℕ, ◌+◌, ◌-◌, ◌<◌, ◌≤◌, ◌^◌, nat_le, List, length, slice_get, Option, Some, None, IsSome, IfSome, if◌then◌else◌, ⊤}
 use Rattle.verilog_tree.specs.IsTree.{IsTreeName}
-use Rattle.cell_library.specs.declared.Kind.TheVariants.{Assign, Mux2}
-use Rattle.cell_library.specs.Gates.{is_flop}
+use Rattle.cell_library.specs.declared.Kind.TheVariants.{Assign}
 use Rattle.cell_library.specs.Library.{cell_name}
+use Rattle.cell_library.specs.Sound.{IsLibrary}
 use Rattle.netlist_model.specs.declared.NetId.{NetId}
 use Rattle.netlist_model.specs.declared.Name.{Name}
 use Rattle.netlist_model.specs.declared.Name.TheVariants.{Original, Added}
@@ -55,6 +55,8 @@ pub record IsWireName (N : NetlistView) (number : ℕ) : Type 0 where
 
 -- own: the netlist is one that a module can be written for
 pub record IsWellNamed (table : List (List ℕ)) (N : NetlistView) : Type 0 where
+  -- its listed cells make a library
+  pub library : IsLibrary N.library
   -- the table has no name twice
   pub once : IsOnce table
   -- each name of the table can be written
@@ -80,7 +82,7 @@ pub record IsWellNamed (table : List (List ℕ)) (N : NetlistView) : Type 0 wher
   pub port_or_wire : (p net : ℕ) (port : PortView) → slice_get N.ports p ≡ Some port → IsWireNet N net port.name → ⊥
   pub cell_or_wire : (i net number : ℕ) (cell : CellView) → cell_at N i ≡ Some cell → cell.name ≡ Some (Original number) → IsWireNet N net (Original number) → ⊥
   -- a library cell has a name, an `assign` has none
-  pub library_named : (i : ℕ) (cell : CellView) → cell_at N i ≡ Some cell → IsSome (cell_name cell.kind) → IsSome cell.name
+  pub library_named : (i : ℕ) (cell : CellView) → cell_at N i ≡ Some cell → IsSome (cell_name N.library cell.kind) → IsSome cell.name
   pub assign_unnamed : (i : ℕ) (cell : CellView) → cell_at N i ≡ Some cell → cell.kind ≡ Assign → cell.name ≡ None
-  -- only a flip-flop and a MUX2 may be without an output
-  pub connected : (i : ℕ) (cell : CellView) → cell_at N i ≡ Some cell → is_flop cell.kind ≡ false → (cell.kind ≡ Mux2 → ⊥) → IsSome cell.output
+  -- only a library cell may be without an output
+  pub connected : (i : ℕ) (cell : CellView) → cell_at N i ≡ Some cell → cell_name N.library cell.kind ≡ None → IsSome cell.output

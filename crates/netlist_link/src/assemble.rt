@@ -21,9 +21,10 @@ use verilog_tree::Module;
 
 /// A linked netlist from what was built of a module, where no fault stands.
 pub fn assemble(alloc: Global, tree: &Module, built: Built) -> Result<Linked, OutOfMemory>
-    requires sound { IsSound tree.now }
+    requires sound { IsSound built.netlist.lists.library tree.now }
     requires built { IsBuilt tree.now built.netlist.lists built.names }
-    ensures { IfOk result (IsLinkOf tree.now) }
+    ensures linked { IfOk result (IsLinkOf tree.now) }
+    ensures library { IfOk result (λ linked. linked.arena.lists.library ≡ built.netlist.lists.library) }
 {
     let Built { netlist, names } = built;
     is_well_named(tree, &netlist, &names);
@@ -57,7 +58,7 @@ fn filled_area(alloc: Global, netlist: &Netlist) -> Result<WorkArea, OutOfMemory
 
 // Does nothing: the netlist of a module is well formed.
 fn is_well_formed(tree: &Module, netlist: &Netlist, names: &NameTable)
-    requires sound { IsSound tree.now }
+    requires sound { IsSound netlist.now.lists.library tree.now }
     requires built { IsBuilt tree.now netlist.now.lists names.now }
     ensures { IsWellFormed netlist.now.lists }
 {
@@ -67,7 +68,7 @@ fn is_well_formed(tree: &Module, netlist: &Netlist, names: &NameTable)
 
 // Does nothing: the netlist of a module is well named.
 fn is_well_named(tree: &Module, netlist: &Netlist, names: &NameTable)
-    requires sound { IsSound tree.now }
+    requires sound { IsSound netlist.now.lists.library tree.now }
     requires built { IsBuilt tree.now netlist.now.lists names.now }
     ensures { IsWellNamed names.now netlist.now.lists }
 {

@@ -17,6 +17,7 @@ ghost use Rattle.netlist_link.specs.WellNamed.{IsWellNamed};
 
 use crate::linked::Linked;
 use crate::port_names::list_ports;
+use cell_library::Library;
 use cell_order::WorkArea;
 use netlist_arena::{Netlist, ReserveFault};
 use netlist_model::{Name, PortId};
@@ -87,7 +88,7 @@ impl Linked {
         ensures module_name { self.new.module_name ≡ self.old.module_name }
         ensures room { self.new.room ≡ self.old.room }
     {
-        let empty = Netlist::new(self.alloc);
+        let empty = Netlist::new(self.alloc, Library::new(self.alloc));
         self.area.fill(&empty);
         list_ports(&mut self.ports, &empty, &self.names);
         let netlist = std::mem::replace(&mut self.netlist, empty);

@@ -8,6 +8,7 @@ ghost use Rattle.netlist_link.specs.Steps.{AreInOrder, AreNetsAndCells};
 
 use crate::assemble::assemble;
 use crate::linked::Linked;
+use cell_library::Library;
 use link_arena::build;
 use link_drivers::{find_driver_fault, nets_have_their_drivers};
 use link_model::LinkFault;
@@ -19,62 +20,89 @@ use verilog_tree::Module;
 
 /// The netlist that a module denotes, or the first fault of the module. Time and memory are linear in nets, cells and
 /// operands.
-pub fn link(alloc: Global, tree: &Module) -> Result<Linked, LinkFault>
-    requires { IsTree tree.now }
+pub fn link(alloc: Global, tree: &Module, library: Library) -> Result<Linked, LinkFault>
+    requires tree { IsTree tree.now }
     ensures ok { IfOk result (IsLinkOf tree.now) }
-    ensures fault { IfErr result (IsLinkFault tree.now) }
+    ensures library { IfOk result (λ linked. linked.arena.lists.library ≡ library) }
+    ensures fault { IfErr result (IsLinkFault library tree.now) }
 {
-    match resolve(alloc, tree) {
-        Ok(resolved) => link_resolved(alloc, tree, resolved),
+    // Asked so that the proof knows that it is a library.
+    let _count = library.count();
+    match resolve(alloc, &library, tree) {
+        Ok(resolved) => link_resolved(alloc, tree, library, resolved),
         Err(fault) => Err(fault),
     }
 }
 
 // Goes on where no fault stands in the text.
-fn link_resolved(alloc: Global, tree: &Module, resolved: Resolved) -> Result<Linked, LinkFault>
-    requires { AreNetsAndCells tree.now resolved.nets.items resolved.cells.items }
+#[tactic(auto, using(link_arena::proofs::Parts::are_below))]
+fn link_resolved(
+    alloc: Global,
+    tree: &Module,
+    library: Library,
+    resolved: Resolved,
+) -> Result<Linked, LinkFault>
+    requires { AreNetsAndCells library tree.now resolved.nets.items resolved.cells.items }
     ensures ok { IfOk result (IsLinkOf tree.now) }
-    ensures fault { IfErr result (IsLinkFault tree.now) }
+    ensures library { IfOk result (λ linked. linked.arena.lists.library ≡ library) }
+    ensures fault { IfErr result (IsLinkFault library tree.now) }
 {
     match find_driver_fault(alloc, &resolved.nets, &resolved.cells) {
         Ok(Some(fault)) => Err(fault),
-        Ok(None) => link_driven(alloc, tree, resolved),
+        Ok(None) => link_driven(alloc, tree, library, resolved),
         Err(OutOfMemory) => Err(LinkFault::OutOfMemory),
     }
 }
 
 // Goes on where each net has the drivers that it may have.
-fn link_driven(alloc: Global, tree: &Module, resolved: Resolved) -> Result<Linked, LinkFault>
-    requires these { AreNetsAndCells tree.now resolved.nets.items resolved.cells.items }
+#[tactic(auto, using(link_arena::proofs::Parts::are_below))]
+fn link_driven(
+    alloc: Global,
+    tree: &Module,
+    library: Library,
+    resolved: Resolved,
+) -> Result<Linked, LinkFault>
+    requires these { AreNetsAndCells library tree.now resolved.nets.items resolved.cells.items }
     requires drivers { driver_fault resolved.nets.items resolved.cells.items ≡ None }
     ensures ok { IfOk result (IsLinkOf tree.now) }
-    ensures fault { IfErr result (IsLinkFault tree.now) }
+    ensures library { IfOk result (λ linked. linked.arena.lists.library ≡ library) }
+    ensures fault { IfErr result (IsLinkFault library tree.now) }
 {
     nets_have_their_drivers();
     match order_cells(alloc, &resolved.nets, &resolved.cells) {
-        Ok(order) => link_ordered(alloc, tree, resolved, order),
+        Ok(order) => link_ordered(alloc, tree, library, resolved, order),
         Err(fault) => Err(fault),
     }
 }
 
 // Goes on where no cells read in a loop.
+#[tactic(auto, using(link_arena::proofs::Parts::are_below))]
 fn link_ordered(
     alloc: Global,
     tree: &Module,
+    library: Library,
     resolved: Resolved,
     order: CellOrder,
 ) -> Result<Linked, LinkFault>
-    requires these { AreNetsAndCells tree.now resolved.nets.items resolved.cells.items }
+    requires these { AreNetsAndCells library tree.now resolved.nets.items resolved.cells.items }
     requires drivers { driver_fault resolved.nets.items resolved.cells.items ≡ None }
     requires ordered { AreInOrder resolved.cells.items order.order }
     requires of_these { AreOrdered (length resolved.nets.items) resolved.cells.items order }
     ensures ok { IfOk result (IsLinkOf tree.now) }
-    ensures fault { IfErr result (IsLinkFault tree.now) }
+    ensures library { IfOk result (λ linked. linked.arena.lists.library ≡ library) }
+    ensures fault { IfErr result (IsLinkFault library tree.now) }
 {
     nets_have_their_drivers();
-    match find_derived(alloc, tree, &resolved.nets, &resolved.cells, &order) {
+    match find_derived(
+        alloc,
+        &library,
+        tree,
+        &resolved.nets,
+        &resolved.cells,
+        &order,
+    ) {
         Ok(Some(fault)) => Err(fault),
-        Ok(None) => match link_sound(alloc, tree, resolved, order) {
+        Ok(None) => match link_sound(alloc, tree, library, resolved, order) {
             Ok(linked) => Ok(linked),
             Err(OutOfMemory) => Err(LinkFault::OutOfMemory),
         },
@@ -87,19 +115,21 @@ fn link_ordered(
 fn link_sound(
     alloc: Global,
     tree: &Module,
+    library: Library,
     resolved: Resolved,
     order: CellOrder,
 ) -> Result<Linked, OutOfMemory>
-    requires these { AreNetsAndCells tree.now resolved.nets.items resolved.cells.items }
+    requires these { AreNetsAndCells library tree.now resolved.nets.items resolved.cells.items }
     requires drivers { driver_fault resolved.nets.items resolved.cells.items ≡ None }
     requires ordered { AreInOrder resolved.cells.items order.order }
     requires of_these { AreOrdered (length resolved.nets.items) resolved.cells.items order }
-    requires derived { HasNoDerived tree.now }
-    ensures { IfOk result (IsLinkOf tree.now) }
+    requires derived { HasNoDerived library tree.now }
+    ensures ok { IfOk result (IsLinkOf tree.now) }
+    ensures library { IfOk result (λ linked. linked.arena.lists.library ≡ library) }
 {
     let Resolved { nets, cells } = resolved;
     drop(order);
-    let built = build(alloc, tree, nets, &cells)?;
+    let built = build(alloc, library, tree, nets, &cells)?;
     drop(cells);
     assemble(alloc, tree, built)
 }

@@ -6,7 +6,6 @@ ghost use Rattle.netlist_model.specs.Lists.{cell_at};
 ghost use Rattle.cell_order.specs.Tables.{is_live_flop};
 ghost use Rattle.netlist_meaning.specs.States.{IsStateOf, SetsFlop, cell_bound, flops_of, held};
 
-use cell_library::Kind;
 use netlist_arena::Netlist;
 use netlist_link::Linked;
 use netlist_model::CellId;
@@ -90,7 +89,7 @@ fn flops_of(alloc: Global, netlist: &Netlist, bound: usize) -> Result<Vec<CellId
 
 // Whether a live flip-flop has this number.
 fn is_flop(netlist: &Netlist, cell: CellId) -> bool
-    ensures { result ≡ is_live_flop (cell_at netlist.now.lists cell.0) }
+    ensures { result ≡ is_live_flop netlist.now.lists.library (cell_at netlist.now.lists cell.0) }
 {
-    netlist.is_live(cell) && matches!(netlist.kind(cell), Kind::Flop(_))
+    netlist.is_live(cell) && netlist.flop(cell).is_some()
 }

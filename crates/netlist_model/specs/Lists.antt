@@ -1,6 +1,7 @@
 -- A netlist as contracts see it: its lists of ports, nets and cells, each by rising number, and the ways to look into them.
 use Rattle.std.specs.Prelude.{◌≡◌, ◌≢◌, ℕ, ◌==◌, ◌||◌, Bool, false, List, [], ◌∷◌, slice_get, count_by, is_some, Option, Some, None, option_and_then, if◌then◌else◌}
 use Rattle.cell_library.specs.declared.Kind.{Kind}
+use Rattle.cell_library.specs.declared.listed.ListedCell.{ListedCell}
 use Rattle.netlist_model.specs.declared.NetId.{NetId}
 use Rattle.netlist_model.specs.declared.Name.{Name}
 use Rattle.netlist_model.specs.declared.Feed.{Feed}
@@ -27,8 +28,9 @@ pub record CellView : Type 0 where
   pub feeds : List Feed
   pub output : Option NetId
 
--- own: a netlist; a cell that was removed leaves its number empty
+-- own: a netlist, with the library of its listed cells; a cell that was removed leaves its number empty
 pub record NetlistView : Type 0 where
+  pub library : List ListedCell
   pub ports : List PortView
   pub nets : List NetView
   pub cells : List (Option CellView)
@@ -64,6 +66,10 @@ direction (p ∷ ps) net = if is_among net p.nets then Some p.dir else direction
 pub record Drives (N : NetlistView) (i : ℕ) (cell : CellView) (net : ℕ) : Type 0 where
   pub live : cell_at N i ≡ Some cell
   pub output : cell.output ≡ Some (record { 0 = net })
+
+-- own: no net has two drivers
+abbrev pub IsDrivenOnce : NetlistView → Type 0
+IsDrivenOnce N = (i j : ℕ) (cell other : CellView) (net : ℕ) → Drives N i cell net → Drives N j other net → i ≡ j
 
 -- own: no live cell drives the net
 abbrev pub IsUndriven : NetlistView → ℕ → Type 0

@@ -89,18 +89,18 @@ port_place linked prefix k net w at =
     let here : slice_get (net_order N) k ≡ Some net = slice_get-append_left (ports ++ wires) added k (omega (arith, length-append ports wires)) ∙ slice_get-append_left ports wires k less ∙ at in
     order_once linked prefix (place_of (net_order N) net) k net w (place_found (net_order N) k net here) here ∙ omega arith
 
-pub denotes : (linked : LinkedView) (prefix : List ℕ) → CanName linked prefix → denoted (tree_of linked prefix) ≡ renumbered (naming_of linked prefix) linked.arena.lists
+pub denotes : (linked : LinkedView) (prefix : List ℕ) → CanName linked prefix → denoted linked.arena.lists.library (tree_of linked prefix) ≡ renumbered (naming_of linked prefix) linked.arena.lists
 denotes linked prefix w =
     let N : NetlistView = linked.arena.lists in
     let naming : Naming = naming_of linked prefix in
     let order : List ℕ = net_order N in
     let names : List (List ℕ × Declared) = declared_names (tree_of linked prefix) in
-    same_netlist (denoted (tree_of linked prefix)) (renumbered naming N)
+    same_netlist (denoted N.library (tree_of linked prefix)) (renumbered naming N)
     (ports_are linked.names prefix N order 0 N.ports (λ p port at. port_fits linked.names prefix N p port w.are at) (λ k net at. port_place linked prefix k net w at))
     (nets_are linked prefix w.are)
     (cells_are N naming order names 0 N.cells (λ k cell at.
     let zeroth : k ≡ 0 + k = omega arith in
-    let P : ℕ → Type 0 = λ n. cell_of names (item_of naming n cell) ≡ new_cell naming order n cell in
+    let P : ℕ → Type 0 = λ n. cell_of N.library names (item_of naming n cell) ≡ new_cell naming order n cell in
     subst P zeroth (cell_is N naming order names k cell refl w.are (names_nets linked prefix w) at)))
 
 -- Faults of the text.
@@ -121,7 +121,7 @@ none_of_bits linked prefix test w each =
     let names : List (List ℕ × Declared) = declared_names (tree_of linked prefix) in
     none_of_tree linked prefix (λ i. first_in (at_bit test names) (item_bits i)) (λ i cell at.
     none_along (at_bit test names) (item_bits (item_of (naming_of linked prefix) i cell))
-    (bits_of_item linked.arena.lists (naming_of linked prefix) (λ (bit : Bit). at_bit test names bit ≡ None) i cell w.are each at))
+    (bits_of_item linked.arena.lists (naming_of linked prefix) (λ (bit : Bit). at_bit test names bit ≡ None) i cell refl w.are each at))
 
 first_none : {X : Type 0} (a b : Option X) → a ≡ None → or_else a b ≡ b
 first_none a b e = rw e refl
@@ -158,32 +158,32 @@ limits_are linked prefix w none =
     ∙ ap (λ (n : ℕ). or_else (too_many what.Cells 262144 (length tree.items)) (or_else (too_many what.Nets 524288 n) (too_many what.Ports 4096 (length (port_numbers N.ports))))) nets
     ∙ ap (λ (n : ℕ). or_else (too_many what.Cells 262144 n) (or_else (too_many what.Nets 524288 (length N.nets)) (too_many what.Ports 4096 (length (port_numbers N.ports))))) cells
 
-pub text_is : (linked : LinkedView) (prefix : List ℕ) → CanName linked prefix → text_fault (tree_of linked prefix) ≡ passed_limit linked.arena.lists
+pub text_is : (linked : LinkedView) (prefix : List ℕ) → CanName linked prefix → text_fault linked.arena.lists.library (tree_of linked prefix) ≡ passed_limit linked.arena.lists
 text_is linked prefix w =
     let N : NetlistView = linked.arena.lists in
     let naming : Naming = naming_of linked prefix in
     let tree : Module = tree_of linked prefix in
     let names : List (List ℕ × Declared) = declared_names tree in
     let narrow : AreNarrow N naming names = λ net less. (bit_found linked prefix net w less).narrow in
-    let fits : (i : ℕ) (cell : CellView) → cell_at N i ≡ Some cell → HasNoItemFault names (item_of naming i cell) = λ i cell at. item_fits N naming names i cell w.are narrow at in
+    let fits : (i : ℕ) (cell : CellView) → cell_at N i ≡ Some cell → HasNoItemFault N.library names (item_of naming i cell) = λ i cell at. item_fits N naming names i cell refl w.are narrow at in
     let twice : name_twice tree ≡ None = ap (option_map fault.NameTwice) (none_repeated (names_of tree) (names_apart linked prefix w)) in
     let unknown : first_bit name_unknown tree ≡ None = none_of_bits linked prefix name_unknown w (λ net less. (bit_found linked prefix net w less).known) in
     let outside : first_bit bit_outside tree ≡ None = none_of_bits linked prefix bit_outside w (λ net less. (bit_found linked prefix net w less).inside) in
-    let cells : first_in cell_unknown tree.items ≡ None = none_of_tree linked prefix cell_unknown (λ i cell at. (fits i cell at).cell) in
-    let ports : first_in (at_instance port_unknown) tree.items ≡ None = none_of_tree linked prefix (at_instance port_unknown) (λ i cell at. (fits i cell at).unknown) in
-    let missing : first_in (at_instance port_missing) tree.items ≡ None = none_of_tree linked prefix (at_instance port_missing) (λ i cell at. (fits i cell at).missing) in
-    let again : first_in (at_instance port_twice) tree.items ≡ None = none_of_tree linked prefix (at_instance port_twice) (λ i cell at. (fits i cell at).twice) in
-    let widths : first_in (item_width names) tree.items ≡ None = none_of_tree linked prefix (item_width names) (λ i cell at. (fits i cell at).width) in
+    let cells : first_in (cell_unknown N.library) tree.items ≡ None = none_of_tree linked prefix (cell_unknown N.library) (λ i cell at. (fits i cell at).cell) in
+    let ports : first_in (at_instance N.library (port_unknown N.library)) tree.items ≡ None = none_of_tree linked prefix (at_instance N.library (port_unknown N.library)) (λ i cell at. (fits i cell at).unknown) in
+    let missing : first_in (at_instance N.library (port_missing N.library)) tree.items ≡ None = none_of_tree linked prefix (at_instance N.library (port_missing N.library)) (λ i cell at. (fits i cell at).missing) in
+    let again : first_in (at_instance N.library port_twice) tree.items ≡ None = none_of_tree linked prefix (at_instance N.library port_twice) (λ i cell at. (fits i cell at).twice) in
+    let widths : first_in (item_width N.library names) tree.items ≡ None = none_of_tree linked prefix (item_width N.library names) (λ i cell at. (fits i cell at).width) in
     let operands = none_of_tree linked prefix (λ (i : Item). too_many what.Operands 256 (gate_operands i)) (λ i cell at. (fits i cell at).operands) in
     let bits : bit_faults tree ≡ None = first_none (first_bit name_unknown tree) (first_bit bit_outside tree) unknown ∙ outside in
-    let three : or_else (first_in (at_instance port_missing) tree.items) (first_in (at_instance port_twice) tree.items) ≡ None =
-    first_none (first_in (at_instance port_missing) tree.items) (first_in (at_instance port_twice) tree.items) missing ∙ again in
-    let two : or_else (first_in (at_instance port_unknown) tree.items) (or_else (first_in (at_instance port_missing) tree.items) (first_in (at_instance port_twice) tree.items)) ≡ None =
-    first_none (first_in (at_instance port_unknown) tree.items) (or_else (first_in (at_instance port_missing) tree.items) (first_in (at_instance port_twice) tree.items)) ports ∙ three in
-    let instances : instance_faults tree ≡ None =
-    first_none (first_in cell_unknown tree.items) (or_else (first_in (at_instance port_unknown) tree.items) (or_else (first_in (at_instance port_missing) tree.items) (first_in (at_instance port_twice) tree.items))) cells ∙ two in
-    let rest : or_else (name_twice tree) (or_else (bit_faults tree) (or_else (instance_faults tree) (first_in (item_width names) tree.items))) ≡ None =
-    first_none (name_twice tree) (or_else (bit_faults tree) (or_else (instance_faults tree) (first_in (item_width names) tree.items))) twice
-    ∙ first_none (bit_faults tree) (or_else (instance_faults tree) (first_in (item_width names) tree.items)) bits
-    ∙ first_none (instance_faults tree) (first_in (item_width names) tree.items) instances ∙ widths in
-    last_none (too_many_in tree) (or_else (name_twice tree) (or_else (bit_faults tree) (or_else (instance_faults tree) (first_in (item_width names) tree.items)))) rest ∙ limits_are linked prefix w operands
+    let three : or_else (first_in (at_instance N.library (port_missing N.library)) tree.items) (first_in (at_instance N.library port_twice) tree.items) ≡ None =
+    first_none (first_in (at_instance N.library (port_missing N.library)) tree.items) (first_in (at_instance N.library port_twice) tree.items) missing ∙ again in
+    let two : or_else (first_in (at_instance N.library (port_unknown N.library)) tree.items) (or_else (first_in (at_instance N.library (port_missing N.library)) tree.items) (first_in (at_instance N.library port_twice) tree.items)) ≡ None =
+    first_none (first_in (at_instance N.library (port_unknown N.library)) tree.items) (or_else (first_in (at_instance N.library (port_missing N.library)) tree.items) (first_in (at_instance N.library port_twice) tree.items)) ports ∙ three in
+    let instances : instance_faults N.library tree ≡ None =
+    first_none (first_in (cell_unknown N.library) tree.items) (or_else (first_in (at_instance N.library (port_unknown N.library)) tree.items) (or_else (first_in (at_instance N.library (port_missing N.library)) tree.items) (first_in (at_instance N.library port_twice) tree.items))) cells ∙ two in
+    let rest : or_else (name_twice tree) (or_else (bit_faults tree) (or_else (instance_faults N.library tree) (first_in (item_width N.library names) tree.items))) ≡ None =
+    first_none (name_twice tree) (or_else (bit_faults tree) (or_else (instance_faults N.library tree) (first_in (item_width N.library names) tree.items))) twice
+    ∙ first_none (bit_faults tree) (or_else (instance_faults N.library tree) (first_in (item_width N.library names) tree.items)) bits
+    ∙ first_none (instance_faults N.library tree) (first_in (item_width N.library names) tree.items) instances ∙ widths in
+    last_none (too_many_in tree) (or_else (name_twice tree) (or_else (bit_faults tree) (or_else (instance_faults N.library tree) (first_in (item_width N.library names) tree.items)))) rest ∙ limits_are linked prefix w operands

@@ -1,14 +1,16 @@
 -- What is known of the ports and cells of a linked netlist.
 use Rattle.std.proofs.Common.{◌≡◌, ℕ, zero, suc, ◌<◌, ◌≤◌, Bool, true, false, List, [], ◌∷◌, length, take, refl, ap, sym, ◌∙◌, subst, Option, Some, None, arith, IsTrue}
-use Rattle.std.specs.Prelude.{slice_get, IsSome, IfSome, ◌↔◌}
+use Rattle.std.specs.Prelude.{slice_get, IsSome, IfSome, MatchOption, ◌↔◌}
 use Rattle.std.specs.Option.{option_map, option_and_then}
 use Rattle.std.proofs.Math.Seq.{take-length}
 use Rattle.verilog_tree.specs.declared.tree.GateKind.{GateKind}
+use Rattle.cell_library.specs.declared.listed.ListedCell.{ListedCell}
 use Rattle.cell_library.specs.declared.Kind.{Kind}
 use Rattle.cell_library.specs.declared.Kind.TheVariants as kind
 use Rattle.cell_library.specs.Gates.{is_flop, Takes}
 use Rattle.cell_library.specs.Library.{cell_name, operand_ports}
 use Rattle.cell_library.specs.Ports.{HasPorts}
+use Rattle.cell_library.specs.Sound.{IsLibrary}
 use Rattle.cell_library.proofs.PortLaws.{named_cells_have_ports, taken_ports}
 use Rattle.netlist_model.specs.declared.Feed.{Feed}
 use Rattle.netlist_model.specs.declared.Name.{Name}
@@ -42,14 +44,61 @@ port_not_added table N p number named at = go (slice_get N.ports p) refl at
     go None e is = cc
     go (Some port) e is = let has = named.port_names p port e in let original = has.1 in cc
 
+-- what is known of a live cell, by the library that it was linked with
+pub record FitsLibrary (library : List ListedCell) (cell : CellView) : Type 0 where
+  pub is : IsLibrary library
+  pub takes : Takes library cell.kind (length cell.feeds)
+  pub named : IsSome (cell_name library cell.kind) → IsSome cell.name
+  pub unnamed : cell.kind ≡ kind.Assign → cell.name ≡ None
+  pub connected : cell_name library cell.kind ≡ None → IsSome cell.output
+
+pub fits_library : (table : List (List ℕ)) (N : NetlistView) (library : List ListedCell) (i : ℕ) (cell : CellView) → library ≡ N.library → IsWellNamed table N → IsWellFormed N → cell_at N i ≡ Some cell
+    → FitsLibrary library cell
+fits_library table N library i cell same named formed at =
+    let P : List ListedCell → Type 0 = λ l. FitsLibrary l cell in
+    subst P (sym same) (record {
+      is = named.library;
+      takes = formed.counts i cell at;
+      named = named.library_named i cell at;
+      unnamed = named.assign_unnamed i cell at;
+      connected = named.connected i cell at;
+    })
+
 -- gates
 
-pub gate_no_flop : (k : Kind) (gate : GateKind) → gate_of k ≡ Some gate → is_flop k ≡ false
-gate_no_flop (kind.Flop flop) gate e = absurd (cc)
-gate_no_flop k gate e = refl
+pub gate_no_flop : (library : List ListedCell) (k : Kind) (gate : GateKind) → gate_of k ≡ Some gate → is_flop library k ≡ false
+gate_no_flop library (kind.Flop flop) gate e = absurd (cc)
+gate_no_flop library (kind.Listed number) gate e = absurd (cc)
+gate_no_flop library k gate e = refl
 
-pub gate_no_mux : (k : Kind) (gate : GateKind) → gate_of k ≡ Some gate → k ≡ kind.Mux2 → ⊥
-gate_no_mux k gate e is = let bad : None ≡ Some gate = ap gate_of (sym is) ∙ e in cc
+pub gate_unnamed : (library : List ListedCell) (k : Kind) (gate : GateKind) → gate_of k ≡ Some gate → cell_name library k ≡ None
+gate_unnamed library kind.Mux2 gate e = absurd (cc)
+gate_unnamed library (kind.Flop flop) gate e = absurd (cc)
+gate_unnamed library (kind.Listed number) gate e = absurd (cc)
+gate_unnamed library k gate e = refl
+
+pub gate_few : (library : List ListedCell) (k : Kind) (gate : GateKind) (count : ℕ) → gate_of k ≡ Some gate → Takes library k count → count ≤ 256
+gate_few library kind.And gate count e takes = takes.1
+gate_few library kind.Or gate count e takes = takes.1
+gate_few library kind.Nand gate count e takes = takes.1
+gate_few library kind.Nor gate count e takes = takes.1
+gate_few library kind.Xor gate count e takes = takes.1
+gate_few library kind.Xnor gate count e takes = takes.1
+gate_few library kind.Buf gate count e takes = omega (arith, takes)
+gate_few library kind.Not gate count e takes = omega (arith, takes)
+gate_few library kind.Bufif0 gate count e takes = omega (arith, takes)
+gate_few library kind.Bufif1 gate count e takes = omega (arith, takes)
+gate_few library k gate count e takes = absurd (cc)
+
+-- a cell that is no gate and has no name is an `assign`
+pub assign_kind : (library : List ListedCell) (k : Kind) (count : ℕ) → Takes library k count → gate_of k ≡ None → cell_name library k ≡ None → k ≡ kind.Assign
+assign_kind library kind.Assign count takes gate name = refl
+assign_kind library (kind.Listed number) count takes gate name = by (slice_get library number) takes name
+  where
+    by : (there : Option ListedCell) → MatchOption there ⊥ (λ (cell : ListedCell). count ≡ length cell.inputs) → option_map (λ (cell : ListedCell). cell.name) there ≡ None → kind.Listed number ≡ kind.Assign
+    by None takes name = absurd takes
+    by (Some cell) takes name = absurd (cc)
+assign_kind library k count takes gate name = absurd (cc)
 
 pub gate_driven : (table : List (List ℕ)) (N : NetlistView) (i : ℕ) (gate : GateKind) → IsWellNamed table N → IsSome (cell_at N i)
     → IfSome (cell_at N i) (λ (found : CellView). gate_of found.kind ≡ Some gate) → IsSome (output_of (cell_at N i))
@@ -57,50 +106,55 @@ gate_driven table N i gate named live is = go (cell_at N i) refl live is
   where
     go : (o : Option CellView) → cell_at N i ≡ o → IsSome o → IfSome o (λ (found : CellView). gate_of found.kind ≡ Some gate) → IsSome (output_of o)
     go None e live is = absurd (cc)
-    go (Some cell) e live is = named.connected i cell e (gate_no_flop cell.kind gate is) (gate_no_mux cell.kind gate is)
+    go (Some cell) e live is = named.connected i cell e (gate_unnamed N.library cell.kind gate is)
 
 pub assign_driven : (table : List (List ℕ)) (N : NetlistView) (i : ℕ) → IsWellNamed table N → IsSome (cell_at N i)
-    → IfSome (cell_at N i) (λ (found : CellView). found.kind ≡ kind.Assign) → IsSome (output_of (cell_at N i))
+    → IfSome (cell_at N i) (λ (found : CellView). cell_name N.library found.kind ≡ None) → IsSome (output_of (cell_at N i))
 assign_driven table N i named live is = go (cell_at N i) refl live is
   where
-    go : (o : Option CellView) → cell_at N i ≡ o → IsSome o → IfSome o (λ (found : CellView). found.kind ≡ kind.Assign) → IsSome (output_of o)
+    go : (o : Option CellView) → cell_at N i ≡ o → IsSome o → IfSome o (λ (found : CellView). cell_name N.library found.kind ≡ None) → IsSome (output_of o)
     go None e live is = absurd (cc)
-    go (Some cell) e live is = named.connected i cell e (ap is_flop is) (λ mux. let bad : kind.Assign ≡ kind.Mux2 = sym is ∙ mux in cc)
+    go (Some cell) e live is = named.connected i cell e is
 
-pub assign_reads : (N : NetlistView) (i : ℕ) → IsWellFormed N → IsSome (cell_at N i) → IfSome (cell_at N i) (λ (found : CellView). found.kind ≡ kind.Assign) → 0 < length (feeds_of (cell_at N i))
-assign_reads N i formed live is = go (cell_at N i) refl live is
+pub assign_reads : (N : NetlistView) (i : ℕ) → IsWellFormed N → IsSome (cell_at N i) → IfSome (cell_at N i) (λ (found : CellView). gate_of found.kind ≡ None)
+    → IfSome (cell_at N i) (λ (found : CellView). cell_name N.library found.kind ≡ None) → 0 < length (feeds_of (cell_at N i))
+assign_reads N i formed live gate name = go (cell_at N i) refl live gate name
   where
-    go : (o : Option CellView) → cell_at N i ≡ o → IsSome o → IfSome o (λ (found : CellView). found.kind ≡ kind.Assign) → 0 < length (feeds_of o)
-    go None e live is = absurd (cc)
-    go (Some cell) e live is =
-        let T : Kind → Type 0 = λ k. Takes k (length cell.feeds) in
-        let one : length cell.feeds ≡ 1 = subst T is (formed.counts i cell e) in
+    go : (o : Option CellView) → cell_at N i ≡ o → IsSome o → IfSome o (λ (found : CellView). gate_of found.kind ≡ None) → IfSome o (λ (found : CellView). cell_name N.library found.kind ≡ None)
+        → 0 < length (feeds_of o)
+    go None e live gate name = absurd (cc)
+    go (Some cell) e live gate name =
+        let takes = formed.counts i cell e in
+        let is = assign_kind N.library cell.kind (length cell.feeds) takes gate name in
+        let T : Kind → Type 0 = λ k. Takes N.library k (length cell.feeds) in
+        let one : length cell.feeds ≡ 1 = subst T is takes in
         omega arith
 
 pub instance_named : (table : List (List ℕ)) (N : NetlistView) (i : ℕ) (k : Kind) (library : List ℕ) → IsWellNamed table N → IsSome (cell_at N i)
-    → IfSome (cell_at N i) (λ (found : CellView). found.kind ≡ k) → cell_name k ≡ Some library → IsSome (name_of (cell_at N i))
+    → IfSome (cell_at N i) (λ (found : CellView). found.kind ≡ k) → cell_name N.library k ≡ Some library → IsSome (name_of (cell_at N i))
 instance_named table N i k library named live is known = go (cell_at N i) refl live is
   where
     go : (o : Option CellView) → cell_at N i ≡ o → IsSome o → IfSome o (λ (found : CellView). found.kind ≡ k) → IsSome (name_of o)
     go None e live is = absurd (cc)
-    go (Some cell) e live is = let at : cell_name cell.kind ≡ Some library = ap cell_name is ∙ known in named.library_named i cell e (rw at refl)
+    go (Some cell) e live is = let at : cell_name N.library cell.kind ≡ Some library = ap (cell_name N.library) is ∙ known in named.library_named i cell e (rw at refl)
 
 -- a cell that has a name has its ports
-pub library_ports : (k : Kind) (library : List ℕ) → cell_name k ≡ Some library → HasPorts k
-library_ports k library known = named_cells_have_ports k (rw known refl)
+pub library_ports : (library : List ListedCell) (k : Kind) (name : List ℕ) → IsLibrary library → cell_name library k ≡ Some name → HasPorts library k
+library_ports library k name is known = named_cells_have_ports library is k (rw known refl)
 
-pub library_count : (k : Kind) (library : List ℕ) (count : ℕ) → cell_name k ≡ Some library → Takes k count → count ≡ length (operand_ports k)
-library_count k library count known takes = taken_ports k count (library_ports k library known) takes
+pub library_count : (library : List ListedCell) (k : Kind) (name : List ℕ) (count : ℕ) → IsLibrary library → cell_name library k ≡ Some name → Takes library k count
+    → count ≡ length (operand_ports library k)
+library_count library k name count is known takes = taken_ports library k count (library_ports library k name is known) takes
 
-pub instance_ports : (N : NetlistView) (i : ℕ) (k : Kind) (library : List ℕ) → IsWellFormed N → IsSome (cell_at N i) → IfSome (cell_at N i) (λ (found : CellView). found.kind ≡ k)
-    → cell_name k ≡ Some library → length (feeds_of (cell_at N i)) ≤ length (operand_ports k)
-instance_ports N i k library formed live is known = go (cell_at N i) refl live is
+pub instance_ports : (N : NetlistView) (i : ℕ) (k : Kind) (name : List ℕ) → IsLibrary N.library → IsWellFormed N → IsSome (cell_at N i) → IfSome (cell_at N i) (λ (found : CellView). found.kind ≡ k)
+    → cell_name N.library k ≡ Some name → length (feeds_of (cell_at N i)) ≤ length (operand_ports N.library k)
+instance_ports N i k name library formed live is known = go (cell_at N i) refl live is
   where
-    go : (o : Option CellView) → cell_at N i ≡ o → IsSome o → IfSome o (λ (found : CellView). found.kind ≡ k) → length (feeds_of o) ≤ length (operand_ports k)
+    go : (o : Option CellView) → cell_at N i ≡ o → IsSome o → IfSome o (λ (found : CellView). found.kind ≡ k) → length (feeds_of o) ≤ length (operand_ports N.library k)
     go None e live is = absurd (cc)
     go (Some cell) e live is =
-        let T : Kind → Type 0 = λ x. Takes x (length cell.feeds) in
-        let same = library_count k library (length cell.feeds) known (subst T is (formed.counts i cell e)) in
+        let T : Kind → Type 0 = λ x. Takes N.library x (length cell.feeds) in
+        let same = library_count N.library k name (length cell.feeds) library known (subst T is (formed.counts i cell e)) in
         omega arith
 
 -- operands by their places
@@ -142,6 +196,12 @@ pub count_there : (mine other : ArenaView) (i n : ℕ) → mine ≡ other → op
 count_there mine other i n same at =
     let P : ArenaView → Type 0 = λ a. option_map (λ (found : CellView). length found.feeds) (cell_at a.lists i) ≡ Some n in
     count_is (cell_at other.lists i) n (subst P same at)
+
+-- a port of the library that is the netlist's
+pub port_there : (mine : List ListedCell) (arena other : ArenaView) (k : Kind) (place : ℕ) (port : List ℕ) → mine ≡ arena.lists.library → arena ≡ other → slice_get (operand_ports mine k) place ≡ Some port
+    → slice_get (operand_ports other.lists.library k) place ≡ Some port
+port_there mine arena other k place port own same at =
+    ap (λ (l : List ListedCell). slice_get (operand_ports l k) place) (sym (own ∙ ap (λ (a : ArenaView). a.lists.library) same)) ∙ at
 
 pub port_name_there : (mine other : ArenaView) (p : ℕ) (name : Name) → mine ≡ other → option_map (λ (found : PortView). found.name) (slice_get mine.lists.ports p) ≡ Some name
     → option_map (λ (found : PortView). found.name) (slice_get other.lists.ports p) ≡ Some name

@@ -18,8 +18,7 @@ use Rattle.link_model.specs.Cells.{cell_of, feed_of, kind_of_gate, port_feed}
 use Rattle.netlist_link.specs.WellNamed.{IsWellNamed}
 use Rattle.netlist_unlink.specs.Trees.{Naming, cell_text, gate_of, operand_links, operand_of, output_links, written}
 use Rattle.netlist_unlink.specs.Kept.{AreKept, IsKept}
-use Rattle.netlist_unlink.proofs.Facts.{library_count}
-use Rattle.netlist_unlink.proofs.Written.{assign_kind}
+use Rattle.netlist_unlink.proofs.Facts.{FitsLibrary, assign_kind, fits_library, library_count}
 
 pub gate_back : (k : Kind) (g : GateKind) → gate_of k ≡ Some g → kind_of_gate g ≡ k
 gate_back kind.And g e = let same : gate.And ≡ g = grind arith in ap kind_of_gate (sym same)
@@ -35,9 +34,10 @@ gate_back kind.Bufif1 g e = let same : gate.Bufif1 ≡ g = grind arith in ap kin
 gate_back kind.Assign g e = absurd (cc)
 gate_back kind.Mux2 g e = absurd (cc)
 gate_back (kind.Flop flop) g e = absurd (cc)
+gate_back (kind.Listed number) g e = absurd (cc)
 
 kept_gate : (names : List (List ℕ × Declared)) (naming : Naming) (i : ℕ) (cell : CellView) (g : GateKind) (library : Option (List ℕ)) → gate_of cell.kind ≡ Some g
-    → IsKept naming i cell (cell_of names (written naming i cell (Some g) library))
+    → IsKept naming i cell (cell_of naming.library names (written naming i cell (Some g) library))
 kept_gate names naming i cell g library is = record {
   kind = gate_back cell.kind g is;
   name = refl;
@@ -48,41 +48,44 @@ some_text : (naming : Naming) (i : ℕ) (o : Option Name) → IsSome o → Some 
 some_text naming i None some = absurd (cc)
 some_text naming i (Some name) some = refl
 
-kept_instance : (names : List (List ℕ × Declared)) (N : NetlistView) (naming : Naming) (i : ℕ) (cell : CellView) (library : List ℕ) → IsWellNamed naming.table N → IsWellFormed N → cell_at N i ≡ Some cell
-    → cell_name cell.kind ≡ Some library → IsKept naming i cell (cell_of names (written naming i cell None (Some library)))
-kept_instance names N naming i cell library named formed at is =
-    let back : unwrap_or (kind_named library) kind.Buf ≡ cell.kind = ap (λ (o : Option Kind). unwrap_or o kind.Buf) (named_is_found cell.kind library is) in
+kept_instance : (names : List (List ℕ × Declared)) (naming : Naming) (i : ℕ) (cell : CellView) (library : List ℕ) → FitsLibrary naming.library cell
+    → cell_name naming.library cell.kind ≡ Some library → IsKept naming i cell (cell_of naming.library names (written naming i cell None (Some library)))
+kept_instance names naming i cell library fits is =
+    let back : unwrap_or (kind_named naming.library library) kind.Buf ≡ cell.kind = ap (λ (o : Option Kind). unwrap_or o kind.Buf) (named_is_found naming.library fits.is cell.kind library is) in
     record {
       kind = back;
-      name = some_text naming i cell.name (named.library_named i cell at (rw is refl));
-      count = feeds_count (unwrap_or (kind_named library) kind.Buf) back;
+      name = some_text naming i cell.name (fits.named (rw is refl));
+      count = feeds_count (unwrap_or (kind_named naming.library library) kind.Buf) back;
     }
   where
-    feeds_count : (k : Kind) → k ≡ cell.kind → length (map (port_feed names (operand_links naming (operand_ports cell.kind) cell.feeds ++ output_links naming (output_port cell.kind) cell.output)) (operand_ports k)) ≡ length cell.feeds
+    feeds_count : (k : Kind) → k ≡ cell.kind → length (map (port_feed names (operand_links naming (operand_ports naming.library cell.kind) cell.feeds ++ output_links naming (output_port naming.library cell.kind) cell.output)) (operand_ports naming.library k)) ≡ length cell.feeds
     feeds_count k same =
-        length-map (operand_ports k) (port_feed names (operand_links naming (operand_ports cell.kind) cell.feeds ++ output_links naming (output_port cell.kind) cell.output))
-        ∙ ap (λ (x : Kind). length (operand_ports x)) same ∙ sym (library_count cell.kind library (length cell.feeds) is (formed.counts i cell at))
+        length-map (operand_ports naming.library k) (port_feed names (operand_links naming (operand_ports naming.library cell.kind) cell.feeds ++ output_links naming (output_port naming.library cell.kind) cell.output))
+        ∙ ap (λ (x : Kind). length (operand_ports naming.library x)) same ∙ sym (library_count naming.library cell.kind library (length cell.feeds) fits.is is fits.takes)
 
-kept_assign : (names : List (List ℕ × Declared)) (N : NetlistView) (naming : Naming) (i : ℕ) (cell : CellView) → IsWellNamed naming.table N → IsWellFormed N → cell_at N i ≡ Some cell
-    → gate_of cell.kind ≡ None → cell_name cell.kind ≡ None → IsKept naming i cell (cell_of names (written naming i cell None None))
-kept_assign names N naming i cell named formed at no_gate no_library =
-    let is = assign_kind cell.kind no_gate no_library in
-    let none = named.assign_unnamed i cell at is in
-    let T : Kind → Type 0 = λ k. Takes k (length cell.feeds) in
-    let one : length cell.feeds ≡ 1 = subst T is (formed.counts i cell at) in
+kept_assign : (names : List (List ℕ × Declared)) (naming : Naming) (i : ℕ) (cell : CellView) → FitsLibrary naming.library cell
+    → gate_of cell.kind ≡ None → cell_name naming.library cell.kind ≡ None → IsKept naming i cell (cell_of naming.library names (written naming i cell None None))
+kept_assign names naming i cell fits no_gate no_library =
+    let is = assign_kind naming.library cell.kind (length cell.feeds) fits.takes no_gate no_library in
+    let none = fits.unnamed is in
+    let T : Kind → Type 0 = λ k. Takes naming.library k (length cell.feeds) in
+    let one : length cell.feeds ≡ 1 = subst T is fits.takes in
     record {
       kind = sym is;
       name = sym (ap (option_map (cell_text naming i)) none);
       count = sym one;
     }
 
-pub are_kept : (N : NetlistView) (naming : Naming) → IsWellNamed naming.table N → IsWellFormed N → AreKept N naming
-are_kept N naming named formed names i cell at = by_gate (gate_of cell.kind) refl
+pub are_kept : (N : NetlistView) (naming : Naming) → naming.library ≡ N.library → IsWellNamed naming.table N → IsWellFormed N → AreKept N naming
+are_kept N naming same named formed names i cell at = by_gate (gate_of cell.kind) refl
   where
-    by_library : (l : Option (List ℕ)) → cell_name cell.kind ≡ l → gate_of cell.kind ≡ None → IsKept naming i cell (cell_of names (written naming i cell None l))
-    by_library None e none = kept_assign names N naming i cell named formed at none e
-    by_library (Some library) e none = kept_instance names N naming i cell library named formed at e
+    fits : FitsLibrary naming.library cell
+    fits = fits_library naming.table N naming.library i cell same named formed at
 
-    by_gate : (g : Option GateKind) → gate_of cell.kind ≡ g → IsKept naming i cell (cell_of names (written naming i cell g (cell_name cell.kind)))
-    by_gate None e = by_library (cell_name cell.kind) refl e
-    by_gate (Some g) e = kept_gate names naming i cell g (cell_name cell.kind) e
+    by_library : (l : Option (List ℕ)) → cell_name naming.library cell.kind ≡ l → gate_of cell.kind ≡ None → IsKept naming i cell (cell_of naming.library names (written naming i cell None l))
+    by_library None e none = kept_assign names naming i cell fits none e
+    by_library (Some library) e none = kept_instance names naming i cell library fits e
+
+    by_gate : (g : Option GateKind) → gate_of cell.kind ≡ g → IsKept naming i cell (cell_of naming.library names (written naming i cell g (cell_name naming.library cell.kind)))
+    by_gate None e = by_library (cell_name naming.library cell.kind) refl e
+    by_gate (Some g) e = kept_gate names naming i cell g (cell_name naming.library cell.kind) e

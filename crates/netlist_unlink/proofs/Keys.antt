@@ -12,6 +12,7 @@ use Rattle.verilog_tree.specs.declared.tree.Item.{Item}
 use Rattle.verilog_tree.specs.declared.tree.Item.TheVariants as item
 use Rattle.verilog_tree.specs.declared.tree.Port.{Port}
 use Rattle.verilog_tree.specs.declared.tree.Wire.{Wire}
+use Rattle.cell_library.specs.declared.listed.ListedCell.{ListedCell}
 use Rattle.netlist_model.specs.declared.Name.{Name}
 use Rattle.netlist_model.specs.declared.Name.TheVariants.{Original, Added}
 use Rattle.netlist_model.specs.Lists.{PortView, NetView, CellView, NetlistView, cell_at, live_cell}
@@ -227,10 +228,10 @@ cell_key_text : (naming : Naming) (number : ℕ) (name : Name) → cell_text nam
 cell_key_text naming number (Original place) = refl
 cell_key_text naming number (Added other) = refl
 
-named_item : (x : Item) → (cell_of [] x).name ≡ item_name x
-named_item (item.Gate g) = refl
-named_item (item.Instance i) = refl
-named_item (item.Assign output input) = refl
+named_item : (library : List ListedCell) (x : Item) → (cell_of library [] x).name ≡ item_name x
+named_item library (item.Gate g) = refl
+named_item library (item.Instance i) = refl
+named_item library (item.Assign output input) = refl
 
 item_names : (naming : Naming) (number : ℕ) (cells : List (Option CellView))
     → ((k : ℕ) (cell : CellView) → live_cell (slice_get cells k) ≡ Some cell → item_name (item_of naming (number + k) cell) ≡ option_map (cell_text naming (number + k)) cell.name)
@@ -357,8 +358,8 @@ names_are linked prefix w =
     λ k cell at.
     let zeroth : k ≡ 0 + k = omega arith in
     let P : ℕ → Type 0 = λ n. item_name (item_of (naming_of linked prefix) n cell) ≡ option_map (cell_text (naming_of linked prefix) n) cell.name in
-    let kept = are_kept N (naming_of linked prefix) w.are.named w.are.formed [] k cell at in
-    subst P zeroth (sym (named_item (item_of (naming_of linked prefix) k cell)) ∙ kept.name) in
+    let kept = are_kept N (naming_of linked prefix) refl w.are.named w.are.formed [] k cell at in
+    subst P zeroth (sym (named_item N.library (item_of (naming_of linked prefix) k cell)) ∙ kept.name) in
     let p = port_names linked prefix w.are.named in
     let r = map-append (λ (x : Wire). x.name) (map (wire_of table) found) (added_from prefix 0 N.nets)
     ∙ ap (λ (xs : List (List ℕ)). xs ++ map (λ (x : Wire). x.name) (added_from prefix 0 N.nets)) (row_names table prefix found)

@@ -1,6 +1,6 @@
 -- The tree of a linked netlist can be linked again, where nothing is too many.
 use Rattle.std.proofs.Common.{◌≡◌, ℕ, zero, suc, ◌+◌, ◌<◌, ◌⊎◌, inl, inr, Bool, true, false, List, [], ◌∷◌, length, map, refl, ap, sym, ◌∙◌, subst, Option, Some, None, arith}
-use Rattle.std.specs.Prelude.{slice_get, unwrap_or, option_and_then, if◌then◌else◌}
+use Rattle.std.specs.Prelude.{slice_get, unwrap_or, option_and_then, is_some, if◌then◌else◌}
 use Rattle.std.specs.Option.{option_map}
 use Rattle.std.specs.List.{flat_map}
 use Rattle.std.proofs.lemmas.Option.{same_Some, slice_get-map}
@@ -8,9 +8,12 @@ use Rattle.verilog_tree.specs.declared.tree.GateKind.{GateKind}
 use Rattle.verilog_tree.specs.declared.tree.Instance.{Instance}
 use Rattle.verilog_tree.specs.declared.tree.Link.{Link}
 use Rattle.verilog_tree.specs.declared.tree.Module.{Module}
+use Rattle.cell_library.specs.declared.FlopKind.{FlopKind}
+use Rattle.cell_library.specs.declared.listed.ListedCell.{ListedCell}
 use Rattle.cell_library.specs.declared.Kind.{Kind}
-use Rattle.cell_library.specs.Gates.{is_flop, is_three_state}
+use Rattle.cell_library.specs.Gates.{flop_of, is_flop, is_three_state}
 use Rattle.cell_library.specs.Library.{cell_name, operand_ports, output_port}
+use Rattle.cell_library.specs.Sound.{IsLibrary}
 use Rattle.cell_library.proofs.NameLaws.{named_is_found}
 use Rattle.netlist_model.specs.declared.Dir.{Dir}
 use Rattle.netlist_model.specs.declared.Dir.TheVariants.{Input, Output, Inout}
@@ -31,7 +34,6 @@ use Rattle.link_model.specs.Late.InCone.{itself as late_itself, behind as late_b
 use Rattle.link_model.specs.Late.{ControlLink, IsDerivedAt, IsLinkable, IsLoop, bit_links, control_links, flop_links, item_links}
 use Rattle.link_drivers.specs.Drivers.{DrivesNet, HasDriver, HasItsDrivers, ReadsNet, dir_at}
 use Rattle.netlist_link.specs.Linked.{LinkedView}
-use Rattle.netlist_link.proofs.Cones.{flop_kind}
 use Rattle.netlist_link.proofs.Drivers.{no_driver_fault}
 use Rattle.netlist_link.proofs.Loops.{IsRising, feeds_lower, no_loop}
 use Rattle.netlist_unlink.specs.Trees.{Naming, bit_of, cell_text, gate_of, item_of, items_from, naming_of, tree_of, written}
@@ -112,6 +114,7 @@ live_once number (Some c ∷ cells) (suc i) (suc j) p q one two same = ap suc (l
 
 -- what is known of an order of nets
 record Renumbers (naming : Naming) (N : NetlistView) (order : List ℕ) : Type 0 where
+  library : naming.library ≡ N.library
   formed : IsWellFormed N
   laid : IsLaidOut N
   each_once : IsEachOnce (length N.nets) order
@@ -224,6 +227,9 @@ same_old order net one other a b = same_Some one other (sym a ∙ b)
 kind_old : (naming : Naming) (N : NetlistView) (order : List ℕ) (j : ℕ) (named : NamedCell) (o : IsOldCell naming N order j named) → o.cell.kind ≡ named.kind
 kind_old naming N order j named o = ap (λ (c : NamedCell). c.kind) o.is
 
+keeps_old : (naming : Naming) (N : NetlistView) (order : List ℕ) (j : ℕ) (named : NamedCell) → Renumbers naming N order → (o : IsOldCell naming N order j named) → is_flop N.library o.cell.kind ≡ named.keeps
+keeps_old naming N order j named w o = ap (λ (l : List ListedCell). is_flop l o.cell.kind) (sym w.library) ∙ ap (λ (c : NamedCell). c.keeps) o.is
+
 has_drivers : (naming : Naming) (N : NetlistView) (order : List ℕ) → Renumbers naming N order → HasItsDrivers (nets_of naming N order) (cells_of naming N order)
 has_drivers naming N order w = record {
   inputs_free = λ i cell net d e. let o = drives_old naming N order i net cell w d in w.formed.inputs_free o.of.number o.of.cell o.old o.drives (sym (dir_old naming N order net o.old o.at) ∙ e);
@@ -276,7 +282,7 @@ gate_old naming N order net other w g =
       at = d.at;
       read = r.old;
       read_at = r.at;
-      gate = record { number = r.of.number; cell = r.of.cell; place = g.reads.place; gate = ap is_flop (kind_old naming N order g.number g.cell r.of) ∙ g.gate.gate; drives = subst D same d.drives; reads = r.reads };
+      gate = record { number = r.of.number; cell = r.of.cell; place = g.reads.place; gate = keeps_old naming N order g.number g.cell w r.of ∙ g.gate.gate; drives = subst D same d.drives; reads = r.reads };
     }
 
 abbrev old_net : List ℕ → ℕ → ℕ
@@ -320,13 +326,13 @@ not_derived naming N order root root_old w at operand d = go (cone_old naming N 
             let same = same_old order d.net o.old c.0 o.at c.1 in
             let D : ℕ → Type 0 = Drives N o.of.number o.of.cell in
             let drives = subst D same o.drives in
-            let flop : is_flop o.of.cell.kind ≡ true = ap is_flop (kind_old naming N order k.number k.cell o.of) ∙ k.flop in
+            let flop : is_flop N.library o.of.cell.kind ≡ true = keeps_old naming N order k.number k.cell w o.of ∙ k.flop in
             elim combinational [
               | inl input ↦ w.formed.inputs_free o.of.number o.of.cell c.0 drives input
               | inr gate ↦
                   let numbers = w.formed.one_driver o.of.number gate.0.number o.of.cell gate.0.cell c.0 drives gate.0.drives in
                   let cells : o.of.cell ≡ gate.0.cell = same_Some o.of.cell gate.0.cell (sym drives.live ∙ ap (λ (n : ℕ). cell_at N n) numbers ∙ gate.0.drives.live) in
-                  let bad : true ≡ false = sym flop ∙ ap (λ (x : CellView). is_flop x.kind) cells ∙ gate.1 in
+                  let bad : true ≡ false = sym flop ∙ ap (λ (x : CellView). is_flop N.library x.kind) cells ∙ gate.1 in
                   cc
             ]
 
@@ -354,68 +360,73 @@ record IsControlOf (naming : Naming) (names : List (List ℕ × Declared)) (N : 
   operand : cone.FlopReads N 1 net.0 ⊎ cone.FlopReads N 2 net.0
   is : link.net ≡ (net_of names (bit_of naming net)).0
 
-library_operand : (naming : Naming) (names : List (List ℕ × Declared)) (N : NetlistView) (i : ℕ) (cell : CellView) (library name : List ℕ) (j : ℕ) (link : ControlLink) → cell_at N i ≡ Some cell
-    → cell_name cell.kind ≡ Some library
-    → slice_get (flop_links names (instance_as library name (links_of naming (operand_ports cell.kind) (output_port cell.kind) cell.feeds cell.output)) (Some cell.kind)) j ≡ Some link → IsControlOf naming names N link
-library_operand naming names N i cell library name j link live known = by (is_flop cell.kind) refl
+some_kind : (o : Option FlopKind) → is_some o ≡ true → (k : FlopKind) × (o ≡ Some k)
+some_kind (Some k) e = (k, refl)
+some_kind None e = absurd (cc)
+
+library_operand : (naming : Naming) (names : List (List ℕ × Declared)) (N : NetlistView) (i : ℕ) (cell : CellView) (library name : List ℕ) (j : ℕ) (link : ControlLink) → naming.library ≡ N.library → IsLibrary naming.library
+    → cell_at N i ≡ Some cell → cell_name naming.library cell.kind ≡ Some library
+    → slice_get (flop_links naming.library names (instance_as library name (links_of naming (operand_ports naming.library cell.kind) (output_port naming.library cell.kind) cell.feeds cell.output)) (Some cell.kind)) j ≡ Some link → IsControlOf naming names N link
+library_operand naming names N i cell library name j link same is live known = by (is_flop naming.library cell.kind) refl
   where
     links : List ControlLink
-    links = flat_map (control_of names name cell.kind) (links_of naming (operand_ports cell.kind) (output_port cell.kind) cell.feeds cell.output)
+    links = flat_map (control_of naming.library names name cell.kind) (links_of naming (operand_ports naming.library cell.kind) (output_port naming.library cell.kind) cell.feeds cell.output)
 
-    by : (b : Bool) → is_flop cell.kind ≡ b → slice_get (if b then links else []) j ≡ Some link → IsControlOf naming names N link
+    by : (b : Bool) → is_flop naming.library cell.kind ≡ b → slice_get (if b then links else []) j ≡ Some link → IsControlOf naming names N link
     by false gate at = absurd (let bad : None ≡ Some link = at in cc)
     by true keeps at =
-        let flop = flop_kind cell.kind keeps in
-        let o = control_operand naming names name cell.kind cell.feeds cell.output j link (library_ports cell.kind library known) at in
+        let found = some_kind (flop_of naming.library cell.kind) keeps in
+        let flop : flop_of N.library cell.kind ≡ Some found.0 = ap (λ (l : List ListedCell). flop_of l cell.kind) (sym same) ∙ found.1 in
+        let o = control_operand naming names name cell.kind cell.feeds cell.output j link (library_ports naming.library cell.kind library is known) at in
         record {
           net = o.net;
           operand = elim (control_place o.place o.control) [
-            | inl one ↦ inl (record { number = i; cell = cell; kind = flop.0; flop = flop.1; reads = record { live = live; operand = ap (slice_get cell.feeds) (sym one) ∙ o.at } })
-            | inr two ↦ inr (record { number = i; cell = cell; kind = flop.0; flop = flop.1; reads = record { live = live; operand = ap (slice_get cell.feeds) (sym two) ∙ o.at } })
+            | inl one ↦ inl (record { number = i; cell = cell; kind = found.0; flop = flop; reads = record { live = live; operand = ap (slice_get cell.feeds) (sym one) ∙ o.at } })
+            | inr two ↦ inr (record { number = i; cell = cell; kind = found.0; flop = flop; reads = record { live = live; operand = ap (slice_get cell.feeds) (sym two) ∙ o.at } })
           ];
           is = o.is;
         }
 
-item_operand : (naming : Naming) (names : List (List ℕ × Declared)) (N : NetlistView) (i : ℕ) (cell : CellView) (j : ℕ) (link : ControlLink) → IsWellFormed N → cell_at N i ≡ Some cell
-    → slice_get (item_links names (item_of naming i cell)) j ≡ Some link → IsControlOf naming names N link
-item_operand naming names N i cell j link formed live = by_gate (gate_of cell.kind)
+item_operand : (naming : Naming) (names : List (List ℕ × Declared)) (N : NetlistView) (i : ℕ) (cell : CellView) (j : ℕ) (link : ControlLink) → naming.library ≡ N.library → IsLibrary naming.library → cell_at N i ≡ Some cell
+    → slice_get (item_links naming.library names (item_of naming i cell)) j ≡ Some link → IsControlOf naming names N link
+item_operand naming names N i cell j link same is live = by_gate (gate_of cell.kind)
   where
-    by_library : (l : Option (List ℕ)) → cell_name cell.kind ≡ l → slice_get (item_links names (written naming i cell None l)) j ≡ Some link → IsControlOf naming names N link
+    by_library : (l : Option (List ℕ)) → cell_name naming.library cell.kind ≡ l → slice_get (item_links naming.library names (written naming i cell None l)) j ≡ Some link → IsControlOf naming names N link
     by_library None e at = absurd (let bad : None ≡ Some link = at in cc)
     by_library (Some library) e at =
         let text : List ℕ = unwrap_or (option_map (cell_text naming i) cell.name) [] in
-        let x : Instance = instance_as library text (links_of naming (operand_ports cell.kind) (output_port cell.kind) cell.feeds cell.output) in
-        let known = named_is_found cell.kind library e in
-        let there : slice_get (flop_links names x (Some cell.kind)) j ≡ Some link = ap (λ (k : Option Kind). slice_get (flop_links names x k) j) (sym known) ∙ at in
-        library_operand naming names N i cell library text j link live e there
+        let x : Instance = instance_as library text (links_of naming (operand_ports naming.library cell.kind) (output_port naming.library cell.kind) cell.feeds cell.output) in
+        let known = named_is_found naming.library is cell.kind library e in
+        let there : slice_get (flop_links naming.library names x (Some cell.kind)) j ≡ Some link = ap (λ (k : Option Kind). slice_get (flop_links naming.library names x k) j) (sym known) ∙ at in
+        library_operand naming names N i cell library text j link same is live e there
 
-    by_gate : (g : Option GateKind) → slice_get (item_links names (written naming i cell g (cell_name cell.kind))) j ≡ Some link → IsControlOf naming names N link
-    by_gate None at = by_library (cell_name cell.kind) refl at
+    by_gate : (g : Option GateKind) → slice_get (item_links naming.library names (written naming i cell g (cell_name naming.library cell.kind))) j ≡ Some link → IsControlOf naming names N link
+    by_gate None at = by_library (cell_name naming.library cell.kind) refl at
     by_gate (Some g) at = absurd (let bad : None ≡ Some link = at in cc)
 
-items_operand : (naming : Naming) (names : List (List ℕ × Declared)) (N : NetlistView) (number : ℕ) (cells : List (Option CellView)) (j : ℕ) (link : ControlLink) → IsWellFormed N
+items_operand : (naming : Naming) (names : List (List ℕ × Declared)) (N : NetlistView) (number : ℕ) (cells : List (Option CellView)) (j : ℕ) (link : ControlLink) → naming.library ≡ N.library → IsLibrary naming.library
     → ((k : ℕ) (cell : CellView) → live_cell (slice_get cells k) ≡ Some cell → cell_at N (number + k) ≡ Some cell)
-    → slice_get (flat_map (item_links names) (items_from naming number cells)) j ≡ Some link → IsControlOf naming names N link
-items_operand naming names N number [] j link formed each at = absurd (let bad : None ≡ Some link = at in cc)
-items_operand naming names N number (None ∷ cells) j link formed each at =
-    items_operand naming names N (number + 1) cells j link formed (λ k cell there. let same : number + 1 + k ≡ number + suc k = omega arith in ap (λ (n : ℕ). cell_at N n) same ∙ each (suc k) cell there) at
-items_operand naming names N number (Some first ∷ cells) j link formed each at =
-    elim (joined_source (item_links names (item_of naming number first)) (flat_map (item_links names) (items_from naming (number + 1) cells)) j link at) [
+    → slice_get (flat_map (item_links naming.library names) (items_from naming number cells)) j ≡ Some link → IsControlOf naming names N link
+items_operand naming names N number [] j link same is each at = absurd (let bad : None ≡ Some link = at in cc)
+items_operand naming names N number (None ∷ cells) j link same is each at =
+    items_operand naming names N (number + 1) cells j link same is (λ k cell there. let same : number + 1 + k ≡ number + suc k = omega arith in ap (λ (n : ℕ). cell_at N n) same ∙ each (suc k) cell there) at
+items_operand naming names N number (Some first ∷ cells) j link same is each at =
+    elim (joined_source (item_links naming.library names (item_of naming number first)) (flat_map (item_links naming.library names) (items_from naming (number + 1) cells)) j link at) [
       | inl here ↦
           let zeroth : number ≡ number + 0 = omega arith in
-          item_operand naming names N number first here.0 link formed (ap (λ (n : ℕ). cell_at N n) zeroth ∙ each 0 first refl) here.1
+          item_operand naming names N number first here.0 link same is (ap (λ (n : ℕ). cell_at N n) zeroth ∙ each 0 first refl) here.1
       | inr later ↦
-          items_operand naming names N (number + 1) cells later.0 link formed (λ k cell there. let same : number + 1 + k ≡ number + suc k = omega arith in ap (λ (n : ℕ). cell_at N n) same ∙ each (suc k) cell there) later.1
+          items_operand naming names N (number + 1) cells later.0 link same is (λ k cell there. let same : number + 1 + k ≡ number + suc k = omega arith in ap (λ (n : ℕ). cell_at N n) same ∙ each (suc k) cell there) later.1
     ]
 
 -- The tree.
 
-pub links_again : (linked : LinkedView) (prefix : List ℕ) → CanName linked prefix → passed_limit linked.arena.lists ≡ None → IsLinkable (tree_of linked prefix)
+pub links_again : (linked : LinkedView) (prefix : List ℕ) → CanName linked prefix → passed_limit linked.arena.lists ≡ None → IsLinkable linked.arena.lists.library (tree_of linked prefix)
 links_again linked prefix w few = record {
-  early = ap (λ o. or_else o (driver_fault (nets_in (declared_nets tree)) (cells_in tree))) (text_is linked prefix w ∙ few) ∙ drivers;
+  early = ap (λ o. or_else o (driver_fault (nets_in (declared_nets tree)) (cells_in N.library tree))) (text_is linked prefix w ∙ few) ∙ drivers;
   loops = λ numbers l. no_loop (cells_of naming N order) (λ net. numbered.formed.ordered.0 (old_net order net)) numbers (rising naming N order numbered) (subst (λ (xs : List NamedCell). IsLoop xs numbers) cells_same l);
   derived = λ place link d.
-      let o = items_operand naming names N 0 N.cells place link w.are.formed (λ k cell there. let zeroth : 0 + k ≡ k = omega arith in ap (λ (n : ℕ). cell_at N n) zeroth ∙ there) d.there in
+      let o = items_operand naming names N 0 N.cells place link refl w.are.named.library (λ k cell there. let zeroth : 0 + k ≡ k = omega arith in ap (λ (n : ℕ). cell_at N n) zeroth ∙ there) d.there in
       let less = operand_less o.net.0 o.operand in
       let found = bit_found linked prefix o.net w less in
       let number : link.net ≡ place_of order o.net.0 = o.is ∙ ap (λ (n : NetId). n.0) found.is in
@@ -439,28 +450,28 @@ links_again linked prefix w few = record {
     names = declared_names (tree_of linked prefix)
 
     numbered : Renumbers (naming_of linked prefix) linked.arena.lists (net_order linked.arena.lists)
-    numbered = record { formed = w.are.formed; laid = w.are.laid; each_once = each_once linked prefix w }
+    numbered = record { library = refl; formed = w.are.formed; laid = w.are.laid; each_once = each_once linked prefix w }
 
-    same : denoted (tree_of linked prefix) ≡ renumbered (naming_of linked prefix) linked.arena.lists
+    same : denoted linked.arena.lists.library (tree_of linked prefix) ≡ renumbered (naming_of linked prefix) linked.arena.lists
     same = denotes linked prefix w
 
-    cells_same : cells_in (tree_of linked prefix) ≡ cells_of (naming_of linked prefix) linked.arena.lists (net_order linked.arena.lists)
+    cells_same : cells_in linked.arena.lists.library (tree_of linked prefix) ≡ cells_of (naming_of linked prefix) linked.arena.lists (net_order linked.arena.lists)
     cells_same = ap (λ (M : NamedNetlist). M.cells) (denotes linked prefix w)
 
     nets_same : nets_in (declared_nets (tree_of linked prefix)) ≡ nets_of (naming_of linked prefix) linked.arena.lists (net_order linked.arena.lists)
     nets_same = ap (λ (M : NamedNetlist). M.nets) (denotes linked prefix w)
 
-    drivers : driver_fault (nets_in (declared_nets (tree_of linked prefix))) (cells_in (tree_of linked prefix)) ≡ None
+    drivers : driver_fault (nets_in (declared_nets (tree_of linked prefix))) (cells_in linked.arena.lists.library (tree_of linked prefix)) ≡ None
     drivers =
-        ap (λ (xs : List NamedNet). driver_fault xs (cells_in (tree_of linked prefix))) nets_same ∙ ap (driver_fault (nets_of (naming_of linked prefix) linked.arena.lists (net_order linked.arena.lists))) cells_same
+        ap (λ (xs : List NamedNet). driver_fault xs (cells_in linked.arena.lists.library (tree_of linked prefix))) nets_same ∙ ap (driver_fault (nets_of (naming_of linked prefix) linked.arena.lists (net_order linked.arena.lists))) cells_same
         ∙ no_driver_fault (nets_of (naming_of linked prefix) linked.arena.lists (net_order linked.arena.lists)) (cells_of (naming_of linked prefix) linked.arena.lists (net_order linked.arena.lists))
-        (has_drivers (naming_of linked prefix) linked.arena.lists (net_order linked.arena.lists) (record { formed = w.are.formed; laid = w.are.laid; each_once = each_once linked prefix w }))
+        (has_drivers (naming_of linked prefix) linked.arena.lists (net_order linked.arena.lists) (record { library = refl; formed = w.are.formed; laid = w.are.laid; each_once = each_once linked prefix w }))
 
     operand_less : (net : ℕ) → cone.FlopReads linked.arena.lists 1 net ⊎ cone.FlopReads linked.arena.lists 2 net → net < length linked.arena.lists.nets
     operand_less net (inl f) = w.are.laid.operands f.number f.cell 1 net f.reads
     operand_less net (inr f) = w.are.laid.operands f.number f.cell 2 net f.reads
 
-    derived_same : (net : ℕ) → late.IsDerived (nets_in (declared_nets (tree_of linked prefix))) (cells_in (tree_of linked prefix)) net
+    derived_same : (net : ℕ) → late.IsDerived (nets_in (declared_nets (tree_of linked prefix))) (cells_in linked.arena.lists.library (tree_of linked prefix)) net
         → late.IsDerived (nets_of (naming_of linked prefix) linked.arena.lists (net_order linked.arena.lists)) (cells_of (naming_of linked prefix) linked.arena.lists (net_order linked.arena.lists)) net
     derived_same net d =
         let C : List NamedCell → Type 0 = λ xs. late.IsDerived (nets_in (declared_nets (tree_of linked prefix))) xs net in

@@ -37,7 +37,7 @@ pub record AreNamed (table : List (List ℕ)) (N : NetlistView) : Type 0 where
   pub laid : IsLaidOut N
 
 abbrev pub naming_in : List (List ℕ) → List ℕ → NetlistView → Naming
-naming_in table prefix N = record { table = table; prefix = prefix; nets = N.nets }
+naming_in table prefix N = record { library = N.library; table = table; prefix = prefix; nets = N.nets }
 
 -- Names of ports.
 

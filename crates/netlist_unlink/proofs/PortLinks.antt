@@ -12,6 +12,7 @@ use Rattle.list_laws.proofs.Options.{none_along}
 use Rattle.verilog_tree.specs.declared.tree.Instance.{Instance}
 use Rattle.verilog_tree.specs.declared.tree.Link.{Link}
 use Rattle.verilog_tree.specs.declared.tree.Operand.{Operand}
+use Rattle.cell_library.specs.declared.listed.ListedCell.{ListedCell}
 use Rattle.cell_library.specs.declared.Kind.{Kind}
 use Rattle.cell_library.specs.declared.PortPlace.{PortPlace}
 use Rattle.cell_library.specs.declared.PortPlace.TheVariants.{Output, Input}
@@ -107,14 +108,14 @@ output_back naming names ports feeds port (Some net) apart =
 
 -- the operands and the output of a cell come back
 pub record AreLinked (naming : Naming) (names : List (List ℕ × Declared)) (k : Kind) (feeds : List Feed) (output : Option NetId) : Type 0 where
-  pub operands : map (port_feed names (links_of naming (operand_ports k) (output_port k) feeds output)) (operand_ports k) ≡ map (λ (f : Feed). feed_of names (operand_of naming f)) feeds
-  pub out : option_and_then (port_net names (links_of naming (operand_ports k) (output_port k) feeds output)) (output_port k) ≡ option_map (λ (net : NetId). net_of names (bit_of naming net)) output
+  pub operands : map (port_feed names (links_of naming (operand_ports naming.library k) (output_port naming.library k) feeds output)) (operand_ports naming.library k) ≡ map (λ (f : Feed). feed_of names (operand_of naming f)) feeds
+  pub out : option_and_then (port_net names (links_of naming (operand_ports naming.library k) (output_port naming.library k) feeds output)) (output_port naming.library k) ≡ option_map (λ (net : NetId). net_of names (bit_of naming net)) output
 
-pub are_linked : (naming : Naming) (names : List (List ℕ × Declared)) (k : Kind) (feeds : List Feed) (output : Option NetId) → HasPorts k → length feeds ≡ length (operand_ports k) → AreLinked naming names k feeds output
+pub are_linked : (naming : Naming) (names : List (List ℕ × Declared)) (k : Kind) (feeds : List Feed) (output : Option NetId) → HasPorts naming.library k → length feeds ≡ length (operand_ports naming.library k) → AreLinked naming names k feeds output
 are_linked naming names k feeds output has e = record {
-  operands = operands_back naming names [] (operand_ports k) feeds (output_links naming (output_port k) output) e (none_past (operand_ports k)) has.once;
-  out = ap (λ (o : Option (List ℕ)). option_and_then (port_net names (links_of naming (operand_ports k) o feeds output)) o) has.output_is
-      ∙ output_back naming names (operand_ports k) feeds has.output output has.no_output;
+  operands = operands_back naming names [] (operand_ports naming.library k) feeds (output_links naming (output_port naming.library k) output) e (none_past (operand_ports naming.library k)) has.once;
+  out = ap (λ (o : Option (List ℕ)). option_and_then (port_net names (links_of naming (operand_ports naming.library k) o feeds output)) o) has.output_is
+      ∙ output_back naming names (operand_ports naming.library k) feeds has.output output has.no_output;
 }
 
 -- No fault of the links.
@@ -135,22 +136,22 @@ output_link P naming port None holds = tt
 output_link P naming port (Some net) holds = (holds _, tt)
 
 -- what holds of each link of a cell that has its ports
-all_links : (P : Link → Type 0) (naming : Naming) (k : Kind) (feeds : List Feed) (output : Option NetId) → (has : HasPorts k)
-    → ((place : ℕ) (port : List ℕ) (o : Operand) → slice_get (operand_ports k) place ≡ Some port → P (record { port = port; operand = Some o })) → ((o : Operand) → P (record { port = has.output; operand = Some o }))
-    → AllByRecursion P (links_of naming (operand_ports k) (output_port k) feeds output)
+all_links : (P : Link → Type 0) (naming : Naming) (k : Kind) (feeds : List Feed) (output : Option NetId) → (has : HasPorts naming.library k)
+    → ((place : ℕ) (port : List ℕ) (o : Operand) → slice_get (operand_ports naming.library k) place ≡ Some port → P (record { port = port; operand = Some o })) → ((o : Operand) → P (record { port = has.output; operand = Some o }))
+    → AllByRecursion P (links_of naming (operand_ports naming.library k) (output_port naming.library k) feeds output)
 all_links P naming k feeds output has inside out =
-    all_append P (operand_links naming (operand_ports k) feeds) (output_links naming (output_port k) output)
-    (each_link P naming (operand_ports k) feeds (each_port (λ port. (o : Operand) → P (record { port = port; operand = Some o })) (operand_ports k) (λ place port at o. inside place port o at)))
+    all_append P (operand_links naming (operand_ports naming.library k) feeds) (output_links naming (output_port naming.library k) output)
+    (each_link P naming (operand_ports naming.library k) feeds (each_port (λ port. (o : Operand) → P (record { port = port; operand = Some o })) (operand_ports naming.library k) (λ place port at o. inside place port o at)))
     (rw has.output_is (output_link P naming has.output output out))
 
-none_unknown : (naming : Naming) (library name : List ℕ) (k : Kind) (feeds : List Feed) (output : Option NetId) → HasPorts k
-    → port_unknown (record { cell = library; name = name; links = links_of naming (operand_ports k) (output_port k) feeds output }) k ≡ None
+none_unknown : (naming : Naming) (library name : List ℕ) (k : Kind) (feeds : List Feed) (output : Option NetId) → HasPorts naming.library k
+    → port_unknown naming.library (record { cell = library; name = name; links = links_of naming (operand_ports naming.library k) (output_port naming.library k) feeds output }) k ≡ None
 none_unknown naming library name k feeds output has =
-    let test : Link → Option LinkFault = λ l. if is_none (port_named k l.port) then Some (fault.PortUnknown name l.port) else None in
-    none_along test (links_of naming (operand_ports k) (output_port k) feeds output)
+    let test : Link → Option LinkFault = λ l. if is_none (port_named naming.library k l.port) then Some (fault.PortUnknown name l.port) else None in
+    none_along test (links_of naming (operand_ports naming.library k) (output_port naming.library k) feeds output)
     (all_links (λ l. test l ≡ None) naming k feeds output has (λ place port o at. known port (Input place) (has.operand_found place port at)) (λ o. known has.output Output has.output_found))
   where
-    known : (port : List ℕ) (place : PortPlace) → port_named k port ≡ Some place → (if is_none (port_named k port) then Some (fault.PortUnknown name port) else None) ≡ None
+    known : (port : List ℕ) (place : PortPlace) → port_named naming.library k port ≡ Some place → (if is_none (port_named naming.library k port) then Some (fault.PortUnknown name port) else None) ≡ None
     known port place e = rw e refl
 
 none_open : (port : List ℕ) (links : List Link) → AllByRecursion (λ (l : Link). is_none l.operand ≡ false) links → list_any (λ (l : Link). bytes_eq l.port port && is_none l.operand) links ≡ false
@@ -161,24 +162,24 @@ none_open port (l ∷ links) all = one (bytes_eq l.port port) (is_none l.operand
     one true b e rest = rw (e, rest) refl
     one false b e rest = rw rest refl
 
-connected : (naming : Naming) (k : Kind) (feeds : List Feed) (output : Option NetId) → HasPorts k → length feeds ≡ length (operand_ports k) → (place : ℕ) (port : List ℕ) → slice_get (operand_ports k) place ≡ Some port
-    → is_connected (links_of naming (operand_ports k) (output_port k) feeds output) port ≡ true
+connected : (naming : Naming) (k : Kind) (feeds : List Feed) (output : Option NetId) → HasPorts naming.library k → length feeds ≡ length (operand_ports naming.library k) → (place : ℕ) (port : List ℕ) → slice_get (operand_ports naming.library k) place ≡ Some port
+    → is_connected (links_of naming (operand_ports naming.library k) (output_port naming.library k) feeds output) port ≡ true
 connected naming k feeds output has e place port at =
-    let low = slice_get_within (operand_ports k) place port at in
+    let low = slice_get_within (operand_ports naming.library k) place port at in
     let feed = slice_get_there feeds place (omega (arith, low, e)) in
     let link : Link = record { port = port; operand = Some (operand_of naming feed.0) } in
-    let there = before_push (operand_links naming (operand_ports k) feeds) (output_links naming (output_port k) output) link place (links_at naming (operand_ports k) feeds place port feed.0 at feed.1) in
-    let some = any_at (λ (l : Link). bytes_eq l.port port) (links_of naming (operand_ports k) (output_port k) feeds output) place link there (bytes_eq-same port) in
-    let none = none_open port (links_of naming (operand_ports k) (output_port k) feeds output)
+    let there = before_push (operand_links naming (operand_ports naming.library k) feeds) (output_links naming (output_port naming.library k) output) link place (links_at naming (operand_ports naming.library k) feeds place port feed.0 at feed.1) in
+    let some = any_at (λ (l : Link). bytes_eq l.port port) (links_of naming (operand_ports naming.library k) (output_port naming.library k) feeds output) place link there (bytes_eq-same port) in
+    let none = none_open port (links_of naming (operand_ports naming.library k) (output_port naming.library k) feeds output)
     (all_links (λ (l : Link). is_none l.operand ≡ false) naming k feeds output has (λ i p o here. refl) (λ o. refl)) in
     rw (some, none) refl
 
-none_missing : (naming : Naming) (library name : List ℕ) (k : Kind) (feeds : List Feed) (output : Option NetId) → HasPorts k → length feeds ≡ length (operand_ports k)
-    → port_missing (record { cell = library; name = name; links = links_of naming (operand_ports k) (output_port k) feeds output }) k ≡ None
+none_missing : (naming : Naming) (library name : List ℕ) (k : Kind) (feeds : List Feed) (output : Option NetId) → HasPorts naming.library k → length feeds ≡ length (operand_ports naming.library k)
+    → port_missing naming.library (record { cell = library; name = name; links = links_of naming (operand_ports naming.library k) (output_port naming.library k) feeds output }) k ≡ None
 none_missing naming library name k feeds output has e =
-    let links : List Link = links_of naming (operand_ports k) (output_port k) feeds output in
+    let links : List Link = links_of naming (operand_ports naming.library k) (output_port naming.library k) feeds output in
     let test : List ℕ → Option LinkFault = λ port. if is_connected links port then None else Some (fault.PortMissing name port) in
-    none_along test (operand_ports k) (each_port (λ port. test port ≡ None) (operand_ports k) (λ place port at. ap (λ (b : Bool). if b then None else Some (fault.PortMissing name port)) (connected naming k feeds output has e place port at)))
+    none_along test (operand_ports naming.library k) (each_port (λ port. test port ≡ None) (operand_ports naming.library k) (λ place port at. ap (λ (b : Bool). if b then None else Some (fault.PortMissing name port)) (connected naming k feeds output has e place port at)))
 
 -- no port stands in the links twice
 
@@ -201,21 +202,21 @@ with_output naming ports port (Some net) apart none = apart_joined ports (port �
     away j name at zero there = apart_not_at port ports j none (at ∙ ap Some (sym (same_Some port name there)))
     away j name at (suc k) there = let bad : None ≡ Some name = there in cc
 
-none_twice : (naming : Naming) (library name : List ℕ) (k : Kind) (feeds : List Feed) (output : Option NetId) → HasPorts k → length feeds ≡ length (operand_ports k)
-    → port_twice (record { cell = library; name = name; links = links_of naming (operand_ports k) (output_port k) feeds output }) k ≡ None
+none_twice : (naming : Naming) (library name : List ℕ) (k : Kind) (feeds : List Feed) (output : Option NetId) → HasPorts naming.library k → length feeds ≡ length (operand_ports naming.library k)
+    → port_twice (record { cell = library; name = name; links = links_of naming (operand_ports naming.library k) (output_port naming.library k) feeds output }) k ≡ None
 none_twice naming library name k feeds output has e =
-    let names = link_ports naming (operand_ports k) feeds (output_links naming (output_port k) output) e in
-    let apart : Apart (operand_ports k ++ map (λ (l : Link). l.port) (output_links naming (output_port k) output)) = rw has.output_is (with_output naming (operand_ports k) has.output output has.once has.no_output) in
-    ap (option_map (fault.PortTwice name)) (ap repeated names ∙ none_repeated (operand_ports k ++ map (λ (l : Link). l.port) (output_links naming (output_port k) output)) apart)
+    let names = link_ports naming (operand_ports naming.library k) feeds (output_links naming (output_port naming.library k) output) e in
+    let apart : Apart (operand_ports naming.library k ++ map (λ (l : Link). l.port) (output_links naming (output_port naming.library k) output)) = rw has.output_is (with_output naming (operand_ports naming.library k) has.output output has.once has.no_output) in
+    ap (option_map (fault.PortTwice name)) (ap repeated names ∙ none_repeated (operand_ports naming.library k ++ map (λ (l : Link). l.port) (output_links naming (output_port naming.library k) output)) apart)
 
 -- no fault of an instance's links
-pub record HasNoFault (i : Instance) (k : Kind) : Type 0 where
-  pub unknown : port_unknown i k ≡ None
-  pub missing : port_missing i k ≡ None
+pub record HasNoFault (library : List ListedCell) (i : Instance) (k : Kind) : Type 0 where
+  pub unknown : port_unknown library i k ≡ None
+  pub missing : port_missing library i k ≡ None
   pub twice : port_twice i k ≡ None
 
-pub links_fit : (naming : Naming) (k : Kind) (library name : List ℕ) (feeds : List Feed) (output : Option NetId) → HasPorts k → length feeds ≡ length (operand_ports k)
-    → HasNoFault (record { cell = library; name = name; links = links_of naming (operand_ports k) (output_port k) feeds output }) k
+pub links_fit : (naming : Naming) (k : Kind) (library name : List ℕ) (feeds : List Feed) (output : Option NetId) → HasPorts naming.library k → length feeds ≡ length (operand_ports naming.library k)
+    → HasNoFault naming.library (record { cell = library; name = name; links = links_of naming (operand_ports naming.library k) (output_port naming.library k) feeds output }) k
 links_fit naming k library name feeds output has e = record {
   unknown = none_unknown naming library name k feeds output has;
   missing = none_missing naming library name k feeds output has e;
@@ -223,11 +224,11 @@ links_fit naming k library name feeds output has e = record {
 }
 
 -- no port of an operand is an output
-abbrev pub AreInputs : Kind → List (List ℕ) → Type 0
-AreInputs k ports = AllByRecursion (λ port. is_output_place (port_named k port) ≡ false) ports
+abbrev pub AreInputs : List ListedCell → Kind → List (List ℕ) → Type 0
+AreInputs library k ports = AllByRecursion (λ port. is_output_place (port_named library k port) ≡ false) ports
 
-pub are_inputs : (k : Kind) → HasPorts k → AreInputs k (operand_ports k)
-are_inputs k has = each_port (λ port. is_output_place (port_named k port) ≡ false) (operand_ports k) (λ place port at. ap is_output_place (has.operand_found place port at))
+pub are_inputs : (library : List ListedCell) (k : Kind) → HasPorts library k → AreInputs library k (operand_ports library k)
+are_inputs library k has = each_port (λ port. is_output_place (port_named library k port) ≡ false) (operand_ports library k) (λ place port at. ap is_output_place (has.operand_found place port at))
 
 -- The links of clocks, clears and presets.
 
@@ -239,8 +240,8 @@ pub record IsControlAt (naming : Naming) (names : List (List ℕ × Declared)) (
   pub control : ((first + place) == 1 || (first + place) == 2) ≡ true
   pub is : link.net ≡ (net_of names (bit_of naming net)).0
 
-abbrev pub control_of : List (List ℕ × Declared) → List ℕ → Kind → Link → List ControlLink
-control_of names name k l = if is_control_place (port_named k l.port) then bit_links name names l.operand else []
+abbrev pub control_of : List ListedCell → List (List ℕ × Declared) → List ℕ → Kind → Link → List ControlLink
+control_of library names name k l = if is_control_place (port_named library k l.port) then bit_links name names l.operand else []
 
 here_at : (naming : Naming) (names : List (List ℕ × Declared)) (name : List ℕ) (first : ℕ) (feed : Feed) (feeds : List Feed) (b : Bool) (j : ℕ) (link : ControlLink) → ((first + 0) == 1 || (first + 0) == 2) ≡ b
     → slice_get (if b then bit_links name names (Some (operand_of naming feed)) else []) j ≡ Some link → IsControlAt naming names first (feed ∷ feeds) link
@@ -256,15 +257,15 @@ here_at naming names name first (Net net) feeds true zero link e at = record {
 here_at naming names name first (Net net) feeds true (suc j) link e at = absurd (let bad : None ≡ Some link = at in cc)
 
 operand_controls : (naming : Naming) (names : List (List ℕ × Declared)) (name : List ℕ) (k : Kind) (first : ℕ) (ports : List (List ℕ)) (feeds : List Feed) (back : List Link) (j : ℕ) (link : ControlLink)
-    → ((place : ℕ) (port : List ℕ) → slice_get ports place ≡ Some port → port_named k port ≡ Some (Input (first + place)))
-    → slice_get (flat_map (control_of names name k) (operand_links naming ports feeds ++ back)) j ≡ Some link → IsControlAt naming names first feeds link ⊎ IsIn link (flat_map (control_of names name k) back)
+    → ((place : ℕ) (port : List ℕ) → slice_get ports place ≡ Some port → port_named naming.library k port ≡ Some (Input (first + place)))
+    → slice_get (flat_map (control_of naming.library names name k) (operand_links naming ports feeds ++ back)) j ≡ Some link → IsControlAt naming names first feeds link ⊎ IsIn link (flat_map (control_of naming.library names name k) back)
 operand_controls naming names name k first [] feeds back j link found at = inr (j, at)
 operand_controls naming names name k first (port ∷ ports) [] back j link found at = inr (j, at)
 operand_controls naming names name k first (port ∷ ports) (feed ∷ feeds) back j link found at =
     let l : Link = record { port = port; operand = Some (operand_of naming feed) } in
-    elim (joined_source (control_of names name k l) (flat_map (control_of names name k) (operand_links naming ports feeds ++ back)) j link at) [
+    elim (joined_source (control_of naming.library names name k l) (flat_map (control_of naming.library names name k) (operand_links naming ports feeds ++ back)) j link at) [
       | inl here ↦
-          let same : control_of names name k l ≡ (if is_control_place (Some (Input (first + 0))) then bit_links name names (Some (operand_of naming feed)) else [])
+          let same : control_of naming.library names name k l ≡ (if is_control_place (Some (Input (first + 0))) then bit_links name names (Some (operand_of naming feed)) else [])
           = ap (λ (o : Option PortPlace). if is_control_place o then bit_links name names (Some (operand_of naming feed)) else []) (found 0 port refl) in
           inl (here_at naming names name first feed feeds ((first + 0) == 1 || (first + 0) == 2) here.0 link refl (ap (λ (xs : List ControlLink). slice_get xs here.0) (sym same) ∙ here.1))
       | inr there ↦
@@ -277,21 +278,21 @@ operand_controls naming names name k first (port ∷ ports) (feed ∷ feeds) bac
           ]
     ]
 
-no_output_control : (naming : Naming) (names : List (List ℕ × Declared)) (name : List ℕ) (k : Kind) (port : List ℕ) (output : Option NetId) (j : ℕ) (link : ControlLink) → port_named k port ≡ Some Output
-    → slice_get (flat_map (control_of names name k) (output_links naming (Some port) output)) j ≡ Some link → ⊥
+no_output_control : (naming : Naming) (names : List (List ℕ × Declared)) (name : List ℕ) (k : Kind) (port : List ℕ) (output : Option NetId) (j : ℕ) (link : ControlLink) → port_named naming.library k port ≡ Some Output
+    → slice_get (flat_map (control_of naming.library names name k) (output_links naming (Some port) output)) j ≡ Some link → ⊥
 no_output_control naming names name k port None j link out at = let bad : None ≡ Some link = at in cc
 no_output_control naming names name k port (Some net) j link out at = let bad : None ≡ Some link = rw out at at in cc
 
 -- each link of a clock, clear or preset is that of operand 1 or 2
-pub control_operand : (naming : Naming) (names : List (List ℕ × Declared)) (name : List ℕ) (k : Kind) (feeds : List Feed) (output : Option NetId) (j : ℕ) (link : ControlLink) → HasPorts k
-    → slice_get (flat_map (control_of names name k) (links_of naming (operand_ports k) (output_port k) feeds output)) j ≡ Some link → IsControlAt naming names 0 feeds link
+pub control_operand : (naming : Naming) (names : List (List ℕ × Declared)) (name : List ℕ) (k : Kind) (feeds : List Feed) (output : Option NetId) (j : ℕ) (link : ControlLink) → HasPorts naming.library k
+    → slice_get (flat_map (control_of naming.library names name k) (links_of naming (operand_ports naming.library k) (output_port naming.library k) feeds output)) j ≡ Some link → IsControlAt naming names 0 feeds link
 control_operand naming names name k feeds output j link has at =
-    elim (operand_controls naming names name k 0 (operand_ports k) feeds (output_links naming (output_port k) output) j link
+    elim (operand_controls naming names name k 0 (operand_ports naming.library k) feeds (output_links naming (output_port naming.library k) output) j link
     (λ place port there. let same : place ≡ 0 + place = omega arith in has.operand_found place port there ∙ ap (λ (n : ℕ). Some (Input n)) same) at) [
       | inl one ↦ one
       | inr out ↦
           absurd (no_output_control naming names name k has.output output out.0 link has.output_found
-          (ap (λ (o : Option (List ℕ)). slice_get (flat_map (control_of names name k) (output_links naming o output)) out.0) (sym has.output_is) ∙ out.1))
+          (ap (λ (o : Option (List ℕ)). slice_get (flat_map (control_of naming.library names name k) (output_links naming o output)) out.0) (sym has.output_is) ∙ out.1))
     ]
 
 pub control_place : (place : ℕ) → ((0 + place) == 1 || (0 + place) == 2) ≡ true → (place ≡ 1) ⊎ (place ≡ 2)

@@ -1,13 +1,18 @@
 -- Names that can be written.
-use Rattle.std.proofs.Common.{◌≡◌, ℕ, ◌+◌, ◌%◌, ◌^◌, ◌<◌, ◌≤◌, ◌||◌, ◌&&◌, Bool, true, false, List, [], ◌∷◌, length, arith, Some, IsTrue, length-append, lit<}
-use Rattle.std.specs.Prelude.{slice_get}
+use Rattle.std.proofs.Common.{◌≡◌, ℕ, ◌+◌, ◌%◌, ◌^◌, ◌<◌, ◌≤◌, ◌||◌, ◌&&◌, Bool, true, false, not, List, [], ◌∷◌, length, sym, ◌∙◌, inl, inr, arith, All, Some, IsTrue, length-append, lit<}
+use Rattle.std.specs.Prelude.{slice_get, nat_le, is_some, codes}
+use Rattle.std.specs.Str.{bytes_eq}
 use Rattle.std.specs.List.{AllByRecursion, list_all}
 use Rattle.std.specs.Fmt.{decimal}
 use Rattle.std.proofs.lemmas.Fmt.{decimal_by_steps, length-decimal-le}
 use Rattle.std.proofs.lemmas.Bool.{and_parts}
+use Rattle.std.proofs.lemmas.Bool.Decides.{leb_tells}
+use Rattle.std.proofs.lemmas.List.Elements.{All-head, All-tail}
 use Rattle.list_laws.proofs.Lists.{all_append, slice_get_there}
-use Rattle.verilog_lexicon.specs.Bytes.{is_letter, is_digit}
+use Rattle.verilog_lexicon.specs.Bytes.{is_letter, is_digit, is_name_byte, is_simple_name}
+use Rattle.verilog_lexicon.specs.Keywords.{reserved_of}
 use Rattle.verilog_tree.specs.IsTree.{IsTreeName, IsVisible}
+use Rattle.cell_library.specs.Sound.{is_cell_name, IsPort}
 use Rattle.netlist_model.specs.declared.Name.{Name}
 use Rattle.netlist_model.specs.declared.Name.TheVariants.{Original, Added}
 use Rattle.netlist_link.specs.WellNamed.{IsKnown}
@@ -61,3 +66,37 @@ pub spelled_name : (naming : Naming) (letter number : ℕ) (name : Name) → Are
     → IsTreeName (spelled naming letter number name)
 spelled_name naming letter number (Original place) are p visible low known = original_name naming.table place are known
 spelled_name naming letter number (Added other) are p visible low known = added_name naming.prefix letter number p visible low
+
+-- Names of listed cells and of their ports.
+
+visible_in_name : (byte : ℕ) → IsTrue (is_name_byte byte) → IsVisible byte
+visible_in_name byte h = record { low = grind arith; high = grind arith }
+
+name_visible : (bytes : List ℕ) → IsTrue (list_all is_name_byte bytes) → AllByRecursion IsVisible bytes
+name_visible [] h = tt
+name_visible (byte ∷ bytes) h = let parts = and_parts (is_name_byte byte) (list_all is_name_byte bytes) h in (visible_in_name byte parts.0, name_visible bytes parts.1)
+
+simple_name : (name : List ℕ) → IsTrue (is_simple_name name) → length name ≤ 255 → IsTreeName name
+simple_name [] h short = absurd (let no : false ≡ true = h in cc)
+simple_name (byte ∷ bytes) h short =
+    let parts = and_parts (is_letter byte) (list_all is_name_byte (byte ∷ bytes)) h in
+    record { filled = omega arith; short = short; visible = name_visible (byte ∷ bytes) parts.1 }
+
+at_most : (a b : ℕ) → nat_le a b ≡ true → a ≤ b
+at_most a b h = elim (leb_tells a b) [
+  | inl e ↦ e.1
+  | inr e ↦ absurd (let clash : true ≡ false = sym h ∙ e.0 in cc)
+]
+
+pub listed_name : (name : List ℕ) → IsTrue (is_cell_name name) → IsTreeName name
+listed_name name h =
+    let parts = and_parts (is_simple_name name) (not (is_some (reserved_of name)) && nat_le (length name) 255) h in
+    let short = and_parts (not (is_some (reserved_of name))) (nat_le (length name) 255) parts.1 in
+    simple_name name parts.0 (at_most (length name) 255 short.1)
+
+pub listed_port : (name : List ℕ) → IsPort name → IsTreeName name
+listed_port name h = let parts = and_parts (is_cell_name name) (not (bytes_eq name (codes "mux"))) h in listed_name name parts.0
+
+pub listed_ports : (names : List (List ℕ)) → All IsPort names → AllByRecursion IsTreeName names
+listed_ports [] all = tt
+listed_ports (name ∷ names) all = (listed_port name (All-head IsPort name names all), listed_ports names (All-tail IsPort name names all))

@@ -7,6 +7,7 @@ use Rattle.std.proofs.lemmas.Option.{same_Some, slice_get_within}
 use Rattle.list_laws.proofs.Lists.{AreAll-left, AreAll-length, AreAll-right, slice_get-counted_from, length-counted_from}
 use Rattle.verilog_tree.specs.declared.tree.Module.{Module}
 use Rattle.verilog_tree.specs.declared.tree.Port.{Port}
+use Rattle.cell_library.specs.Gates.{is_flop}
 use Rattle.netlist_model.specs.declared.Dir.{Dir}
 use Rattle.netlist_model.specs.declared.Feed.{Feed}
 use Rattle.netlist_model.specs.declared.Feed.TheVariants.{Net, Const}
@@ -19,6 +20,7 @@ use Rattle.link_model.specs.Cells.{NamedCell}
 use Rattle.link_model.specs.Denoted.{AreAll, IsCell, IsLive, IsName, IsNamed, IsNet, IsPort, NamedPort, denoted, name_bytes, net_id, ports_from}
 use Rattle.netlist_model.specs.Formed.{IsLaidOut}
 use Rattle.netlist_laws.proofs.Ports.{bit_has_direction, direction_has_bit}
+use Rattle.netlist_link.proofs.Cells.{kept}
 use Rattle.netlist_link.proofs.Formed.{direction_is}
 use Rattle.netlist_unlink.specs.Trees.{Naming, cell_text, original, port_text, spelled}
 use Rattle.netlist_unlink.specs.Renumbered.{added_test, cells_from, is_added, named_net, net_order, new_cell, new_feed, new_net, new_port, numbers_from, place_of, port_numbers, renumbered, wire_test}
@@ -102,7 +104,7 @@ place_counted first (suc count) (suc k) less =
 -- What is known of a netlist that was just linked.
 pub record IsJustLinked (table : List (List ℕ)) (N : NetlistView) (m : Module) : Type 0 where
   pub are : AreNamed table N
-  pub is : IsNamed table N (denoted m)
+  pub is : IsNamed table N (denoted N.library m)
 
 -- a net under an original name
 original_net : (table : List (List ℕ)) (N : NetlistView) (m : Module) (k : ℕ) (view : NetView) → IsJustLinked table N m → slice_get N.nets k ≡ Some view → (number : ℕ) × (view.name ≡ Original number)
@@ -262,10 +264,10 @@ same_cells naming order number (Some c ∷ cells) (x ∷ rest) each only =
     (λ k live. let less = only (suc k) live in omega arith) in
     ap (λ (y : NamedCell). y ∷ cells_from naming order (number + 1) cells) here ∙ ap (λ (ys : List NamedCell). x ∷ ys) later
 
-one_cell : (table : List (List ℕ)) (prefix : List ℕ) (N : NetlistView) (order : List ℕ) (i : ℕ) (cell : CellView) (named : NamedCell) → IsLaidOut N → order ≡ counted_from 0 (length N.nets) → cell_at N i ≡ Some cell → IsCell table cell named
+one_cell : (table : List (List ℕ)) (prefix : List ℕ) (N : NetlistView) (order : List ℕ) (i : ℕ) (cell : CellView) (named : NamedCell) → IsLaidOut N → order ≡ counted_from 0 (length N.nets) → cell_at N i ≡ Some cell → named.keeps ≡ is_flop N.library named.kind → IsCell table cell named
     → new_cell (naming_in table prefix N) order i cell ≡ named
-one_cell table prefix N order i cell named laid is at c =
-    same_cell (new_cell (naming_in table prefix N) order i cell) named c.kind (name cell.name named.name c.name) (same_feeds N order cell.feeds is (feeds_below N i cell laid at) ∙ c.feeds) (output cell.output refl ∙ c.output)
+one_cell table prefix N order i cell named laid is at keeps c =
+    same_cell (new_cell (naming_in table prefix N) order i cell) named c.kind (ap (is_flop N.library) c.kind ∙ sym keeps) (name cell.name named.name c.name) (same_feeds N order cell.feeds is (feeds_below N i cell laid at) ∙ c.feeds) (output cell.output refl ∙ c.output)
   where
     name : (o : Option Name) (bytes : Option (List ℕ)) → IsName table o bytes → option_map (cell_text (naming_in table prefix N) i) o ≡ bytes
     name None None is_name = refl
@@ -279,15 +281,15 @@ one_cell table prefix N order i cell named laid is at c =
     output (Some net) e = ap Some (same_net order (length N.nets) net is (output_below N i cell net laid at e))
 
 -- nothing was added, so it has the same numbers
-pub same_again : (table : List (List ℕ)) (prefix : List ℕ) (N : NetlistView) (m : Module) → IsJustLinked table N m → renumbered (naming_in table prefix N) N ≡ denoted m
+pub same_again : (table : List (List ℕ)) (prefix : List ℕ) (N : NetlistView) (m : Module) → IsJustLinked table N m → renumbered (naming_in table prefix N) N ≡ denoted N.library m
 same_again table prefix N m w =
     let naming : Naming = naming_in table prefix N in
     let order : List ℕ = net_order N in
     let is = order_counted table N m w in
-    same_netlist (renumbered naming N) (denoted m) (same_ports table N m order w is) (ap (map (named_net naming N.ports)) is ∙ same_nets table prefix N m w)
-    (same_cells naming order 0 N.cells (denoted m).cells
+    same_netlist (renumbered naming N) (denoted N.library m) (same_ports table N m order w is) (ap (map (named_net naming N.ports)) is ∙ same_nets table prefix N m w)
+    (same_cells naming order 0 N.cells (denoted N.library m).cells
     (λ k named at. let here = live_of k (cell_at N k) refl named (w.is.cells.each k named at) in let zeroth : 0 + k ≡ k = omega arith in
-    (here.0, here.1, ap (λ (n : ℕ). new_cell naming order n here.0) zeroth ∙ one_cell table prefix N order k here.0 named w.are.laid is here.1 here.2))
+    (here.0, here.1, ap (λ (n : ℕ). new_cell naming order n here.0) zeroth ∙ one_cell table prefix N order k here.0 named w.are.laid is here.1 (kept N m k named at) here.2))
     w.is.cells.only)
   where
     live_of : (k : ℕ) (o : Option CellView) → cell_at N k ≡ o → (named : NamedCell) → IsLive table (cell_at N k) named → (cell : CellView) × (cell_at N k ≡ Some cell) × IsCell table cell named

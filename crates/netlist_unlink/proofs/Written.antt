@@ -6,20 +6,25 @@ use Rattle.std.specs.Option.{option_map}
 use Rattle.std.specs.Str.{bytes_eq}
 use Rattle.std.specs.List.{AllByRecursion}
 use Rattle.std.proofs.lemmas.List.{length-map}
+use Rattle.std.proofs.lemmas.List.Elements.{All-head, All-tail}
 use Rattle.std.proofs.lemmas.Slice.Eq.{bytes_eq-Decides}
 use Rattle.verilog_tree.specs.declared.tree.GateKind.{GateKind}
 use Rattle.verilog_tree.specs.declared.tree.GateKind.TheVariants as gate
 use Rattle.verilog_tree.specs.declared.tree.Wire.{Wire}
 use Rattle.verilog_tree.specs.Trees.{is_port_net, takes_inputs}
 use Rattle.verilog_tree.specs.IsTree.{IsTree, IsTreeBit, IsTreeItem, IsTreeLink, IsTreeName, IsTreeOperand, IsTreePort, IsTreeRange, IsTreeWire, IsVisible}
+use Rattle.cell_library.specs.declared.listed.ListedCell.{ListedCell}
 use Rattle.cell_library.specs.declared.Kind.{Kind}
 use Rattle.cell_library.specs.declared.Kind.TheVariants as kind
 use Rattle.cell_library.specs.declared.Edge.{Edge}
 use Rattle.cell_library.specs.declared.Edge.TheVariants.{Rise, Fall}
 use Rattle.cell_library.specs.declared.ResetTo.{ResetTo}
 use Rattle.cell_library.specs.declared.ResetTo.TheVariants.{Nothing, Zero as ToZero, One as ToOne}
-use Rattle.cell_library.specs.Gates.{Takes, is_flop}
+use Rattle.cell_library.specs.Gates.{Takes}
 use Rattle.cell_library.specs.Library.{cell_name, flop_name, flop_ports, operand_ports, output_port}
+use Rattle.cell_library.specs.Listed.{listed}
+use Rattle.cell_library.specs.Sound.{IsLibrary, IsPort, IsSoundCell}
+use Rattle.cell_library.proofs.NameLaws.{listed_at, listed_past}
 use Rattle.netlist_model.specs.declared.Feed.{Feed}
 use Rattle.netlist_model.specs.declared.Feed.TheVariants.{Net, Const}
 use Rattle.netlist_model.specs.declared.Name.{Name}
@@ -28,6 +33,7 @@ use Rattle.netlist_model.specs.declared.NetId.{NetId}
 use Rattle.netlist_model.specs.declared.Range.{Range}
 use Rattle.netlist_model.specs.Lists.{PortView, NetView, CellView, NetlistView, cell_at, live_cell}
 use Rattle.netlist_model.specs.Formed.{IsLaidOut, IsWellFormed}
+use Rattle.netlist_arena.proofs.Laid.{All-slice_get}
 use Rattle.netlist_link.specs.WellNamed.{IsShortRange, IsWellNamed}
 use Rattle.std.specs.Fmt.{decimal}
 use Rattle.list_laws.proofs.Lists.{all_append, slice_get_there}
@@ -37,11 +43,11 @@ use Rattle.netlist_unlink.specs.Rows.{is_original, rows}
 use Rattle.netlist_unlink.specs.Trees.{Naming, added, added_from, added_wire, bit_of, cell_text, first_operand, gate_of, item_of, items_from, naming_of, operand_links, operand_of, original, output_bit, output_links, port_of, port_text, range_of, tree_of, wire_of, written}
 use Rattle.netlist_unlink.specs.Prefixes.{IsFreePrefix, IsPrefix, IsUsed, port}
 use Rattle.netlist_unlink.proofs.Lists.{all_mapped, none_at}
-use Rattle.netlist_unlink.proofs.Spelling.{AreSpelled, added_name, original_name, spelled_name}
+use Rattle.netlist_unlink.proofs.Spelling.{AreSpelled, added_name, listed_name, listed_port, listed_ports, original_name, spelled_name}
 use Rattle.netlist_unlink.proofs.Indexes.{index_short}
 use Rattle.netlist_unlink.proofs.RowFacts.{RowFits}
 use Rattle.netlist_unlink.proofs.AllRows.{all_rows}
-use Rattle.netlist_unlink.proofs.Facts.{gate_no_flop, gate_no_mux}
+use Rattle.netlist_unlink.proofs.Facts.{FitsLibrary, fits_library, gate_unnamed}
 
 -- what is known of a netlist that is to be written
 pub record CanWrite (N : NetlistView) (naming : Naming) : Type 0 where
@@ -49,6 +55,7 @@ pub record CanWrite (N : NetlistView) (naming : Naming) : Type 0 where
   pub named : IsWellNamed naming.table N
   pub laid : IsLaidOut N
   pub word : IsPrefix naming.prefix
+  pub library_is : naming.library ≡ N.library
   pub nets_are : naming.nets ≡ N.nets
   pub nets : length N.nets < 2 ^ 32
   pub numbers : (i : ℕ) → IsSome (cell_at N i) → i < 2 ^ 32
@@ -99,22 +106,27 @@ tree_output N naming i cell w at driven = go cell.output refl driven
     go None e driven = absurd (cc)
     go (Some net) e driven = tree_bit N naming net w (driven_below N naming i cell net w at e)
 
+-- A cell, by the library.
+fits_cell : (N : NetlistView) (naming : Naming) (i : ℕ) (cell : CellView) → CanWrite N naming → cell_at N i ≡ Some cell → FitsLibrary naming.library cell
+fits_cell N naming i cell w at = fits_library naming.table N naming.library i cell w.library_is w.named w.formed at
+
 -- Gates.
 
-reads_one : (k : Kind) (gate : GateKind) (count : ℕ) → gate_of k ≡ Some gate → Takes k count → (0 < count) × IsTrue (takes_inputs gate count)
-reads_one kind.And g n e t = let same : gate.And ≡ g = grind arith in let P : GateKind → Type 0 = λ x. (0 < n) × IsTrue (takes_inputs x n) in let low : 1 ≤ n = t.0 in subst P same (omega arith, refl)
-reads_one kind.Or g n e t = let same : gate.Or ≡ g = grind arith in let P : GateKind → Type 0 = λ x. (0 < n) × IsTrue (takes_inputs x n) in let low : 1 ≤ n = t.0 in subst P same (omega arith, refl)
-reads_one kind.Nand g n e t = let same : gate.Nand ≡ g = grind arith in let P : GateKind → Type 0 = λ x. (0 < n) × IsTrue (takes_inputs x n) in let low : 1 ≤ n = t.0 in subst P same (omega arith, refl)
-reads_one kind.Nor g n e t = let same : gate.Nor ≡ g = grind arith in let P : GateKind → Type 0 = λ x. (0 < n) × IsTrue (takes_inputs x n) in let low : 1 ≤ n = t.0 in subst P same (omega arith, refl)
-reads_one kind.Xor g n e t = let same : gate.Xor ≡ g = grind arith in let P : GateKind → Type 0 = λ x. (0 < n) × IsTrue (takes_inputs x n) in let low : 1 ≤ n = t.0 in subst P same (omega arith, refl)
-reads_one kind.Xnor g n e t = let same : gate.Xnor ≡ g = grind arith in let P : GateKind → Type 0 = λ x. (0 < n) × IsTrue (takes_inputs x n) in let low : 1 ≤ n = t.0 in subst P same (omega arith, refl)
-reads_one kind.Buf g n e t = let same : gate.Buf ≡ g = grind arith in let P : GateKind → Type 0 = λ x. (0 < n) × IsTrue (takes_inputs x n) in let one : n ≡ 1 = t in subst P same (omega arith, rw one refl)
-reads_one kind.Not g n e t = let same : gate.Not ≡ g = grind arith in let P : GateKind → Type 0 = λ x. (0 < n) × IsTrue (takes_inputs x n) in let one : n ≡ 1 = t in subst P same (omega arith, rw one refl)
-reads_one kind.Bufif0 g n e t = let same : gate.Bufif0 ≡ g = grind arith in let P : GateKind → Type 0 = λ x. (0 < n) × IsTrue (takes_inputs x n) in let one : n ≡ 2 = t in subst P same (omega arith, rw one refl)
-reads_one kind.Bufif1 g n e t = let same : gate.Bufif1 ≡ g = grind arith in let P : GateKind → Type 0 = λ x. (0 < n) × IsTrue (takes_inputs x n) in let one : n ≡ 2 = t in subst P same (omega arith, rw one refl)
-reads_one kind.Assign g n e t = absurd (cc)
-reads_one kind.Mux2 g n e t = absurd (cc)
-reads_one (kind.Flop flop) g n e t = absurd (cc)
+reads_one : (library : List ListedCell) (k : Kind) (gate : GateKind) (count : ℕ) → gate_of k ≡ Some gate → Takes library k count → (0 < count) × IsTrue (takes_inputs gate count)
+reads_one library kind.And g n e t = let same : gate.And ≡ g = grind arith in let P : GateKind → Type 0 = λ x. (0 < n) × IsTrue (takes_inputs x n) in let low : 1 ≤ n = t.0 in subst P same (omega arith, refl)
+reads_one library kind.Or g n e t = let same : gate.Or ≡ g = grind arith in let P : GateKind → Type 0 = λ x. (0 < n) × IsTrue (takes_inputs x n) in let low : 1 ≤ n = t.0 in subst P same (omega arith, refl)
+reads_one library kind.Nand g n e t = let same : gate.Nand ≡ g = grind arith in let P : GateKind → Type 0 = λ x. (0 < n) × IsTrue (takes_inputs x n) in let low : 1 ≤ n = t.0 in subst P same (omega arith, refl)
+reads_one library kind.Nor g n e t = let same : gate.Nor ≡ g = grind arith in let P : GateKind → Type 0 = λ x. (0 < n) × IsTrue (takes_inputs x n) in let low : 1 ≤ n = t.0 in subst P same (omega arith, refl)
+reads_one library kind.Xor g n e t = let same : gate.Xor ≡ g = grind arith in let P : GateKind → Type 0 = λ x. (0 < n) × IsTrue (takes_inputs x n) in let low : 1 ≤ n = t.0 in subst P same (omega arith, refl)
+reads_one library kind.Xnor g n e t = let same : gate.Xnor ≡ g = grind arith in let P : GateKind → Type 0 = λ x. (0 < n) × IsTrue (takes_inputs x n) in let low : 1 ≤ n = t.0 in subst P same (omega arith, refl)
+reads_one library kind.Buf g n e t = let same : gate.Buf ≡ g = grind arith in let P : GateKind → Type 0 = λ x. (0 < n) × IsTrue (takes_inputs x n) in let one : n ≡ 1 = t in subst P same (omega arith, rw one refl)
+reads_one library kind.Not g n e t = let same : gate.Not ≡ g = grind arith in let P : GateKind → Type 0 = λ x. (0 < n) × IsTrue (takes_inputs x n) in let one : n ≡ 1 = t in subst P same (omega arith, rw one refl)
+reads_one library kind.Bufif0 g n e t = let same : gate.Bufif0 ≡ g = grind arith in let P : GateKind → Type 0 = λ x. (0 < n) × IsTrue (takes_inputs x n) in let one : n ≡ 2 = t in subst P same (omega arith, rw one refl)
+reads_one library kind.Bufif1 g n e t = let same : gate.Bufif1 ≡ g = grind arith in let P : GateKind → Type 0 = λ x. (0 < n) × IsTrue (takes_inputs x n) in let one : n ≡ 2 = t in subst P same (omega arith, rw one refl)
+reads_one library kind.Assign g n e t = absurd (cc)
+reads_one library kind.Mux2 g n e t = absurd (cc)
+reads_one library (kind.Flop flop) g n e t = absurd (cc)
+reads_one library (kind.Listed number) g n e t = absurd (cc)
 
 tree_name : (N : NetlistView) (naming : Naming) (i : ℕ) (cell : CellView) → CanWrite N naming → cell_at N i ≡ Some cell → IfSome (option_map (cell_text naming i) cell.name) IsTreeName
 tree_name N naming i cell w at = go cell.name refl
@@ -130,13 +142,14 @@ tree_inputs N naming i cell w at =
 tree_gate : (N : NetlistView) (naming : Naming) (i : ℕ) (cell : CellView) (g : GateKind) (library : Option (List ℕ)) → CanWrite N naming → cell_at N i ≡ Some cell → gate_of cell.kind ≡ Some g
     → IsTreeItem (written naming i cell (Some g) library)
 tree_gate N naming i cell g library w at is =
-    let counts = reads_one cell.kind g (length cell.feeds) is (w.formed.counts i cell at) in
+    let fits = fits_cell N naming i cell w at in
+    let counts = reads_one naming.library cell.kind g (length cell.feeds) is fits.takes in
     let same = length-map cell.feeds (operand_of naming) in
     let P : ℕ → Type 0 = λ n. IsTrue (takes_inputs g n) in
     let low = counts.0 in
     record {
       name = tree_name N naming i cell w at;
-      output = tree_output N naming i cell w at (w.named.connected i cell at (gate_no_flop cell.kind g is) (gate_no_mux cell.kind g is));
+      output = tree_output N naming i cell w at (fits.connected (gate_unnamed naming.library cell.kind g is));
       inputs = tree_inputs N naming i cell w at;
       reads = omega arith;
       takes = subst P (sym same) counts.1;
@@ -206,25 +219,47 @@ flop_named Fall ToZero = name_dffnr
 flop_named Rise ToOne = name_dffs
 flop_named Fall ToOne = name_dffns
 
-library_named : (k : Kind) → IfSome (cell_name k) IsTreeName
-library_named kind.Mux2 = name_mux
-library_named (kind.Flop flop) = flop_named flop.edge flop.reset
-library_named k = tt
+-- a cell of a library can be listed
+sound_cell : (library : List ListedCell) (number : ℕ) (cell : ListedCell) → IsLibrary library → slice_get library number ≡ Some cell → IsSoundCell cell
+sound_cell library number cell is at = All-slice_get IsSoundCell library number cell is.sound at
+
+library_named : (library : List ListedCell) (k : Kind) → IsLibrary library → IfSome (cell_name library k) IsTreeName
+library_named library kind.Mux2 is = name_mux
+library_named library (kind.Flop flop) is = flop_named flop.edge flop.reset
+library_named library (kind.Listed number) is = by (slice_get library number) refl
+  where
+    by : (there : Option ListedCell) → slice_get library number ≡ there → IfSome (option_map (λ (c : ListedCell). c.name) there) IsTreeName
+    by None at = tt
+    by (Some cell) at = let sound = sound_cell library number cell is at in listed_name cell.name sound.name
+library_named library k is = tt
 
 flop_ports_named : (reset : ResetTo) → AllByRecursion IsTreeName (flop_ports reset)
 flop_ports_named Nothing = (name_port_d, (name_port_ck, tt))
 flop_ports_named ToZero = (name_port_d, (name_port_ck, (name_port_rn, tt)))
 flop_ports_named ToOne = (name_port_d, (name_port_ck, (name_port_sn, tt)))
 
-ports_named : (k : Kind) → AllByRecursion IsTreeName (operand_ports k)
-ports_named kind.Mux2 = (name_port_a, (name_port_b, (name_port_s, tt)))
-ports_named (kind.Flop flop) = flop_ports_named flop.reset
-ports_named k = tt
+ports_named : (library : List ListedCell) (k : Kind) → IsLibrary library → AllByRecursion IsTreeName (operand_ports library k)
+ports_named library kind.Mux2 is = (name_port_a, (name_port_b, (name_port_s, tt)))
+ports_named library (kind.Flop flop) is = flop_ports_named flop.reset
+ports_named library (kind.Listed number) is = by (slice_get library number) refl
+  where
+    by : (there : Option ListedCell) → slice_get library number ≡ there → AllByRecursion IsTreeName (listed library number).inputs
+    by None at = let P : ListedCell → Type 0 = λ c. AllByRecursion IsTreeName c.inputs in subst P (sym (listed_past library number at)) tt
+    by (Some cell) at =
+        let P : ListedCell → Type 0 = λ c. AllByRecursion IsTreeName c.inputs in
+        let sound = sound_cell library number cell is at in
+        subst P (sym (listed_at library number cell at)) (listed_ports cell.inputs (All-tail IsPort cell.output cell.inputs sound.ports))
+ports_named library k is = tt
 
-output_named : (k : Kind) → IfSome (output_port k) IsTreeName
-output_named kind.Mux2 = name_port_y
-output_named (kind.Flop flop) = name_port_q
-output_named k = tt
+output_named : (library : List ListedCell) (k : Kind) → IsLibrary library → IfSome (output_port library k) IsTreeName
+output_named library kind.Mux2 is = name_port_y
+output_named library (kind.Flop flop) is = name_port_q
+output_named library (kind.Listed number) is = by (slice_get library number) refl
+  where
+    by : (there : Option ListedCell) → slice_get library number ≡ there → IfSome (option_map (λ (c : ListedCell). c.output) there) IsTreeName
+    by None at = tt
+    by (Some cell) at = let sound = sound_cell library number cell is at in listed_port cell.output (All-head IsPort cell.output cell.inputs sound.ports)
+output_named library k is = tt
 
 tree_links : (N : NetlistView) (naming : Naming) (ports : List (List ℕ)) (feeds : List Feed) → CanWrite N naming → AllByRecursion IsTreeName ports → AreBelow N feeds
     → AllByRecursion IsTreeLink (operand_links naming ports feeds)
@@ -243,47 +278,43 @@ instance_text : (N : NetlistView) (naming : Naming) (i : ℕ) (o : Option Name) 
 instance_text N naming i None some named = absurd (cc)
 instance_text N naming i (Some name) some named = named
 
-tree_instance : (N : NetlistView) (naming : Naming) (i : ℕ) (cell : CellView) (library : List ℕ) → CanWrite N naming → cell_at N i ≡ Some cell → cell_name cell.kind ≡ Some library
+tree_instance : (N : NetlistView) (naming : Naming) (i : ℕ) (cell : CellView) (library : List ℕ) → CanWrite N naming → cell_at N i ≡ Some cell → cell_name naming.library cell.kind ≡ Some library
     → IsTreeItem (written naming i cell None (Some library))
 tree_instance N naming i cell library w at is =
+    let fits = fits_cell N naming i cell w at in
     record {
-      cell = let P : Option (List ℕ) → Type 0 = λ o. IfSome o IsTreeName in subst P is (library_named cell.kind);
-      name = instance_text N naming i cell.name (w.named.library_named i cell at (rw is refl)) (tree_name N naming i cell w at);
-      links = all_append IsTreeLink (operand_links naming (operand_ports cell.kind) cell.feeds) (output_links naming (output_port cell.kind) cell.output)
-          (tree_links N naming (operand_ports cell.kind) cell.feeds w (ports_named cell.kind) (λ place feed read. feed_below N naming i cell place feed w at read))
-          (tree_output_links N naming (output_port cell.kind) cell.output w (output_named cell.kind) (λ net out. driven_below N naming i cell net w at out));
+      cell = let P : Option (List ℕ) → Type 0 = λ o. IfSome o IsTreeName in subst P is (library_named naming.library cell.kind fits.is);
+      name = instance_text N naming i cell.name (fits.named (rw is refl)) (tree_name N naming i cell w at);
+      links = all_append IsTreeLink (operand_links naming (operand_ports naming.library cell.kind) cell.feeds) (output_links naming (output_port naming.library cell.kind) cell.output)
+          (tree_links N naming (operand_ports naming.library cell.kind) cell.feeds w (ports_named naming.library cell.kind fits.is) (λ place feed read. feed_below N naming i cell place feed w at read))
+          (tree_output_links N naming (output_port naming.library cell.kind) cell.output w (output_named naming.library cell.kind fits.is) (λ net out. driven_below N naming i cell net w at out));
     }
 
 -- Continuous assignments.
-
-pub assign_kind : (k : Kind) → gate_of k ≡ None → cell_name k ≡ None → k ≡ kind.Assign
-assign_kind kind.Assign g l = refl
-assign_kind k g l = absurd (cc)
 
 first_is : (N : NetlistView) (naming : Naming) (feeds : List Feed) → CanWrite N naming → AreBelow N feeds → IsTreeOperand (first_operand naming feeds)
 first_is N naming [] w below = tt
 first_is N naming (feed ∷ feeds) w below = tree_operand N naming feed w (below 0 feed refl)
 
-tree_assign : (N : NetlistView) (naming : Naming) (i : ℕ) (cell : CellView) → CanWrite N naming → cell_at N i ≡ Some cell → gate_of cell.kind ≡ None → cell_name cell.kind ≡ None
+tree_assign : (N : NetlistView) (naming : Naming) (i : ℕ) (cell : CellView) → CanWrite N naming → cell_at N i ≡ Some cell → cell_name naming.library cell.kind ≡ None
     → IsTreeItem (written naming i cell None None)
-tree_assign N naming i cell w at no_gate no_library =
-    let is = assign_kind cell.kind no_gate no_library in
-    let no_flop : is_flop cell.kind ≡ false = ap is_flop is in
+tree_assign N naming i cell w at no_library =
+    let fits = fits_cell N naming i cell w at in
     record {
-      written = tree_output N naming i cell w at (w.named.connected i cell at no_flop (λ mux. let bad : kind.Assign ≡ kind.Mux2 = sym is ∙ mux in cc));
+      written = tree_output N naming i cell w at (fits.connected no_library);
       read = first_is N naming cell.feeds w (λ place feed read. feed_below N naming i cell place feed w at read);
     }
 
 tree_item : (N : NetlistView) (naming : Naming) (i : ℕ) (cell : CellView) → CanWrite N naming → cell_at N i ≡ Some cell → IsTreeItem (item_of naming i cell)
 tree_item N naming i cell w at = by_gate (gate_of cell.kind) refl
   where
-    by_library : (l : Option (List ℕ)) → cell_name cell.kind ≡ l → gate_of cell.kind ≡ None → IsTreeItem (written naming i cell None l)
-    by_library None e none = tree_assign N naming i cell w at none e
-    by_library (Some library) e none = tree_instance N naming i cell library w at e
+    by_library : (l : Option (List ℕ)) → cell_name naming.library cell.kind ≡ l → IsTreeItem (written naming i cell None l)
+    by_library None e = tree_assign N naming i cell w at e
+    by_library (Some library) e = tree_instance N naming i cell library w at e
 
-    by_gate : (g : Option GateKind) → gate_of cell.kind ≡ g → IsTreeItem (written naming i cell g (cell_name cell.kind))
-    by_gate None e = by_library (cell_name cell.kind) refl e
-    by_gate (Some g) e = tree_gate N naming i cell g (cell_name cell.kind) w at e
+    by_gate : (g : Option GateKind) → gate_of cell.kind ≡ g → IsTreeItem (written naming i cell g (cell_name naming.library cell.kind))
+    by_gate None e = by_library (cell_name naming.library cell.kind) refl
+    by_gate (Some g) e = tree_gate N naming i cell g (cell_name naming.library cell.kind) w at e
 
 all_items : (naming : Naming) (number : ℕ) (cells : List (Option CellView)) → ((k : ℕ) (cell : CellView) → live_cell (slice_get cells k) ≡ Some cell → IsTreeItem (item_of naming (number + k) cell))
     → AllByRecursion IsTreeItem (items_from naming number cells)
@@ -388,7 +419,7 @@ is_tree linked prefix is laid few title free numbers =
     let table = linked.names in
     let named = is.named in
     let fits = all_rows table N named laid in
-    let w : CanWrite N (naming_of linked prefix) = record { formed = is.formed; named = named; laid = laid; word = free.word; nets_are = refl; nets = few; numbers = numbers } in
+    let w : CanWrite N (naming_of linked prefix) = record { formed = is.formed; named = named; laid = laid; word = free.word; library_is = refl; nets_are = refl; nets = few; numbers = numbers } in
     let Apart : Wire → Type 0 = λ wire. IsFalse (is_port_net (map (port_of table) N.ports) wire) in
     record {
       name = title;

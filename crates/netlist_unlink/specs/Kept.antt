@@ -15,4 +15,4 @@ pub record IsKept (naming : Naming) (number : ℕ) (cell : CellView) (named : Na
 
 -- own: so it is for the item of each live cell
 abbrev pub AreKept : NetlistView → Naming → Type 0
-AreKept N naming = (names : List (List ℕ × Declared)) (number : ℕ) (cell : CellView) → cell_at N number ≡ Some cell → IsKept naming number cell (cell_of names (item_of naming number cell))
+AreKept N naming = (names : List (List ℕ × Declared)) (number : ℕ) (cell : CellView) → cell_at N number ≡ Some cell → IsKept naming number cell (cell_of naming.library names (item_of naming number cell))

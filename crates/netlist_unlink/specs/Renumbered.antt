@@ -4,6 +4,8 @@ use Rattle.std.specs.Prelude.{◌≡◌, ℕ, suc, ◌+◌, ◌<◌, ◌==◌, B
 use Rattle.std.specs.List.{flat_map}
 use Rattle.std.specs.Option.{option_map}
 use Rattle.verilog_tree.specs.declared.tree.Module.{Module}
+use Rattle.cell_library.specs.declared.listed.ListedCell.{ListedCell}
+use Rattle.cell_library.specs.Gates.{is_flop}
 use Rattle.netlist_model.specs.declared.Dir.{Dir}
 use Rattle.netlist_model.specs.declared.Feed.{Feed}
 use Rattle.netlist_model.specs.declared.Feed.TheVariants.{Net, Const}
@@ -89,6 +91,7 @@ named_net naming ports number = record { name = (bit_of naming (net_id number)).
 abbrev pub new_cell : Naming → List ℕ → ℕ → CellView → NamedCell
 new_cell naming order number cell = record {
   kind = cell.kind;
+  keeps = is_flop naming.library cell.kind;
   name = option_map (cell_text naming number) cell.name;
   feeds = map (new_feed order) cell.feeds;
   output = option_map (new_net order) cell.output;
@@ -126,16 +129,16 @@ passed_limit N =
 
 -- own: the tree denotes the netlist with its nets and cells numbered anew; no fault of its text stands but that there is too much, and without that it can be linked
 pub record IsWritten (naming : Naming) (N : NetlistView) (tree : Module) : Type 0 where
-  pub fault : text_fault tree ≡ passed_limit N
-  pub links : passed_limit N ≡ None → IsLinkable tree
-  pub denotes : denoted tree ≡ renumbered naming N
+  pub fault : text_fault N.library tree ≡ passed_limit N
+  pub links : passed_limit N ≡ None → IsLinkable N.library tree
+  pub denotes : denoted N.library tree ≡ renumbered naming N
   pub nets : IsEachOnce (length N.nets) (net_order N)
 
 -- own: so it is for a linked netlist and a prefix
 abbrev pub IsWrittenAs : LinkedView → List ℕ → Module → Type 0
 IsWrittenAs linked prefix tree = IsWritten (naming_of linked prefix) linked.arena.lists tree
 
--- own: the tree denotes what another does, and can be linked as that
-pub record DenotesSame (m tree : Module) : Type 0 where
-  pub denotes : denoted tree ≡ denoted m
-  pub links : IsLinkable tree
+-- own: with this library the tree denotes what another does, and can be linked as that
+pub record DenotesSame (library : List ListedCell) (m tree : Module) : Type 0 where
+  pub denotes : denoted library tree ≡ denoted library m
+  pub links : IsLinkable library tree

@@ -17,6 +17,7 @@ use Rattle.verilog_tree.specs.declared.tree.Operand.TheVariants as operand
 use Rattle.verilog_tree.specs.declared.tree.Port.{Port}
 use Rattle.verilog_tree.specs.declared.tree.Range as tree_range
 use Rattle.verilog_tree.specs.declared.tree.Wire.{Wire}
+use Rattle.cell_library.specs.declared.listed.ListedCell.{ListedCell}
 use Rattle.cell_library.specs.declared.Kind.{Kind}
 use Rattle.cell_library.specs.declared.Kind.TheVariants as kind
 use Rattle.cell_library.specs.Library.{cell_name, operand_ports, output_port}
@@ -33,8 +34,9 @@ use Rattle.netlist_link.specs.Linked.{LinkedView}
 use Rattle.netlist_unlink.specs.declared.rows.NetRow.{NetRow}
 use Rattle.netlist_unlink.specs.Rows.{rows}
 
--- own: what names are spelled by: the table of original names, the prefix of added ones, and the nets
+-- own: what names are spelled by: the listed cells, the table of original names, the prefix of added ones, and the nets
 pub record Naming : Type 0 where
+  pub library : List ListedCell
   pub table : List (List ℕ)
   pub prefix : List ℕ
   pub nets : List NetView
@@ -88,7 +90,7 @@ output_links naming None output = []
 output_links naming (Some port) None = []
 output_links naming (Some port) (Some net) = record { port = port; operand = Some (operand.Bit (bit_of naming net)) } ∷ []
 
--- gate-level modelling: the gate of a kind; an `assign` and the library cells have none
+-- gate-level modelling: the gate of a kind; an `assign`, the library cells and the listed ones have none
 abbrev pub gate_of : Kind → Option GateKind
 gate_of kind.And = Some gate.And
 gate_of kind.Or = Some gate.Or
@@ -103,6 +105,7 @@ gate_of kind.Bufif1 = Some gate.Bufif1
 gate_of kind.Assign = None
 gate_of kind.Mux2 = None
 gate_of (kind.Flop flop) = None
+gate_of (kind.Listed number) = None
 
 -- own: the name of a cell, whose letter is `c`
 abbrev pub cell_text : Naming → ℕ → Name → List ℕ
@@ -119,13 +122,13 @@ written naming number cell (Some kind) library = item.Gate (record {
 written naming number cell None (Some library) = item.Instance (record {
   cell = library;
   name = unwrap_or (option_map (cell_text naming number) cell.name) [];
-  links = operand_links naming (operand_ports cell.kind) cell.feeds ++ output_links naming (output_port cell.kind) cell.output;
+  links = operand_links naming (operand_ports naming.library cell.kind) cell.feeds ++ output_links naming (output_port naming.library cell.kind) cell.output;
 })
 written naming number cell None None = item.Assign (output_bit naming cell.output) (first_operand naming cell.feeds)
 
 -- own: the item of a cell, by its kind
 abbrev pub item_of : Naming → ℕ → CellView → Item
-item_of naming number cell = written naming number cell (gate_of cell.kind) (cell_name cell.kind)
+item_of naming number cell = written naming number cell (gate_of cell.kind) (cell_name naming.library cell.kind)
 
 -- own: the items of the live cells, by rising number; the first place has this number
 abbrev pub items_from : Naming → ℕ → List (Option CellView) → List Item
@@ -168,7 +171,7 @@ added_from prefix number (view ∷ nets) = added_wire prefix number view.name ++
 
 -- own: what the names of a linked netlist are spelled by
 abbrev pub naming_of : LinkedView → List ℕ → Naming
-naming_of linked prefix = record { table = linked.names; prefix = prefix; nets = linked.arena.lists.nets }
+naming_of linked prefix = record { library = linked.arena.lists.library; table = linked.names; prefix = prefix; nets = linked.arena.lists.nets }
 
 -- own: the ports, the original wires in the order of their first nets, the added nets, and the cells
 abbrev pub tree_of : LinkedView → List ℕ → Module

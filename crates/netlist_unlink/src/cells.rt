@@ -38,16 +38,17 @@ pub fn tree_items(alloc: Global, linked: &Linked, prefix: &[u8]) -> Result<Row<I
     Err(OutOfMemory)
 }
 
-// A cell as a gate, as an instance of a library cell, or as an `assign`.
+// A cell as a gate, as an instance of a library cell or a listed one, or as an `assign`.
 fn item(alloc: Global, linked: &Linked, prefix: &[u8], cell: CellId) -> Result<Item, OutOfMemory>
     requires { IsLive linked.now.arena.lists cell.0 }
     ensures { IfOk result (λ item. option_map (item_of (naming_of linked.now prefix.now) cell.0)
         (cell_at linked.now.arena.lists cell.0) ≡ Some item) }
 {
-    let kind = linked.netlist().kind(cell);
+    let netlist = linked.netlist();
+    let kind = netlist.kind(cell);
     match gate_kind(kind) {
         Some(gate) => gate_item(alloc, linked, prefix, cell, gate),
-        None => match library_name(kind) {
+        None => match library_name(netlist.library(), kind) {
             Some(library) => instance(alloc, linked, prefix, cell, kind, library),
             None => assign(alloc, linked, prefix, cell),
         },
@@ -88,7 +89,7 @@ fn instance(
     requires linked { IsLinked linked.now.arena.lists linked.now.names linked.now.order }
     requires live { IsLive linked.now.arena.lists cell.0 }
     requires kind { IfSome (cell_at linked.now.arena.lists cell.0) (λ found. found.kind ≡ kind) }
-    requires library { cell_name kind ≡ Some library.now }
+    requires library { cell_name linked.now.arena.lists.library kind ≡ Some library.now }
     ensures { IfOk result (λ item. option_map
         (λ found. written (naming_of linked.now prefix.now) cell.0 found None (Some library.now))
         (cell_at linked.now.arena.lists cell.0) ≡ Some item) }
@@ -103,7 +104,9 @@ fn instance(
 fn assign(alloc: Global, linked: &Linked, prefix: &[u8], cell: CellId) -> Result<Item, OutOfMemory>
     requires linked { IsLinked linked.now.arena.lists linked.now.names linked.now.order }
     requires live { IsLive linked.now.arena.lists cell.0 }
-    requires kind { IfSome (cell_at linked.now.arena.lists cell.0) (λ found. found.kind ≡ Kind.Assign) }
+    requires gate { IfSome (cell_at linked.now.arena.lists cell.0) (λ found. gate_of found.kind ≡ None) }
+    requires name { IfSome (cell_at linked.now.arena.lists cell.0)
+        (λ found. cell_name linked.now.arena.lists.library found.kind ≡ None) }
     ensures { IfOk result (λ item. option_map
         (λ found. written (naming_of linked.now prefix.now) cell.0 found None None)
         (cell_at linked.now.arena.lists cell.0) ≡ Some item) }

@@ -20,6 +20,6 @@ pub fn gate_kind(kind: Kind) -> Option<GateKind>
         Kind::Not => Some(GateKind::Not),
         Kind::Bufif0 => Some(GateKind::Bufif0),
         Kind::Bufif1 => Some(GateKind::Bufif1),
-        Kind::Assign | Kind::Mux2 | Kind::Flop(_) => None,
+        Kind::Assign | Kind::Mux2 | Kind::Flop(_) | Kind::Listed(_) => None,
     }
 }

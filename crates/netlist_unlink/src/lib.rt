@@ -6,12 +6,13 @@
 //   all, with which no original name of a port, net or cell begins.
 // - `unlink`, with such a prefix, answers one tree, given in full: ports in order, original wires in the order of
 //   their first nets, added nets as scalar wires `<prefix>n<number>`, and cells by rising number, added ones as
-//   `<prefix>c<number>`; a library cell's links stand in the order of its operands, then its output where it is
-//   connected.
+//   `<prefix>c<number>`; the links of a library cell or a listed one stand in the order of its operands, then its
+//   output where it is connected.
 // - Some text spells that tree.
-// - The tree denotes the netlist with its nets and cells numbered anew; where the netlist has no more cells, nets
-//   and port bits than the limits, the tree can be linked, and else its fault is that it has too many.
-// - A law: written right after linking, the tree denotes what the linked tree denotes, and can be linked.
+// - With the netlist's library the tree denotes the netlist with its nets and cells numbered anew; where that has no
+//   more cells, nets and port bits than the limits, the tree can be linked, and else its fault is that it has too many.
+// - A law: written right after linking, the tree denotes what the linked tree denotes, and can be linked, with the
+//   same library.
 // - A law: the item of each live cell keeps its kind, its name and its count of operands.
 // By the contract of `unlink`, `is_free_prefix` and two law functions.
 #![tactic(auto)]

@@ -45,7 +45,7 @@ pub fn items_keep_their_cells(linked: &Linked, prefix: &[u8])
 pub fn unlink_undoes_link(tree: &Module, linked: &Linked, prefix: &[u8])
     requires linked { IsLinkOf tree.now linked.now }
     requires free { IsFreePrefix linked.now prefix.now }
-    ensures { DenotesSame tree.now (tree_of linked.now prefix.now) }
+    ensures { DenotesSame linked.now.arena.lists.library tree.now (tree_of linked.now prefix.now) }
 {
     is_linked(linked);
     // Looked at so that the proof has their facts.

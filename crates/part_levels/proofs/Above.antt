@@ -8,9 +8,10 @@ use Rattle.netlist_model.specs.Formed.{FeedsBelow}
 use Rattle.gate_parts.specs.declared.Pin.{Pin}
 use Rattle.gate_parts.specs.declared.Pin.TheVariants.{Own, Given}
 use Rattle.gate_parts.specs.declared.Gate.{Gate}
-use Rattle.gate_parts.specs.Parts.{feed_of, pins_of, cells_from, part_cells}
+use Rattle.gate_parts.specs.Parts.{is_flop_kind, feed_of, pins_of, cells_from, part_cells}
 use Rattle.gate_parts.specs.Levels.{AreFeedsUpTo}
 use Rattle.gate_parts.proofs.LevelProofs.{feed_below}
+use Rattle.gate_parts.proofs.PinCounts.{no_flop_kind}
 use Rattle.part_levels.specs.Above.{StandsOn, IsAbove, AreAbove, StandsByPlace, PartsStandAbove, is_low_pin, fits_from, fits, AreRanked}
 
 pins_below : (rank : ℕ → ℕ) (first base level bound count : ℕ) (levels : List ℕ) (given : List Feed) (pins : List Pin)
@@ -31,11 +32,11 @@ pins_below rank first base level bound count levels given (Given k ∷ pins) own
 
 above_from : (rank : ℕ → ℕ) (first number base count : ℕ) (levels : List ℕ) (given : List Feed) (k net : ℕ) (gates : List Gate) → net ≡ first + k
     → ((j : ℕ) → j < count → rank (first + j) ≤ base + slice_index levels j)
-    → ((i : ℕ) (gate : Gate) → slice_get gates i ≡ Some gate → is_flop gate.kind ≡ false → base + slice_index levels (k + i) ≤ rank (first + (k + i)))
+    → ((i : ℕ) (gate : Gate) → slice_get gates i ≡ Some gate → is_flop_kind gate.kind ≡ false → base + slice_index levels (k + i) ≤ rank (first + (k + i)))
     → AreFeedsUpTo rank base given → IsTrue (fits_from count levels k gates) → AreAbove rank (cells_from first given number net gates)
 above_from rank first number base count levels given k net [] at own from up low = tt
 above_from rank first number base count levels given k net (gate ∷ gates) at own from up low =
-    let parts = both_hold (is_flop gate.kind || list_all (is_low_pin count levels (slice_index levels k)) (pins_of gate.pins)) (fits_from count levels (suc k) gates) low in
+    let parts = both_hold (is_flop_kind gate.kind || list_all (is_low_pin count levels (slice_index levels k)) (pins_of gate.pins)) (fits_from count levels (suc k) gates) low in
     let z : k + 0 ≡ k = omega arith in
     let same : rank net ≡ rank (first + k) = ap rank at in (
       (λ is. let here : base + slice_index levels (k + 0) ≤ rank (first + (k + 0)) = from 0 gate refl is in
@@ -58,10 +59,16 @@ joined rank [] back a b = b
 joined rank (cell ∷ front) back a b = (a.0, joined rank front back a.1 b)
 
 pub by_place : StandsByPlace
-by_place rank [] above k cell net at output is = absurd (cc)
-by_place rank (x ∷ xs) above zero cell net at output is =
+by_place library rank [] [] core parts k cell net at output is = absurd (cc)
+by_place library rank [] (x ∷ xs) core parts zero cell net at output is =
     let same : x ≡ cell = cc in
-    let here : IsAbove rank cell = rw same at above.0 in
+    let here : IsAbove rank cell = rw same at parts.0 in
+    let stands : StandsOn rank cell.feeds cell.output = here (no_flop_kind library cell.kind is) in
+    rw output at stands
+by_place library rank [] (x ∷ xs) core parts (suc k) cell net at output is = by_place library rank [] xs tt parts.1 k cell net at output is
+by_place library rank (x ∷ xs) ys core parts zero cell net at output is =
+    let same : x ≡ cell = cc in
+    let here : is_flop library cell.kind ≡ false → StandsOn rank cell.feeds cell.output = rw same at core.0 in
     let stands : StandsOn rank cell.feeds cell.output = here is in
     rw output at stands
-by_place rank (x ∷ xs) above (suc k) cell net at output is = by_place rank xs above.1 k cell net at output is
+by_place library rank (x ∷ xs) ys core parts (suc k) cell net at output is = by_place library rank xs ys core.1 parts k cell net at output is

@@ -3,6 +3,7 @@ use Rattle.std.proofs.Common.{◌≡◌, ℕ, true, List, [], ◌∷◌, length,
 use Rattle.std.specs.Prelude.{is_some}
 use Rattle.cell_library.specs.declared.Kind.{Kind}
 use Rattle.cell_library.specs.declared.Kind.TheVariants.{Bufif0, Bufif1}
+use Rattle.cell_library.specs.declared.listed.ListedCell.{ListedCell}
 use Rattle.cell_library.specs.Gates.{is_three_state, Takes}
 use Rattle.netlist_model.specs.declared.Dir.{Dir}
 use Rattle.netlist_model.specs.declared.Dir.TheVariants as dir
@@ -16,16 +17,16 @@ use Rattle.plan_fitting.specs.Pins.{PinSeen, IsSeen}
 use Rattle.plan_fitting.specs.Rows.{gate_driver, three_state}
 use Rattle.plan_devices.proofs.RowCounts.{makes_row}
 
-gate_is_driver : (kind : Kind) (feeds : List Feed) → is_three_state kind ≡ true → Takes kind (length feeds) → is_some (gate_driver kind feeds) ≡ true
-gate_is_driver Bufif1 [] h takes = absurd (let two : length {A = Feed} [] ≡ 2 = takes in omega arith)
-gate_is_driver Bufif1 (a ∷ []) h takes = absurd (let two : length (a ∷ []) ≡ 2 = takes in omega arith)
-gate_is_driver Bufif1 (a ∷ b ∷ []) h takes = refl
-gate_is_driver Bufif1 (a ∷ b ∷ c ∷ feeds) h takes = absurd (let two : length (a ∷ b ∷ c ∷ feeds) ≡ 2 = takes in omega arith)
-gate_is_driver Bufif0 [] h takes = absurd (let two : length {A = Feed} [] ≡ 2 = takes in omega arith)
-gate_is_driver Bufif0 (a ∷ []) h takes = absurd (let two : length (a ∷ []) ≡ 2 = takes in omega arith)
-gate_is_driver Bufif0 (a ∷ b ∷ []) h takes = refl
-gate_is_driver Bufif0 (a ∷ b ∷ c ∷ feeds) h takes = absurd (let two : length (a ∷ b ∷ c ∷ feeds) ≡ 2 = takes in omega arith)
-gate_is_driver _ feeds h takes = absurd (cc)
+gate_is_driver : (library : List ListedCell) (kind : Kind) (feeds : List Feed) → is_three_state kind ≡ true → Takes library kind (length feeds) → is_some (gate_driver kind feeds) ≡ true
+gate_is_driver library Bufif1 [] h takes = absurd (let two : length {A = Feed} [] ≡ 2 = takes in omega arith)
+gate_is_driver library Bufif1 (a ∷ []) h takes = absurd (let two : length (a ∷ []) ≡ 2 = takes in omega arith)
+gate_is_driver library Bufif1 (a ∷ b ∷ []) h takes = refl
+gate_is_driver library Bufif1 (a ∷ b ∷ c ∷ feeds) h takes = absurd (let two : length (a ∷ b ∷ c ∷ feeds) ≡ 2 = takes in omega arith)
+gate_is_driver library Bufif0 [] h takes = absurd (let two : length {A = Feed} [] ≡ 2 = takes in omega arith)
+gate_is_driver library Bufif0 (a ∷ []) h takes = absurd (let two : length (a ∷ []) ≡ 2 = takes in omega arith)
+gate_is_driver library Bufif0 (a ∷ b ∷ []) h takes = refl
+gate_is_driver library Bufif0 (a ∷ b ∷ c ∷ feeds) h takes = absurd (let two : length (a ∷ b ∷ c ∷ feeds) ≡ 2 = takes in omega arith)
+gate_is_driver library _ feeds h takes = absurd (cc)
 
 -- the direction of a bit's net is its port's
 pub seen_direction : BitHasDirection → (L : LinkedView) → IsWellFormed L.arena.lists → (word : List ℕ) (one : PinSeen) → IsSeen L word one → direction L.arena.lists.ports one.net.0 ≡ Some one.side
@@ -38,7 +39,7 @@ pub seen_driver : DriverIsFound → (L : LinkedView) → IsWellFormed L.arena.li
 seen_driver found L formed word one seen i cell drives = seen.driver ∙ found L.arena.lists formed.one_driver i cell one.net.0 drives
 
 pub gate_has_driver : (N : NetlistView) → IsWellFormed N → (i : ℕ) (cell : CellView) (net : ℕ) → Drives N i cell net → is_three_state cell.kind ≡ true → is_some (three_state (Some cell)) ≡ true
-gate_has_driver N formed i cell net drives three = gate_is_driver cell.kind cell.feeds three (formed.counts i cell drives.live)
+gate_has_driver N formed i cell net drives three = gate_is_driver N.library cell.kind cell.feeds three (formed.counts i cell drives.live)
 
 makes_at : BitHasDirection → DriverIsFound → (L : LinkedView) → IsWellFormed L.arena.lists → (word : List ℕ) (one : PinSeen) → IsSeen L word one → (side : Dir) → one.side ≡ side → makes_row one side ≡ true
 makes_at has found L formed word one seen dir.Input is = refl

@@ -39,10 +39,10 @@ view_is_wide m L view number port there =
     ap (λ (n : List NetId). length n) at.2.nets ∙ from_wide 0 m.ports number at.0 at.1 ∙ ap width_of (sym at.2.range)
 
 pub fitted_is_fitting : LinkViewIsNamed → LinkViewIsFormed → FittedIsFitting
-fitted_is_fitting named formed m L p f tree view spelled is = record {
-  formed = formed m L tree view;
+fitted_is_fitting named formed m L p f tree listed view spelled is = record {
+  formed = formed m L tree listed view;
   wide = view_is_wide m L view;
-  named = named m L tree view;
+  named = named m L tree listed view;
   spelled = spelled;
   are_seen = is.are_seen;
   faultless = is.faultless;

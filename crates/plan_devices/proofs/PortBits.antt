@@ -8,6 +8,7 @@ use Rattle.list_laws.proofs.Numbers.{eqb_less}
 use Rattle.list_laws.proofs.Options.{or_else-parts}
 use Rattle.link_model.specs.Nets.{counted_from}
 use Rattle.bsdl_device.specs.Checks.{any_pair}
+use Rattle.cell_library.specs.declared.listed.ListedCell.{ListedCell}
 use Rattle.netlist_model.specs.declared.CellId.{CellId}
 use Rattle.netlist_model.specs.declared.Reader.{Reader}
 use Rattle.netlist_model.specs.Lists.{PortView, NetView, CellView}
@@ -42,6 +43,7 @@ pub record AreLined (L : LinkedView) (seen : List PinSeen) : Type 0 where
 
 -- the parts of a linked netlist beside its ports
 record Beside : Type 0 where
+  library : List ListedCell
   nets : List NetView
   cells : List (Option CellView)
   spare : SpareView
@@ -53,7 +55,7 @@ record Beside : Type 0 where
 
 abbrev with_ports : Beside → List PortView → LinkedView
 with_ports b ports = record {
-  arena = record { lists = record { ports = ports; nets = b.nets; cells = b.cells }; spare = b.spare; walks = b.walks };
+  arena = record { lists = record { library = b.library; ports = ports; nets = b.nets; cells = b.cells }; spare = b.spare; walks = b.walks };
   names = b.names;
   module_name = b.module_name;
   order = b.order;
@@ -66,6 +68,7 @@ lined_by b (port ∷ ports) seen h = record { some = omega arith; each = all_lin
 
 abbrev beside : LinkedView → Beside
 beside L = record {
+  library = L.arena.lists.library;
   nets = L.arena.lists.nets;
   cells = L.arena.lists.cells;
   spare = L.arena.spare;

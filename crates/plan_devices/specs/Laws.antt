@@ -8,6 +8,7 @@ use Rattle.verilog_tree.specs.declared.tree.Module.{Module}
 use Rattle.verilog_tree.specs.IsTree.{IsTree, IsTreeName}
 use Rattle.link_model.specs.Denoted.{name_bytes}
 use Rattle.cell_library.specs.declared.codes.Function.TheVariants as function
+use Rattle.cell_library.specs.Sound.{IsLibrary}
 use Rattle.netlist_model.specs.declared.Feed.{Feed}
 use Rattle.netlist_model.specs.declared.Name.TheVariants.{Original}
 use Rattle.netlist_model.specs.declared.NetId.{NetId}
@@ -159,4 +160,4 @@ ControlsFollowTheirRows = (L : LinkedView) (p : Plan) (seen : List PinSeen) → 
 
 -- what is fitted to a link view of a tree
 abbrev pub FittedIsFitting : Type 0
-FittedIsFitting = (m : Module) (L : LinkedView) (p : Plan) (f : Fitted) → IsTree m → IsLinkOf m L → IsPlan p → (is : IsFitted L p f) → IsFitting L p is.seen
+FittedIsFitting = (m : Module) (L : LinkedView) (p : Plan) (f : Fitted) → IsTree m → IsLibrary L.arena.lists.library → IsLinkOf m L → IsPlan p → (is : IsFitted L p f) → IsFitting L p is.seen

@@ -68,14 +68,14 @@ clock_seen L number side name is clock control = record {
 
 abbrev flop_in : Option CellView → Bool
 flop_in None = false
-flop_in (Some cell) = is_flop cell.kind
+flop_in (Some cell) = is_flop [] cell.kind
 
 abbrev HasNoFlop : NetlistView → Type 0
-HasNoFlop N = (i : ℕ) (cell : CellView) → cell_at N i ≡ Some cell → is_flop cell.kind ≡ false
+HasNoFlop N = (i : ℕ) (cell : CellView) → cell_at N i ≡ Some cell → is_flop N.library cell.kind ≡ false
 
 no_operand : (N : NetlistView) (place net : ℕ) → HasNoFlop N → FlopReads N place net → ⊥
 no_operand N place net none reads =
-    let is : is_flop reads.cell.kind ≡ true = ap is_some reads.flop in
+    let is : is_flop N.library reads.cell.kind ≡ true = ap is_some reads.flop in
     let bad : true ≡ false = sym is ∙ none reads.number reads.cell reads.reads.live in
     cc
 
@@ -141,7 +141,7 @@ control_root : (root : ℕ) → FlopReads netlist_c 1 root ⊎ FlopReads netlist
 control_root root (inl reads) = clock_root-at reads.number root (operand_there 1 root reads)
 control_root root (inr reads) = absurd (no_reset-at reads.number root (operand_there 2 root reads))
 
-all_flops : (number : ℕ) (cell : CellView) → cell_at netlist_c number ≡ Some cell → is_flop cell.kind ≡ true
+all_flops : (number : ℕ) (cell : CellView) → cell_at netlist_c number ≡ Some cell → is_flop [] cell.kind ≡ true
 all_flops zero cell live = ap flop_in (sym live)
 all_flops (suc number) cell live = absurd (cc)
 

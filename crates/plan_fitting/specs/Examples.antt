@@ -120,6 +120,7 @@ device_control value = record { cell = Bc1; pin = None; function = function.Cont
 
 abbrev pub netlist_d : NetlistView
 netlist_d = record {
+  library = [];
   ports = scalar 0 Input ∷ scalar 1 Input ∷ scalar 2 Output ∷ scalar 3 Output ∷ [];
   nets = net_named 0 ∷ net_named 1 ∷ net_named 2 ∷ net_named 3 ∷ [];
   cells = gate Bufif1 2 (of_net 1 ∷ of_net 0 ∷ []) ∷ gate Bufif0 3 (of_net 1 ∷ of_net 0 ∷ []) ∷ [];
@@ -156,6 +157,7 @@ DeviceOfBothPolarities =
 
 abbrev pub netlist_k : NetlistView
 netlist_k = record {
+  library = [];
   ports = scalar 0 Input ∷ scalar 1 Input ∷ scalar 2 Output ∷ scalar 3 Output ∷ [];
   nets = net_named 0 ∷ net_named 1 ∷ net_named 2 ∷ net_named 3 ∷ [];
   cells = gate And 2 (of_net 0 ∷ of_net 1 ∷ []) ∷ gate Not 3 (of_net 2 ∷ []) ∷ [];
@@ -187,6 +189,7 @@ RowsUnderHighz =
 
 abbrev pub netlist_b : NetlistView
 netlist_b = record {
+  library = [];
   ports = scalar 0 Input ∷ scalar 1 Input ∷ scalar 2 Inout ∷ scalar 3 Output ∷ [];
   nets = net_named 0 ∷ net_named 1 ∷ net_named 2 ∷ net_named 3 ∷ [];
   cells = gate Bufif1 2 (of_net 0 ∷ of_net 1 ∷ []) ∷ gate Buf 3 (of_net 2 ∷ []) ∷ [];
@@ -211,6 +214,7 @@ RowsOfInout =
 
 abbrev pub netlist_c : NetlistView
 netlist_c = record {
+  library = [];
   ports = scalar 0 Input ∷ scalar 1 Input ∷ scalar 2 Output ∷ [];
   nets = net_named 0 ∷ net_named 1 ∷ net_named 2 ∷ [];
   cells = Some (record { kind = Flop (record { edge = Rise; reset = Nothing }); name = Some (Original 3); feeds = of_net 1 ∷ of_net 0 ∷ []; output = Some (net_id 2) }) ∷ [];
@@ -248,7 +252,7 @@ ClockFits = IsFitted linked_c (plan_c Bc4) (fitted_of linked_c (plan_c Bc4) seen
 
 -- a module without ports
 abbrev pub nothing_linked : LinkedView
-nothing_linked = linked [] (record { ports = []; nets = []; cells = [] })
+nothing_linked = linked [] (record { library = []; ports = []; nets = []; cells = [] })
 
 abbrev pub NamesNoBit : Type 0
 NamesNoBit = IsFault nothing_linked (plan_c Bc4) (fault.PlanPort (codes "ck"))
@@ -292,7 +296,7 @@ TapNamedAsInstance = IsFault linked_c (with_tdi (plan_c Bc4) (codes "f")) (fault
 
 -- `buf(y, \a+b );`
 abbrev pub netlist_n : NetlistView
-netlist_n = record { ports = scalar 0 Input ∷ scalar 1 Output ∷ []; nets = net_named 0 ∷ net_named 1 ∷ []; cells = gate Buf 1 (of_net 0 ∷ []) ∷ [] }
+netlist_n = record { library = []; ports = scalar 0 Input ∷ scalar 1 Output ∷ []; nets = net_named 0 ∷ net_named 1 ∷ []; cells = gate Buf 1 (of_net 0 ∷ []) ∷ [] }
 
 abbrev pub PortIsNoName : Type 0
 PortIsNoName =

@@ -4,6 +4,8 @@ use Rattle.verilog_tree.specs.declared.tree.Module.{Module}
 use Rattle.verilog_tree.specs.IsTree.{IsTree}
 use Rattle.verilog_reading.specs.Conditions.{SpelledTreesKeepConditions}
 use Rattle.verilog_texts.specs.Laws.{BytesSpellOneTree}
+use Rattle.cell_library.specs.declared.listed.ListedCell.{ListedCell}
+use Rattle.cell_library.specs.Sound.{IsLibrary}
 use Rattle.netlist_model.specs.Lists.{PortView}
 use Rattle.netlist_model.specs.Formed.{IsWellFormed}
 use Rattle.netlist_link.specs.Linked.{LinkedView}
@@ -91,23 +93,23 @@ chip_of suit have stand same_there written linked K p seen viewed is realises =
         input_at = input_at K B known.places;
         tdo_at = known.places.tdo;
       };
-      realises = same_there written.arena.lists linked.arena.lists K.arena.lists B viewed.same.ports viewed.same.cells viewed.was_formed realises;
+      realises = same_there written.arena.lists linked.arena.lists K.arena.lists B viewed.same.library viewed.same.ports viewed.same.cells viewed.was_formed realises;
     }
 
 -- Netlists.
 
 itself : (linked : LinkedView) → IsSameView linked linked
-itself linked = record { title = refl; names = refl; ports = refl; nets = refl; cells = λ number. refl }
+itself linked = record { title = refl; names = refl; library = refl; ports = refl; nets = refl; cells = λ number. refl }
 
-viewed_alone : LinkViewIsNamed → LinkViewIsFormed → (tree : Module) (linked : LinkedView) (device : Device) → IsTree tree → IsLinkOf tree linked → (is : KeepsAndRealises linked device)
+viewed_alone : LinkViewIsNamed → LinkViewIsFormed → (tree : Module) (linked : LinkedView) (device : Device) → IsTree tree → IsLibrary linked.arena.lists.library → IsLinkOf tree linked → (is : KeepsAndRealises linked device)
     → IsViewed linked linked is.core is.plan is.seen
-viewed_alone named formed tree linked device spelled links is = record {
+viewed_alone named formed tree linked device spelled listed links is = record {
   fits = is.fits;
   same = itself linked;
-  named = named tree linked spelled links;
-  formed = formed tree linked spelled links;
+  named = named tree linked spelled listed links;
+  formed = formed tree linked spelled listed links;
   wide = view_is_wide tree linked links;
-  was_formed = formed tree linked spelled links;
+  was_formed = formed tree linked spelled listed links;
   keeps = is.keeps;
 }
 
@@ -122,22 +124,22 @@ chip_by suit have stand same_there written linked device is viewed kept =
     (chip_of suit have stand same_there written linked K is.plan is.seen viewed (subst IsDevice is.device_is kept) realises)
 
 pub netlists_have_chips : LinkViewIsNamed → LinkViewIsFormed → PlansSuitNetlists → DevicesHavePorts → PlansStandAround → SameRealises → NetlistsHaveChips
-netlists_have_chips named formed suit have stand same_there tree linked device spelled links kept is =
-    chip_by suit have stand same_there linked linked device is (viewed_alone named formed tree linked device spelled links is) kept
+netlists_have_chips named formed suit have stand same_there tree linked device spelled listed links kept is =
+    chip_by suit have stand same_there linked linked device is (viewed_alone named formed tree linked device spelled listed links is) kept
 
 -- Insertions.
 
 pub insertions_belong_together : FittedIsFitting → InsertionsBelongTogether
-insertions_belong_together fitting net plan verilog bsdl report i = record {
+insertions_belong_together fitting library net plan verilog bsdl report i = record {
   linked = i.written;
-  read = record { tree = i.written_tree; spells = i.spells_written; links = i.links_written };
+  read = record { tree = i.written_tree; spells = i.spells_written; listed = i.listed; library_is = i.written_library; links = i.links_written };
   device = device_of i.linked i.wanted i.fits.seen;
   spells = i.device.spells;
   chip = record {
     core = i.linked;
     plan = i.wanted;
     seen = i.fits.seen;
-    fits = fitting i.tree i.linked i.wanted (fitted_of i.linked i.wanted i.fits.seen) i.is i.links (plan, i.spells_plan)
+    fits = fitting i.tree i.linked i.wanted (fitted_of i.linked i.wanted i.fits.seen) i.is (subst IsLibrary (sym i.library_is) i.listed) i.links (plan, i.spells_plan)
         (record { seen = i.fits.seen; are_seen = i.fits.are_seen; faultless = i.fits.faultless; is = refl });
     device_is = refl;
     keeps = i.keeps;
@@ -151,47 +153,49 @@ program_texts_spell_programs bsdl events is =
 
 -- Texts.
 
-viewed_of : SpelledTreesKeepConditions → BytesSpellOneTree → LinkViewsAgree → LinkViewIsNamed → LinkViewIsFormed → (netlist bsdl : List ℕ) (are : BelongTogether netlist bsdl) (linked : LinkedView)
-    → IsRead netlist linked → IsViewed are.linked linked are.chip.core are.chip.plan are.chip.seen
-viewed_of keep one agree named formed netlist bsdl are linked read =
+viewed_of : SpelledTreesKeepConditions → BytesSpellOneTree → LinkViewsAgree → LinkViewIsNamed → LinkViewIsFormed → (library : List ListedCell) (netlist bsdl : List ℕ) (are : BelongTogether library netlist bsdl) (linked : LinkedView)
+    → IsRead library netlist linked → IsViewed are.linked linked are.chip.core are.chip.plan are.chip.seen
+viewed_of keep one agree named formed library netlist bsdl are linked read =
     let tree : read.tree ≡ are.read.tree = one netlist read.tree are.read.tree read.spells are.read.spells in
     let links : IsLinkOf are.read.tree linked = subst (λ (m : Module). IsLinkOf m linked) tree read.links in
     let is = keep netlist are.read.tree are.read.spells in
+    let listed = subst IsLibrary (sym read.library_is) read.listed in
+    let was_listed = subst IsLibrary (sym are.read.library_is) are.read.listed in
     record {
       fits = are.chip.fits;
-      same = agree are.read.tree are.linked linked are.read.links links;
-      named = named are.read.tree linked is links;
-      formed = formed are.read.tree linked is links;
+      same = agree are.read.tree are.linked linked (are.read.library_is ∙ sym read.library_is) are.read.links links;
+      named = named are.read.tree linked is listed links;
+      formed = formed are.read.tree linked is listed links;
       wide = view_is_wide are.read.tree linked links;
-      was_formed = formed are.read.tree are.linked is are.read.links;
+      was_formed = formed are.read.tree are.linked is was_listed are.read.links;
       keeps = are.chip.keeps;
     }
 
 pub texts_have_chips : SpelledTreesKeepConditions → SpelledDevicesKeep → BytesSpellOneTree → SpellsOneDevice → LinkViewsAgree → LinkViewIsNamed → LinkViewIsFormed → PlansSuitNetlists → DevicesHavePorts
     → PlansStandAround → SameRealises → TextsHaveChips
-texts_have_chips keep devices one one_device agree named formed suit have stand same_there netlist bsdl are linked read device spells =
+texts_have_chips keep devices one one_device agree named formed suit have stand same_there library netlist bsdl are linked read device spells =
     let same : are.device ≡ device = one_device bsdl are.device device are.spells spells in
     subst (λ (d : Device). HasChip linked d are.chip.core.arena.lists) same
-    (chip_by suit have stand same_there are.linked linked are.device are.chip (viewed_of keep one agree named formed netlist bsdl are linked read) (devices bsdl are.device are.spells))
+    (chip_by suit have stand same_there are.linked linked are.device are.chip (viewed_of keep one agree named formed library netlist bsdl are linked read) (devices bsdl are.device are.spells))
 
 pub texts_agree : SpelledTreesKeepConditions → BytesSpellOneTree → SpellsOneDevice → LinkViewsAgree → LinkViewIsNamed → LinkViewIsFormed → DevicesHavePorts → TextsAgree
-texts_agree keep one one_device agree named formed have netlist bsdl are linked read device spells =
+texts_agree keep one one_device agree named formed have library netlist bsdl are linked read device spells =
     let K : LinkedView = are.chip.core in
     let B : Device = device_of K are.chip.plan are.chip.seen in
     let same : device ≡ B = one_device bsdl device are.device spells are.spells ∙ are.chip.device_is in
-    let viewed = viewed_of keep one agree named formed netlist bsdl are linked read in
+    let viewed = viewed_of keep one agree named formed library netlist bsdl are linked read in
     subst (λ (d : Device). PortsAgree linked d) (sym same) (ports_agree linked K are.chip.plan B (known_of have are.linked linked K are.chip.plan are.chip.seen viewed))
 
 pub programs_are_legal_there : TextsHaveChips → ProgramsAreLegal → ProgramsAreLegalThere
-programs_are_legal_there chips legal netlist bsdl are linked read device spells lines program =
-    legal linked device (chips netlist bsdl are linked read device spells).beside.described lines program
+programs_are_legal_there chips legal library netlist bsdl are linked read device spells lines program =
+    legal linked device (chips library netlist bsdl are linked read device spells).beside.described lines program
 
 pub texts_miss_nothing : TextsHaveChips → ScriptsAreMet → TextsMissNothing
-texts_miss_nothing chips met netlist bsdl are linked read device spells script is verdict judged =
-    met linked device are.chip.core.arena.lists (chips netlist bsdl are linked read device spells) script is verdict judged
+texts_miss_nothing chips met library netlist bsdl are linked read device spells script is verdict judged =
+    met linked device are.chip.core.arena.lists (chips library netlist bsdl are linked read device spells) script is verdict judged
 
 pub written_programs_miss_nothing : TextsMissNothing → SpelledOnce → WrittenProgramsMissNothing
-written_programs_miss_nothing none once netlist bsdl events are program linked read lines spelled script resolved verdict judged =
+written_programs_miss_nothing none once library netlist bsdl events are program linked read lines spelled script resolved verdict judged =
     let same : lines ≡ program.lines = once events lines program.lines spelled program.spelled in
-    none netlist bsdl are linked read program.device program.spells script
+    none library netlist bsdl are linked read program.device program.spells script
     (record { lines = lines; spelled = record { bytes = events; spells = spelled }; program = ap (λ (l : Lines). l.list) same ∙ program.program; resolved = resolved }) verdict judged

@@ -3,6 +3,8 @@
 use Rattle.std.specs.Prelude.{◌≡◌, ℕ, List, []}
 use Rattle.verilog_tree.specs.declared.tree.Module.{Module}
 use Rattle.verilog_tree.specs.IsTree.{IsTree}
+use Rattle.cell_library.specs.declared.listed.ListedCell.{ListedCell}
+use Rattle.cell_library.specs.Sound.{IsLibrary}
 use Rattle.netlist_link.specs.Linked.{LinkedView}
 use Rattle.netlist_link.specs.Links.{IsLinkOf}
 use Rattle.bsdl_device.specs.declared.values.Device.{Device}
@@ -26,14 +28,14 @@ use Rattle.program_checks.specs.Texts.{IsRead, KeepsAndRealises, BelongTogether,
 
 -- a link view that keeps and realises has the chip that its device makes of the core
 abbrev pub NetlistsHaveChips : Type 0
-NetlistsHaveChips = (tree : Module) (linked : LinkedView) (device : Device) → IsTree tree → IsLinkOf tree linked → IsDevice device → (is : KeepsAndRealises linked device)
+NetlistsHaveChips = (tree : Module) (linked : LinkedView) (device : Device) → IsTree tree → IsLibrary linked.arena.lists.library → IsLinkOf tree linked → IsDevice device → (is : KeepsAndRealises linked device)
     → HasChip linked device is.core.arena.lists
 
 -- Texts that belong together.
 
 -- what an insertion writes does
 abbrev pub InsertionsBelongTogether : Type 0
-InsertionsBelongTogether = (net plan verilog bsdl report : List ℕ) → IsInsertion net plan verilog bsdl report → BelongTogether verilog bsdl
+InsertionsBelongTogether = (library : List ListedCell) (net plan verilog bsdl report : List ℕ) → IsInsertion library net plan verilog bsdl report → BelongTogether library verilog bsdl
 
 -- and the text of a device's program spells that program
 abbrev pub ProgramTextsSpellPrograms : Type 0
@@ -41,27 +43,27 @@ ProgramTextsSpellPrograms = (bsdl events : List ℕ) → IsProgramText bsdl even
 
 -- whatever is read of such texts has the chip
 abbrev pub TextsHaveChips : Type 0
-TextsHaveChips = (netlist bsdl : List ℕ) (are : BelongTogether netlist bsdl) (linked : LinkedView) → IsRead netlist linked
+TextsHaveChips = (library : List ListedCell) (netlist bsdl : List ℕ) (are : BelongTogether library netlist bsdl) (linked : LinkedView) → IsRead library netlist linked
     → (device : Device) → SpellsDeviceText bsdl device → HasChip linked device are.chip.core.arena.lists
 
 -- its ports are those that are described
 abbrev pub TextsAgree : Type 0
-TextsAgree = (netlist bsdl : List ℕ) → BelongTogether netlist bsdl → (linked : LinkedView) → IsRead netlist linked
+TextsAgree = (library : List ListedCell) (netlist bsdl : List ℕ) → BelongTogether library netlist bsdl → (linked : LinkedView) → IsRead library netlist linked
     → (device : Device) → SpellsDeviceText bsdl device → PortsAgree linked device
 
 -- the lines of the device's program are legal for it
 abbrev pub ProgramsAreLegalThere : Type 0
-ProgramsAreLegalThere = (netlist bsdl : List ℕ) → BelongTogether netlist bsdl → (linked : LinkedView) → IsRead netlist linked
+ProgramsAreLegalThere = (library : List ListedCell) (netlist bsdl : List ℕ) → BelongTogether library netlist bsdl → (linked : LinkedView) → IsRead library netlist linked
     → (device : Device) → SpellsDeviceText bsdl device → (lines : Lines) → lines.list ≡ program_of device → AreLegal linked lines
 
 -- no expectation of the device's program is missed
 abbrev pub TextsMissNothing : Type 0
-TextsMissNothing = (netlist bsdl : List ℕ) → BelongTogether netlist bsdl → (linked : LinkedView) → IsRead netlist linked
+TextsMissNothing = (library : List ListedCell) (netlist bsdl : List ℕ) → BelongTogether library netlist bsdl → (linked : LinkedView) → IsRead library netlist linked
     → (device : Device) → SpellsDeviceText bsdl device → (script : List ScriptLine) → IsProgramScript linked device script
     → (verdict : Verdict) → IsVerdict linked.arena.lists script verdict → verdict.missed ≡ []
 
 -- nor of any text of that program
 abbrev pub WrittenProgramsMissNothing : Type 0
-WrittenProgramsMissNothing = (netlist bsdl events : List ℕ) → BelongTogether netlist bsdl → SpellsProgram bsdl events → (linked : LinkedView) → IsRead netlist linked
+WrittenProgramsMissNothing = (library : List ListedCell) (netlist bsdl events : List ℕ) → BelongTogether library netlist bsdl → SpellsProgram bsdl events → (linked : LinkedView) → IsRead library netlist linked
     → (lines : Lines) → SpellsLines events lines → (script : List ScriptLine) → IsResolved linked lines script
     → (verdict : Verdict) → IsVerdict linked.arena.lists script verdict → verdict.missed ≡ []

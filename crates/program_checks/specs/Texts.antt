@@ -3,6 +3,8 @@
 use Rattle.std.specs.Prelude.{◌≡◌, ℕ, List}
 use Rattle.verilog_tree.specs.declared.tree.Module.{Module}
 use Rattle.verilog_tree.specs.Texts.{SpellsText}
+use Rattle.cell_library.specs.declared.listed.ListedCell.{ListedCell}
+use Rattle.cell_library.specs.Sound.{IsLibrary}
 use Rattle.netlist_link.specs.Linked.{LinkedView}
 use Rattle.netlist_link.specs.Links.{IsLinkOf}
 use Rattle.bsdl_device.specs.declared.values.Device.{Device}
@@ -17,10 +19,12 @@ use Rattle.scan_vectors.specs.Grammar.{SpellsLines}
 use Rattle.scan_programs.specs.Program.{program_of}
 use Rattle.insertions.specs.Written.{spelt, tap_of}
 
--- a netlist that some text spells
-pub record IsRead (text : List ℕ) (linked : LinkedView) : Type 0 where
+-- a netlist that some text spells with this library
+pub record IsRead (library : List ListedCell) (text : List ℕ) (linked : LinkedView) : Type 0 where
   pub tree : Module
   pub spells : SpellsText text tree
+  pub listed : IsLibrary library
+  pub library_is : linked.arena.lists.library ≡ library
   pub links : IsLinkOf tree linked
 
 -- The netlist keeps the ports and the cells of one that a plan fits, with the plan's test access port behind the ports, and it behaves as
@@ -34,10 +38,10 @@ pub record KeepsAndRealises (linked : LinkedView) (device : Device) : Type 0 whe
   pub keeps : Keeps linked.arena.lists core.arena.lists (spelt linked.names) (spelt core.names) (tap_of plan)
   pub realises : Realises linked.arena.lists device core.arena.lists
 
--- The netlist's text spells such a netlist, and the BSDL text its device, each in any spelling.
-pub record BelongTogether (netlist bsdl : List ℕ) : Type 0 where
+-- The netlist's text spells such a netlist with the library, and the BSDL text its device, each in any spelling.
+pub record BelongTogether (library : List ListedCell) (netlist bsdl : List ℕ) : Type 0 where
   pub linked : LinkedView
-  pub read : IsRead netlist linked
+  pub read : IsRead library netlist linked
   pub device : Device
   pub spells : SpellsDeviceText bsdl device
   pub chip : KeepsAndRealises linked device

@@ -1,7 +1,9 @@
 -- A netlist finds home under other numbers as under its own.
 use Rattle.std.proofs.Common.{◌≡◌, ℕ, suc, ◌+◌, List, drop, map, refl, sym, ap, ◌∙◌, subst, Option, Some, None}
 use Rattle.signal_values.specs.declared.Sig.{Sig}
+use Rattle.cell_library.specs.declared.listed.ListedCell.{ListedCell}
 use Rattle.cell_library.specs.Flops.{flop_start}
+use Rattle.cell_library.specs.Gates.{flop_of}
 use Rattle.netlist_model.specs.Lists.{CellView, NetlistView, cell_at}
 use Rattle.netlist_model.specs.Settled.{feed_values}
 use Rattle.netlist_model.specs.Formed.{IsWellFormed}
@@ -32,7 +34,7 @@ bits_seen : (M M' N : NetlistView) (to at : ℕ → ℕ) → IsRenumbering M M' 
     → AreBits M N (λ i. start (at i))
 bits_seen M M' N to at r has stay start bits i cell kind live flop none =
     let nested = r.there.cells i cell live in
-    bits (at i) _ kind nested.live flop (still_none M M' N to at r has stay i cell live none)
+    bits (at i) _ kind nested.live (ap (λ (l : List ListedCell). flop_of l cell.kind) r.there.library ∙ flop) (still_none M M' N to at r has stay i cell live none)
 
 -- A run of M' is one of M.
 from_seen : CopyLaws → (M M' N : NetlistView) (to at : ℕ → ℕ) → IsRenumbering M M' to at → IsWellFormed M → HasNumbers M N → KeepsNumbers N at → (events : List ChipEvent)

@@ -1,4 +1,4 @@
--- A netlist with the same ports and live cells is numbered anew by the numbers that it has, and behaves as the other does.
+-- A netlist with the same library, ports and live cells is numbered anew by the numbers that it has, and behaves as the other does.
 use Rattle.std.proofs.Common.{◌≡◌, ℕ, List, [], ◌∷◌, map, Option, Some, None, option_map, refl, sym, ap, ◌∙◌, subst}
 use Rattle.netlist_model.specs.declared.NetId.{NetId}
 use Rattle.netlist_model.specs.declared.Feed.{Feed}
@@ -40,22 +40,28 @@ images : (ports : List PortView) → ArePortImages itself ports ports
 images [] = tt
 images (port ∷ ports) = (record { dir = refl; range = refl; nets = sym (same_nets port.nets) }, images ports)
 
-copied : (M M' : NetlistView) → M.ports ≡ M'.ports → ((i : ℕ) → cell_at M i ≡ cell_at M' i) → IsCopied M M' itself itself itself itself
-copied M M' ports cells = record {
+copied : (M M' : NetlistView) → M.library ≡ M'.library → M.ports ≡ M'.ports → ((i : ℕ) → cell_at M i ≡ cell_at M' i) → IsCopied M M' itself itself itself itself
+copied M M' library ports cells = record {
+  library = sym library;
   nets = λ net. refl;
   ports = subst (λ (ps : List PortView). ArePortImages itself M.ports ps) ports (images M.ports);
   cells = λ i cell live. record { name = cell.name; live = sym (cells i) ∙ live ∙ ap (λ (c : CellView). Some c) (sym (same_cell cell)) };
   numbers = λ i cell live. refl;
 }
 
-numbered_anew : (M M' : NetlistView) → M.ports ≡ M'.ports → ((i : ℕ) → cell_at M i ≡ cell_at M' i) → IsRenumbering M M' itself itself
-numbered_anew M M' ports cells = record { back = itself; from = itself; there = copied M M' ports cells; here = copied M' M (sym ports) (λ i. sym (cells i)) }
+numbered_anew : (M M' : NetlistView) → M.library ≡ M'.library → M.ports ≡ M'.ports → ((i : ℕ) → cell_at M i ≡ cell_at M' i) → IsRenumbering M M' itself itself
+numbered_anew M M' library ports cells = record {
+  back = itself;
+  from = itself;
+  there = copied M M' library ports cells;
+  here = copied M' M (sym library) (sym ports) (λ i. sym (cells i));
+}
 
 pub same_realises : RenumberedRealises → SameRealises
-same_realises copies M M' N B ports cells formed realises = copies M M' N B itself itself (numbered_anew M M' ports cells) formed (λ i cell live. refl) realises
+same_realises copies M M' N B library ports cells formed realises = copies M M' N B itself itself (numbered_anew M M' library ports cells) formed (λ i cell live. refl) realises
 
 pub same_is_alone : RenumberedAlone → SameAlone
-same_is_alone copies M M' N B ports cells formed alone = copies M M' N B itself itself (numbered_anew M M' ports cells) formed (λ i cell live. refl) alone
+same_is_alone copies M M' N B library ports cells formed alone = copies M M' N B itself itself (numbered_anew M M' library ports cells) formed (λ i cell live. refl) alone
 
 pub same_finds_home : RenumberedFindsHome → SameFindsHome
-same_finds_home copies M M' N B ports cells formed has finds = copies M M' N B itself itself (numbered_anew M M' ports cells) formed has (λ i cell live. refl) finds
+same_finds_home copies M M' N B library ports cells formed has finds = copies M M' N B itself itself (numbered_anew M M' library ports cells) formed has (λ i cell live. refl) finds

@@ -25,13 +25,13 @@ RenumberedAlone = (M M' N : NetlistView) (B : Device) (to at : ℕ → ℕ) → 
 abbrev pub RenumberedControls : Type 0
 RenumberedControls = (M M' N : NetlistView) (to at : ℕ → ℕ) → IsRenumbering M M' to at → HasControls M N → HasControls M' N
 
--- own: the same ports, and the same live cell under each number; so one realises what the other does
+-- own: the same library and ports, and the same live cell under each number; so one realises what the other does
 abbrev pub SameRealises : Type 0
-SameRealises = (M M' N : NetlistView) (B : Device) → M.ports ≡ M'.ports → ((i : ℕ) → cell_at M i ≡ cell_at M' i) → IsWellFormed M → Realises M B N → Realises M' B N
+SameRealises = (M M' N : NetlistView) (B : Device) → M.library ≡ M'.library → M.ports ≡ M'.ports → ((i : ℕ) → cell_at M i ≡ cell_at M' i) → IsWellFormed M → Realises M B N → Realises M' B N
 
 -- own: and is alone where the other is
 abbrev pub SameAlone : Type 0
-SameAlone = (M M' N : NetlistView) (B : Device) → M.ports ≡ M'.ports → ((i : ℕ) → cell_at M i ≡ cell_at M' i) → IsWellFormed M → Alone M B N → Alone M' B N
+SameAlone = (M M' N : NetlistView) (B : Device) → M.library ≡ M'.library → M.ports ≡ M'.ports → ((i : ℕ) → cell_at M i ≡ cell_at M' i) → IsWellFormed M → Alone M B N → Alone M' B N
 
 -- own: some cell stands under each number of the chip's cells
 abbrev pub HasNumbers : NetlistView → NetlistView → Type 0
@@ -42,7 +42,7 @@ abbrev pub RenumberedFindsHome : Type 0
 RenumberedFindsHome = (M M' N : NetlistView) (B : Device) (to at : ℕ → ℕ) → IsRenumbering M M' to at → IsWellFormed M → HasNumbers M N → KeepsNumbers N at
     → FindsHome M B N → FindsHome M' B N
 
--- own: so does one with the same ports and cells
+-- own: so does one with the same library, ports and cells
 abbrev pub SameFindsHome : Type 0
-SameFindsHome = (M M' N : NetlistView) (B : Device) → M.ports ≡ M'.ports → ((i : ℕ) → cell_at M i ≡ cell_at M' i) → IsWellFormed M → HasNumbers M N
+SameFindsHome = (M M' N : NetlistView) (B : Device) → M.library ≡ M'.library → M.ports ≡ M'.ports → ((i : ℕ) → cell_at M i ≡ cell_at M' i) → IsWellFormed M → HasNumbers M N
     → FindsHome M B N → FindsHome M' B N

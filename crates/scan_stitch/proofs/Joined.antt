@@ -115,6 +115,7 @@ same_netlist holds N names f A A' new dense is added grown =
     let more : added_nets (length A.lists.nets) count ≡ added_nets (B.first + sides) count = ap (λ (n : ℕ). added_nets n count) long in
     let split = added_nets-add B.first sides count in
     record {
+      library = ap (λ (L : NetlistView). L.library) grown ∙ added.library ∙ ap (λ (L : NetlistView). L.library) is;
       ports = ap (λ (L : NetlistView). L.ports) grown ∙ ap (λ (ps : List PortView). ps ++ tap) added.ports ∙ ap (λ (L : NetlistView). L.ports ++ tap) is;
       nets = ap (λ (L : NetlistView). L.nets) grown ∙ added.net_list ∙ ap (λ (xs : List NetView). xs ++ added_nets (length A.lists.nets) count) nets
           ∙ ap (λ (xs : List NetView). (N.nets ++ nets_around N names f.rows) ++ xs) more

@@ -1,6 +1,8 @@
 -- What linking, fitting and preparing give stitching.
 use Rattle.std.proofs.Common.{◌≡◌, ℕ, ◌+◌, ◌^◌, ◌<◌, ◌≤◌, max, List, [], length, sym, ◌∙◌, ap, subst, arith, inl}
 use Rattle.std.specs.Prelude.{slice_get}
+use Rattle.cell_library.specs.declared.listed.ListedCell.{ListedCell}
+use Rattle.cell_library.specs.Gates.{is_flop}
 use Rattle.netlist_model.specs.Formed.{IsWellFormed, IsNumbered, IsLaidOut, FeedsBelow}
 use Rattle.netlist_model.specs.Contained.{IsDense}
 use Rattle.netlist_model.specs.Lists.{CellView, NetlistView, cell_at, cell_count, Drives}
@@ -20,7 +22,7 @@ use Rattle.stitch_names.specs.Prepared.{room_of, ports_of, prepared, with_tap_na
 use Rattle.stitch_names.specs.Same.{IsSameNetlist, SameIsNamed}
 use Rattle.stitch_names.specs.Laws.{TapNamesAreEntered, StitchedIsNamed}
 use Rattle.stitch_ready.specs.Laws.{FittedCanStandBehind}
-use Rattle.stitch_formed.specs.Laws.{StitchedIsFormed}
+use Rattle.stitch_runs.specs.FormedLaws.{StitchedIsFormed}
 use Rattle.scan_stitch.specs.Ready.{IsSmall}
 use Rattle.scan_stitch.specs.Stitching.{CanBeStitched, HasStitchRoom}
 use Rattle.scan_stitch.specs.Stitch.{CanStitch}
@@ -35,9 +37,10 @@ same_is_formed grown one other same formed =
     let back : (i : ℕ) (cell : CellView) (net : ℕ) → Drives one i cell net → Drives other i cell net
     = λ i cell net drives. record { live = sym (same.cells i) ∙ drives.live; output = drives.output } in
     let once : IsDrivenOnce one = λ i j cell found net a b. formed.one_driver i j cell found net (back i cell net a) (back j found net b) in
-    let numbered : IsNumbered one formed.ordered.0 = record { gates = λ i cell net drives gate. formed.ordered.1.gates i cell net (back i cell net drives) gate } in
+    let numbered : IsNumbered one formed.ordered.0 = record { gates = λ i cell net drives gate. formed.ordered.1.gates i cell net (back i cell net drives) (ap (λ (l : List ListedCell). is_flop l cell.kind) (sym same.library) ∙ gate) } in
     grown other one [] formed.ordered.0 formed
     (record {
+      library = same.library;
       ports = same.ports;
       kept = λ i cell live. same.cells i ∙ live;
       either = λ i cell live. inl (sym (same.cells i) ∙ live);

@@ -14,7 +14,7 @@ use Rattle.stitch_model.specs.declared.TapNames.{TapNames}
 use Rattle.stitch_model.specs.Stitched.{stitched}
 use Rattle.stitch_laws.specs.Laws.{StitchedKeeps}
 use Rattle.stitch_names.specs.Same.{IsSameNetlist}
-use Rattle.stitch_formed.specs.Laws.{StitchedIsFormed}
+use Rattle.stitch_runs.specs.FormedLaws.{StitchedIsFormed}
 use Rattle.stitch_runs.specs.Laws.{FittingPlansRealise, FittingPlansAreAlone, FittingPlansFindHome}
 use Rattle.scan_stitch.specs.Stitch.{CanStitch}
 use Rattle.scan_stitch.proofs.Known.{lists_before, laid_before, stitched_same}
@@ -29,9 +29,9 @@ found P linked f new can holds =
     subst (λ (g : Fitted). P new (device_of_fitted g) linked.arena.lists) (sym can.fitted.is)
     (subst (λ (N : NetlistView). P new B N) (sym (lists_before linked f can)) holds)
 
--- of the netlist as it was stitched, so of the one with the same ports and cells
+-- of the netlist as it was stitched, so of the one with the same library, ports and cells
 carried : (P : NetlistView → Device → NetlistView → Type 0)
-    → ((M M' N : NetlistView) (B : Device) → M.ports ≡ M'.ports → ((i : ℕ) → cell_at M i ≡ cell_at M' i) → IsWellFormed M → P M B N → P M' B N) → StitchedIsFormed
+    → ((M M' N : NetlistView) (B : Device) → M.library ≡ M'.library → M.ports ≡ M'.ports → ((i : ℕ) → cell_at M i ≡ cell_at M' i) → IsWellFormed M → P M B N → P M' B N) → StitchedIsFormed
     → (linked : LinkedView) (f : Fitted) (names : TapNames) (new : NetlistView) (can : CanStitch linked f) → IsLaidOut linked.arena.lists → IsSameNetlist new (stitched linked.arena.lists names f)
     → P (stitched can.before.arena.lists names (fitted_of can.before can.plan can.fitted.seen)) (device_of can.before can.plan can.fitted.seen) can.before.arena.lists
     → P new (device_of_fitted f) linked.arena.lists
@@ -40,7 +40,7 @@ carried P law formed linked f names new can laid is holds =
     let whole : NetlistView = stitched L.arena.lists names (fitted_of L can.plan can.fitted.seen) in
     let well : IsWellFormed whole = formed L can.plan can.fitted.seen names can.fitting (laid_before linked f can laid) can.dense in
     let same : IsSameNetlist new whole = subst (IsSameNetlist new) (stitched_same linked f names can) is in
-    found P linked f new can (law whole new L.arena.lists (device_of L can.plan can.fitted.seen) (sym same.ports) (λ i. sym (same.cells i)) well holds)
+    found P linked f new can (law whole new L.arena.lists (device_of L can.plan can.fitted.seen) (sym same.library) (sym same.ports) (λ i. sym (same.cells i)) well holds)
 
 pub realises_of : StitchedIsFormed → FittingPlansRealise → SameRealises → (linked : LinkedView) (f : Fitted) (names : TapNames) (new : NetlistView) → CanStitch linked f → IsLaidOut linked.arena.lists
     → IsSameNetlist new (stitched linked.arena.lists names f) → Realises new (device_of_fitted f) linked.arena.lists
@@ -57,10 +57,10 @@ record HasHome (M : NetlistView) (B : Device) (N : NetlistView) : Type 0 where
   pub numbers : HasNumbers M N
   pub finds : FindsHome M B N
 
-same_home : SameFindsHome → (M M' N : NetlistView) (B : Device) → M.ports ≡ M'.ports → ((i : ℕ) → cell_at M i ≡ cell_at M' i) → IsWellFormed M → HasHome M B N → HasHome M' B N
-same_home same M M' N B ports cells formed home = record {
+same_home : SameFindsHome → (M M' N : NetlistView) (B : Device) → M.library ≡ M'.library → M.ports ≡ M'.ports → ((i : ℕ) → cell_at M i ≡ cell_at M' i) → IsWellFormed M → HasHome M B N → HasHome M' B N
+same_home same M M' N B library ports cells formed home = record {
   numbers = λ i cell live. let there = home.numbers i cell live in (there.0, sym (cells i) ∙ there.1);
-  finds = same M M' N B ports cells formed home.numbers home.finds;
+  finds = same M M' N B library ports cells formed home.numbers home.finds;
 }
 
 pub home_of : StitchedIsFormed → StitchedKeeps → FittingPlansFindHome → SameFindsHome → (linked : LinkedView) (f : Fitted) (names : TapNames) (new : NetlistView) → CanStitch linked f

@@ -26,6 +26,7 @@ nets_around N names rows = tap_net_views names ++ added_nets (length N.nets + 5)
 -- own: the netlist with the nets of the test access port, and those between the core and its boundary cells, behind which it stands
 abbrev pub surrounded : NetlistView → TapNames → List FitRow → NetlistView
 surrounded N names rows = record {
+  library = N.library;
   ports = N.ports;
   nets = N.nets ++ nets_around N names rows;
   cells = map (option_map (core_cell (boundary_of N rows))) N.cells;

@@ -12,11 +12,12 @@ use netlist_link::Linked;
 use plan_devices::plans_suit_netlists;
 use plan_fitting::Fitted;
 use realised_copies::{same_finds_home, same_is_alone, same_realises};
-use stitch_formed::stitched_is_formed;
 use stitch_laws::stitched_keeps;
 use stitch_names::{same_is_named, stitched_is_named, tap_names_are_entered};
 use stitch_ready::fitted_can_stand_behind;
-use stitch_runs::{fitting_plans_are_alone, fitting_plans_find_home, fitting_plans_realise};
+use stitch_runs::{
+    fitting_plans_are_alone, fitting_plans_find_home, fitting_plans_realise, stitched_is_formed,
+};
 use wrapped_chip::home_is_alone;
 
 /// Builds the test logic of a plan into the prepared netlist that it was fitted to. It takes no memory.

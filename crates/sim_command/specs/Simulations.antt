@@ -3,6 +3,7 @@
 use Rattle.std.specs.Prelude.{◌≡◌, ℕ, List}
 use Rattle.verilog_tree.specs.declared.tree.Module.{Module}
 use Rattle.verilog_tree.specs.Texts.{SpellsText}
+use Rattle.cell_library.specs.declared.listed.ListedCell.{ListedCell}
 use Rattle.link_model.specs.Late.{IsLinkable}
 use Rattle.netlist_link.specs.Linked.{LinkedView}
 use Rattle.netlist_link.specs.Links.{IsLinkOf}
@@ -14,13 +15,14 @@ use Rattle.event_scripts.specs.Rules.{AreLegal}
 use Rattle.event_scripts.specs.Scripts.{IsResolved, IsScriptFault}
 use Rattle.sim_runs.specs.Outputs.{IsOutput}
 
--- The netlist's bytes spell one tree, which is linked to this netlist; the events' bytes spell lines that are legal for it; and
+-- The netlist's bytes spell one tree, which is linked with the library to this netlist; the events' bytes spell lines that are legal for it; and
 -- the text is that of their run, in which so many expectations aren't met.
-pub record IsSimulation (net events text : List ℕ) (missed : ℕ) : Type 0 where
+pub record IsSimulation (library : List ListedCell) (net events text : List ℕ) (missed : ℕ) : Type 0 where
   pub tree : Module
   pub spells : SpellsText net tree
   pub only : (other : Module) → SpellsText net other → other ≡ tree
   pub linked : LinkedView
+  pub library_is : linked.arena.lists.library ≡ library
   pub links : IsLinkOf tree linked
   pub lines : Lines
   pub spells_lines : SpellsLines events lines
@@ -28,22 +30,23 @@ pub record IsSimulation (net events text : List ℕ) (missed : ℕ) : Type 0 whe
   pub resolved : IsResolved linked lines script
   pub output : IsOutput linked lines.list script text missed
 
--- own: the lines of the events have this fault for the netlist
-pub record HasScriptFault (f : ScriptFault) (net events : List ℕ) : Type 0 where
+-- own: the lines of the events have this fault for the netlist with this library
+pub record HasScriptFault (library : List ListedCell) (f : ScriptFault) (net events : List ℕ) : Type 0 where
   pub tree : Module
   pub spells : SpellsText net tree
   pub only : (other : Module) → SpellsText net other → other ≡ tree
   pub linked : LinkedView
+  pub library_is : linked.arena.lists.library ≡ library
   pub links : IsLinkOf tree linked
   pub lines : Lines
   pub spells_lines : SpellsLines events lines
   pub fault : IsScriptFault linked lines f
 
 -- own: no fault stands in the bytes of the netlist and of the events
-pub record IsSimulable (net events : List ℕ) : Type 0 where
+pub record IsSimulable (library : List ListedCell) (net events : List ℕ) : Type 0 where
   pub tree : Module
   pub spells : SpellsText net tree
-  pub linkable : IsLinkable tree
+  pub linkable : IsLinkable library tree
   pub lines : Lines
   pub spells_lines : SpellsLines events lines
-  pub legal : (linked : LinkedView) → IsLinkOf tree linked → AreLegal linked lines
+  pub legal : (linked : LinkedView) → linked.arena.lists.library ≡ library → IsLinkOf tree linked → AreLegal linked lines

@@ -1,7 +1,9 @@
 ghost use Rattle.netlist_link.specs.Laws.{FaultsForbidLinks};
+ghost use Rattle.cell_text.specs.Laws as libraries;
 ghost use Rattle.scan_vectors.specs.Exactly.{SpelledIsFaultless, SpelledOnce};
 ghost use Rattle.event_scripts.specs.Laws.{LegalIsNotIllegal};
 
+use cell_text::texts_of_libraries_are_spelled_or_at_fault;
 use event_scripts::legal_lines_are_not_illegal;
 use netlist_link::faults_forbid_links;
 use scan_vectors::texts_of_events_are_spelled_or_at_fault;
@@ -12,8 +14,11 @@ pub fn simulation_faults_stand_apart()
     ensures once { SpelledOnce }
     ensures faultless { SpelledIsFaultless }
     ensures legal { LegalIsNotIllegal }
+    ensures one_library { libraries.SpelledOnce }
+    ensures no_library_fault { libraries.SpelledIsFaultless }
 {
     faults_forbid_links();
     texts_of_events_are_spelled_or_at_fault();
     legal_lines_are_not_illegal();
+    texts_of_libraries_are_spelled_or_at_fault();
 }

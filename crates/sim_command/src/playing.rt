@@ -1,13 +1,15 @@
 // From texts that were read to the text that is put.
-ghost use Rattle.std.specs.Prelude.{◌≡◌, ◌≤◌, [], ◌∷◌, length, IfOk, IfErr};
+ghost use Rattle.std.specs.Prelude.{◌≡◌, ◌≤◌, ℕ, List, ◌∷◌, length, IfOk, IfErr};
 ghost use Rattle.verilog_tree.specs.declared.tree.Module.{Module};
 ghost use Rattle.verilog_texts.specs.Reading.{IsReadAs};
 ghost use Rattle.netlist_link.specs.Links.{IsLinkOf};
 ghost use Rattle.command_edges.specs.Ends.{IsEnd, run_status};
+ghost use Rattle.command_edges.specs.Libraries.{IsLibraryOf};
 ghost use Rattle.command_edges.specs.Seen.{sink_seen};
 ghost use Rattle.command_edges.specs.Spelled.{StandsInNetlist};
 ghost use Rattle.sim_command.specs.Played.{FailsToPlay, FailsToPlayOn, IsPlayed, IsPlayedOn};
 
+use cell_library::Library;
 use command_edges::take_two;
 use command_faults::{Fault, Status};
 use edge_io::sink::Sink;
@@ -31,13 +33,14 @@ fn status_after(missed: u64) -> Status
     }
 }
 
-// The netlist that a text spells.
-fn linked_of<'a>(alloc: Global, net: Text) -> Result<Linked, Fault<'a>>
-    ensures linked { IfOk result (λ linked. (tree : Module) × IsReadAs net tree × IsLinkOf tree linked) }
-    ensures fault { IfErr result (StandsInNetlist net) }
+// The netlist that a text spells, with this library.
+fn linked_of<'a>(alloc: Global, net: Text, library: Library) -> Result<Linked, Fault<'a>>
+    ensures linked { IfOk result (λ linked. (tree : Module) × IsReadAs net tree
+        × (linked.arena.lists.library ≡ library) × IsLinkOf tree linked) }
+    ensures fault { IfErr result (StandsInNetlist library net) }
 {
     let tree = read_module(alloc, net)?;
-    Ok(link(alloc, &tree)?)
+    Ok(link(alloc, &tree, library)?)
 }
 
 // Plays the events that a text spells on a netlist.
@@ -65,31 +68,34 @@ fn play_on<'a, O: Sink>(
     }
 }
 
-// Plays the events that one text spells on the netlist that the other spells.
+// Plays the events that one text spells on the netlist that the other spells with this library.
 fn play_texts<'a, O: Sink>(
     alloc: Global,
     net: Text,
     events: Text,
+    library: Library,
     out: &mut O,
 ) -> Result<Status, Fault<'a>>
-    ensures done { IfOk result (IsPlayed (net ∷ events ∷ [])
+    ensures done { (more : List (List ℕ)) → IsLibraryOf more library
+        → IfOk result (IsPlayed (net ∷ events ∷ more)
         (sink_seen O.given O.faults out.old out.new)) }
-    ensures fault { IfErr result (λ fault. FailsToPlay (net ∷ events ∷ [])
+    ensures fault { (more : List (List ℕ)) → IsLibraryOf more library
+        → IfErr result (λ fault. FailsToPlay (net ∷ events ∷ more)
         (sink_seen O.given O.faults out.old out.new) fault (O.given out.new)) }
     ensures ended { IfOk result IsEnd }
     ensures later { O.faults out.old ≤ O.faults out.new }
 {
-    let linked = linked_of(alloc, net)?;
+    let linked = linked_of(alloc, net, library)?;
     play_on(alloc, &linked, events.as_bytes(), out)
 }
 
-/// Plays the texts of a netlist and of events.
+/// Plays the texts of a netlist and of events, and of a library if there is one.
 pub fn play_all<'a, O: Sink>(
     alloc: Global,
     texts: Row<Text>,
     out: &mut O,
 ) -> Result<Status, Fault<'a>>
-    requires { length texts ≡ 2 }
+    requires { 2 ≤ length texts }
     ensures done { IfOk result (IsPlayed texts (sink_seen O.given O.faults out.old out.new)) }
     ensures fault { IfErr result (λ fault. FailsToPlay texts
         (sink_seen O.given O.faults out.old out.new) fault (O.given out.new)) }
@@ -97,6 +103,6 @@ pub fn play_all<'a, O: Sink>(
     ensures later { O.faults out.old ≤ O.faults out.new }
 {
     let mut texts = texts.into_vec();
-    let (net, events) = take_two(alloc, texts.as_mut_slice());
-    play_texts(alloc, net, events, out)
+    let (net, events, library) = take_two(alloc, texts.as_mut_slice())?;
+    play_texts(alloc, net, events, library, out)
 }

@@ -117,7 +117,7 @@ choice_logic : (tck trst : NetId) (P : ℕ → Type 0) (gates : List Gate) (choi
     → is_sound_choice (length gates) (length given) choice → FeedsAre P given → ((j : ℕ) → j < length gates → P (first + j))
     → IsLogicCell tck trst P (choice_cell first given number into choice)
 choice_logic tck trst P gates choice given first number into sound are own = record {
-  takes = refl;
+  takes = λ library. refl;
   two_state = refl;
   reads = feed_cons P (feed_of first given choice.usual) _ (pin_feed P first (length gates) given choice.usual own are sound.0)
       (feed_cons P (feed_of first given choice.other) _ (pin_feed P first (length gates) given choice.other own are sound.1)

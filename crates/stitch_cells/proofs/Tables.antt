@@ -5,7 +5,10 @@ use Rattle.std.specs.List.{list_all}
 use Rattle.std.proofs.lemmas.Bool.{eqb-true}
 use Rattle.std.proofs.lemmas.List.{length-map}
 use Rattle.list_laws.proofs.Tests.{both_hold, then_holds}
-use Rattle.cell_library.specs.Gates.{is_three_state, is_flop, operand_count_of, Takes}
+use Rattle.cell_library.specs.declared.Kind.{Kind}
+use Rattle.cell_library.specs.declared.Kind.TheVariants.{Flop, Listed}
+use Rattle.cell_library.specs.declared.listed.ListedCell.{ListedCell}
+use Rattle.cell_library.specs.Gates.{is_three_state, is_flop, Takes}
 use Rattle.netlist_model.specs.declared.Feed.{Feed}
 use Rattle.netlist_model.specs.declared.Feed.TheVariants.{Net, Const}
 use Rattle.netlist_model.specs.declared.NetId.{NetId}
@@ -15,7 +18,7 @@ use Rattle.gate_parts.specs.declared.Pin.TheVariants.{Own, Given}
 use Rattle.gate_parts.specs.declared.Gate.{Gate}
 use Rattle.gate_parts.specs.Parts.{feed_of, pins_of, gate_cell, cells_from, part_cells, takes_few, is_sound_pin, is_sound_gate}
 use Rattle.gate_parts.proofs.PinCounts.{takes_by, pins_few}
-use Rattle.stitch_cells.specs.Gates.{EachCell, DriveInTurn, FeedsAre, IsLogicCell, is_given_at, is_clocked_by, is_logic_gate, is_logic_table, is_plain_gate}
+use Rattle.stitch_cells.specs.Gates.{EachCell, DriveInTurn, FeedsAre, may_keep, IsLogicCell, is_given_at, is_clocked_by, is_logic_gate, is_logic_table, is_plain_gate}
 
 -- Lists of cells.
 
@@ -119,18 +122,22 @@ pub gate_is : (tck trst : NetId) (P : ℕ → Type 0) (count first number net cl
 gate_is tck trst P count first number net clock reset given gate right is_clock is_reset are own =
     let pins : List Pin = pins_of gate.pins in
     let parts = both_hold (is_sound_gate count (length given) gate) (not (is_three_state gate.kind) && is_clocked_by clock reset gate) right in
-    let sound = both_hold (takes_few (operand_count_of gate.kind) (length pins)) (list_all (is_sound_pin count (length given)) pins) parts.0 in
+    let sound = both_hold (takes_few gate.kind (length pins)) (list_all (is_sound_pin count (length given)) pins) parts.0 in
     let rest = both_hold (not (is_three_state gate.kind)) (is_clocked_by clock reset gate) parts.1 in
-    let takes : Takes gate.kind (length pins) = takes_by (operand_count_of gate.kind) (length pins) sound.0 (pins_few gate.pins) in
     record {
-      takes = subst (λ (n : ℕ). Takes gate.kind n) (sym (length-map pins (feed_of first given))) takes;
+      takes = λ library. subst (λ (n : ℕ). Takes library gate.kind n) (sym (length-map pins (feed_of first given))) (takes_by library gate.kind (length pins) sound.0 (pins_few gate.pins));
       two_state = not_true (is_three_state gate.kind) rest.0;
       reads = pins_feeds P first count given pins own are sound.1;
-      clock = λ flop. steered first given clock 1 tck pins (both_hold _ _ (then_holds (is_flop gate.kind) _ rest.1 flop)).0 is_clock;
-      reset = λ flop. steered first given reset 2 trst pins (both_hold _ _ (then_holds (is_flop gate.kind) _ rest.1 flop)).1 is_reset;
+      clock = λ flop. steered first given clock 1 tck pins (both_hold _ _ (then_holds (may_keep gate.kind) _ rest.1 flop)).0 is_clock;
+      reset = λ flop. steered first given reset 2 trst pins (both_hold _ _ (then_holds (may_keep gate.kind) _ rest.1 flop)).1 is_reset;
     }
 
 -- A table.
+
+pub keeps_may : (library : List ListedCell) (kind : Kind) → is_flop library kind ≡ true → may_keep kind ≡ true
+keeps_may library (Flop kind) flop = refl
+keeps_may library (Listed number) flop = refl
+keeps_may library kind flop = absurd (let e : false ≡ true = flop in cc)
 
 gates_are : (tck trst : NetId) (P : ℕ → Type 0) (count first number net clock reset : ℕ) (given : List Feed) (gates : List Gate)
     → IsTrue (list_all (is_logic_gate count (length given) clock reset) gates) → slice_get given clock ≡ Some (Net tck) → slice_get given reset ≡ Some (Net trst)
@@ -161,13 +168,12 @@ plain_is : (tck trst : NetId) (P : ℕ → Type 0) (count first number net : ℕ
     → FeedsAre P given → ((j : ℕ) → j < count → P (first + j)) → IsLogicCell tck trst P (gate_cell first given number net gate)
 plain_is tck trst P count first number net given gate right are own =
     let pins : List Pin = pins_of gate.pins in
-    let parts = both_hold (is_sound_gate count (length given) gate) (not (is_three_state gate.kind) && not (is_flop gate.kind)) right in
-    let sound = both_hold (takes_few (operand_count_of gate.kind) (length pins)) (list_all (is_sound_pin count (length given)) pins) parts.0 in
-    let rest = both_hold (not (is_three_state gate.kind)) (not (is_flop gate.kind)) parts.1 in
-    let takes : Takes gate.kind (length pins) = takes_by (operand_count_of gate.kind) (length pins) sound.0 (pins_few gate.pins) in
-    let no_flop : is_flop gate.kind ≡ false = not_true (is_flop gate.kind) rest.1 in
+    let parts = both_hold (is_sound_gate count (length given) gate) (not (is_three_state gate.kind) && not (may_keep gate.kind)) right in
+    let sound = both_hold (takes_few gate.kind (length pins)) (list_all (is_sound_pin count (length given)) pins) parts.0 in
+    let rest = both_hold (not (is_three_state gate.kind)) (not (may_keep gate.kind)) parts.1 in
+    let no_flop : may_keep gate.kind ≡ false = not_true (may_keep gate.kind) rest.1 in
     record {
-      takes = subst (λ (n : ℕ). Takes gate.kind n) (sym (length-map pins (feed_of first given))) takes;
+      takes = λ library. subst (λ (n : ℕ). Takes library gate.kind n) (sym (length-map pins (feed_of first given))) (takes_by library gate.kind (length pins) sound.0 (pins_few gate.pins));
       two_state = not_true (is_three_state gate.kind) rest.0;
       reads = pins_feeds P first count given pins own are sound.1;
       clock = λ flop. absurd (cc);

@@ -2,7 +2,10 @@
 -- IEEE Std 1149.1-2001: TAP controller (what acts on TCK and TRST); the order of nets is own.
 use Rattle.std.specs.Prelude.{◌≡◌, ℕ, suc, ◌==◌, ◌&&◌, ◌||◌, not, Bool, true, false, List, [], ◌∷◌, length, slice_get, Option, Some, None, ⊤}
 use Rattle.std.specs.List.{list_all}
-use Rattle.cell_library.specs.Gates.{is_three_state, is_flop, Takes}
+use Rattle.cell_library.specs.declared.Kind.{Kind}
+use Rattle.cell_library.specs.declared.Kind.TheVariants.{Flop, Listed}
+use Rattle.cell_library.specs.declared.listed.ListedCell.{ListedCell}
+use Rattle.cell_library.specs.Gates.{is_three_state, Takes}
 use Rattle.netlist_model.specs.declared.NetId.{NetId}
 use Rattle.netlist_model.specs.declared.Feed.{Feed}
 use Rattle.netlist_model.specs.declared.Feed.TheVariants.{Net, Const}
@@ -30,13 +33,19 @@ FeedsAre P [] = ⊤
 FeedsAre P (Net net ∷ feeds) = P net.0 × FeedsAre P feeds
 FeedsAre P (Const b ∷ feeds) = FeedsAre P feeds
 
--- own: a gate or flip-flop with as many operands as its kind takes, all of them such nets, which TCK clocks and TRST clears or presets
+-- own: a flip-flop under some library
+abbrev pub may_keep : Kind → Bool
+may_keep (Flop kind) = true
+may_keep (Listed number) = true
+may_keep _ = false
+
+-- own: a gate or flip-flop with as many operands as its kind takes under any library, all of them such nets, which TCK clocks and TRST clears or presets
 pub record IsLogicCell (tck trst : NetId) (P : ℕ → Type 0) (cell : CellView) : Type 0 where
-  pub takes : Takes cell.kind (length cell.feeds)
+  pub takes : (library : List ListedCell) → Takes library cell.kind (length cell.feeds)
   pub two_state : is_three_state cell.kind ≡ false
   pub reads : FeedsAre P cell.feeds
-  pub clock : is_flop cell.kind ≡ true → slice_get cell.feeds 1 ≡ Some (Net tck)
-  pub reset : is_flop cell.kind ≡ true → slice_get cell.feeds 2 ≡ Some (Net trst)
+  pub clock : may_keep cell.kind ≡ true → slice_get cell.feeds 1 ≡ Some (Net tck)
+  pub reset : may_keep cell.kind ≡ true → slice_get cell.feeds 2 ≡ Some (Net trst)
 
 -- Tables.
 
@@ -48,7 +57,7 @@ is_given_at place (Some (Given k)) = k == place
 
 -- own: what is handed in at these places clocks a flip-flop, and clears or presets it
 abbrev pub is_clocked_by : ℕ → ℕ → Gate → Bool
-is_clocked_by clock reset gate = not (is_flop gate.kind) || (is_given_at clock (slice_get (pins_of gate.pins) 1) && is_given_at reset (slice_get (pins_of gate.pins) 2))
+is_clocked_by clock reset gate = not (may_keep gate.kind) || (is_given_at clock (slice_get (pins_of gate.pins) 1) && is_given_at reset (slice_get (pins_of gate.pins) 2))
 
 abbrev pub is_logic_gate : ℕ → ℕ → ℕ → ℕ → Gate → Bool
 is_logic_gate gates given clock reset gate = is_sound_gate gates given gate && (not (is_three_state gate.kind) && is_clocked_by clock reset gate)
@@ -59,4 +68,4 @@ is_logic_table gates given clock reset = list_all (is_logic_gate (length gates) 
 
 -- own: a sound gate that is neither three-state nor a flip-flop
 abbrev pub is_plain_gate : ℕ → ℕ → Gate → Bool
-is_plain_gate gates given gate = is_sound_gate gates given gate && (not (is_three_state gate.kind) && not (is_flop gate.kind))
+is_plain_gate gates given gate = is_sound_gate gates given gate && (not (is_three_state gate.kind) && not (may_keep gate.kind))

@@ -5,6 +5,7 @@ use Rattle.std.proofs.lemmas.List.{length-map}
 use Rattle.list_laws.proofs.Options.{some_same}
 use Rattle.cell_library.specs.declared.Kind.{Kind}
 use Rattle.cell_library.specs.declared.Kind.TheVariants.{Bufif0, Bufif1}
+use Rattle.cell_library.specs.declared.listed.ListedCell.{ListedCell}
 use Rattle.cell_library.specs.Gates.{is_three_state, Takes}
 use Rattle.netlist_model.specs.declared.NetId.{NetId}
 use Rattle.netlist_model.specs.declared.Feed.{Feed}
@@ -42,10 +43,10 @@ operand_in N names f well i cell place net r = feeds_at (OperandOf N f) cell.fee
 
 -- Counts of operands.
 
-three_takes : (kind : Kind) → is_three_state kind ≡ true → Takes kind 2
-three_takes Bufif0 e = refl
-three_takes Bufif1 e = refl
-three_takes _ e = absurd (cc)
+three_takes : (library : List ListedCell) (kind : Kind) → is_three_state kind ≡ true → Takes library kind 2
+three_takes library Bufif0 e = refl
+three_takes library Bufif1 e = refl
+three_takes library _ e = absurd (cc)
 
 -- the core's driver behind a row is three-state
 not_driven : (N : NetlistView) (row : FitRow) (net : ℕ) (at : Site) → site_of N.ports row ≡ at → is_driven at ≡ false → drives N.ports net row ≡ true → ⊥
@@ -72,21 +73,21 @@ driver_three N f well i net cell k row d there driver (at_driver pin on side her
 driver_three N f well i net cell k row d there driver (at_inout pin on side here operand gate control) = gate_three N f well i net cell row pin operand d on driver gate
 driver_three N f well i net cell k row d there driver (at_control none here operand core read) = absurd (not_driven N row net site.Control here refl driver)
 
-core_takes : (N : NetlistView) (f : Fitted) → FitsWell N f → (i : ℕ) (old : CellView) → cell_at N i ≡ Some old → (feeds : List Feed) → CoreFeeds N f old feeds → Takes old.kind (length feeds)
+core_takes : (N : NetlistView) (f : Fitted) → FitsWell N f → (i : ℕ) (old : CellView) → cell_at N i ≡ Some old → (feeds : List Feed) → CoreFeeds N f old feeds → Takes N.library old.kind (length feeds)
 core_takes N f well i old live feeds (own_feeds is) =
     let many : length feeds ≡ length old.feeds = ap (λ (xs : List Feed). length xs) is ∙ length-map old.feeds (renamed_feed (core_side (boundary_at N f))) in
-    subst (λ (n : ℕ). Takes old.kind n) (sym many) (well.formed.counts i old live)
+    subst (λ (n : ℕ). Takes N.library old.kind n) (sym many) (well.formed.counts i old live)
 core_takes N f well i old live feeds (row_feeds net k row out there driver is) =
     let many : length feeds ≡ 2 = ap (λ (xs : List Feed). length xs) is in
     let three = driver_three N f well i net old k row (record { live = live; output = out }) there driver (well.stand k row there) in
-    subst (λ (n : ℕ). Takes old.kind n) (sym many) (three_takes old.kind three)
+    subst (λ (n : ℕ). Takes N.library old.kind n) (sym many) (three_takes N.library old.kind three)
 
-by_kind : (N : NetlistView) (f : Fitted) → FitsWell N f → (i : ℕ) (cell : CellView) → CellKind N f i cell → Takes cell.kind (length cell.feeds)
+by_kind : (N : NetlistView) (f : Fitted) → FitsWell N f → (i : ℕ) (cell : CellView) → CellKind N f i cell → Takes N.library cell.kind (length cell.feeds)
 by_kind N f well i cell (a_core old live is) =
-    subst (λ (c : CellView). Takes c.kind (length c.feeds)) is (core_takes N f well i old live (core_cell (boundary_at N f) old).feeds (core_feeds N f old))
-by_kind N f well i cell (a_gate gate) = gate.takes
-by_kind N f well i cell (an_added k row there a) = let two : Takes Bufif1 2 = refl in subst (λ (c : CellView). Takes c.kind (length c.feeds)) a.is two
-by_kind N f well i cell (a_tdo is) = let two : Takes Bufif1 2 = refl in subst (λ (c : CellView). Takes c.kind (length c.feeds)) is two
+    subst (λ (c : CellView). Takes N.library c.kind (length c.feeds)) is (core_takes N f well i old live (core_cell (boundary_at N f) old).feeds (core_feeds N f old))
+by_kind N f well i cell (a_gate gate) = gate.takes N.library
+by_kind N f well i cell (an_added k row there a) = let two : Takes N.library Bufif1 2 = refl in subst (λ (c : CellView). Takes N.library c.kind (length c.feeds)) a.is two
+by_kind N f well i cell (a_tdo is) = let two : Takes N.library Bufif1 2 = refl in subst (λ (c : CellView). Takes N.library c.kind (length c.feeds)) is two
 
-pub takes_in : (N : NetlistView) (names : TapNames) (f : Fitted) → FitsWell N f → (i : ℕ) (cell : CellView) → cell_at (stitched N names f) i ≡ Some cell → Takes cell.kind (length cell.feeds)
+pub takes_in : (N : NetlistView) (names : TapNames) (f : Fitted) → FitsWell N f → (i : ℕ) (cell : CellView) → cell_at (stitched N names f) i ≡ Some cell → Takes N.library cell.kind (length cell.feeds)
 takes_in N names f well i cell live = by_kind N f well i cell (kind_in N names f well i cell live)

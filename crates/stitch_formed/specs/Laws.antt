@@ -18,7 +18,7 @@ use Rattle.stitch_model.specs.Stitched.{first_net, stitched}
 
 -- the conditions of a well-formed netlist on ports, drivers and readers: all but the order of gates and the cones
 pub record HasDrivers (N : NetlistView) : Type 0 where
-  pub counts : (i : ℕ) (cell : CellView) → cell_at N i ≡ Some cell → Takes cell.kind (length cell.feeds)
+  pub counts : (i : ℕ) (cell : CellView) → cell_at N i ≡ Some cell → Takes N.library cell.kind (length cell.feeds)
   pub bits_apart : (p q j k : ℕ) (net : NetId) → bit_net N p j ≡ Some net → bit_net N q k ≡ Some net → (p ≡ q) × (j ≡ k)
   pub inputs_free : (i : ℕ) (cell : CellView) (net : ℕ) → Drives N i cell net → direction N.ports net ≢ Some Input
   pub one_driver : (i j : ℕ) (cell other : CellView) (net : ℕ) → Drives N i cell net → Drives N j other net → i ≡ j

@@ -183,6 +183,7 @@ pub record NestLaws : Type 0 where
 pub nests : NestLaws → StitchedNests
 nests by L p seen names fits laid dense =
     let inside = by.core N names f dense in record {
+      library = refl;
       cells = λ i cell live plain.
           nested_same M to (core_side B) i cell
           (λ place net at. inner_given N M B net (given_read by.found N fits.formed i cell place net live at))

@@ -70,6 +70,7 @@ core_stands N names f dense i cell e =
 
 pub keeps : StitchedKeeps
 keeps N names f dense = record {
+  library = refl;
   ports = refl;
   cells = λ number cell e. record { found = core_cell (boundary_at N f) cell; there = core_stands N names f dense number cell e; kind = refl; name = refl };
 }

@@ -95,6 +95,7 @@ stitched_cells N f =
 -- of a netlist without gaps, what fits it, and the names of the test access port
 abbrev pub stitched : NetlistView → TapNames → Fitted → NetlistView
 stitched N names f = record {
+  library = N.library;
   ports = N.ports ++ tap_ports names (tap_port (length N.nets));
   nets = N.nets ++ (tap_net_views names ++ added_nets (boundary_at N f).first (sides_of N.ports f.rows + test_logic_nets (boundary_at N f) f));
   cells = map Some (stitched_cells N f);

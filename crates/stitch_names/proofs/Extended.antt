@@ -3,8 +3,9 @@ use Rattle.std.proofs.Common.{◌≡◌, ℕ, ◌+◌, ◌<◌, ◌≤◌, ◌�
 use Rattle.std.specs.Prelude.{Some, None, slice_get, IsSome, IfSome}
 use Rattle.std.proofs.lemmas.Option.{slice_get_within}
 use Rattle.cell_library.specs.declared.Kind.{Kind}
-use Rattle.cell_library.specs.Gates.{is_flop}
+use Rattle.cell_library.specs.declared.listed.ListedCell.{ListedCell}
 use Rattle.cell_library.specs.Library.{cell_name}
+use Rattle.cell_library.specs.Sound.{IsLibrary}
 use Rattle.netlist_model.specs.declared.NetId.{NetId}
 use Rattle.netlist_model.specs.declared.Name.{Name}
 use Rattle.netlist_model.specs.declared.Name.TheVariants.{Original, Added}
@@ -57,6 +58,7 @@ pub record IsKeptCell (N : NetlistView) (i : ℕ) (cell : CellView) : Type 0 whe
   pub output : IsSome was.output → IsSome cell.output
 
 pub record Extends (N M : NetlistView) (taps : List Name) : Type 0 where
+  pub library : M.library ≡ N.library
   pub net_kept : (net : ℕ) (view : NetView) → slice_get N.nets net ≡ Some view → slice_get M.nets net ≡ Some view
   pub nets : (net : ℕ) (view : NetView) → slice_get M.nets net ≡ Some view → NetKind N M taps net view
   pub ports : (p : ℕ) (port : PortView) → slice_get M.ports p ≡ Some port → (slice_get N.ports p ≡ Some port) ⊎ IsTapPort N M taps p port
@@ -185,6 +187,7 @@ port_no_wire old table N M taps well more new ext p net port at w =
 pub extended_named : (old table : List (List ℕ)) (N M : NetlistView) (taps : List Name) → IsWellNamed old N → IsLongerTable old table → AreNewNames N table taps → Extends N M taps
     → IsWellNamed table M
 extended_named old table N M taps well more new ext = record {
+  library = subst IsLibrary (sym ext.library) well.library;
   once = more.once;
   spelled = more.spelled;
   net_names = λ net view at. elim (ext.nets net view at) [
@@ -220,15 +223,16 @@ extended_named old table N M taps well more new ext = record {
     | inr named ↦ neither_cell cell number named.number is named.name
   ];
   library_named = λ i cell live library. elim (ext.cells i cell live) [
-    | inl kept ↦ subst (λ (n : Option Name). IsSome n) (sym kept.name) (well.library_named i kept.was kept.live (subst (λ (k : Kind). IsSome (cell_name k)) kept.kind library))
+    | inl kept ↦ subst (λ (n : Option Name). IsSome n) (sym kept.name) (well.library_named i kept.was kept.live
+        (subst (λ (k : Kind). IsSome (cell_name N.library k)) kept.kind (subst (λ (l : List ListedCell). IsSome (cell_name l cell.kind)) ext.library library)))
     | inr named ↦ is_some_of cell (Added named.number) named.name
   ];
   assign_unnamed = λ i cell live kind. elim (ext.cells i cell live) [
     | inl kept ↦ kept.name ∙ well.assign_unnamed i kept.was kept.live (sym kept.kind ∙ kind)
     | inr named ↦ absurd (named.kind kind)
   ];
-  connected = λ i cell live flop mux. elim (ext.cells i cell live) [
-    | inl kept ↦ kept.output (well.connected i kept.was kept.live (ap is_flop (sym kept.kind) ∙ flop) (λ is. mux (kept.kind ∙ is)))
+  connected = λ i cell live none. elim (ext.cells i cell live) [
+    | inl kept ↦ kept.output (well.connected i kept.was kept.live (ap (cell_name N.library) (sym kept.kind) ∙ ap (λ (l : List ListedCell). cell_name l cell.kind) (sym ext.library) ∙ none))
     | inr named ↦ named.connected
   ];
 }

@@ -10,6 +10,7 @@ use Rattle.stitch_names.proofs.Extended.{core_net, Extends, extended_named}
 -- nothing is added
 same_extends : (one other : NetlistView) → IsSameNetlist one other → Extends other one []
 same_extends one other same = record {
+  library = same.library;
   net_kept = λ net view at. ap (λ (ns : List NetView). slice_get ns net) same.nets ∙ at;
   nets = λ net view at. core_net (ap (λ (ns : List NetView). slice_get ns net) (sym same.nets) ∙ at);
   ports = λ p port at. inl (ap (λ (ps : List PortView). slice_get ps p) (sym same.ports) ∙ at);

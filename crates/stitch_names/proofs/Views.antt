@@ -127,6 +127,7 @@ pub stitched_extends : StitchedHoldsTheCore → PartIsNamed → StitchedDirectio
 stitched_extends core law directions N names f laid dense =
     let sides = directions N names f laid in
     record {
+      library = refl;
       net_kept = λ net view at. before_push N.nets (tap_net_views names ++ added N f) view net at;
       nets = net_kind N names f sides;
       ports = port_kind N names f;

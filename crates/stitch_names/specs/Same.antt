@@ -4,8 +4,9 @@ use Rattle.std.specs.Prelude.{◌≡◌, ℕ, List}
 use Rattle.netlist_model.specs.Lists.{NetlistView, cell_at}
 use Rattle.netlist_link.specs.WellNamed.{IsWellNamed}
 
--- own: the same ports and nets, and the same live cell under each number
+-- own: the same library, ports and nets, and the same live cell under each number
 pub record IsSameNetlist (one other : NetlistView) : Type 0 where
+  pub library : one.library ≡ other.library
   pub ports : one.ports ≡ other.ports
   pub nets : one.nets ≡ other.nets
   pub cells : (number : ℕ) → cell_at one number ≡ cell_at other number

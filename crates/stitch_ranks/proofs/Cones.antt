@@ -3,6 +3,7 @@ use Rattle.std.proofs.Common.{◌≡◌, ◌⊎◌, inl, inr, ℕ, zero, suc, �
 use Rattle.std.specs.Prelude.{filter_map, is_some, option_and_then, unwrap_or}
 use Rattle.list_laws.proofs.Options.{some_same}
 use Rattle.cell_library.specs.declared.FlopKind.{FlopKind}
+use Rattle.cell_library.specs.declared.listed.ListedCell.{ListedCell}
 use Rattle.cell_library.specs.Gates.{flop_of, is_flop, is_three_state}
 use Rattle.netlist_model.specs.declared.NetId.{NetId}
 use Rattle.netlist_model.specs.declared.Dir.TheVariants.{Input, Output, Inout}
@@ -18,6 +19,7 @@ use Rattle.plan_fitting.specs.declared.fitted.FitRow.{FitRow}
 use Rattle.stitch_model.specs.Sites.{Boundary}
 use Rattle.stitch_model.specs.Sides.{core_side, drives, feeds_behind, core_cell}
 use Rattle.stitch_model.specs.Stitched.{same_place}
+use Rattle.stitch_cells.proofs.Tables.{keeps_may}
 use Rattle.stitch_ranks.proofs.Moved.{DrivenBy, driven_or_not, moved_or_stays}
 use Rattle.stitch_ranks.proofs.Steered.{IsSteered, AreSteered, steered_at}
 use Rattle.stitch_ranks.proofs.Kept.{IsKept, kept_tck, kept_trst, kept_core, IsNotKept, control_inside}
@@ -108,10 +110,10 @@ pub record IsCoreInside (N : NetlistView) (B : Boundary) (count : ℕ) : Type 0 
   pub rows : AreDriverRows N B
 
 -- no flip-flop of the core stands at a driver's row
-pub no_flop_row : (N : NetlistView) (B : Boundary) (count : ℕ) → IsCoreInside N B count → (i : ℕ) (old : CellView) → cell_at N i ≡ Some old → (kind : FlopKind) → flop_of old.kind ≡ Some kind → IsAtRow B old → ⊥
+pub no_flop_row : (N : NetlistView) (B : Boundary) (count : ℕ) → IsCoreInside N B count → (i : ℕ) (old : CellView) → cell_at N i ≡ Some old → (kind : FlopKind) → flop_of N.library old.kind ≡ Some kind → IsAtRow B old → ⊥
 no_flop_row N B count in_core i old live kind flop at =
     let three : is_three_state old.kind ≡ true = in_core.rows.three at.by.k at.by.row at.by.there at.net at.by.drives i old (record { live = live; output = at.output }) in
-    let none : is_three_state old.kind ≡ false = flop_no_bufif old.kind kind flop in
+    let none : is_three_state old.kind ≡ false = flop_no_bufif N.library old.kind kind flop in
     let clash : true ≡ false = sym three ∙ none in cc
 
 -- and no driver of a control net
@@ -147,7 +149,7 @@ output_of to (Some id) net e =
 
 -- a gate of the core on such a net reads such nets
 core_gate : (N : NetlistView) (B : Boundary) (count net other : ℕ) → IsCoreInside N B count → IsKept N B count net → (i y place : ℕ) (old : CellView) → Drives N i old y → core_side B y ≡ net
-    → is_flop old.kind ≡ false → slice_get (core_cell B old).feeds place ≡ Some (Net (record { 0 = other })) → IsKept N B count other
+    → is_flop N.library old.kind ≡ false → slice_get (core_cell B old).feeds place ≡ Some (Net (record { 0 = other })) → IsKept N B count other
 core_gate N B count net other in_core (kept_tck e) i y place old d side gate reads =
     let many = in_core.many in
     absurd (core_side_apart N B count in_core y 0 (let low = in_core.laid.outputs i old y d in omega arith) (omega arith) (omega arith))
@@ -168,6 +170,7 @@ core_gate N B count net other in_core (kept_core x c e) i y place old d side gat
 
 -- The netlist with the test logic has these cells.
 pub record IsStitched (N M : NetlistView) (B : Boundary) (count : ℕ) (logic : List CellView) : Type 0 where
+  pub library : M.library ≡ N.library
   pub core : IsCoreInside N B count
   pub cells : (i : ℕ) (cell : CellView) → cell_at M i ≡ Some cell → slice_get (map (core_cell B) (filter_map same_place N.cells) ++ logic) i ≡ Some cell
   pub steered : AreSteered (record { 0 = count }) (record { 0 = count + 4 }) (IsNotKept N B count) logic
@@ -177,7 +180,7 @@ kept_gate N M B count logic is net other kept g = elim (core_or_logic N B logic 
   | inl c ↦
       (let out : option_map (renamed_net (core_side B)) c.old.output ≡ Some (record { 0 = net }) = ap (λ (x : CellView). x.output) c.is ∙ g.drives.output in
       let y = output_of (core_side B) c.old.output net out in
-      let gate : is_flop c.old.kind ≡ false = ap (λ (x : CellView). is_flop x.kind) c.is ∙ g.gate in
+      let gate : is_flop N.library c.old.kind ≡ false = ap (λ (x : CellView). is_flop N.library x.kind) c.is ∙ ap (λ (l : List ListedCell). is_flop l g.cell.kind) (sym is.library) ∙ g.gate in
       let reads : slice_get (core_cell B c.old).feeds g.place ≡ Some (Net (record { 0 = other })) = ap (λ (x : CellView). slice_get x.feeds g.place) c.is ∙ g.reads.operand in
       core_gate N B count net other is.core kept c.number y.0 g.place c.old (record { live = c.live; output = y.1 }) y.2 gate reads)
   | inr l ↦ absurd ((steered_at (record { 0 = count }) (record { 0 = count + 4 }) (IsNotKept N B count) logic is.steered l.0 g.cell l.1).drives net g.drives.output kept)
@@ -193,7 +196,7 @@ kept_cone N M B count logic is root net kept (behind {net = middle} back g) =
 fed_net : (a b : ℕ) (o : Option Feed) → o ≡ Some (Net (record { 0 = a })) → o ≡ Some (Net (record { 0 = b })) → b ≡ a
 fed_net a b o e f = ap feed_net (some_same (Net (let one : NetId = record { 0 = b } in one)) (Net (let two : NetId = record { 0 = a } in two)) o f e)
 
-core_root : (N : NetlistView) (B : Boundary) (count root : ℕ) → IsCoreInside N B count → (i place : ℕ) (old : CellView) (kind : FlopKind) → cell_at N i ≡ Some old → flop_of old.kind ≡ Some kind
+core_root : (N : NetlistView) (B : Boundary) (count root : ℕ) → IsCoreInside N B count → (i place : ℕ) (old : CellView) (kind : FlopKind) → cell_at N i ≡ Some old → flop_of N.library old.kind ≡ Some kind
     → slice_get (core_cell B old).feeds place ≡ Some (Net (record { 0 = root })) → (x : ℕ) × FlopReads N place x × (core_side B x ≡ root)
 core_root N B count root in_core i place old kind live flop reads = elim (core_reads B old place root reads) [
   | inl r ↦ (r.net, record { number = i; cell = old; kind = kind; flop = flop; reads = record { live = live; operand = r.reads } }, r.is)
@@ -204,7 +207,7 @@ core_root N B count root in_core i place old kind live flop reads = elim (core_r
 root_at : (N M : NetlistView) (B : Boundary) (count : ℕ) (logic : List CellView) → IsStitched N M B count logic → (place root : ℕ) (f : FlopReads M place root)
     → ((x : ℕ) × FlopReads N place x × (core_side B x ≡ root)) ⊎ IsSteered (record { 0 = count }) (record { 0 = count + 4 }) (IsNotKept N B count) f.cell
 root_at N M B count logic is place root f = elim (core_or_logic N B logic f.number f.cell (is.cells f.number f.cell f.reads.live)) [
-  | inl c ↦ inl (core_root N B count root is.core c.number place c.old f.kind c.live (ap (λ (x : CellView). flop_of x.kind) c.is ∙ f.flop)
+  | inl c ↦ inl (core_root N B count root is.core c.number place c.old f.kind c.live (ap (λ (x : CellView). flop_of N.library x.kind) c.is ∙ ap (λ (l : List ListedCell). flop_of l f.cell.kind) (sym is.library) ∙ f.flop)
       (ap (λ (x : CellView). slice_get x.feeds place) c.is ∙ f.reads.operand))
   | inr l ↦ inr (steered_at (record { 0 = count }) (record { 0 = count + 4 }) (IsNotKept N B count) logic is.steered l.0 f.cell l.1)
 ]
@@ -212,11 +215,11 @@ root_at N M B count logic is place root f = elim (core_or_logic N B logic f.numb
 kept_root : (N M : NetlistView) (B : Boundary) (count : ℕ) (logic : List CellView) → IsStitched N M B count logic → (root : ℕ) → FlopReads M 1 root ⊎ FlopReads M 2 root → IsKept N B count root
 kept_root N M B count logic is root (inl f) = elim (root_at N M B count logic is 1 root f) [
   | inl c ↦ kept_core c.0 (record { root = c.0; operand = inl c.1; cone = itself }) c.2
-  | inr s ↦ kept_tck (fed_net count root (slice_get f.cell.feeds 1) (s.clock (ap is_some f.flop)) f.reads.operand)
+  | inr s ↦ kept_tck (fed_net count root (slice_get f.cell.feeds 1) (s.clock (keeps_may M.library f.cell.kind (ap is_some f.flop))) f.reads.operand)
 ]
 kept_root N M B count logic is root (inr f) = elim (root_at N M B count logic is 2 root f) [
   | inl c ↦ kept_core c.0 (record { root = c.0; operand = inr c.1; cone = itself }) c.2
-  | inr s ↦ kept_trst (fed_net (count + 4) root (slice_get f.cell.feeds 2) (s.reset (ap is_some f.flop)) f.reads.operand)
+  | inr s ↦ kept_trst (fed_net (count + 4) root (slice_get f.cell.feeds 2) (s.reset (keeps_may M.library f.cell.kind (ap is_some f.flop))) f.reads.operand)
 ]
 
 -- each control net is TCK, TRST, or one of the core behind its boundary cells

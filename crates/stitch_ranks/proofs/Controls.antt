@@ -153,6 +153,7 @@ built laws L p seen names fits laid dense =
     let placed : AllPlaced alone.0 B count = λ k row e. row_placed laws.bits laws.found laws.drives laws.named L p seen fits laid alone.0 alone.1 k row e in
     record {
       whole = record {
+        library = refl;
         core = record {
           formed = fits.formed;
           laid = laid;
@@ -305,7 +306,7 @@ controls law parts laws L p seen names fits laid dense =
           let e : there ≡ net = same_bit_net N names f net there same in (
             same_way N M is.ways net there e (inside net there same) ∙ port.0,
             subst (IsControlNet M) (is.stays net port ∙ sym e)
-                (control_stays N M (boundary_at N f) (length N.nets) is.whole.core is.inside.stands net port.1),
+                (control_stays N M (boundary_at N f) (length N.nets) is.whole.core (record { library = refl; cells = is.inside.stands }) net port.1),
           );
       added = λ input there which h.
           let e : there ≡ length N.nets + tap_place input = tap_once N names f input there h in (

@@ -3,6 +3,7 @@ use Rattle.std.proofs.Common.{◌≡◌, ◌≢◌, ℕ, suc, ◌+◌, ◌<◌, 
 use Rattle.std.specs.Prelude.{option_and_then, unwrap_or, ⊤}
 use Rattle.std.specs.Option.{option_map_or}
 use Rattle.list_laws.proofs.Tests.{both_true, and_true}
+use Rattle.cell_library.specs.declared.listed.ListedCell.{ListedCell}
 use Rattle.cell_library.specs.Gates.{is_flop}
 use Rattle.netlist_model.specs.declared.NetId.{NetId}
 use Rattle.netlist_model.specs.declared.Dir.{Dir}
@@ -14,7 +15,7 @@ use Rattle.netlist_model.specs.Settled.{is_output}
 use Rattle.netlist_model.specs.Formed.{FeedsBelow}
 use Rattle.gate_parts.specs.Levels.{AreFeedsUpTo}
 use Rattle.netlist_images.specs.Nested.{renamed_net, renamed_feed}
-use Rattle.part_levels.specs.Above.{StandsOn, IsAbove}
+use Rattle.part_levels.specs.Above.{StandsOn}
 use Rattle.plan_fitting.specs.declared.fitted.FitRow.{FitRow}
 use Rattle.stitch_model.specs.declared.Site.{Site}
 use Rattle.stitch_model.specs.declared.Site.TheVariants as site
@@ -177,9 +178,10 @@ inputs_of : (alone : ℕ → ℕ) (B : Boundary) (count : ℕ) → AllPlaced alo
 inputs_of alone B count placed k row there is =
     let pin : IsPin B count row Input = subst (λ (at : Site). Placed alone B count row at) is (placed k row there) in pin.side_is
 
-pub core_above : (rank alone : ℕ → ℕ) (low : ℕ) (B : Boundary) (count : ℕ) → AreCoreRanks rank alone low B count → AllPlaced alone B count → (cell : CellView)
-    → ((net : ℕ) → cell.output ≡ Some (record { 0 = net }) → is_flop cell.kind ≡ false → IsCoreGate alone B count cell.feeds net) → IsAbove rank (core_cell B cell)
-core_above rank alone low B count are placed cell gate is = by cell.output (λ net e. gate net e is)
+pub core_above : (library : List ListedCell) (rank alone : ℕ → ℕ) (low : ℕ) (B : Boundary) (count : ℕ) → AreCoreRanks rank alone low B count → AllPlaced alone B count → (cell : CellView)
+    → ((net : ℕ) → cell.output ≡ Some (record { 0 = net }) → is_flop library cell.kind ≡ false → IsCoreGate alone B count cell.feeds net)
+    → is_flop library (core_cell B cell).kind ≡ false → StandsOn rank (core_cell B cell).feeds (core_cell B cell).output
+core_above library rank alone low B count are placed cell gate is = by cell.output (λ net e. gate net e is)
   where
     by : (o : Option NetId) → ((net : ℕ) → o ≡ Some (record { 0 = net }) → IsCoreGate alone B count cell.feeds net)
         → StandsOn rank (unwrap_or (option_and_then (feeds_behind B) o) (map (renamed_feed (core_side B)) cell.feeds)) (option_map (renamed_net (core_side B)) o)

@@ -3,15 +3,17 @@ use Rattle.std.proofs.Common.{◌≡◌, ℕ, zero, suc, ◌+◌, ◌-◌, ◌<�
 use Rattle.std.specs.Prelude.{filter_map}
 use Rattle.std.specs.List.{slice_index}
 use Rattle.std.proofs.lemmas.List.Sums.{sum_by-cons}
+use Rattle.cell_library.specs.declared.listed.ListedCell.{ListedCell}
 use Rattle.cell_library.specs.Gates.{is_flop}
+use Rattle.netlist_model.specs.declared.NetId.{NetId}
 use Rattle.netlist_model.specs.declared.Feed.{Feed}
 use Rattle.netlist_model.specs.declared.Feed.TheVariants.{Net, Const}
 use Rattle.netlist_model.specs.Lists.{CellView, NetlistView, live_cell, cell_at, cell_count, Drives}
-use Rattle.netlist_model.specs.Formed.{IsLaidOut, IsNumbered, IsWellFormed}
+use Rattle.netlist_model.specs.Formed.{FeedsBelow, IsLaidOut, IsNumbered, IsWellFormed}
 use Rattle.netlist_laws.specs.Ports.{BitHasDirection}
 use Rattle.netlist_laws.specs.Drivers.{DriverIsFound, DriverDrives}
 use Rattle.netlist_link.specs.Linked.{LinkedView}
-use Rattle.part_levels.specs.Above.{IsAbove, AreAbove, StandsByPlace}
+use Rattle.part_levels.specs.Above.{StandsOn, AreAbove, AreGatesAbove, StandsByPlace}
 use Rattle.part_levels.specs.Registers.{TdoStandsAbove, tdo_levels}
 use Rattle.part_levels.specs.Rows.{RowsStandAbove}
 use Rattle.plan_texts.specs.declared.plan.Plan.{Plan}
@@ -131,11 +133,13 @@ added_above laws rank alone B f count first number begins there fits =
 
 -- The core.
 
-live_above : (rank : ℕ → ℕ) (B : Boundary) (places : List (Option CellView)) → ((i : ℕ) (cell : CellView) → live_cell (slice_get places i) ≡ Some cell → IsAbove rank (core_cell B cell))
-    → AreAbove rank (map (core_cell B) (filter_map same_place places))
-live_above rank B [] each = tt
-live_above rank B (Some cell ∷ places) each = (each 0 cell refl, live_above rank B places (λ i other e. each (suc i) other e))
-live_above rank B (None ∷ places) each = live_above rank B places (λ i other e. each (suc i) other e)
+live_above : (library : List ListedCell) (rank : ℕ → ℕ) (B : Boundary) (places : List (Option CellView))
+    → ((i : ℕ) (cell : CellView) → live_cell (slice_get places i) ≡ Some cell → is_flop library (core_cell B cell).kind ≡ false
+    → StandsOn rank (core_cell B cell).feeds (core_cell B cell).output)
+    → AreGatesAbove library rank (map (core_cell B) (filter_map same_place places))
+live_above library rank B [] each = tt
+live_above library rank B (Some cell ∷ places) each = (each 0 cell refl, live_above library rank B places (λ i other e. each (suc i) other e))
+live_above library rank B (None ∷ places) each = live_above library rank B places (λ i other e. each (suc i) other e)
 
 reads_inside : (count : ℕ) (feeds : List Feed) → ((place net : ℕ) → slice_get feeds place ≡ Some (Net (record { 0 = net })) → net < count) → ReadsInside count feeds
 reads_inside count [] each = tt
@@ -143,7 +147,7 @@ reads_inside count (Net net ∷ feeds) each = (each 0 net.0 refl, reads_inside c
 reads_inside count (Const b ∷ feeds) each = reads_inside count feeds (λ place other e. each (suc place) other e)
 
 core_gate : (N : NetlistView) → IsWellFormed N → IsLaidOut N → (alone : ℕ → ℕ) → IsNumbered N alone → (B : Boundary) → B.ports ≡ N.ports → (i : ℕ) (cell : CellView) → cell_at N i ≡ Some cell
-    → (net : ℕ) → cell.output ≡ Some (record { 0 = net }) → is_flop cell.kind ≡ false → IsCoreGate alone B (length N.nets) cell.feeds net
+    → (net : ℕ) → cell.output ≡ Some (record { 0 = net }) → is_flop N.library cell.kind ≡ false → IsCoreGate alone B (length N.nets) cell.feeds net
 core_gate N formed laid alone numbered B same i cell live net output gate =
     let drives : Drives N i cell net = record { live = live; output = output } in
     record {
@@ -156,7 +160,9 @@ core_gate N formed laid alone numbered B same i cell live net output gate =
 -- The whole.
 
 cells_above : RankLaws → BitHasDirection → DriverIsFound → DriverDrives → ControlCellsAreThere → (L : LinkedView) (p : Plan) (seen : List PinSeen) → IsFitting L p seen → IsLaidOut L.arena.lists
-    → (alone : ℕ → ℕ) → IsNumbered L.arena.lists alone → AreAbove (stitched_rank L.arena.lists (fitted_of L p seen) alone) (stitched_cells L.arena.lists (fitted_of L p seen))
+    → (alone : ℕ → ℕ) → IsNumbered L.arena.lists alone → (k : ℕ) (cell : CellView) (net : NetId) → slice_get (stitched_cells L.arena.lists (fitted_of L p seen)) k ≡ Some cell
+    → cell.output ≡ Some net → is_flop L.arena.lists.library cell.kind ≡ false
+    → FeedsBelow (stitched_rank L.arena.lists (fitted_of L p seen) alone) cell.feeds (stitched_rank L.arena.lists (fitted_of L p seen) alone net.0)
 cells_above laws has found drives law L p seen fits laid alone numbered =
     let N : NetlistView = L.arena.lists in
     let f : Fitted = fitted_of L p seen in
@@ -167,8 +173,8 @@ cells_above laws has found drives law L p seen fits laid alone numbered =
     let there : AreAddedThere rank alone B f count (first_net N f) = added_there rank alone B f count (added_at alone B f count) in
     let are : AreCoreRanks rank alone low B count = record { first = omega arith; pins = λ net less. pin_at alone B f count net less; sides = there.sides } in
     let placed : AllPlaced alone B count = λ k row e. row_placed has found drives law L p seen fits laid alone numbered k row e in
-    laws.parts.joined rank (map (core_cell B) (live_cells N)) (test_logic_cells B (first_net N f) (cell_count N) (tap_port count) f)
-    (live_above rank B N.cells (λ i cell e. core_above rank alone low B count are placed cell (core_gate N fits.formed laid alone numbered B refl i cell e)))
+    laws.by_place N.library rank (map (core_cell B) (live_cells N)) (test_logic_cells B (first_net N f) (cell_count N) (tap_port count) f)
+    (live_above N.library rank B N.cells (λ i cell e. core_above N.library rank alone low B count are placed cell (core_gate N fits.formed laid alone numbered B refl i cell e)))
     (added_above laws rank alone B f count (first_net N f) (cell_count N) refl there
     (λ k row e. row_fits rank alone low B count (omega arith) are k row e (site_of B.ports row) refl (placed k row e)))
 
@@ -181,6 +187,6 @@ ordered laws has found drives law L p seen names fits laid dense =
     let above = cells_above laws has found drives law L p seen fits laid alone.0 alone.1 in (
       rank,
       record {
-        gates = λ i cell net d gate. laws.by_place rank (stitched_cells N f) above i cell (record { 0 = net }) (sym (listed_at (stitched_cells N f) i) ∙ d.live) d.output gate;
+        gates = λ i cell net d gate. above i cell (record { 0 = net }) (sym (listed_at (stitched_cells N f) i) ∙ d.live) d.output gate;
       },
     )

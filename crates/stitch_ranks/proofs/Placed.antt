@@ -94,7 +94,7 @@ pub three_is : (N : NetlistView) (alone : ℕ → ℕ) → IsLaidOut N → IsNum
 three_is N alone laid numbered net None drives d h = absurd (cc)
 three_is N alone laid numbered net (Some cell) drives d h =
     let is = gate_is cell.kind cell.feeds d h in
-    let below : FeedsBelow alone cell.feeds (alone net.0) = numbered.gates drives.0 cell net.0 drives.1 is.gate in
+    let below : FeedsBelow alone cell.feeds (alone net.0) = numbered.gates drives.0 cell net.0 drives.1 (is.gate N.library) in
     let both : FeedsBelow alone (d.core ∷ d.operand ∷ []) (alone net.0) = subst (λ (feeds : List Feed). FeedsBelow alone feeds (alone net.0)) is.are below in
     let one = under_first alone (alone net.0) d.core (d.operand ∷ []) both in
     let two = under_first alone (alone net.0) d.operand [] one.1 in

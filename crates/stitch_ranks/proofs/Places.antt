@@ -4,8 +4,8 @@ use Rattle.std.specs.List.{slice_index}
 use Rattle.std.proofs.lemmas.Bool.{cases_lt}
 use Rattle.list_laws.proofs.Lists.{slice_get-append_left, slice_get-append_right}
 use Rattle.list_laws.proofs.Tests.{both_hold, other_holds}
-use Rattle.cell_library.specs.Gates.{is_flop}
 use Rattle.gate_parts.specs.declared.Gate.{Gate}
+use Rattle.gate_parts.specs.Parts.{is_flop_kind}
 use Rattle.part_levels.specs.Above.{AreRanked}
 use Rattle.std.proofs.lemmas.Option.{slice_get_within}
 
@@ -50,7 +50,7 @@ length_levels base (level ∷ levels) = ap suc (length_levels base levels)
 -- own: each gate but a flip-flop is on a level above 0
 abbrev pub are_high : List ℕ → List Gate → Bool
 are_high [] [] = true
-are_high (level ∷ levels) (gate ∷ gates) = (is_flop gate.kind || nat_lt 0 level) && are_high levels gates
+are_high (level ∷ levels) (gate ∷ gates) = (is_flop_kind gate.kind || nat_lt 0 level) && are_high levels gates
 are_high levels gates = false
 
 level_up : (base level : ℕ) → level_rank base level ≤ base + level
@@ -67,18 +67,18 @@ level_there base [] [] high j low = absurd (omega arith)
 level_there base (level ∷ levels) [] high j low = absurd (omega arith)
 level_there base [] (gate ∷ gates) high j low = absurd (cc)
 level_there base (level ∷ levels) (gate ∷ gates) high zero low = refl
-level_there base (level ∷ levels) (gate ∷ gates) high (suc j) low = level_there base levels gates (both_hold (is_flop gate.kind || nat_lt 0 level) (are_high levels gates) high).1 j (omega arith)
+level_there base (level ∷ levels) (gate ∷ gates) high (suc j) low = level_there base levels gates (both_hold (is_flop_kind gate.kind || nat_lt 0 level) (are_high levels gates) high).1 j (omega arith)
 
-level_high : (levels : List ℕ) (gates : List Gate) → IsTrue (are_high levels gates) → (k : ℕ) (gate : Gate) → slice_get gates k ≡ Some gate → is_flop gate.kind ≡ false
+level_high : (levels : List ℕ) (gates : List Gate) → IsTrue (are_high levels gates) → (k : ℕ) (gate : Gate) → slice_get gates k ≡ Some gate → is_flop_kind gate.kind ≡ false
     → 0 < slice_index levels k
 level_high levels [] high k gate at is = absurd (cc)
 level_high [] (g ∷ gates) high k gate at is = absurd (cc)
 level_high (level ∷ levels) (g ∷ gates) high zero gate at is =
     let same : g ≡ gate = cc in
-    let parts = both_hold (is_flop g.kind || nat_lt 0 level) (are_high levels gates) high in
-    let above : IsTrue (nat_lt 0 level) = other_holds (is_flop g.kind) (nat_lt 0 level) parts.0 (ap (λ (x : Gate). is_flop x.kind) same ∙ is) in
+    let parts = both_hold (is_flop_kind g.kind || nat_lt 0 level) (are_high levels gates) high in
+    let above : IsTrue (nat_lt 0 level) = other_holds (is_flop_kind g.kind) (nat_lt 0 level) parts.0 (ap (λ (x : Gate). is_flop_kind x.kind) same ∙ is) in
     grind (arith, above)
-level_high (level ∷ levels) (g ∷ gates) high (suc k) gate at is = level_high levels gates (both_hold (is_flop g.kind || nat_lt 0 level) (are_high levels gates) high).1 k gate at is
+level_high (level ∷ levels) (g ∷ gates) high (suc k) gate at is = level_high levels gates (both_hold (is_flop_kind g.kind || nat_lt 0 level) (are_high levels gates) high).1 k gate at is
 
 -- the nets of a table that stand so are numbered by its levels
 pub ranked : (rank : ℕ → ℕ) (first base : ℕ) (levels : List ℕ) (gates : List Gate) → IsTrue (are_high levels gates) → StandAt rank first (levels_at base levels)

@@ -1,6 +1,8 @@
 -- What clocks, clears or presets in the core does so in the netlist with the test logic; and so do TCK and TRST.
-use Rattle.std.proofs.Common.{◌≡◌, ◌⊎◌, inl, inr, ℕ, zero, suc, ◌+◌, List, [], ◌∷◌, map, length, refl, sym, ap, subst, Option, Some, None, option_map, arith, slice_get}
+use Rattle.std.proofs.Common.{◌≡◌, ◌⊎◌, inl, inr, ℕ, zero, suc, ◌+◌, List, [], ◌∷◌, map, length, refl, sym, ap, ◌∙◌, subst, Option, Some, None, option_map, arith, slice_get}
 use Rattle.std.specs.Prelude.{option_and_then, unwrap_or}
+use Rattle.cell_library.specs.declared.listed.ListedCell.{ListedCell}
+use Rattle.cell_library.specs.Gates.{flop_of, is_flop}
 use Rattle.cell_library.specs.declared.Kind.TheVariants.{Flop}
 use Rattle.cell_library.specs.declared.FlopKind.{FlopKind}
 use Rattle.cell_library.specs.declared.Edge.TheVariants.{Rise}
@@ -28,9 +30,10 @@ use Rattle.stitch_ranks.proofs.Cones.{IsAtRow, IsCoreInside, no_flop_row, no_con
 
 -- The core.
 
--- where each cell of the core stands under its number
-abbrev StandsIn : NetlistView → NetlistView → Boundary → Type 0
-StandsIn N M B = (i : ℕ) (cell : CellView) → cell_at N i ≡ Some cell → cell_at M i ≡ Some (core_cell B cell)
+-- where each cell of the core stands under its number, with the core's library
+pub record StandsIn (N M : NetlistView) (B : Boundary) : Type 0 where
+  pub library : M.library ≡ N.library
+  pub cells : (i : ℕ) (cell : CellView) → cell_at N i ≡ Some cell → cell_at M i ≡ Some (core_cell B cell)
 
 mapped_there : (to : ℕ → ℕ) (feeds : List Feed) (place net : ℕ) → slice_get feeds place ≡ Some (Net (record { 0 = net }))
     → slice_get (map (renamed_feed to) feeds) place ≡ Some (Net (record { 0 = to net }))
@@ -56,9 +59,9 @@ root_stays N M B count in_core stands place root f = record {
   number = f.number;
   cell = core_cell B f.cell;
   kind = f.kind;
-  flop = f.flop;
+  flop = ap (λ (l : List ListedCell). flop_of l f.cell.kind) stands.library ∙ f.flop;
   reads = record {
-    live = stands f.number f.cell f.reads.live;
+    live = stands.cells f.number f.cell f.reads.live;
     operand = reads_there B f.cell place root (no_flop_row N B count in_core f.number f.cell f.reads.live f.kind f.flop) f.reads.operand;
   };
 }
@@ -74,10 +77,10 @@ gate_stays N M B count in_core stands net other c g = record {
   number = g.number;
   cell = core_cell B g.cell;
   place = g.place;
-  gate = g.gate;
-  drives = record { live = stands g.number g.cell g.drives.live; output = ap (option_map (renamed_net (core_side B))) g.drives.output };
+  gate = ap (λ (l : List ListedCell). is_flop l g.cell.kind) stands.library ∙ g.gate;
+  drives = record { live = stands.cells g.number g.cell g.drives.live; output = ap (option_map (renamed_net (core_side B))) g.drives.output };
   reads = record {
-    live = stands g.number g.cell g.reads.live;
+    live = stands.cells g.number g.cell g.reads.live;
     operand = reads_there B g.cell g.place other (no_control_row N B count in_core g.number net g.cell g.drives c) g.reads.operand;
   };
 }

@@ -5,7 +5,6 @@ use Rattle.std.specs.List.{list_all}
 use Rattle.std.proofs.lemmas.Option.{slice_get-map}
 use Rattle.list_laws.proofs.Tests.{both_hold, then_holds}
 use Rattle.list_laws.proofs.Options.{some_same}
-use Rattle.cell_library.specs.Gates.{is_flop}
 use Rattle.netlist_model.specs.declared.NetId.{NetId}
 use Rattle.netlist_model.specs.declared.Feed.{Feed}
 use Rattle.netlist_model.specs.declared.Feed.TheVariants.{Net, Const}
@@ -28,13 +27,13 @@ use Rattle.instruction_gates.specs.Matches.{match_before, equal_given, matches_c
 use Rattle.instruction_gates.specs.Copies.{copy_given, copies_cells}
 use Rattle.boundary_cells.specs.declared.tables.Choice.{Choice}
 use Rattle.boundary_cells.specs.Cells.{choice_cell, cells_onto}
-use Rattle.stitch_cells.specs.Gates.{is_given_at, is_clocked_by}
+use Rattle.stitch_cells.specs.Gates.{may_keep, is_given_at, is_clocked_by}
 
 -- A flip-flop that TCK clocks and TRST clears or presets, or a gate; and each net that it drives is one of these.
 
 pub record IsSteered (tck trst : NetId) (Q : ℕ → Type 0) (cell : CellView) : Type 0 where
-  pub clock : is_flop cell.kind ≡ true → slice_get cell.feeds 1 ≡ Some (Net tck)
-  pub reset : is_flop cell.kind ≡ true → slice_get cell.feeds 2 ≡ Some (Net trst)
+  pub clock : may_keep cell.kind ≡ true → slice_get cell.feeds 1 ≡ Some (Net tck)
+  pub reset : may_keep cell.kind ≡ true → slice_get cell.feeds 2 ≡ Some (Net trst)
   pub drives : (net : ℕ) → cell.output ≡ Some (record { 0 = net }) → Q net
 
 abbrev pub AreSteered : NetId → NetId → (ℕ → Type 0) → List CellView → Type 0
@@ -73,9 +72,9 @@ gate_steered first given number net clock reset gate tck trst Q is a b q =
     let r : Bool = is_given_at reset (slice_get (pins_of gate.pins) 2) in
     record {
       clock = λ flop. given_feed first given (pins_of gate.pins) 1 clock (Net tck)
-          (takes_given clock (slice_get (pins_of gate.pins) 1) (both_hold c r (then_holds (is_flop gate.kind) (c && r) is flop)).0) a;
+          (takes_given clock (slice_get (pins_of gate.pins) 1) (both_hold c r (then_holds (may_keep gate.kind) (c && r) is flop)).0) a;
       reset = λ flop. given_feed first given (pins_of gate.pins) 2 reset (Net trst)
-          (takes_given reset (slice_get (pins_of gate.pins) 2) (both_hold c r (then_holds (is_flop gate.kind) (c && r) is flop)).1) b;
+          (takes_given reset (slice_get (pins_of gate.pins) 2) (both_hold c r (then_holds (may_keep gate.kind) (c && r) is flop)).1) b;
       drives = λ other e. let same : net ≡ other = ap (λ (n : NetId). n.0) (some_same (let one : NetId = record { 0 = net } in one) (let two : NetId = record { 0 = other } in two) (Some (record { 0 = net })) refl e) in
           subst Q same q;
     }
@@ -95,13 +94,13 @@ table_steered gates given first number clock reset tck trst Q is a b q = cells_s
 
 -- without flip-flops
 abbrev pub is_gate : Gate → Bool
-is_gate gate = not (is_flop gate.kind)
+is_gate gate = not (may_keep gate.kind)
 
 plain_steered : (first : ℕ) (given : List Feed) (number net : ℕ) (gate : Gate) (tck trst : NetId) (Q : ℕ → Type 0) → IsTrue (is_gate gate) → Q net
     → IsSteered tck trst Q (gate_cell first given number net gate)
 plain_steered first given number net gate tck trst Q is q = record {
-  clock = λ flop. absurd (neither (is_flop gate.kind) is flop);
-  reset = λ flop. absurd (neither (is_flop gate.kind) is flop);
+  clock = λ flop. absurd (neither (may_keep gate.kind) is flop);
+  reset = λ flop. absurd (neither (may_keep gate.kind) is flop);
   drives = λ other e. let same : net ≡ other = ap (λ (n : NetId). n.0) (some_same (let one : NetId = record { 0 = net } in one) (let two : NetId = record { 0 = other } in two) (Some (record { 0 = net })) refl e) in
       subst Q same q;
 }

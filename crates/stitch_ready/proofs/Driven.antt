@@ -2,6 +2,7 @@
 use Rattle.std.proofs.Common.{◌≡◌, ◌≢◌, ℕ, Bool, true, false, List, [], length, Option, Some, None, refl, sym, ap, ◌∙◌, eq-eqb}
 use Rattle.cell_library.specs.declared.Kind.{Kind}
 use Rattle.cell_library.specs.declared.Kind.TheVariants.{Bufif0, Bufif1}
+use Rattle.cell_library.specs.declared.listed.ListedCell.{ListedCell}
 use Rattle.cell_library.specs.Gates.{is_three_state, Takes}
 use Rattle.cell_library.specs.declared.codes.BoundaryKind.{BoundaryKind}
 use Rattle.cell_library.specs.declared.codes.BoundaryKind.TheVariants as cell
@@ -23,10 +24,10 @@ use Rattle.core_moves.specs.Ready.{HasDriver, IsDrivenAt}
 
 -- A three-state gate has two operands.
 
-three_takes : (kind : Kind) (count : ℕ) → is_three_state kind ≡ true → Takes kind count → count ≡ 2
-three_takes Bufif1 count three takes = takes
-three_takes Bufif0 count three takes = takes
-three_takes _ count three takes = absurd (cc)
+three_takes : (library : List ListedCell) (kind : Kind) (count : ℕ) → is_three_state kind ≡ true → Takes library kind count → count ≡ 2
+three_takes library Bufif1 count three takes = takes
+three_takes library Bufif0 count three takes = takes
+three_takes library _ count three takes = absurd (cc)
 
 -- More nets change nothing.
 
@@ -97,5 +98,5 @@ side_driven N more formed highz one seen dir.Output is kind =
 side_driven N more formed highz one seen dir.Inout is kind =
     let driven = formed.inouts_driven one.net.0 is in
     let three = formed.inout_bufif driven.number driven.cell one.net.0 driven.drives is in
-    let two = three_takes driven.cell.kind (length driven.cell.feeds) three (formed.counts driven.number driven.cell driven.drives.live) in
+    let two = three_takes N.library driven.cell.kind (length driven.cell.feeds) three (formed.counts driven.number driven.cell driven.drives.live) in
     driver_still N more one.net.0 dir.Inout driven two is (λ h. absurd (cc))

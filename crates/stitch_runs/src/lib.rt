@@ -18,9 +18,8 @@ ghost use Rattle.stitch_runs.specs.Laws.{FittingPlansHaveControls, FittingPlansF
 
 use plan_devices::plans_suit_netlists;
 pub use stitch_formed::stitched_is_formed;
-use stitch_formed::stitched_logic_is_added;
+use stitch_formed::{stitched_has_controls, stitched_has_pins, stitched_logic_is_added};
 use stitch_inside::stitched_surrounds;
-use stitch_ranks::{stitched_has_controls, stitched_has_pins};
 use surrounded_core::{surrounded_core_finds_home, surrounded_core_realises};
 use wrapped_chip::realising_is_being_alone;
 

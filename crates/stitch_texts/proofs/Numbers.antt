@@ -21,12 +21,14 @@ renumbered_same one other M same to at r = record {
   back = r.back;
   from = r.from;
   there = record {
+    library = r.there.library ∙ same.library;
     nets = r.there.nets;
     ports = subst (λ (ports : List PortView). ArePortImages to ports M.ports) same.ports r.there.ports;
     cells = λ i cell live. r.there.cells i cell (same.cells i ∙ live);
     numbers = λ i cell live. r.there.numbers i cell (same.cells i ∙ live);
   };
   here = record {
+    library = sym same.library ∙ r.here.library;
     nets = r.here.nets;
     ports = subst (λ (ports : List PortView). ArePortImages r.back M.ports ports) same.ports r.here.ports;
     cells = λ i cell live. nested_same one other same r.back (r.from i) cell (r.here.cells i cell live);
@@ -35,12 +37,12 @@ renumbered_same one other M same to at r = record {
 }
 
 pub is_renumbered : StitchedHasCounts → WrittenIsRenumbered → DenseKeepsPlaces → StitchedIsRenumbered
-is_renumbered counts anew places L f after is prefix tree laid writes written link =
+is_renumbered counts anew places L f after is prefix tree laid writes written listed link =
     let A : NetlistView = after.arena.lists in
     let S : NetlistView = stitched L.arena.lists is.names f in
     record {
       to = new_number A;
       at = new_place A.cells;
-      is = renumbered_same A S written.arena.lists is.same (new_number A) (new_place A.cells) (anew after written prefix tree laid writes link);
+      is = renumbered_same A S written.arena.lists is.same (new_number A) (new_place A.cells) (anew after written prefix tree laid writes (listed ∙ sym is.same.library) link);
       stay = λ i some. places A (dense_after counts L after f is) i (subst (λ (o : Option CellView). IsSome o) (sym (is.same.cells i)) some);
     }

@@ -3,6 +3,7 @@
 use Rattle.std.specs.Prelude.{◌≡◌, ℕ, List, None}
 use Rattle.verilog_tree.specs.declared.tree.Module.{Module}
 use Rattle.verilog_tree.specs.IsTree.{IsTree}
+use Rattle.cell_library.specs.Sound.{IsLibrary}
 use Rattle.netlist_model.specs.Formed.{IsLaidOut}
 use Rattle.netlist_link.specs.Linked.{LinkedView}
 use Rattle.netlist_link.specs.Links.{IsLinkOf}
@@ -18,6 +19,7 @@ use Rattle.stitch_texts.specs.Written.{IsStitchedOf, HasStitchRoom, WritesStitch
 -- own: a netlist that a text tells, and a plan that some text spells, fits it and finds room, with the test logic built in
 pub record IsStitching (m : Module) (L : LinkedView) (p : Plan) (f : Fitted) (after : LinkedView) : Type 0 where
   pub tree : IsTree m
+  pub listed : IsLibrary L.arena.lists.library
   pub linked : IsLinkOf m L
   pub laid : IsLaidOut L.arena.lists
   pub plan : IsPlan p
@@ -41,4 +43,5 @@ StitchedIsWritten = (m : Module) (L : LinkedView) (p : Plan) (f : Fitted) (after
 -- own: and the netlist that the module tells is the one that was written, but for the numbers of nets
 abbrev pub StitchedIsRenumbered : Type 0
 StitchedIsRenumbered = (L : LinkedView) (f : Fitted) (after : LinkedView) (is : IsStitchedOf L f after) (prefix : List ℕ) (tree : Module) → IsLaidOut after.arena.lists
-    → IsWrittenAs after prefix tree → (written : LinkedView) → IsLinkOf tree written → IsNumberedAnew (stitched L.arena.lists is.names f) written.arena.lists
+    → IsWrittenAs after prefix tree → (written : LinkedView) → written.arena.lists.library ≡ L.arena.lists.library → IsLinkOf tree written
+    → IsNumberedAnew (stitched L.arena.lists is.names f) written.arena.lists

@@ -48,16 +48,19 @@ pub record WritesStitched (L : LinkedView) (p : Plan) (tree : Module) : Type 0 w
   -- its text spells it and no other
   pub spells : SpellsText (canonical tree) tree
   pub only : (other : Module) → SpellsText (canonical tree) other → other ≡ tree
-  -- no fault stands in it: it can be linked
-  pub faultless : text_fault tree ≡ None
-  pub linkable : IsLinkable tree
-  -- it has a netlist, and one alone
-  pub linked : (written : LinkedView) × IsLinkOf tree written
-  pub one : (written other : LinkedView) → IsLinkOf tree written → IsLinkOf tree other → IsSameView written other
+  -- no fault stands in it: it can be linked with the library of the netlist without the test logic
+  pub faultless : text_fault L.arena.lists.library tree ≡ None
+  pub linkable : IsLinkable L.arena.lists.library tree
+  -- with that library it has a netlist, and one alone
+  pub linked : (written : LinkedView) × (written.arena.lists.library ≡ L.arena.lists.library) × IsLinkOf tree written
+  pub one : (written other : LinkedView) → written.arena.lists.library ≡ L.arena.lists.library → other.arena.lists.library ≡ L.arena.lists.library
+      → IsLinkOf tree written → IsLinkOf tree other → IsSameView written other
   -- which has the ports and the cells of the netlist without the test logic, under their names, and the test access port
-  pub keeps : (written : LinkedView) → IsLinkOf tree written → Keeps written.arena.lists L.arena.lists (spelt written.names) (spelt L.names) (tap_of p)
+  pub keeps : (written : LinkedView) → written.arena.lists.library ≡ L.arena.lists.library → IsLinkOf tree written
+      → Keeps written.arena.lists L.arena.lists (spelt written.names) (spelt L.names) (tap_of p)
   -- with five port bits more
-  pub bits : (written : LinkedView) → IsLinkOf tree written → bit_count written.arena.lists.ports ≡ bit_count L.arena.lists.ports + 5
+  pub bits : (written : LinkedView) → written.arena.lists.library ≡ L.arena.lists.library → IsLinkOf tree written
+      → bit_count written.arena.lists.ports ≡ bit_count L.arena.lists.ports + 5
 
 -- own: a netlist with its nets numbered anew, where each cell keeps its number
 pub record IsNumberedAnew (old new : NetlistView) : Type 0 where

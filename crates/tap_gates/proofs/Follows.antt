@@ -145,7 +145,7 @@ step_bits by N first number tck tms trst event f before after m m' formed has se
     go s =
         let h : m'.value (first + place s) ≡ reset_or (reset_to s) (m'.value trst.0) (if is_edge Rise (m.value tck.0) (m'.value tck.0) then m.value (first + (17 + place s)) else m.value (first + place s))
         = by.steps N _ _ (first + place s) (flop_at by N first number tck tms trst formed has s) event m m' settled step in
-        let next = next_bit first tck tms trst f before m (by.meets N CONTROLLER (tap_given tck tms trst) first number formed has _ m.state m.value settled) carried held s in
+        let next = next_bit N.library first tck tms trst f before m (by.meets N CONTROLLER (tap_given tck tms trst) first number formed has _ m.state m.value settled) carried held s in
         let own : m.value (first + place s) ≡ bit (f s) = held.each s in
         rw (h, next, own, carried'.reset, carried.clock, carried'.clock) (flop_law s (f s) (next_bits f before.tms s) before.tck after.tck after.trst)
 

@@ -296,7 +296,7 @@ start_bit : PartLaws → (N : NetlistView) (first number : ℕ) (tck tms trst : 
 start_bit by N first number tck tms trst given levels m formed has start carried bits s =
     let on = flop_at by N first number tck tms trst formed has s in
     let h : m.value (state_net first s).0 ≡ reset_or (reset_to s) (m.value trst.0) (given on.has.number) = by.starts N _ _ (state_net first s).0 on given m start in
-    let known = bits s on.has.number (record on.cell { name = on.has.name }) (flop_kind s) on.has.live (ap flop_of on.kind_is) on.output in
+    let known = bits s on.has.number (record on.cell { name = on.has.name }) (flop_kind s) on.has.live (ap (flop_of N.library) on.kind_is) on.output in
     let bit_known = known_bit s levels.trst (given on.has.number) known in
     record { known = bit_known.known; same = h ∙ ap (λ (x : Sig). reset_or (reset_to s) x (given on.has.number)) carried.reset ∙ bit_known.same }
 

@@ -1,5 +1,6 @@
 -- What goes to the flip-flop of each state, whatever the flip-flops hold: a bit of their bits and of TMS.
-use Rattle.std.proofs.Common.{◌≡◌, ℕ, ◌+◌, Bool, not, ◌&&◌, ◌||◌, refl, arith}
+use Rattle.std.proofs.Common.{◌≡◌, ℕ, ◌+◌, Bool, not, ◌&&◌, ◌||◌, refl, arith, List}
+use Rattle.cell_library.specs.declared.listed.ListedCell.{ListedCell}
 use Rattle.signal_values.specs.Values.{bit, sig_and, sig_or, sig_not}
 use Rattle.signal_values.proofs.Laws.{not-bit}
 use Rattle.netlist_model.specs.declared.NetId.{NetId}
@@ -67,8 +68,8 @@ all_four a b c d = grind arith
 
 -- The gate of no state.
 
-no_state : (n : ℕ) (tck tms trst : NetId) (f : TapState → Bool) (m : Moment) → PartMeets CONTROLLER (tap_given tck tms trst) n m.value → HoldsBits n f m → m.value (n + 48) ≡ bit (is_none f)
-no_state n tck tms trst f m eqs held =
+no_state : (library : List ListedCell) (n : ℕ) (tck tms trst : NetId) (f : TapState → Bool) (m : Moment) → PartMeets library CONTROLLER (tap_given tck tms trst) n m.value → HoldsBits n f m → m.value (n + 48) ≡ bit (is_none f)
+no_state library n tck tms trst f m eqs held =
     let o0 : m.value (n + 44) ≡ sig_not (sig_or (sig_or (sig_or (m.value (n + 0)) (m.value (n + 1))) (m.value (n + 2))) (m.value (n + 3))) = (eqs 44 _ refl refl).1 in
     let o1 : m.value (n + 45) ≡ sig_not (sig_or (sig_or (sig_or (m.value (n + 4)) (m.value (n + 5))) (m.value (n + 6))) (m.value (n + 7))) = (eqs 45 _ refl refl).1 in
     let o2 : m.value (n + 46) ≡ sig_not (sig_or (sig_or (sig_or (m.value (n + 8)) (m.value (n + 9))) (m.value (n + 10))) (m.value (n + 11))) = (eqs 46 _ refl refl).1 in
@@ -96,16 +97,16 @@ no_state n tck tms trst f m eqs held =
     let q3 : m.value (n + 47) ≡ bit (none_of (f Exit1Ir) (f PauseIr) (f Exit2Ir) (f UpdateIr)) = rw (o3, h12, h13, h14, h15) (nor_four (f Exit1Ir) (f PauseIr) (f Exit2Ir) (f UpdateIr)) in
     rw (a, q0, q1, q2, q3) (all_four (none_of (f TestLogicReset) (f RunTestIdle) (f SelectDrScan) (f CaptureDr)) (none_of (f ShiftDr) (f Exit1Dr) (f PauseDr) (f Exit2Dr)) (none_of (f UpdateDr) (f SelectIrScan) (f CaptureIr) (f ShiftIr)) (none_of (f Exit1Ir) (f PauseIr) (f Exit2Ir) (f UpdateIr)))
 
-pub next_bit : (n : ℕ) (tck tms trst : NetId) (f : TapState → Bool) (levels : Levels) (m : Moment) → PartMeets CONTROLLER (tap_given tck tms trst) n m.value
+pub next_bit : (library : List ListedCell) (n : ℕ) (tck tms trst : NetId) (f : TapState → Bool) (levels : Levels) (m : Moment) → PartMeets library CONTROLLER (tap_given tck tms trst) n m.value
     → Carries tck tms trst levels m → HoldsBits n f m → (s : TapState) → m.value (n + (17 + place s)) ≡ bit (next_bits f levels.tms s)
-next_bit n tck tms trst f levels m eqs pins held TestLogicReset =
+next_bit library n tck tms trst f levels m eqs pins held TestLogicReset =
     let a : m.value (n + 17) ≡ sig_and (m.value (n + 33)) (m.value tms.0) = (eqs 17 _ refl refl).1 in
     let o : m.value (n + 33) ≡ sig_or (sig_or (m.value (n + 0)) (m.value (n + 9))) (m.value (n + 48)) = (eqs 33 _ refl refl).1 in
     let h0 : m.value (n + 0) ≡ bit (f TestLogicReset) = held.each TestLogicReset in
     let h1 : m.value (n + 9) ≡ bit (f SelectIrScan) = held.each SelectIrScan in
-    let none = no_state n tck tms trst f m eqs held in
+    let none = no_state library n tck tms trst f m eqs held in
     rw (a, o, h0, h1, none, pins.mode) (and_three (f TestLogicReset) (f SelectIrScan) (is_none f) levels.tms)
-next_bit n tck tms trst f levels m eqs pins held RunTestIdle =
+next_bit library n tck tms trst f levels m eqs pins held RunTestIdle =
     let a : m.value (n + 18) ≡ sig_and (m.value (n + 34)) (m.value (n + 16)) = (eqs 18 _ refl refl).1 in
     let o : m.value (n + 34) ≡ sig_or (sig_or (sig_or (m.value (n + 0)) (m.value (n + 1))) (m.value (n + 8))) (m.value (n + 15)) = (eqs 34 _ refl refl).1 in
     let i : m.value (n + 16) ≡ sig_not (m.value tms.0) = (eqs 16 _ refl refl).1 in
@@ -114,19 +115,19 @@ next_bit n tck tms trst f levels m eqs pins held RunTestIdle =
     let h2 : m.value (n + 8) ≡ bit (f UpdateDr) = held.each UpdateDr in
     let h3 : m.value (n + 15) ≡ bit (f UpdateIr) = held.each UpdateIr in
     rw (a, o, i, h0, h1, h2, h3, pins.mode, not-bit levels.tms) (and_four (f TestLogicReset) (f RunTestIdle) (f UpdateDr) (f UpdateIr) (not levels.tms))
-next_bit n tck tms trst f levels m eqs pins held SelectDrScan =
+next_bit library n tck tms trst f levels m eqs pins held SelectDrScan =
     let a : m.value (n + 19) ≡ sig_and (m.value (n + 35)) (m.value tms.0) = (eqs 19 _ refl refl).1 in
     let o : m.value (n + 35) ≡ sig_or (sig_or (m.value (n + 1)) (m.value (n + 8))) (m.value (n + 15)) = (eqs 35 _ refl refl).1 in
     let h0 : m.value (n + 1) ≡ bit (f RunTestIdle) = held.each RunTestIdle in
     let h1 : m.value (n + 8) ≡ bit (f UpdateDr) = held.each UpdateDr in
     let h2 : m.value (n + 15) ≡ bit (f UpdateIr) = held.each UpdateIr in
     rw (a, o, h0, h1, h2, pins.mode) (and_three (f RunTestIdle) (f UpdateDr) (f UpdateIr) levels.tms)
-next_bit n tck tms trst f levels m eqs pins held CaptureDr =
+next_bit library n tck tms trst f levels m eqs pins held CaptureDr =
     let a : m.value (n + 20) ≡ sig_and (m.value (n + 2)) (m.value (n + 16)) = (eqs 20 _ refl refl).1 in
     let i : m.value (n + 16) ≡ sig_not (m.value tms.0) = (eqs 16 _ refl refl).1 in
     let h0 : m.value (n + 2) ≡ bit (f SelectDrScan) = held.each SelectDrScan in
     rw (a, i, h0, pins.mode, not-bit levels.tms) (and_one (f SelectDrScan) (not levels.tms))
-next_bit n tck tms trst f levels m eqs pins held ShiftDr =
+next_bit library n tck tms trst f levels m eqs pins held ShiftDr =
     let a : m.value (n + 21) ≡ sig_and (m.value (n + 36)) (m.value (n + 16)) = (eqs 21 _ refl refl).1 in
     let o : m.value (n + 36) ≡ sig_or (sig_or (m.value (n + 3)) (m.value (n + 4))) (m.value (n + 7)) = (eqs 36 _ refl refl).1 in
     let i : m.value (n + 16) ≡ sig_not (m.value tms.0) = (eqs 16 _ refl refl).1 in
@@ -134,39 +135,39 @@ next_bit n tck tms trst f levels m eqs pins held ShiftDr =
     let h1 : m.value (n + 4) ≡ bit (f ShiftDr) = held.each ShiftDr in
     let h2 : m.value (n + 7) ≡ bit (f Exit2Dr) = held.each Exit2Dr in
     rw (a, o, i, h0, h1, h2, pins.mode, not-bit levels.tms) (and_three (f CaptureDr) (f ShiftDr) (f Exit2Dr) (not levels.tms))
-next_bit n tck tms trst f levels m eqs pins held Exit1Dr =
+next_bit library n tck tms trst f levels m eqs pins held Exit1Dr =
     let a : m.value (n + 22) ≡ sig_and (m.value (n + 37)) (m.value tms.0) = (eqs 22 _ refl refl).1 in
     let o : m.value (n + 37) ≡ sig_or (m.value (n + 3)) (m.value (n + 4)) = (eqs 37 _ refl refl).1 in
     let h0 : m.value (n + 3) ≡ bit (f CaptureDr) = held.each CaptureDr in
     let h1 : m.value (n + 4) ≡ bit (f ShiftDr) = held.each ShiftDr in
     rw (a, o, h0, h1, pins.mode) (and_two (f CaptureDr) (f ShiftDr) levels.tms)
-next_bit n tck tms trst f levels m eqs pins held PauseDr =
+next_bit library n tck tms trst f levels m eqs pins held PauseDr =
     let a : m.value (n + 23) ≡ sig_and (m.value (n + 38)) (m.value (n + 16)) = (eqs 23 _ refl refl).1 in
     let o : m.value (n + 38) ≡ sig_or (m.value (n + 5)) (m.value (n + 6)) = (eqs 38 _ refl refl).1 in
     let i : m.value (n + 16) ≡ sig_not (m.value tms.0) = (eqs 16 _ refl refl).1 in
     let h0 : m.value (n + 5) ≡ bit (f Exit1Dr) = held.each Exit1Dr in
     let h1 : m.value (n + 6) ≡ bit (f PauseDr) = held.each PauseDr in
     rw (a, o, i, h0, h1, pins.mode, not-bit levels.tms) (and_two (f Exit1Dr) (f PauseDr) (not levels.tms))
-next_bit n tck tms trst f levels m eqs pins held Exit2Dr =
+next_bit library n tck tms trst f levels m eqs pins held Exit2Dr =
     let a : m.value (n + 24) ≡ sig_and (m.value (n + 6)) (m.value tms.0) = (eqs 24 _ refl refl).1 in
     let h0 : m.value (n + 6) ≡ bit (f PauseDr) = held.each PauseDr in
     rw (a, h0, pins.mode) (and_one (f PauseDr) levels.tms)
-next_bit n tck tms trst f levels m eqs pins held UpdateDr =
+next_bit library n tck tms trst f levels m eqs pins held UpdateDr =
     let a : m.value (n + 25) ≡ sig_and (m.value (n + 39)) (m.value tms.0) = (eqs 25 _ refl refl).1 in
     let o : m.value (n + 39) ≡ sig_or (m.value (n + 5)) (m.value (n + 7)) = (eqs 39 _ refl refl).1 in
     let h0 : m.value (n + 5) ≡ bit (f Exit1Dr) = held.each Exit1Dr in
     let h1 : m.value (n + 7) ≡ bit (f Exit2Dr) = held.each Exit2Dr in
     rw (a, o, h0, h1, pins.mode) (and_two (f Exit1Dr) (f Exit2Dr) levels.tms)
-next_bit n tck tms trst f levels m eqs pins held SelectIrScan =
+next_bit library n tck tms trst f levels m eqs pins held SelectIrScan =
     let a : m.value (n + 26) ≡ sig_and (m.value (n + 2)) (m.value tms.0) = (eqs 26 _ refl refl).1 in
     let h0 : m.value (n + 2) ≡ bit (f SelectDrScan) = held.each SelectDrScan in
     rw (a, h0, pins.mode) (and_one (f SelectDrScan) levels.tms)
-next_bit n tck tms trst f levels m eqs pins held CaptureIr =
+next_bit library n tck tms trst f levels m eqs pins held CaptureIr =
     let a : m.value (n + 27) ≡ sig_and (m.value (n + 9)) (m.value (n + 16)) = (eqs 27 _ refl refl).1 in
     let i : m.value (n + 16) ≡ sig_not (m.value tms.0) = (eqs 16 _ refl refl).1 in
     let h0 : m.value (n + 9) ≡ bit (f SelectIrScan) = held.each SelectIrScan in
     rw (a, i, h0, pins.mode, not-bit levels.tms) (and_one (f SelectIrScan) (not levels.tms))
-next_bit n tck tms trst f levels m eqs pins held ShiftIr =
+next_bit library n tck tms trst f levels m eqs pins held ShiftIr =
     let a : m.value (n + 28) ≡ sig_and (m.value (n + 40)) (m.value (n + 16)) = (eqs 28 _ refl refl).1 in
     let o : m.value (n + 40) ≡ sig_or (sig_or (m.value (n + 10)) (m.value (n + 11))) (m.value (n + 14)) = (eqs 40 _ refl refl).1 in
     let i : m.value (n + 16) ≡ sig_not (m.value tms.0) = (eqs 16 _ refl refl).1 in
@@ -174,24 +175,24 @@ next_bit n tck tms trst f levels m eqs pins held ShiftIr =
     let h1 : m.value (n + 11) ≡ bit (f ShiftIr) = held.each ShiftIr in
     let h2 : m.value (n + 14) ≡ bit (f Exit2Ir) = held.each Exit2Ir in
     rw (a, o, i, h0, h1, h2, pins.mode, not-bit levels.tms) (and_three (f CaptureIr) (f ShiftIr) (f Exit2Ir) (not levels.tms))
-next_bit n tck tms trst f levels m eqs pins held Exit1Ir =
+next_bit library n tck tms trst f levels m eqs pins held Exit1Ir =
     let a : m.value (n + 29) ≡ sig_and (m.value (n + 41)) (m.value tms.0) = (eqs 29 _ refl refl).1 in
     let o : m.value (n + 41) ≡ sig_or (m.value (n + 10)) (m.value (n + 11)) = (eqs 41 _ refl refl).1 in
     let h0 : m.value (n + 10) ≡ bit (f CaptureIr) = held.each CaptureIr in
     let h1 : m.value (n + 11) ≡ bit (f ShiftIr) = held.each ShiftIr in
     rw (a, o, h0, h1, pins.mode) (and_two (f CaptureIr) (f ShiftIr) levels.tms)
-next_bit n tck tms trst f levels m eqs pins held PauseIr =
+next_bit library n tck tms trst f levels m eqs pins held PauseIr =
     let a : m.value (n + 30) ≡ sig_and (m.value (n + 42)) (m.value (n + 16)) = (eqs 30 _ refl refl).1 in
     let o : m.value (n + 42) ≡ sig_or (m.value (n + 12)) (m.value (n + 13)) = (eqs 42 _ refl refl).1 in
     let i : m.value (n + 16) ≡ sig_not (m.value tms.0) = (eqs 16 _ refl refl).1 in
     let h0 : m.value (n + 12) ≡ bit (f Exit1Ir) = held.each Exit1Ir in
     let h1 : m.value (n + 13) ≡ bit (f PauseIr) = held.each PauseIr in
     rw (a, o, i, h0, h1, pins.mode, not-bit levels.tms) (and_two (f Exit1Ir) (f PauseIr) (not levels.tms))
-next_bit n tck tms trst f levels m eqs pins held Exit2Ir =
+next_bit library n tck tms trst f levels m eqs pins held Exit2Ir =
     let a : m.value (n + 31) ≡ sig_and (m.value (n + 13)) (m.value tms.0) = (eqs 31 _ refl refl).1 in
     let h0 : m.value (n + 13) ≡ bit (f PauseIr) = held.each PauseIr in
     rw (a, h0, pins.mode) (and_one (f PauseIr) levels.tms)
-next_bit n tck tms trst f levels m eqs pins held UpdateIr =
+next_bit library n tck tms trst f levels m eqs pins held UpdateIr =
     let a : m.value (n + 32) ≡ sig_and (m.value (n + 43)) (m.value tms.0) = (eqs 32 _ refl refl).1 in
     let o : m.value (n + 43) ≡ sig_or (m.value (n + 12)) (m.value (n + 14)) = (eqs 43 _ refl refl).1 in
     let h0 : m.value (n + 12) ≡ bit (f Exit1Ir) = held.each Exit1Ir in

@@ -34,7 +34,7 @@ pub record HoldsNone (first : ℕ) (m : Moment) : Type 0 where
 
 -- own: each flip-flop of the controller is given 0 or 1
 abbrev pub AreGivenBits : NetlistView → ℕ → (ℕ → Sig) → Type 0
-AreGivenBits N first given = (s : TapState) (i : ℕ) (cell : CellView) (kind : FlopKind) → cell_at N i ≡ Some cell → flop_of cell.kind ≡ Some kind
+AreGivenBits N first given = (s : TapState) (i : ℕ) (cell : CellView) (kind : FlopKind) → cell_at N i ≡ Some cell → flop_of N.library cell.kind ≡ Some kind
     → cell.output ≡ Some (state_net first s) → IsKnown (given i)
 
 -- own: what the cells do, where the controller's nets begin at `first` and its cells were numbered from `number` on

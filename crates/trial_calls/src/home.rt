@@ -1,7 +1,7 @@
 // The controller comes to Test-Logic-Reset by five ones on TMS, from each of the 65,536 values of its flip-flops. 64 of these values are
 // worked at once, one in each bit of a word.
 use crate::netlists::operand;
-use cell_library::Kind;
+use cell_library::{Kind, Library};
 use netlist_arena::Netlist;
 use netlist_model::{CellId, Feed, Name, NetId};
 use std::test::Fail;
@@ -104,7 +104,7 @@ fn is_home(words: &Words) -> bool {
 
 #[test]
 fn five_ones_lead_home_from_every_value(rt: HostRuntime) -> Result<(), Fail> {
-    let mut netlist = Netlist::new(rt.alloc());
+    let mut netlist = Netlist::new(rt.alloc(), Library::new(rt.alloc()));
     netlist.reserve(49, 52, 0)?;
     let tck = netlist.add_net(Name::Original(0), None);
     let tms = netlist.add_net(Name::Original(1), None);

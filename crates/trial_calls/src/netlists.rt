@@ -2,7 +2,7 @@
 ghost use Rattle.std.specs.Prelude.{◌≡◌, IfSome, Some};
 ghost use Rattle.netlist_arena.specs.Looks.{feed_at};
 
-use cell_library::Kind;
+use cell_library::{Kind, Library};
 use gate_parts::{Gate, Pin, Pins, add_part};
 use netlist_arena::Netlist;
 use netlist_model::{CellId, Feed, Name, NetId, Reader};
@@ -37,7 +37,7 @@ fn reader(cell: u32, place: u32) -> Option<Reader> {
 
 #[test]
 fn readers_move_to_another_net(rt: HostRuntime) -> Result<(), Fail> {
-    let mut netlist = Netlist::new(rt.alloc());
+    let mut netlist = Netlist::new(rt.alloc(), Library::new(rt.alloc()));
     netlist.reserve(2, 2, 0)?;
     let a = netlist.add_net(Name::Original(0), None);
     let b = netlist.add_net(Name::Original(1), None);
@@ -58,7 +58,7 @@ fn readers_move_to_another_net(rt: HostRuntime) -> Result<(), Fail> {
 
 #[test]
 fn a_cell_takes_the_number_of_the_last_that_was_removed(rt: HostRuntime) -> Result<(), Fail> {
-    let mut netlist = Netlist::new(rt.alloc());
+    let mut netlist = Netlist::new(rt.alloc(), Library::new(rt.alloc()));
     netlist.reserve(4, 1, 0)?;
     let a = netlist.add_net(Name::Original(0), None);
     let first = netlist.add_cell(Kind::Buf, None, &[Feed::Net(a)], None);
@@ -86,7 +86,7 @@ fn remove(netlist: &mut Netlist, cell: CellId)
 
 #[test]
 fn cells_take_the_numbers_of_two_that_were_removed(rt: HostRuntime) -> Result<(), Fail> {
-    let mut netlist = Netlist::new(rt.alloc());
+    let mut netlist = Netlist::new(rt.alloc(), Library::new(rt.alloc()));
     netlist.reserve(5, 2, 0)?;
     let a = netlist.add_net(Name::Original(0), None);
     let b = netlist.add_net(Name::Original(1), None);
@@ -124,7 +124,7 @@ const PART: [Gate; 2] = [
 
 #[test]
 fn the_gates_of_a_part_stand_on_nets_of_their_own(rt: HostRuntime) -> Result<(), Fail> {
-    let mut netlist = Netlist::new(rt.alloc());
+    let mut netlist = Netlist::new(rt.alloc(), Library::new(rt.alloc()));
     netlist.reserve(2, 4, 0)?;
     let a = netlist.add_net(Name::Original(0), None);
     let b = netlist.add_net(Name::Original(1), None);

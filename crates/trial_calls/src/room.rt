@@ -1,13 +1,13 @@
 // Netlists in just as much room as was asked for.
 use crate::netlists::operand;
-use cell_library::Kind;
+use cell_library::{Kind, Library};
 use netlist_arena::Netlist;
 use netlist_model::{CellId, Dir, Feed, Name, Range};
 use std::test::Fail;
 
 #[test]
 fn what_was_reserved_is_enough(rt: HostRuntime) -> Result<(), Fail> {
-    let mut netlist = Netlist::new(rt.alloc());
+    let mut netlist = Netlist::new(rt.alloc(), Library::new(rt.alloc()));
     netlist.reserve(3, 4, 1)?;
     let a = netlist.add_net(Name::Original(0), None);
     let b = netlist.add_net(Name::Original(1), Some(3));
@@ -37,7 +37,7 @@ fn what_was_reserved_is_enough(rt: HostRuntime) -> Result<(), Fail> {
 
 #[test]
 fn a_copy_has_the_operands_of_a_wide_cell(rt: HostRuntime) -> Result<(), Fail> {
-    let mut netlist = Netlist::new(rt.alloc());
+    let mut netlist = Netlist::new(rt.alloc(), Library::new(rt.alloc()));
     netlist.reserve(3, 4, 1)?;
     let a = netlist.add_net(Name::Original(0), None);
     let b = netlist.add_net(Name::Original(1), None);
@@ -61,7 +61,7 @@ fn a_copy_has_the_operands_of_a_wide_cell(rt: HostRuntime) -> Result<(), Fail> {
 
 #[test]
 fn a_port_has_a_net_for_each_bit(rt: HostRuntime) -> Result<(), Fail> {
-    let mut netlist = Netlist::new(rt.alloc());
+    let mut netlist = Netlist::new(rt.alloc(), Library::new(rt.alloc()));
     netlist.reserve(0, 2, 2)?;
     let a = netlist.add_net(Name::Original(1), None);
     let b = netlist.add_net(Name::Original(2), None);

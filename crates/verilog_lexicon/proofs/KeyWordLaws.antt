@@ -1,9 +1,8 @@
-use Rattle.std.proofs.Common.{◌≡◌, ◌↔◌, ◌<◌, ◌≤◌, ℕ, List, [], ◌∷◌, Option, Some, None, true, length, get_or, refl, sym, ap, subst, ◌∙◌, arith}
-use Rattle.std.specs.Prelude.{nat_le}
+use Rattle.std.proofs.Common.{◌≡◌, ◌↔◌, ◌<◌, ◌≤◌, ℕ, List, [], ◌∷◌, Option, Some, None, Bool, true, false, length, get_or, refl, sym, ap, subst, ◌∙◌, arith}
+use Rattle.std.specs.Prelude.{nat_le, find, cond}
 use Rattle.std.specs.Str.{bytes_eq}
 use Rattle.std.proofs.lemmas.Slice.Eq.{bytes_eq-Decides}
 use Rattle.std.proofs.lemmas.Bool.{leb-true}
-use Rattle.list_laws.proofs.Options.{found}
 use Rattle.verilog_lexicon.specs.declared.reserved.Reserved.{Reserved}
 use Rattle.verilog_lexicon.specs.declared.reserved.Reserved.TheVariants as key
 use Rattle.verilog_lexicon.specs.Keywords.{spelling_of, reserved_of, words_with}
@@ -135,12 +134,25 @@ reserved_of-spelling_of key.Wor = refl
 reserved_of-spelling_of key.Xnor = refl
 reserved_of-spelling_of key.Xor = refl
 
+-- a word that is found among some is spelled by the bytes
+found_among : (bytes : List ℕ) (words : List Reserved) (r : Reserved) → find (λ (w : Reserved). bytes_eq bytes (spelling_of w)) words ≡ Some r → bytes ≡ spelling_of r
+found_among bytes [] r is = absurd (cc)
+found_among bytes (word ∷ words) r is = step (bytes_eq bytes (spelling_of word)) refl (found_among bytes words r) is
+  where
+    step : (same : Bool) → bytes_eq bytes (spelling_of word) ≡ same
+        → (find (λ (w : Reserved). bytes_eq bytes (spelling_of w)) words ≡ Some r → bytes ≡ spelling_of r)
+        → cond same (Some word) (find (λ (w : Reserved). bytes_eq bytes (spelling_of w)) words) ≡ Some r → bytes ≡ spelling_of r
+    step true same more it =
+        let one : word ≡ r = cc in
+        subst (λ (z : Reserved). bytes ≡ spelling_of z) one ((bytes_eq-Decides bytes (spelling_of word)).0 same)
+    step false same more it = more it
+
 -- what is found is spelled by the bytes
 reserved_of-found : (bytes : List ℕ) (r : Reserved) → reserved_of bytes ≡ Some r → bytes ≡ spelling_of r
 unfolding reserved_of
 reserved_of-found [] r is = absurd (cc)
 reserved_of-found (first ∷ bytes) r is =
-    (bytes_eq-Decides (first ∷ bytes) (spelling_of r)).0 (found (λ r. bytes_eq (first ∷ bytes) (spelling_of r)) (words_with first) r is)
+    found_among (first ∷ bytes) (words_with first) r is
 
 -- a reserved word is found for its own bytes, and for no others
 pub found_by_bytes : (bytes : List ℕ) (r : Reserved) → (reserved_of bytes ≡ Some r) ↔ (bytes ≡ spelling_of r)

@@ -67,7 +67,7 @@ same_core N rank net v v' formed numbered g same =
             | inl e ↦ absurd (formed.inputs_free found.number found.cell net drives e)
             | inr e ↦ (
                 let three = formed.inout_bufif found.number found.cell net drives e in
-                let below = numbered.gates found.number found.cell net drives (three_state_gate found.cell.kind three) in
+                let below = numbered.gates found.number found.cell net drives (three_state_gate N.library found.cell.kind three) in
                 bufif_drives (driver_of N.cells net) found.cell v v' net found.first (by_three_state found.cell v v' net three
                 (feed_values_same v v' found.cell.feeds (λ k other at. same other (feeds_below_at rank found.cell.feeds (rank net) k other below at)))))
           ])

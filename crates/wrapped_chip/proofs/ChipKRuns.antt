@@ -40,9 +40,9 @@ abbrev run : List ChipEvent → Levels → (ℕ → PinSig) → ℕ → ChipMome
 run events levels pins zero = moment levels pins (reset (test_logic_of (chip_k Bc1)))
 run events levels pins (suc t) = up_to (slice_get events t) (run events levels pins t)
 
-no_flop : (i : ℕ) (cell : CellView) (kind : FlopKind) → cell_at netlist_k i ≡ Some cell → flop_of cell.kind ≡ Some kind → ⊥
-no_flop zero cell kind live flop = let same : and_cell ≡ cell = cc in let h : None ≡ Some kind = ap (λ (c : CellView). flop_of c.kind) same ∙ flop in cc
-no_flop (suc zero) cell kind live flop = let same : not_cell ≡ cell = cc in let h : None ≡ Some kind = ap (λ (c : CellView). flop_of c.kind) same ∙ flop in cc
+no_flop : (i : ℕ) (cell : CellView) (kind : FlopKind) → cell_at netlist_k i ≡ Some cell → flop_of [] cell.kind ≡ Some kind → ⊥
+no_flop zero cell kind live flop = let same : and_cell ≡ cell = cc in let h : None ≡ Some kind = ap (λ (c : CellView). flop_of [] c.kind) same ∙ flop in cc
+no_flop (suc zero) cell kind live flop = let same : not_cell ≡ cell = cc in let h : None ≡ Some kind = ap (λ (c : CellView). flop_of [] c.kind) same ∙ flop in cc
 no_flop (suc (suc i)) cell kind live flop = let h : None ≡ Some cell = live in cc
 
 no_control : (net : ℕ) → IsControlNet netlist_k net → ⊥

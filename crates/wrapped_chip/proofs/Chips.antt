@@ -6,6 +6,7 @@ use Rattle.std.proofs.lemmas.List.Elements.{All-head, All-tail}
 use Rattle.signal_values.specs.declared.Sig.{Sig}
 use Rattle.signal_values.specs.declared.PinSig.{PinSig}
 use Rattle.cell_library.specs.Gates.{flop_of}
+use Rattle.cell_library.specs.declared.listed.ListedCell.{ListedCell}
 use Rattle.cell_library.specs.declared.FlopKind.{FlopKind}
 use Rattle.cell_library.specs.Flops.{flop_next, flop_start}
 use Rattle.netlist_model.specs.Lists.{CellView, NetlistView, cell_at}
@@ -43,13 +44,13 @@ chip_controls_same : (B : Device) (N : NetlistView) (m : Machine) (pins : ℕ �
 chip_controls_same B N m pins state state' v v' formed a b net control =
     controls_once N (chip_rule B N m pins) (chip_rule B N m pins) state state' v v' formed a b (λ port is. input_rule_same B N m pins pins v v' port formed is.0 refl) net control
 
-start_flop : (place : Option CellView) (value : ℕ → Sig) (given : Sig) (cell : CellView) (kind : FlopKind) → place ≡ Some cell → flop_of cell.kind ≡ Some kind
-    → cell_start place value given ≡ flop_start kind (feed_values value cell.feeds) given
-start_flop place value given cell kind live flop = rw (live, flop) refl
+start_flop : (library : List ListedCell) (place : Option CellView) (value : ℕ → Sig) (given : Sig) (cell : CellView) (kind : FlopKind) → place ≡ Some cell → flop_of library cell.kind ≡ Some kind
+    → cell_start library place value given ≡ flop_start kind (feed_values value cell.feeds) given
+start_flop library place value given cell kind live flop = rw (live, flop) refl
 
-next_flop : (place : Option CellView) (before after : ℕ → Sig) (kept : Sig) (cell : CellView) (kind : FlopKind) → place ≡ Some cell → flop_of cell.kind ≡ Some kind
-    → cell_next place before after kept ≡ flop_next kind (feed_values before cell.feeds) (feed_values after cell.feeds) kept
-next_flop place before after kept cell kind live flop = rw (live, flop) refl
+next_flop : (library : List ListedCell) (place : Option CellView) (before after : ℕ → Sig) (kept : Sig) (cell : CellView) (kind : FlopKind) → place ≡ Some cell → flop_of library cell.kind ≡ Some kind
+    → cell_next library place before after kept ≡ flop_next kind (feed_values before cell.feeds) (feed_values after cell.feeds) kept
+next_flop library place before after kept cell kind live flop = rw (live, flop) refl
 
 abbrev valuation : (B : Device) (N : NetlistView) → IsWellFormed N → Machine → (ℕ → PinSig) → (ℕ → Sig) → ℕ → Sig
 valuation B N formed m pins state = (chip_settled_exists B N formed m pins state).0
@@ -62,7 +63,7 @@ valuation-meets B N formed m pins state = (chip_settled_exists B N formed m pins
 abbrev first_moment : (B : Device) (N : NetlistView) → IsWellFormed N → Levels → (ℕ → PinSig) → (ℕ → Sig) → ChipMoment
 first_moment B N formed levels pins given =
     let m : Machine = reset (test_logic_of B) in
-    let state : ℕ → Sig = λ i. cell_start (cell_at N i) (valuation B N formed m pins given) (given i) in
+    let state : ℕ → Sig = λ i. cell_start N.library (cell_at N i) (valuation B N formed m pins given) (given i) in
     record { levels = levels; pins = pins; machine = m; state = state; value = valuation B N formed m pins state }
 
 first_is_power_up : (B : Device) (N : NetlistView) (formed : IsWellFormed N) (levels : Levels) (pins : ℕ → PinSig) (given : ℕ → Sig) → levels.trst ≡ false
@@ -70,7 +71,7 @@ first_is_power_up : (B : Device) (N : NetlistView) (formed : IsWellFormed N) (le
 first_is_power_up B N formed levels pins given low known =
     let m : Machine = reset (test_logic_of B) in
     let first : ℕ → Sig = valuation B N formed m pins given in
-    let state : ℕ → Sig = λ i. cell_start (cell_at N i) first (given i) in
+    let state : ℕ → Sig = λ i. cell_start N.library (cell_at N i) first (given i) in
     let value : ℕ → Sig = valuation B N formed m pins state in
     let controls : SameControlNets N first value
     = chip_controls_same B N m pins given state first value formed (valuation-meets B N formed m pins given) (valuation-meets B N formed m pins state) in
@@ -81,7 +82,7 @@ first_is_power_up B N formed levels pins given low known =
       settled = valuation-meets B N formed m pins state;
       flops = record {
         each = λ i cell kind live flop.
-            start_flop (cell_at N i) first (given i) cell kind live flop
+            start_flop N.library (cell_at N i) first (given i) cell kind live flop
             ∙ flop_start-same kind (feed_values first cell.feeds) (feed_values value cell.feeds) (given i) (given i) (reset_same N i cell kind first value live flop controls) refl;
       };
     }
@@ -92,7 +93,7 @@ next_moment B N formed event w =
     let levels : Levels = levels_after w.levels event in
     let pins : ℕ → PinSig = chip_pins_after w.pins event in
     let m : Machine = machine_step (test_logic_of B) w.levels levels (captured B N w.machine w.pins w.value) w.machine in
-    let state : ℕ → Sig = λ i. cell_next (cell_at N i) w.value (valuation B N formed m pins w.state) (w.state i) in
+    let state : ℕ → Sig = λ i. cell_next N.library (cell_at N i) w.value (valuation B N formed m pins w.state) (w.state i) in
     record { levels = levels; pins = pins; machine = m; state = state; value = valuation B N formed m pins state }
 
 next_is_step : (B : Device) (N : NetlistView) (formed : IsWellFormed N) (event : ChipEvent) (w : ChipMoment) → IsChipLegal N event → IsChipStep B N event w (next_moment B N formed event w)
@@ -101,7 +102,7 @@ next_is_step B N formed event w legal =
     let pins : ℕ → PinSig = chip_pins_after w.pins event in
     let m : Machine = machine_step (test_logic_of B) w.levels levels (captured B N w.machine w.pins w.value) w.machine in
     let first : ℕ → Sig = valuation B N formed m pins w.state in
-    let state : ℕ → Sig = λ i. cell_next (cell_at N i) w.value first (w.state i) in
+    let state : ℕ → Sig = λ i. cell_next N.library (cell_at N i) w.value first (w.state i) in
     let value : ℕ → Sig = valuation B N formed m pins state in
     let controls : SameControlNets N first value
     = chip_controls_same B N m pins w.state state first value formed (valuation-meets B N formed m pins w.state) (valuation-meets B N formed m pins state) in
@@ -113,7 +114,7 @@ next_is_step B N formed event w legal =
       settled = valuation-meets B N formed m pins state;
       flops = record {
         each = λ i cell kind live flop.
-            next_flop (cell_at N i) w.value first (w.state i) cell kind live flop
+            next_flop N.library (cell_at N i) w.value first (w.state i) cell kind live flop
             ∙ flop_next-after kind (feed_values w.value cell.feeds) (feed_values w.value cell.feeds) (feed_values first cell.feeds) (feed_values value cell.feeds) (w.state i) (w.state i)
             refl (clock_same N i cell kind first value live flop controls) (reset_same N i cell kind first value live flop controls) refl;
       };

@@ -34,7 +34,7 @@ run_reset B N given events chip run (suc t) h low =
 
 -- the flip-flops of a moment are cleared or preset where their controls are 0
 abbrev pub FlopsRest : NetlistView → ChipMoment → Type 0
-FlopsRest N w = (i : ℕ) (cell : CellView) (kind : FlopKind) → cell_at N i ≡ Some cell → flop_of cell.kind ≡ Some kind
+FlopsRest N w = (i : ℕ) (cell : CellView) (kind : FlopKind) → cell_at N i ≡ Some cell → flop_of N.library cell.kind ≡ Some kind
     → w.state i ≡ flop_start kind (feed_values w.value cell.feeds) (w.state i)
 
 pub rests_from : (begun : Machine) (B : Device) (N : NetlistView) (given : ℕ → Sig) (events : List ChipEvent) (chip : ℕ → ChipMoment) → IsChipRunFrom begun B N given events chip

@@ -70,7 +70,7 @@ OutsideGoesOn = (N : NetlistView) (events : List ChipEvent) (outside : ℕ → C
 
 -- own: each flip-flop of M that N hasn't is 0 or 1
 abbrev pub AreBits : NetlistView → NetlistView → (ℕ → Sig) → Type 0
-AreBits M N start = (i : ℕ) (cell : CellView) (kind : FlopKind) → cell_at M i ≡ Some cell → flop_of cell.kind ≡ Some kind → cell_at N i ≡ None → IsKnown (start i)
+AreBits M N start = (i : ℕ) (cell : CellView) (kind : FlopKind) → cell_at M i ≡ Some cell → flop_of M.library cell.kind ≡ Some kind → cell_at N i ≡ None → IsKnown (start i)
 
 -- a run of M by these events from any level of TRST, in which each flip-flop that was added starts at 0 or 1, and each of the core at anything
 pub record IsRunFromBits (M N : NetlistView) (events : List ChipEvent) (outside : ℕ → ChipMoment) (moment : ℕ → Moment) : Type 0 where

@@ -45,8 +45,9 @@ pub record IsCalled (M : NetlistView) (spelt : Name → List ℕ) (i : ℕ) (kin
   pub kinds : cell.kind ≡ kind
   pub names : option_map spelt cell.name ≡ name
 
--- M's ports are N's and then TCK, TMS, TDI, TDO and TRST, and its first cells have the kinds and names of N's
+-- M has N's library; its ports are N's and then TCK, TMS, TDI, TDO and TRST, and its first cells have the kinds and names of N's
 pub record Keeps (M N : NetlistView) (spelt_in_M spelt_in_N : Name → List ℕ) (tap : TapNames) : Type 0 where
+  pub library : M.library ≡ N.library
   pub ports : map (port_text spelt_in_M) M.ports ≡ map (port_text spelt_in_N) N.ports ++ tap_ports tap
   pub cells : (i : ℕ) (cell : CellView) → cell_at N i ≡ Some cell → IsCalled M spelt_in_M i cell.kind (option_map spelt_in_N cell.name)
 

@@ -1,8 +1,9 @@
 -- The netlist that a written tree denotes is the argument's under other numbers.
-use Rattle.std.proofs.Common.{◌≡◌, ℕ, suc, ◌<◌, List, [], ◌∷◌, length, map, refl, ap, sym, ◌∙◌, Option, Some, None}
+use Rattle.std.proofs.Common.{◌≡◌, ℕ, suc, ◌<◌, List, [], ◌∷◌, length, map, refl, ap, sym, ◌∙◌, subst, Option, Some, None}
 use Rattle.std.specs.Prelude.{slice_get, IsSome}
 use Rattle.std.specs.Option.{option_map}
 use Rattle.list_laws.proofs.Lists.{map_same}
+use Rattle.cell_library.specs.declared.listed.ListedCell.{ListedCell}
 use Rattle.cell_library.specs.declared.Kind.{Kind}
 use Rattle.netlist_model.specs.declared.NetId.{NetId}
 use Rattle.netlist_model.specs.declared.Feed.{Feed}
@@ -10,7 +11,7 @@ use Rattle.netlist_model.specs.declared.Feed.TheVariants.{Net, Const}
 use Rattle.netlist_model.specs.Lists.{PortView, CellView, NetlistView, bit_net, cell_at}
 use Rattle.netlist_model.specs.Formed.{IsLaidOut}
 use Rattle.link_model.specs.Cells.{NamedCell}
-use Rattle.link_model.specs.Denoted.{AreAll, IsLive, IsNamed, IsPort}
+use Rattle.link_model.specs.Denoted.{AreAll, IsLive, IsNamed, IsPort, denoted}
 use Rattle.netlist_unlink.specs.Renumbered.{cells_from, net_order, new_feed, new_net, new_port, renumbered}
 use Rattle.netlist_images.specs.Nested.{renamed_net, renamed_feed, IsNested}
 use Rattle.netlist_images.specs.Renumbering.{ArePortImages, IsCopied, IsCellImage}
@@ -67,10 +68,11 @@ nested_by N M names i place cell named (Some c) laid live new e is =
     }
 
 pub denoted_is_renumbered : CopyIsRenumbering → DenotedIsRenumbered
-denoted_is_renumbered copy naming N M tree names laid written named =
+denoted_is_renumbered copy naming N M tree names laid written same named =
     let is : IsNamed names M (renumbered naming N) = rw written.denotes at named in
     let order : List ℕ = net_order N in
     let copied : IsCopied N M (new_number N) (new_place N.cells) (old_number N) (number_of N.cells) = record {
+      library = same;
       nets = old_of_new N written.nets;
       ports = ports_are N names naming.table N.ports M.ports
           (λ p k port net there at. let has : bit_net N p k ≡ Some net = rw there at in laid.port_nets p k net has) is.ports;
@@ -89,5 +91,6 @@ denoted_is_renumbered copy naming N M tree names laid written named =
     covers {j} less = let o : HasOld N.cells j = old_at naming (net_order N) 0 N.cells j less in record { old = o.old; cell = o.cell; live = o.live; same = o.same }
 
 pub written_is_renumbered : CopyIsRenumbering → WrittenIsRenumbered
-written_is_renumbered copy linked written prefix tree laid is link =
-    denoted_is_renumbered copy _ linked.arena.lists written.arena.lists tree written.names laid is link.denoted
+written_is_renumbered copy linked written prefix tree laid is same link =
+    let P : List ListedCell → Type 0 = λ l. IsNamed written.names written.arena.lists (denoted l tree) in
+    denoted_is_renumbered copy _ linked.arena.lists written.arena.lists tree written.names laid is same (subst P same link.denoted)

@@ -23,16 +23,16 @@ new_place (place ∷ places) zero = 0
 new_place (None ∷ places) (suc number) = new_place places number
 new_place (Some cell ∷ places) (suc number) = suc (new_place places number)
 
--- own: any netlist that the written tree denotes, with any table of names
+-- own: any netlist that the written tree denotes with the same library, with any table of names
 abbrev pub DenotedIsRenumbered : Type 0
 DenotedIsRenumbered = (naming : Naming) (N M : NetlistView) (tree : Module) (table : List (List ℕ)) → IsLaidOut N → IsWritten naming N tree
-    → IsNamed table M (denoted tree)
+    → M.library ≡ N.library → IsNamed table M (denoted N.library tree)
     → IsRenumbering N M (new_number N) (new_place N.cells)
 
--- own: so it is of what the written tree links as
+-- own: so it is of what the written tree links as with the same library
 abbrev pub WrittenIsRenumbered : Type 0
 WrittenIsRenumbered = (linked written : LinkedView) (prefix : List ℕ) (tree : Module) → IsLaidOut linked.arena.lists → IsWrittenAs linked prefix tree
-    → IsLinkOf tree written
+    → written.arena.lists.library ≡ linked.arena.lists.library → IsLinkOf tree written
     → IsRenumbering linked.arena.lists written.arena.lists (new_number linked.arena.lists) (new_place linked.arena.lists.cells)
 
 -- own: without gaps, cells keep their numbers

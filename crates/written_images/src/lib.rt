@@ -2,9 +2,9 @@
 // Each function has nothing to do, and its contract cites a statement in specs/Laws.antt.
 // IEEE Std 1364-2001: modules and ports, module instances; the numbers are own.
 //
-// - Any netlist that a written tree denotes, and so what it links as, is the netlist that was written with its
-//   nets and cells numbered anew: a net by its place in the order of writing, a cell by the count of live ones
-//   before it.
+// - Any netlist that a written tree denotes with the same library, and so what it links as, is the netlist that was
+//   written with its nets and cells numbered anew: a net by its place in the order of writing, a cell by the count of
+//   live ones before it.
 // - Without gaps cells keep their numbers.
 // By the contract of its law functions.
 #![tactic(auto)]

@@ -1,4 +1,4 @@
-use Rattle.std.proofs.Common.{◌≡◌, sym, subst}
+use Rattle.std.proofs.Common.{◌≡◌, [], sym, subst}
 use Rattle.verilog_tree.specs.Canonical.{canonical}
 use Rattle.plan_texts.specs.Canonical.{canonical_plan}
 use Rattle.command_faults.specs.declared.fault.Fault.{Fault}
@@ -19,5 +19,5 @@ returns-in-Ok-clause-made c =
 pub returns-in-Err-clause-fault : goal.returns-in-Err-clause-fault
 returns-in-Err-clause-fault c =
     subst (λ (f : Fault). status_of f ≡ status.Memory) (sym c.fault_of.ensures)
-    (c.free_texts_want_memory.ensures (canonical (demo_module c.args.number)) (canonical_plan demo_plan) c.in-Err.fault
+    (c.free_texts_want_memory.ensures [] (canonical (demo_module c.args.number)) (canonical_plan demo_plan) c.in-Err.fault
     (c.demo_texts_are_insertable.ensures c.args.number c.requires.number c.requires.tree c.requires.linkable) c.in-Err.ensures.fault)

@@ -4,8 +4,8 @@ use Rattle.demo_plans.proofs.Rows.{rows_are_counted}
 use Rattle.demo_plans.proofs.laws.demo_chips_are_counted.Goals as goal
 
 pub returns : goal.returns
-returns c = λ number linked tree links. record {
+returns c = λ number linked tree listed links. record {
   nets = nets_are_counted number linked links;
   bits = bit_count_is number linked links;
-  boundary = rows_are_counted c.found_driver_drives.ensures number linked links (c.link_view_is_named.ensures (demo_module number) linked tree links);
+  boundary = rows_are_counted c.found_driver_drives.ensures number linked links (c.link_view_is_named.ensures (demo_module number) linked tree listed links);
 }

@@ -45,21 +45,21 @@ returns-in-Sim-clause-complete g c =
 
 pub returns-in-Insert-clause-done : goal.returns-in-Insert-clause-done
 returns-in-Insert-clause-done g c =
-    let shelf : ShelfSeen = shelf_seen g.S.Shelf.tells g.S.Shelf.held g.S.Shelf.written g.S.Shelf.faults c.args.shelf.now c.run_task-in-Insert.new.shelf in
-    let sink : SinkSeen = sink_seen g.O.Sink.given g.O.Sink.faults c.args.out.now c.run_task-in-Insert.new.out in
-    subst (λ command. IfOk c.run_task-in-Insert.result (Finishes (task_of (form_of command)) shelf sink)) (sym c.in-Insert.is) c.run_task-in-Insert.ensures.done
+    let shelf : ShelfSeen = shelf_seen g.S.Shelf.tells g.S.Shelf.held g.S.Shelf.written g.S.Shelf.faults c.args.shelf.now c.run_insert.new.shelf in
+    let sink : SinkSeen = sink_seen g.O.Sink.given g.O.Sink.faults c.args.out.now c.run_insert.new.out in
+    subst (λ command. IfOk c.run_insert.result (Finishes (task_of (form_of command)) shelf sink)) (sym c.in-Insert.is) c.run_insert.ensures.done
 
 pub returns-in-Insert-clause-fault : goal.returns-in-Insert-clause-fault
 returns-in-Insert-clause-fault g c =
-    let shelf : ShelfSeen = shelf_seen g.S.Shelf.tells g.S.Shelf.held g.S.Shelf.written g.S.Shelf.faults c.args.shelf.now c.run_task-in-Insert.new.shelf in
-    let sink : SinkSeen = sink_seen g.O.Sink.given g.O.Sink.faults c.args.out.now c.run_task-in-Insert.new.out in
-    subst (λ command. IfErr c.run_task-in-Insert.result (λ fault. Stands (task_of (form_of command)) shelf sink fault sink.given_after)) (sym c.in-Insert.is) c.run_task-in-Insert.ensures.fault
+    let shelf : ShelfSeen = shelf_seen g.S.Shelf.tells g.S.Shelf.held g.S.Shelf.written g.S.Shelf.faults c.args.shelf.now c.run_insert.new.shelf in
+    let sink : SinkSeen = sink_seen g.O.Sink.given g.O.Sink.faults c.args.out.now c.run_insert.new.out in
+    subst (λ command. IfErr c.run_insert.result (λ fault. Stands (task_of (form_of command)) shelf sink fault sink.given_after)) (sym c.in-Insert.is) c.run_insert.ensures.fault
 
 pub returns-in-Insert-clause-complete : goal.returns-in-Insert-clause-complete
 returns-in-Insert-clause-complete g c =
-    let shelf : ShelfSeen = shelf_seen g.S.Shelf.tells g.S.Shelf.held g.S.Shelf.written g.S.Shelf.faults c.args.shelf.now c.run_task-in-Insert.new.shelf in
-    let sink : SinkSeen = sink_seen g.O.Sink.given g.O.Sink.faults c.args.out.now c.run_task-in-Insert.new.out in
-    subst (λ command. IfErr c.run_task-in-Insert.result (λ fault. Completes (task_of (form_of command)) shelf sink (status_of fault))) (sym c.in-Insert.is) c.run_task-in-Insert.ensures.complete
+    let shelf : ShelfSeen = shelf_seen g.S.Shelf.tells g.S.Shelf.held g.S.Shelf.written g.S.Shelf.faults c.args.shelf.now c.run_insert.new.shelf in
+    let sink : SinkSeen = sink_seen g.O.Sink.given g.O.Sink.faults c.args.out.now c.run_insert.new.out in
+    subst (λ command. IfErr c.run_insert.result (λ fault. Completes (task_of (form_of command)) shelf sink (status_of fault))) (sym c.in-Insert.is) c.run_insert.ensures.complete
 
 pub returns-in-Vectors-clause-done : goal.returns-in-Vectors-clause-done
 returns-in-Vectors-clause-done g c =
@@ -81,21 +81,21 @@ returns-in-Vectors-clause-complete g c =
 
 pub returns-in-Check-clause-done : goal.returns-in-Check-clause-done
 returns-in-Check-clause-done g c =
-    let shelf : ShelfSeen = shelf_seen g.S.Shelf.tells g.S.Shelf.held g.S.Shelf.written g.S.Shelf.faults c.args.shelf.now c.run_task-in-Check.new.shelf in
-    let sink : SinkSeen = sink_seen g.O.Sink.given g.O.Sink.faults c.args.out.now c.run_task-in-Check.new.out in
-    subst (λ command. IfOk c.run_task-in-Check.result (Finishes (task_of (form_of command)) shelf sink)) (sym c.in-Check.is) c.run_task-in-Check.ensures.done
+    let shelf : ShelfSeen = shelf_seen g.S.Shelf.tells g.S.Shelf.held g.S.Shelf.written g.S.Shelf.faults c.args.shelf.now c.run_check.new.shelf in
+    let sink : SinkSeen = sink_seen g.O.Sink.given g.O.Sink.faults c.args.out.now c.run_check.new.out in
+    subst (λ command. IfOk c.run_check.result (Finishes (task_of (form_of command)) shelf sink)) (sym c.in-Check.is) c.run_check.ensures.done
 
 pub returns-in-Check-clause-fault : goal.returns-in-Check-clause-fault
 returns-in-Check-clause-fault g c =
-    let shelf : ShelfSeen = shelf_seen g.S.Shelf.tells g.S.Shelf.held g.S.Shelf.written g.S.Shelf.faults c.args.shelf.now c.run_task-in-Check.new.shelf in
-    let sink : SinkSeen = sink_seen g.O.Sink.given g.O.Sink.faults c.args.out.now c.run_task-in-Check.new.out in
-    subst (λ command. IfErr c.run_task-in-Check.result (λ fault. Stands (task_of (form_of command)) shelf sink fault sink.given_after)) (sym c.in-Check.is) c.run_task-in-Check.ensures.fault
+    let shelf : ShelfSeen = shelf_seen g.S.Shelf.tells g.S.Shelf.held g.S.Shelf.written g.S.Shelf.faults c.args.shelf.now c.run_check.new.shelf in
+    let sink : SinkSeen = sink_seen g.O.Sink.given g.O.Sink.faults c.args.out.now c.run_check.new.out in
+    subst (λ command. IfErr c.run_check.result (λ fault. Stands (task_of (form_of command)) shelf sink fault sink.given_after)) (sym c.in-Check.is) c.run_check.ensures.fault
 
 pub returns-in-Check-clause-complete : goal.returns-in-Check-clause-complete
 returns-in-Check-clause-complete g c =
-    let shelf : ShelfSeen = shelf_seen g.S.Shelf.tells g.S.Shelf.held g.S.Shelf.written g.S.Shelf.faults c.args.shelf.now c.run_task-in-Check.new.shelf in
-    let sink : SinkSeen = sink_seen g.O.Sink.given g.O.Sink.faults c.args.out.now c.run_task-in-Check.new.out in
-    subst (λ command. IfErr c.run_task-in-Check.result (λ fault. Completes (task_of (form_of command)) shelf sink (status_of fault))) (sym c.in-Check.is) c.run_task-in-Check.ensures.complete
+    let shelf : ShelfSeen = shelf_seen g.S.Shelf.tells g.S.Shelf.held g.S.Shelf.written g.S.Shelf.faults c.args.shelf.now c.run_check.new.shelf in
+    let sink : SinkSeen = sink_seen g.O.Sink.given g.O.Sink.faults c.args.out.now c.run_check.new.out in
+    subst (λ command. IfErr c.run_check.result (λ fault. Completes (task_of (form_of command)) shelf sink (status_of fault))) (sym c.in-Check.is) c.run_check.ensures.complete
 
 pub returns-in-Demo-clause-done : goal.returns-in-Demo-clause-done
 returns-in-Demo-clause-done g c =

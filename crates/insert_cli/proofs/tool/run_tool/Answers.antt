@@ -45,7 +45,7 @@ pub returns-in-Ok-clause-meets : goal.returns-in-Ok-clause-meets
 returns-in-Ok-clause-meets g c =
     let shelf : ShelfSeen = shelf_seen g.S.Shelf.tells g.S.Shelf.held g.S.Shelf.written g.S.Shelf.faults c.args.shelf.now c.run.new.shelf in
     let sink : SinkSeen = sink_seen g.O.Sink.given g.O.Sink.faults c.args.out.now c.run.new.out in
-    misses_nothing c.written_programs_miss_nothing.ensures c.args.words.now shelf sink c.in-Ok.status c.in-Ok.ensures.done
+    misses_nothing c.written_programs_miss_nothing.ensures c.texts_of_libraries_are_spelled_or_at_fault.ensures.once c.args.words.now shelf sink c.in-Ok.status c.in-Ok.ensures.done
 
 pub returns-clause-unwritten : goal.returns-clause-unwritten
 returns-clause-unwritten g c = λ not_end other.

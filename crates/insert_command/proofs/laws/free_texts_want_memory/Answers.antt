@@ -6,4 +6,6 @@ returns c = free_memory (record {
   links = c.insertion_faults_stand_apart.ensures.links;
   once = c.insertion_faults_stand_apart.ensures.once;
   faultless = c.insertion_faults_stand_apart.ensures.faultless;
+  one_library = c.insertion_faults_stand_apart.ensures.one_library;
+  no_library_fault = c.insertion_faults_stand_apart.ensures.no_library_fault;
 })

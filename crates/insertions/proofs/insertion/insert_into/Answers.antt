@@ -8,28 +8,29 @@ use Rattle.insertions.proofs.Made.{plan_stands, linked_tree}
 use Rattle.insertions.proofs.insertion.insert_into.Goals as goal
 
 pub fit_text-requires : goal.fit_text-requires
-fit_text-requires c = linked_tree c.requires.0 c.args.linked.now c.requires.1
+fit_text-requires c = linked_tree c.requires.0 c.requires.1 c.args.linked.now c.requires.2
 
 pub write_stitched-requires : goal.write_stitched-requires
 write_stitched-requires c = record {
-  net = c.requires.0;
+  library = c.requires.0;
+  net = c.requires.1;
   text = c.args.plan.now;
   before = c.args.linked.now;
-  netlist = c.requires.1;
+  netlist = c.requires.2;
   laid = subst (λ (a : ArenaView). IsLaidOut a.lists) c.netlist.ensures.netlist c.is_laid_out.ensures.laid_out;
   fitting = c.in_ok-fitting.ensures.fitting;
 }
 
 pub returns-in_err-fitting-clause-fault : goal.returns-in_err-fitting-clause-fault
-returns-in_err-fitting-clause-fault c = λ net is.
-    err_is c.from_residual.result c.in_err-fitting.field-0.0 (StandsInTexts net c.args.plan.now) c.from_residual.ensures.1
-    (plan_stands net c.args.plan.now c.args.linked.now c.in_err-fitting.field-0.0 is c.in_err-fitting.ensures.fault)
+returns-in_err-fitting-clause-fault c = λ library net is.
+    err_is c.from_residual.result c.in_err-fitting.field-0.0 (StandsInTexts library net c.args.plan.now) c.from_residual.ensures.1
+    (plan_stands library net c.args.plan.now c.args.linked.now c.in_err-fitting.field-0.0 is c.in_err-fitting.ensures.fault)
 
 pub returns-clause-inserted : goal.returns-clause-inserted
-returns-clause-inserted c = λ net is.
+returns-clause-inserted c = λ library net is.
     let laid = subst (λ (a : ArenaView). IsLaidOut a.lists) c.netlist.ensures.netlist c.is_laid_out.ensures.laid_out in
-    c.in_ok-write_stitched.ensures net c.args.plan.now c.args.linked.now is laid c.in_ok-fitting.ensures.fitting
+    c.in_ok-write_stitched.ensures library net c.args.plan.now c.args.linked.now is laid c.in_ok-fitting.ensures.fitting
 
 pub returns-in_err-write_stitched-clause-fault : goal.returns-in_err-write_stitched-clause-fault
-returns-in_err-write_stitched-clause-fault c = λ net is.
-    err_is c.from_residual-in_err-write_stitched.result fault.OutOfMemory (StandsInTexts net c.args.plan.now) c.from_residual-in_err-write_stitched.ensures.1 tt
+returns-in_err-write_stitched-clause-fault c = λ library net is.
+    err_is c.from_residual-in_err-write_stitched.result fault.OutOfMemory (StandsInTexts library net c.args.plan.now) c.from_residual-in_err-write_stitched.ensures.1 tt

@@ -1,4 +1,4 @@
-use Rattle.reader_links.proofs.Threads.{loosely_written}
+use Rattle.linked_cells.proofs.Threads.{loosely_written}
 use Rattle.linked_cells.specs.Cells.{slot_at, first_at}
 use Rattle.linked_cells.proofs.Writing.{found_loose}
 use Rattle.linked_cells.proofs.links.give.Goals as goal

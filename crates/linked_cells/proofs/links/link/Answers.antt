@@ -1,5 +1,5 @@
 use Rattle.std.proofs.Common.{sym, ◌∙◌}
-use Rattle.reader_links.proofs.Threads.{linked, first_there, written_there, matched_there}
+use Rattle.linked_cells.proofs.Threads.{linked, first_there, written_there, matched_there}
 use Rattle.linked_cells.specs.Cells.{slot_at, first_at}
 use Rattle.linked_cells.proofs.Writing.{found_loose}
 use Rattle.linked_cells.proofs.links.link.Goals as goal

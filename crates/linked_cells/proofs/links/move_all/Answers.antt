@@ -1,6 +1,6 @@
 use Rattle.std.proofs.Common.{◌∙◌, sym}
-use Rattle.reader_links.proofs.Threads.{first_there, after_there, matched_there}
-use Rattle.reader_links.proofs.Moving.{moving_start, moving_last, moving_keeps, moving_joined}
+use Rattle.linked_cells.proofs.Threads.{first_there, after_there, matched_there}
+use Rattle.linked_cells.proofs.Moving.{moving_start, moving_last, moving_keeps, moving_joined}
 use Rattle.linked_cells.specs.Cells.{slot_at, first_at, slot_count, all_readers}
 use Rattle.linked_cells.proofs.Writing.{kept_there}
 use Rattle.linked_cells.proofs.Feeds.{stands_among_all, cells_moved}

@@ -1,5 +1,5 @@
 use Rattle.std.proofs.Common.{◌≡◌, length}
-use Rattle.reader_links.specs.Links.{IsMoving, walk_from}
+use Rattle.linked_cells.specs.Links.{IsMoving, walk_from}
 use Rattle.linked_cells.specs.Cells.{slot_at, slot_count, SameShapes}
 use Rattle.linked_cells.proofs.links.turn_all.Given as goal
 

@@ -4,7 +4,7 @@ use Rattle.numbered_places.specs.Places.{Puts}
 use Rattle.linked_cells.specs.declared.Net.{Net}
 use Rattle.netlist_model.specs.declared.NetId.{NetId}
 use Rattle.netlist_model.specs.Lists.{NetlistView}
-use Rattle.reader_links.proofs.Threads.{threaded_loosely}
+use Rattle.linked_cells.proofs.Threads.{threaded_loosely}
 use Rattle.linked_cells.specs.Cells.{cells_of, nets_of, net_view, slot_at, first_at, driver_at}
 use Rattle.netlist_arena.proofs.Growth.{undriven_past, direction_past}
 use Rattle.netlist_arena.proofs.NetDrivers.{drivers_same}
@@ -60,7 +60,7 @@ returns-clause-undriven c =
     let added = net_added c.self.inside.nets.items c.put-number.new.self.items c.put-number.result net c.self.invariant.nets_there puts in
     let len = length_nets c.self.inside.nets.items c.self.invariant.nets_there in
     let is = added.is in
-    let inside : NetlistView = record { ports = c.self.inside.ports.items; nets = nets_of c.self.inside.nets.items; cells = cells_of c.self.inside.cells.items } in
+    let inside : NetlistView = record { library = c.self.inside.library; ports = c.self.inside.ports.items; nets = nets_of c.self.inside.nets.items; cells = cells_of c.self.inside.cells.items } in
     undriven_past inside (length (nets_of c.self.inside.nets.items)) c.put-number.result c.self.invariant.cells_below (omega (arith, len, is))
 
 pub returns-clause-inside : goal.returns-clause-inside

@@ -24,4 +24,4 @@ pub returns-clause-count : goal.returns-clause-count
 returns-clause-count c =
     let at : place_at c.self.inside.cells.items c.args.id.0 ≡ Some c.in-Some.cell.now = sym (c.in-Some.ensures) in
     let live = place_view c.self.inside.cells.items c.args.id.0 c.in-Some.cell.now at in
-    count_at (cells_of c.self.inside.cells.items) c.args.id.0 (cell_view c.in-Some.cell.now) c.self.invariant.counts live
+    rw (← c.self.view_is) (count_at c.self.inside.library (cells_of c.self.inside.cells.items) c.args.id.0 (cell_view c.in-Some.cell.now) c.self.invariant.counts live)

@@ -7,7 +7,7 @@ pub returns-clause-takes : goal.returns-clause-takes
 returns-clause-takes c =
     let at = c.cell.ensures.found in
     let count = operand_count c.cell.result.now ∙ sym c.count.ensures.count in
-    rw at (subst (Takes c.cell.result.now.kind) count c.cell.ensures.count)
+    rw at (subst (Takes c.args.self.now.lists.library c.cell.result.now.kind) count c.cell.ensures.count)
 
 pub returns-clause-count : goal.returns-clause-count
 returns-clause-count c =

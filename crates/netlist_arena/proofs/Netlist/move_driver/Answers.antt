@@ -6,7 +6,7 @@ use Rattle.netlist_model.specs.Formed.{IsDriven}
 use Rattle.netlist_arena.specs.Arena.{IsPlaceBelow}
 use Rattle.netlist_arena.proofs.Growth.{place_at as found_below, output_below}
 use Rattle.netlist_arena.proofs.Changes.{moved_driver_below, moved_driver_counts}
-use Rattle.reader_links.proofs.Threads.{threaded_loosely}
+use Rattle.linked_cells.proofs.Threads.{threaded_loosely}
 use Rattle.linked_cells.specs.Cells.{cells_of, nets_of, slot_at, first_at, driver_at}
 use Rattle.netlist_arena.specs.Drivers.{AreDrivers}
 use Rattle.netlist_arena.proofs.Lists.{net_there, views_same, views_there, still_there}
@@ -27,12 +27,12 @@ never_none N d net are driven none =
 
 pub driver-requires : goal.driver-requires
 driver-requires c =
-    let inside : NetlistView = record { ports = c.self.inside.ports.items; nets = nets_of c.self.inside.nets.items; cells = cells_of c.self.inside.cells.items } in
+    let inside : NetlistView = record { library = c.self.inside.library; ports = c.self.inside.ports.items; nets = nets_of c.self.inside.nets.items; cells = cells_of c.self.inside.cells.items } in
     net_there c.self.inside.nets.items c.args.from.0 c.self.invariant.nets_there (driven_below inside c.args.from.0 (rw (← c.self.view_is) at c.requires.driven) c.self.invariant.cells_below)
 
 pub set_driver-requires : goal.set_driver-requires
 set_driver-requires c =
-    let inside : NetlistView = record { ports = c.self.inside.ports.items; nets = nets_of c.self.inside.nets.items; cells = cells_of c.self.inside.cells.items } in
+    let inside : NetlistView = record { library = c.self.inside.library; ports = c.self.inside.ports.items; nets = nets_of c.self.inside.nets.items; cells = cells_of c.self.inside.cells.items } in
     net_there c.self.inside.nets.items c.args.from.0 c.self.invariant.nets_there (driven_below inside c.args.from.0 (rw (← c.self.view_is) at c.requires.driven) c.self.invariant.cells_below)
 
 pub set_driver-requires-in-Some : goal.set_driver-requires-in-Some
@@ -43,7 +43,7 @@ set_driver-requires-in-Some c =
 
 pub unreachable-requires : goal.unreachable-requires
 unreachable-requires c =
-    let inside : NetlistView = record { ports = c.self.inside.ports.items; nets = nets_of c.self.inside.nets.items; cells = cells_of c.self.inside.cells.items } in
+    let inside : NetlistView = record { library = c.self.inside.library; ports = c.self.inside.ports.items; nets = nets_of c.self.inside.nets.items; cells = cells_of c.self.inside.cells.items } in
     never_none inside (driver_at c.self.inside.nets.items) c.args.from.0 c.self.invariant.drivers (rw (← c.self.view_is) at c.requires.driven) (sym c.driver.ensures ∙ c.in-None.is)
 
 pub drive-requires : goal.drive-requires
@@ -53,7 +53,7 @@ drive-requires c =
 
 pub invariant_of-self : goal.invariant_of-self
 invariant_of-self c =
-    let inside : NetlistView = record { ports = c.self.inside.ports.items; nets = nets_of c.self.inside.nets.items; cells = cells_of c.self.inside.cells.items } in
+    let inside : NetlistView = record { library = c.self.inside.library; ports = c.self.inside.ports.items; nets = nets_of c.self.inside.nets.items; cells = cells_of c.self.inside.cells.items } in
     let at = sym c.driver.ensures ∙ c.in-Some.is in
     let drives = c.self.invariant.drivers.named c.args.from.0 c.in-Some.id at in
     let single = drivers_single (driver_at c.self.inside.nets.items) inside.cells c.self.invariant.drivers in
@@ -69,7 +69,7 @@ invariant_of-self c =
       pin_room = c.self.invariant.pin_room;
       pins_are = c.self.invariant.pins_are;
       ports_below = rw (nets2, nets1) c.self.invariant.ports_below;
-      counts = rw cells (moved_driver_counts c.args.from c.args.to inside.cells c.self.invariant.counts);
+      counts = rw cells (moved_driver_counts c.self.inside.library c.args.from c.args.to inside.cells c.self.invariant.counts);
       cells_below = rw (nets2, nets1, cells) (moved_driver_below _ c.args.from c.args.to inside.cells to c.self.invariant.cells_below);
       nets_there = λ k low. views_there c.set_driver.new.nets.items c.set_driver-in-Some.new.nets.items k c.set_driver-in-Some.ensures.writes.views
           (λ low1. views_there c.self.inside.nets.items c.set_driver.new.nets.items k c.set_driver.ensures.writes.views (c.self.invariant.nets_there k) low1) low;
@@ -84,7 +84,7 @@ invariant_of-self c =
 
 pub returns-clause-lists : goal.returns-clause-lists
 returns-clause-lists c =
-    let inside : NetlistView = record { ports = c.self.inside.ports.items; nets = nets_of c.self.inside.nets.items; cells = cells_of c.self.inside.cells.items } in
+    let inside : NetlistView = record { library = c.self.inside.library; ports = c.self.inside.ports.items; nets = nets_of c.self.inside.nets.items; cells = cells_of c.self.inside.cells.items } in
     let at = sym c.driver.ensures ∙ c.in-Some.is in
     let drives = c.self.invariant.drivers.named c.args.from.0 c.in-Some.id at in
     let single = drivers_single (driver_at c.self.inside.nets.items) inside.cells c.self.invariant.drivers in

@@ -4,7 +4,7 @@ use Rattle.netlist_model.specs.Lists.{NetlistView}
 use Rattle.netlist_arena.specs.Arena.{HasItsOperands, IsPlaceBelow}
 use Rattle.netlist_arena.proofs.Puts.{emptied}
 use Rattle.netlist_arena.proofs.Single.{undriven_removed}
-use Rattle.reader_links.proofs.Threads.{threaded_loosely}
+use Rattle.linked_cells.proofs.Threads.{threaded_loosely}
 use Rattle.linked_cells.specs.Cells.{cells_of, nets_of, slot_at, first_at, driver_at}
 use Rattle.linked_cells.proofs.Writing.{nets_same, kept_there, length_kept, driver_kept}
 use Rattle.netlist_arena.proofs.Lists.{operand_there, output_place, views_same, views_there}
@@ -45,7 +45,7 @@ invariant_of-self c =
       pin_room = c.self.invariant.pin_room;
       pins_are = c.self.invariant.pins_are;
       ports_below = rw (nets2, nets) c.self.invariant.ports_below;
-      counts = rw cells (All-set HasItsOperands (cells_of c.self.inside.cells.items) c.args.cell.0 None tt c.self.invariant.counts);
+      counts = rw cells (All-set (HasItsOperands c.self.inside.library) (cells_of c.self.inside.cells.items) c.args.cell.0 None tt c.self.invariant.counts);
       cells_below = rw (nets2, nets, cells) (All-set (IsPlaceBelow _) (cells_of c.self.inside.cells.items) c.args.cell.0 None tt c.self.invariant.cells_below);
       nets_there = λ k low. views_there c.clear_all.new.nets.items c.drop_driver.new.nets.items k c.drop_driver.ensures.views
           (λ low1. kept_there c.self.inside.nets.items c.clear_all.new.nets.items k c.clear_all.ensures.nets
@@ -60,7 +60,7 @@ invariant_of-self c =
 
 pub returns-clause-removed : goal.returns-clause-removed
 returns-clause-removed c =
-    let inside : NetlistView = record { ports = c.self.inside.ports.items; nets = nets_of c.self.inside.nets.items; cells = cells_of c.self.inside.cells.items } in
+    let inside : NetlistView = record { library = c.self.inside.library; ports = c.self.inside.ports.items; nets = nets_of c.self.inside.nets.items; cells = cells_of c.self.inside.cells.items } in
     let live = rw (← c.self.view_is) at c.requires in
     let r = removing c.self.inside.cells.items c.clear_all.new.cells.items c.remove.new.self.items c.args.cell.0 _ _ live c.count_of-count.ensures c.output_of-output.ensures c.clear_all.ensures.cells in
     let cells = r.cells c.remove.ensures.items in
@@ -70,7 +70,7 @@ returns-clause-removed c =
 
 pub returns-clause-undriven : goal.returns-clause-undriven
 returns-clause-undriven c = λ found net at output.
-    let inside : NetlistView = record { ports = c.self.inside.ports.items; nets = nets_of c.self.inside.nets.items; cells = cells_of c.self.inside.cells.items } in
+    let inside : NetlistView = record { library = c.self.inside.library; ports = c.self.inside.ports.items; nets = nets_of c.self.inside.nets.items; cells = cells_of c.self.inside.cells.items } in
     let live = rw (← c.self.view_is) at c.requires in
     let here = rw (← c.self.view_is) at at in
     let r = removing c.self.inside.cells.items c.clear_all.new.cells.items c.remove.new.self.items c.args.cell.0 _ _ live c.count_of-count.ensures c.output_of-output.ensures c.clear_all.ensures.cells in

@@ -1,11 +1,15 @@
+use Rattle.std.proofs.Common.{length}
 use Rattle.link_model.specs.Faults.{cells_in}
 use Rattle.link_model.specs.Nets.{declared_nets, nets_in}
+use Rattle.link_arena.proofs.Parts.{are_below}
 use Rattle.netlist_link.proofs.Assembled.{is_formed}
 use Rattle.netlist_link.proofs.assemble.is_well_formed.Goals as goal
 
 pub returns : goal.returns
 returns c =
     let m = c.args.tree.now in
+    let library = c.args.netlist.now.lists.library in
     let sound = c.requires.sound in
     is_formed c.args.names.now c.args.netlist.now.lists m sound c.requires.built.named
-    (c.nets_have_their_drivers.ensures (nets_in (declared_nets m)) (cells_in m) sound.fits sound.drivers) (c.controls_are_links.ensures m sound.derived)
+    (c.nets_have_their_drivers.ensures (nets_in (declared_nets m)) (cells_in library m)
+    (are_below library (length (nets_in (declared_nets m))) (cells_in library m) sound.fits) sound.drivers) (c.controls_are_links.ensures library m sound.listed sound.derived)

@@ -7,4 +7,4 @@ instance_name-requires-clause-named c =
 
 pub cell_links-requires-clause-ports : goal.cell_links-requires-clause-ports
 cell_links-requires-clause-ports c =
-    instance_ports c.args.linked.now.arena.lists c.args.cell.0 c.args.kind c.args.library.now c.requires.linked.formed c.requires.live c.requires.kind c.requires.library
+    instance_ports c.args.linked.now.arena.lists c.args.cell.0 c.args.kind c.args.library.now c.requires.linked.named.library c.requires.linked.formed c.requires.live c.requires.kind c.requires.library

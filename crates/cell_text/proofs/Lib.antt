@@ -1,0 +1,14 @@
+pub mod Borrowed
+pub mod Counts
+pub mod Parts
+pub mod Bodies
+pub mod Barred
+pub mod Written
+pub mod Again
+pub mod Gathered
+pub mod Added
+pub mod Spelled
+pub mod Loop
+pub mod Printed
+pub mod ReadBack
+pub mod Rows

@@ -1,0 +1,32 @@
+use texts::{OutOfMemory, Text};
+use thiserror::Error;
+
+/// Why bytes spell no library; of several faults, the first by this order, and of one kind the first in the text.
+#[derive(Debug, Drop, Error)]
+pub enum LibFault {
+    /// A line that can't stand there, or where the text has no first line `cells 1` the line after the last.
+    #[error("line {line} is no line of a library, or stands where it can't")]
+    LibLine { line: u64 },
+    /// More than 4,096 cells.
+    #[error("{count} listed cells are too many")]
+    TooMany { count: u64 },
+    /// A name that no cell can have, that of one of the seven, or one that came before.
+    #[error("a cell's name that can't be one, or that is taken")]
+    LibName { name: Text },
+    /// Ports that can't be the cell's, or steps that don't leave one value.
+    #[error("a cell whose ports or steps can't be those of one")]
+    LibBody { name: Text },
+    #[error("out of memory")]
+    OutOfMemory,
+}
+
+impl From<OutOfMemory> for LibFault {
+    ghost use Rattle.std.specs.Prelude.{◌≡◌};
+    ghost use Rattle.cell_text.specs.declared.fault.LibFault.TheVariants as fault;
+
+    ghost from_gives = { λ _ e. e ≡ fault.OutOfMemory };
+
+    fn from(_error: OutOfMemory) -> LibFault {
+        LibFault::OutOfMemory
+    }
+}
