@@ -7,8 +7,8 @@ use Rattle.std.proofs.lemmas.List.Elements.{All-nil, All-cons, All-head, All-tai
 use Rattle.list_laws.proofs.Tests.{and_left, both_false, not_false}
 use Rattle.first_faults.specs.Repeated.{repeated}
 use Rattle.cell_library.specs.declared.listed.ListedCell.{ListedCell}
-use Rattle.cell_library.specs.Laws.{NamesAreExact}
-use Rattle.cell_library.specs.Library.{kind_named}
+use Rattle.cell_library.specs.Laws.{OwnNamesAreExact}
+use Rattle.cell_library.specs.Library.{own_kind_named}
 use Rattle.cell_library.specs.Sound.{is_cell_name, is_port_name, IsSoundCell, IsLibrary, IsNewTo}
 use Rattle.cell_text.specs.Words.{Words}
 use Rattle.cell_text.specs.Cells.{are_ports, cell_in}
@@ -24,7 +24,7 @@ none_there (Some x) e = absurd (cc)
 
 sound_cell : (words : Words) (cell : ListedCell) → IsCellOf words cell → is_unfit cell.name ≡ false → IsSoundCell cell
 sound_cell words cell is fit =
-    let both = both_false (not (is_cell_name cell.name)) (is_some (kind_named cell.name)) fit in
+    let both = both_false (not (is_cell_name cell.name)) (is_some (own_kind_named cell.name)) fit in
     record {
       name = not_false (is_cell_name cell.name) both.0;
       ports = passed_ports (cell.output ∷ cell.inputs) (and_left (list_all is_port_name (cell.output ∷ cell.inputs)) (is_none (repeated (cell.output ∷ cell.inputs))) is.ports);
@@ -54,7 +54,7 @@ slice_get-mapped f [] k x at = absurd (let none : None ≡ Some x = at in cc)
 slice_get-mapped {X = X} f (y ∷ xs) zero x at = let same : y ≡ x = cc in ap (λ (z : X). Some (f z)) same
 slice_get-mapped f (y ∷ xs) (suc k) x at = slice_get-mapped f xs k x at
 
-placed : NamesAreExact → (rows : List Words) (library : List ListedCell) (k : ℕ) (cell : ListedCell) → map cell_in rows ≡ map (λ (c : ListedCell). Some c) library → slice_get library k ≡ Some cell → Placed rows k cell
+placed : OwnNamesAreExact → (rows : List Words) (library : List ListedCell) (k : ℕ) (cell : ListedCell) → map cell_in rows ≡ map (λ (c : ListedCell). Some c) library → slice_get library k ≡ Some cell → Placed rows k cell
 placed exact rows library k cell same at =
     let there : slice_get (map (λ (c : ListedCell). Some c) library) k ≡ Some (Some cell) = slice_get-mapped (λ (c : ListedCell). Some c) library k cell at in
     let found = mapped_at cell_in rows k (Some cell) (ap (λ (l : List (Option ListedCell)). slice_get l k) same ∙ there) in
@@ -69,13 +69,14 @@ name_at (y ∷ rows) (suc k) words at = name_at rows k words at
 free_cell : (rows : List Words) (k : ℕ) (words : Words) (cell : ListedCell) → barred_after [] (map name_in rows) ≡ None → slice_get rows k ≡ Some words → IsCellOf words cell → IsFree (map name_in rows) k cell.name
 free_cell rows k words cell none at is = free_at (map name_in rows) k cell.name none (name_at rows k words at ∙ ap (λ (n : List ℕ). Some n) (name_is words cell is))
 
-kind_free : (name : List ℕ) → is_unfit name ≡ false → kind_named name ≡ None
-kind_free name fit = none_there (kind_named name) (both_false (not (is_cell_name name)) (is_some (kind_named name)) fit).1
+kind_free : (name : List ℕ) → is_unfit name ≡ false → own_kind_named name ≡ None
+kind_free name fit = none_there (own_kind_named name) (both_false (not (is_cell_name name)) (is_some (own_kind_named name)) fit).1
 
 within : {X : Type 0} (xs : List X) (k : ℕ) (x : X) → slice_get xs k ≡ Some x → k < length xs
 within [] k x at = absurd (let none : None ≡ Some x = at in cc)
 within (y ∷ xs) zero x at = omega arith
 within (y ∷ xs) (suc k) x at = let more = within xs k x at in omega arith
+
 taken_few : {X : Type 0} (n : ℕ) (xs : List X) → length (take n xs) ≤ n
 taken_few zero xs = omega arith
 taken_few (suc n) [] = omega arith
@@ -87,7 +88,7 @@ pub record CanAdd (library : List ListedCell) (cell : ListedCell) : Type 0 where
   pub sound : IsSoundCell cell
   pub name : IsNewTo library cell.name
 
-pub can_add : NamesAreExact → (rows : List Words) (k : ℕ) (words : Words) (library : List ListedCell) (cell : ListedCell) → CanBeCells rows → slice_get rows k ≡ Some words
+pub can_add : OwnNamesAreExact → (rows : List Words) (k : ℕ) (words : Words) (library : List ListedCell) (cell : ListedCell) → CanBeCells rows → slice_get rows k ≡ Some words
     → map cell_in (take k rows) ≡ map (λ (c : ListedCell). Some c) library → cell_in words ≡ Some cell → CanAdd library cell
 can_add exact rows k words library cell can at same e =
     let is = cell_of_line exact words cell e in
@@ -115,7 +116,7 @@ all_each : {X : Type 0} (P : X → Type 0) (xs : List X) → ((k : ℕ) (x : X) 
 all_each P [] each = All-nil P
 all_each P (x ∷ xs) each = All-cons P x xs (each 0 x refl) (all_each P xs (λ k y at. each (suc k) y at))
 
-pub are_library : NamesAreExact → (rows : List Words) (library : List ListedCell) → CanBeCells rows → map cell_in rows ≡ map (λ (c : ListedCell). Some c) library → IsLibrary library
+pub are_library : OwnNamesAreExact → (rows : List Words) (library : List ListedCell) → CanBeCells rows → map cell_in rows ≡ map (λ (c : ListedCell). Some c) library → IsLibrary library
 are_library exact rows library can same = record {
   few =
       let a : length (map cell_in rows) ≡ length (map (λ (c : ListedCell). Some c) library) = ap length same in

@@ -14,7 +14,10 @@ use Rattle.verilog_lexicon.specs.Keywords as keys
 use Rattle.first_faults.specs.Repeated.{has_name, repeated_after, repeated}
 use Rattle.first_faults.proofs.Tables.{not_before}
 use Rattle.cell_library.specs.declared.FlopKind.{FlopKind}
-use Rattle.cell_library.specs.declared.Kind.TheVariants.{Flop}
+use Rattle.cell_library.specs.declared.Edge.{Edge}
+use Rattle.cell_library.specs.declared.Edge.TheVariants.{Rise, Fall}
+use Rattle.cell_library.specs.declared.ResetTo.{ResetTo}
+use Rattle.cell_library.specs.declared.ResetTo.TheVariants.{Nothing, Zero as ToZero, One as ToOne}
 use Rattle.cell_library.specs.declared.listed.Step.{Step}
 use Rattle.cell_library.specs.declared.listed.Step.TheVariants as step
 use Rattle.cell_library.specs.declared.listed.Body.{Body}
@@ -24,9 +27,8 @@ use Rattle.cell_library.specs.Gates.{flop_operand_count}
 use Rattle.cell_library.specs.Library.{flop_name}
 use Rattle.cell_library.specs.Ports.{IsNoneOf, AreApart}
 use Rattle.cell_library.specs.Sound.{is_port_name, IsPort, wants, is_of, leaves_one, is_sound_body, IsSoundCell}
-use Rattle.cell_library.proofs.NameLaws.{named_is_found}
 use Rattle.cell_library.proofs.PortLaws.{apart_once}
-use Rattle.cell_text.specs.Words.{Words, is_colon, flop_named, of_kind, step_word, step_named, step_of, input_or}
+use Rattle.cell_text.specs.Words.{Words, is_colon, flop_named, step_word, step_named, step_of, input_or}
 use Rattle.cell_text.specs.Lines.{parted, takes, is_cell_line}
 use Rattle.cell_text.specs.Cells.{are_ports, put_before, steps_of, sound_steps, cell_of, with_ports, gate_of, flop_of, cell_in}
 use Rattle.cell_text.specs.Grammar.{body_words, cell_words}
@@ -61,7 +63,7 @@ none_repeated before [] apart new = refl
 none_repeated before (p ∷ ports) apart new =
     ap (λ (b : Bool). if b then Some p else repeated_after (before ++ p ∷ []) ports) (new 0 p refl)
     ∙ none_repeated (before ++ p ∷ []) ports apart.1 (λ k n at. has_none before p n (new (suc k) n at)
-      (bytes_eq-sym n p ∙ all_at (λ (other : List ℕ). bytes_eq p other ≡ false) ports k n apart.0 at))
+    (bytes_eq-sym n p ∙ all_at (λ (other : List ℕ). bytes_eq p other ≡ false) ports k n apart.0 at))
 
 all_so : {X : Type 0} (P Q : X → Type 0) (xs : List X) → ((x : X) → P x → Q x) → AllByRecursion P xs → AllByRecursion Q xs
 all_so P Q [] f all = tt
@@ -71,8 +73,7 @@ apart_from : (before ports : Words) → repeated_after before ports ≡ None →
 apart_from before [] none = (tt, tt)
 apart_from before (p ∷ ports) none =
     let here = not_before before ports p none in
-    let more = apart_from (before ++ p ∷ []) ports here.1 in
-    (
+    let more = apart_from (before ++ p ∷ []) ports here.1 in (
       (all_so (λ (n : List ℕ). has_name (before ++ p ∷ []) n ≡ false) (λ (n : List ℕ). bytes_eq p n ≡ false) ports (λ n h. bytes_eq-sym p n ∙ (had_none before p n h).1) more.1, more.0),
       (here.0, all_so (λ (n : List ℕ). has_name (before ++ p ∷ []) n ≡ false) (λ (n : List ℕ). has_name before n ≡ false) ports (λ n h. (had_none before p n h).0) more.1),
     )
@@ -194,8 +195,16 @@ gate_again name output inputs steps are apart counts =
     ∙ ap (λ (b : Bool). option_and_then (λ steps. with_ports name (output ∷ inputs) (body.Gate steps)) (if b then Some steps else None)) counts.one
     ∙ ap (λ (b : Bool). if b then Some (cell_of name output inputs (body.Gate steps)) else None) are
 
+name_there : (edge : Edge) (reset : ResetTo) → flop_named (flop_name edge reset) ≡ Some (record { edge = edge; reset = reset })
+name_there Rise Nothing = refl
+name_there Fall Nothing = refl
+name_there Rise ToZero = refl
+name_there Fall ToZero = refl
+name_there Rise ToOne = refl
+name_there Fall ToOne = refl
+
 pub flop_there : (kind : FlopKind) → flop_named (flop_name kind.edge kind.reset) ≡ Some kind
-flop_there kind = ap of_kind (named_is_found (Flop kind) (flop_name kind.edge kind.reset) refl)
+flop_there kind = name_there kind.edge kind.reset
 
 flop_again : (name output : List ℕ) (inputs : Words) (kind : FlopKind) → are_ports (output ∷ inputs) ≡ true → length inputs ≡ flop_operand_count kind.reset
     → cell_in (body_words name output inputs (body.Flop kind)) ≡ Some (cell_of name output inputs (body.Flop kind))
@@ -211,6 +220,7 @@ cell_again cell sound = by cell.body sound.body
   where
     are : are_ports (cell.output ∷ cell.inputs) ≡ true
     are = ports_are (cell.output ∷ cell.inputs) sound.ports sound.apart
+
     by : (b : Body) → is_sound_body (length cell.inputs) b ≡ true → cell_in (body_words cell.name cell.output cell.inputs b) ≡ Some (cell_of cell.name cell.output cell.inputs b)
     by (body.Gate steps) s = gate_again cell.name cell.output cell.inputs steps are sound.apart.1 (gate_body (length cell.inputs) steps s)
     by (body.Flop kind) s = flop_again cell.name cell.output cell.inputs kind are (eqb-true (length cell.inputs) (flop_operand_count kind.reset) s)

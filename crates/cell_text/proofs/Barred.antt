@@ -47,8 +47,7 @@ none_before before (n ∷ names) k name none at = by (is_barred before n) refl n
         → (is_unfit name ≡ false) × (has_name (before ++ take k (n ∷ names)) name ≡ false)
     by true e h k at next = absurd (let clash : Some n ≡ None = h in cc)
     by false e h zero at next =
-        let same : n ≡ name = cc in
-        (
+        let same : n ≡ name = cc in (
           ap is_unfit (sym same) ∙ or_first (is_unfit n) (has_name before n) e,
           ap (λ (l : Words). has_name l name) (append-nil before) ∙ ap (has_name before) (sym same) ∙ or_second (is_unfit n) (has_name before n) e,
         )
@@ -84,7 +83,7 @@ none_barred before (name ∷ names) fit once new =
     let free : is_barred before name ≡ false = neither (is_unfit name) (has_name before name) (fit 0 name refl) (new 0 name refl) in
     ap (λ (b : Bool). if b then Some name else barred_after (before ++ name ∷ []) names) free
     ∙ none_barred (before ++ name ∷ []) names (λ k n at. fit (suc k) n at) (λ i j n at there. suc_same i j (once (suc i) (suc j) n at there))
-      (λ k n at. pushed n (new (suc k) n at) (λ same. absurd (let zero_is : zero ≡ suc k = once 0 (suc k) n (ap (λ (x : List ℕ). Some x) (sym same)) at in cc)))
+    (λ k n at. pushed n (new (suc k) n at) (λ same. absurd (let zero_is : zero ≡ suc k = once 0 (suc k) n (ap (λ (x : List ℕ). Some x) (sym same)) at in cc)))
   where
     pushed : (n : List ℕ) → has_name before n ≡ false → (n ≡ name → ⊥) → has_name (before ++ name ∷ []) n ≡ false
     pushed n none other = push_none n name before none (never_true (bytes_eq n name) (λ e. other ((bytes_eq-Decides n name).0 e)))

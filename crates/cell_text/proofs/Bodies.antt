@@ -65,10 +65,11 @@ input_is inputs w None s at e = named (bytes_eq w (codes "0")) (bytes_eq w (code
   where
     word : (known : Step) (bytes : List ℕ) → step_word inputs known ≡ bytes → bytes_eq w bytes ≡ true → Some known ≡ Some s → step_word inputs s ≡ w
     word known bytes spelled same e = let is : known ≡ s = cc in ap (step_word inputs) (sym is) ∙ spelled ∙ sym ((bytes_eq-Decides w bytes).0 same)
+
     named : (a b c d f g h : Bool) → bytes_eq w (codes "0") ≡ a → bytes_eq w (codes "1") ≡ b → bytes_eq w (codes "not") ≡ c → bytes_eq w (codes "and") ≡ d → bytes_eq w (codes "or") ≡ f
         → bytes_eq w (codes "xor") ≡ g → bytes_eq w (codes "mux") ≡ h
         → (if a then Some (step.Const false) else if b then Some (step.Const true) else if c then Some step.Not else if d then Some step.And else if f then Some step.Or else if g then Some step.Xor
-            else if h then Some step.Mux else None) ≡ Some s → step_word inputs s ≡ w
+        else if h then Some step.Mux else None) ≡ Some s → step_word inputs s ≡ w
     named true b c d f g h ae be ce de fe ge he e = word (step.Const false) (codes "0") refl ae e
     named false true c d f g h ae be ce de fe ge he e = word (step.Const true) (codes "1") refl be e
     named false false true d f g h ae be ce de fe ge he e = word step.Not (codes "not") refl ce e

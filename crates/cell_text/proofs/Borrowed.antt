@@ -1,5 +1,5 @@
 -- Lists of borrowed words, by the bytes of the words.
-use Rattle.std.proofs.Common.{◌≡◌, ℕ, zero, suc, List, [], ◌∷◌, ◌++◌, map, take, drop, length, slice_get, slice_index_or, position, nat_lt, ◌+◌, ◌&&◌, Bool, not, cond, ◌<◌, ◌≤◌, Some, None, Bor, refl, ap, ◌∙◌, arith}
+use Rattle.std.proofs.Common.{◌≡◌, ℕ, zero, suc, List, [], ◌∷◌, ◌++◌, map, take, drop, length, slice_get, slice_index_or, get_or, position, nat_lt, ◌+◌, ◌&&◌, Bool, not, cond, ◌<◌, ◌≤◌, Some, None, Bor, refl, ap, ◌∙◌, arith}
 use Rattle.std.specs.List.{list_all, position_or_len}
 use Rattle.first_faults.specs.Repeated.{texts}
 
@@ -53,3 +53,11 @@ pub past : {X : Type 0} (xs : List X) (k : ℕ) → length xs ≤ k → slice_ge
 past [] k all = refl
 past (x ∷ xs) zero all = absurd (omega arith)
 past (x ∷ xs) (suc k) all = past xs k (omega arith)
+
+pub item_at : {X : Type 0} (xs : List X) (k : ℕ) (d : X) → k < length xs → slice_get xs k ≡ Some (get_or xs k d)
+item_at [] k d low = absurd (omega arith)
+item_at (x ∷ xs) zero d low = refl
+item_at (x ∷ xs) (suc k) d low = item_at xs k d (omega arith)
+
+pub word_at : (xs : List (Bor (List ℕ))) (k : ℕ) (d : Bor (List ℕ)) → k < length xs → slice_get (texts xs) k ≡ Some (get_or xs k d).now
+word_at xs k d low = text_at xs k (get_or xs k d) (item_at xs k d low)

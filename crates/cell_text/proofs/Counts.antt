@@ -12,19 +12,19 @@ lines_within n [] fits = omega arith
 lines_within zero (b ∷ bytes) fits = absurd (omega arith)
 lines_within (suc n) (b ∷ bytes) fits = elim (leb_tells (suc (position_or_len is_line_end (b ∷ bytes))) (length (b ∷ bytes))) [
   | inl h ↦
-    let end = position_or_len is_line_end (b ∷ bytes) in
-    let more = drop (end + 1) (b ∷ bytes) in
-    let same : length (lines_of (b ∷ bytes)) ≡ suc (length (lines_of more)) = ap length (line_within (b ∷ bytes) h.1) in
-    let left : length more ≡ length (b ∷ bytes) - (end + 1) = length-drop (end + 1) (b ∷ bytes) in
-    let short : length (lines_of more) ≤ length more = lines_within n more (omega arith) in
-    omega arith
+      let end = position_or_len is_line_end (b ∷ bytes) in
+      let more = drop (end + 1) (b ∷ bytes) in
+      let same : length (lines_of (b ∷ bytes)) ≡ suc (length (lines_of more)) = ap length (line_within (b ∷ bytes) h.1) in
+      let left : length more ≡ length (b ∷ bytes) - (end + 1) = length-drop (end + 1) (b ∷ bytes) in
+      let short : length (lines_of more) ≤ length more = lines_within n more (omega arith) in
+      omega arith
   | inr h ↦
-    let end = position_or_len is_line_end (b ∷ bytes) in
-    let same : length (lines_of (b ∷ bytes)) ≡ suc (length (lines_of (drop (length (b ∷ bytes)) (b ∷ bytes)))) = ap length (line_to_end (b ∷ bytes) (omega arith) (omega arith)) in
-    let more = drop (length (b ∷ bytes)) (b ∷ bytes) in
-    let left : length more ≡ length (b ∷ bytes) - length (b ∷ bytes) = length-drop (length (b ∷ bytes)) (b ∷ bytes) in
-    let short : length (lines_of more) ≤ length more = lines_within n more (omega arith) in
-    omega arith
+      let end = position_or_len is_line_end (b ∷ bytes) in
+      let same : length (lines_of (b ∷ bytes)) ≡ suc (length (lines_of (drop (length (b ∷ bytes)) (b ∷ bytes)))) = ap length (line_to_end (b ∷ bytes) (omega arith) (omega arith)) in
+      let more = drop (length (b ∷ bytes)) (b ∷ bytes) in
+      let left : length more ≡ length (b ∷ bytes) - length (b ∷ bytes) = length-drop (length (b ∷ bytes)) (b ∷ bytes) in
+      let short : length (lines_of more) ≤ length more = lines_within n more (omega arith) in
+      omega arith
 ]
 
 length-enumerated : {X : Type 0} (n : ℕ) (xs : List X) → length (enumerate_from n xs) ≡ length xs

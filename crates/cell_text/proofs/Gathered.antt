@@ -53,7 +53,7 @@ gathered_all done w line rest all few words none ends so_far =
     let empty : words_of line ≡ [] = words ∙ ap (λ (x : List ℕ). after_word x (words_of rest)) none ∙ ends none in
     let same : texts done ≡ all = sym (append-nil (texts done)) ∙ ap (λ (l : Words). texts done ++ l) (sym empty) ∙ so_far in
     let count = texts_length done in
-    sym (ap (take 85) (sym same) ∙ front_all (texts done) 85 (omega arith)) 
+    sym (ap (take 85) (sym same) ∙ front_all (texts done) 85 (omega arith))
 
 pub gathered_most : (done : List (Bor (List ℕ))) (line : List ℕ) (all : Words) → length done ≡ 85 → texts done ++ words_of line ≡ all → texts done ≡ take 85 all
 gathered_most done line all most so_far =

@@ -6,7 +6,7 @@ use Rattle.list_laws.proofs.Lists.{taken_more, left_at, map_push, front_all}
 use Rattle.list_laws.proofs.Options.{first_in-append}
 use Rattle.line_texts.specs.Words.{words_of}
 use Rattle.cell_library.specs.declared.listed.ListedCell.{ListedCell}
-use Rattle.cell_library.specs.Laws.{NamesAreExact}
+use Rattle.cell_library.specs.Laws.{OwnNamesAreExact}
 use Rattle.cell_text.specs.declared.fault.LibFault.{LibFault}
 use Rattle.cell_text.specs.declared.fault.LibFault.TheVariants as fault
 use Rattle.cell_text.specs.Words.{Words}
@@ -41,7 +41,7 @@ line_cell : (lines : List (Bor (List ℕ))) (k : ℕ) (line : Bor (List ℕ)) (w
 line_cell lines k line words can at gathered =
     ap cell_in (gathered ∙ all_of_front (words_of line.now) (form_at (rows_of lines) k (words_of line.now) can.forms (row_at lines k line at)))
 
-pub next_can : NamesAreExact → (lines : List (Bor (List ℕ))) (k : ℕ) (line : Bor (List ℕ)) (words : Words) (library : List ListedCell) (cell : ListedCell) → CanBeCells (rows_of lines)
+pub next_can : OwnNamesAreExact → (lines : List (Bor (List ℕ))) (k : ℕ) (line : Bor (List ℕ)) (words : Words) (library : List ListedCell) (cell : ListedCell) → CanBeCells (rows_of lines)
     → slice_get lines k ≡ Some line → words ≡ take 85 (words_of line.now) → cells_are (take k lines) library → Some cell ≡ cell_in words → CanAdd library cell
 next_can exact lines k line words library cell can at gathered so_far is =
     can_add exact (rows_of lines) k (words_of line.now) library cell can (row_at lines k line at) (ap (map cell_in) (sym (rows_take k lines)) ∙ so_far) (sym (line_cell lines k line words can at gathered) ∙ sym is)

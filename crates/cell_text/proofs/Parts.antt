@@ -1,14 +1,18 @@
 -- Words that are parted at a colon.
-use Rattle.std.proofs.Common.{◌≡◌, ◌≤◌, ◌<◌, ℕ, zero, suc, ◌+◌, ◌-◌, Bool, true, false, ◌&&◌, not, if◌then◌else◌, nat_le, List, [], ◌∷◌, ◌++◌, length, take, drop, slice_get, slice_index_or, codes, is_some, Option, Some, None, refl, sym, ap, ◌∙◌, arith, subst, append_assoc, append-nil, length-append, length-drop, leb-true, le-leb}
+use Rattle.std.proofs.Common.{◌≡◌, ◌≤◌, ◌<◌, ℕ, zero, suc, ◌+◌, ◌-◌, Bool, true, false, ◌&&◌, not, if◌then◌else◌, nat_le, List, [], ◌∷◌, ◌++◌, length, take, drop, slice_get, slice_index_or, codes, is_some, Option, Some, None, option_and_then, Result, Ok, Err, IfOk, refl, sym, ap, ◌∙◌, arith, subst, Bor, append_assoc, append-nil, length-append, length-drop, leb-true, le-leb}
 use Rattle.std.specs.List.{list_all}
 use Rattle.std.specs.Str.{bytes_eq}
 use Rattle.std.proofs.lemmas.Slice.Eq.{bytes_eq-Decides}
 use Rattle.list_laws.proofs.Bytes.{bytes_eq-same}
-use Rattle.list_laws.proofs.Lists.{slice_get_there, left_at, taken_more, none_left}
+use Rattle.list_laws.proofs.Lists.{slice_get_there, left_at, taken_more, none_left, front_all}
 use Rattle.list_laws.proofs.Tests.{and_left, and_right, not_true}
 use Rattle.cell_text.specs.Words.{Words, is_colon, is_step_count}
 use Rattle.cell_text.specs.Lines.{parted, parts_at, IsParted}
-use Rattle.cell_text.proofs.Borrowed.{index_at}
+use Rattle.cell_text.specs.Cells.{flop_in, gate_in, gate_of}
+use Rattle.first_faults.specs.Repeated.{texts}
+use Rattle.cell_library.specs.declared.listed.ListedCell.{ListedCell}
+use Rattle.texts.specs.declared.text.OutOfMemory.{OutOfMemory}
+use Rattle.cell_text.proofs.Borrowed.{index_at, texts_take, texts_drop}
 
 -- the loop over the words
 
@@ -111,3 +115,39 @@ parted_there front (w ∷ inputs) steps none few some short =
     let more = parted_there (front ++ w ∷ []) inputs steps left (omega arith) some short in
     ap (λ (b : Bool). if b && (nat_le (length front) 16 && is_step_count (length (inputs ++ codes ":" ∷ steps))) then Some (front, inputs ++ codes ":" ∷ steps) else parted (front ++ w ∷ []) (inputs ++ codes ":" ∷ steps)) no
     ∙ more ∙ ap (λ (l : Words). Some (l, steps)) (append_assoc front (w ∷ []) inputs)
+
+-- Behind the key of a flip-flop stand a name and a kind at least.
+pub flop_short : (words : List (Bor (List ℕ))) → length words < 2 → None ≡ flop_in (texts words)
+flop_short [] short = refl
+flop_short (a ∷ []) short = refl
+flop_short (a ∷ b ∷ words) short = absurd (omega arith)
+
+gate_words : (name : List ℕ) (p : Bor (List ℕ)) (ps : List (Bor (List ℕ))) (place : ℕ) → IsParted (texts ps) place
+    → gate_of name (texts (take (suc place) (p ∷ ps))) (texts (drop (place + 1) ps)) ≡ gate_in (name ∷ p.now ∷ texts ps)
+gate_words name p ps place split =
+    ap (λ (l : Words). gate_of name (p.now ∷ l) (texts (drop (place + 1) ps))) (texts_take place ps)
+    ∙ ap (λ (l : Words). gate_of name (p.now ∷ take place (texts ps)) l) (texts_drop (place + 1) ps)
+    ∙ sym (ap (option_and_then (λ (parts : Words × Words). gate_of name (p.now ∷ parts.0) parts.1)) split.parts)
+
+-- The parts of a gate's line, where what stands behind the output is parted.
+gate_found : (name : List ℕ) (ports : List (Bor (List ℕ))) (place : ℕ) → 1 ≤ length ports → IsParted (texts (drop 1 ports)) place
+    → gate_of name (texts (take (place + 1) ports)) (texts (drop (place + 1) (drop 1 ports))) ≡ gate_in (name ∷ texts ports)
+gate_found name [] place some split = absurd (omega arith)
+gate_found name (p ∷ ps) place some split =
+    let more : place + 1 ≡ suc place = omega arith in
+    ap (λ (n : ℕ). gate_of name (texts (take n (p ∷ ps))) (texts (drop (place + 1) ps))) more ∙ gate_words name p ps place split
+
+pub rest_all : {X : Type 0} (n : ℕ) (xs : List X) → take (length xs - n) (drop n xs) ≡ drop n xs
+rest_all n xs =
+    let cut : length (drop n xs) ≡ length xs - n = length-drop n xs in
+    ap (λ (k : ℕ). take k (drop n xs)) (sym cut) ∙ front_all (drop n xs) (length (drop n xs)) (omega arith)
+
+pub gate_parted : (name : List ℕ) (ports rest front back : List (Bor (List ℕ))) (place : ℕ) (r : Result (Option ListedCell) OutOfMemory) → 1 ≤ length ports → IsParted (texts rest) place
+    → IfOk r (λ found. found ≡ gate_of name (texts front) (texts back)) → rest ≡ drop 1 ports → front ≡ take (place + 1) ports → back ≡ drop (place + 1) rest
+    → IfOk r (λ found. found ≡ gate_in (name ∷ texts ports))
+gate_parted name ports rest front back place (Err e) some split is a b d = tt
+gate_parted name ports rest front back place (Ok found) some split is a b d =
+    is
+    ∙ ap (λ (l : List (Bor (List ℕ))). gate_of name (texts l) (texts back)) b
+    ∙ ap (λ (l : List (Bor (List ℕ))). gate_of name (texts (take (place + 1) ports)) (texts l)) (d ∙ ap (drop (place + 1)) a)
+    ∙ gate_found name ports place some (subst (λ (l : List (Bor (List ℕ))). IsParted (texts l) place) a split)

@@ -5,7 +5,7 @@ use Rattle.list_laws.proofs.Lists.{front_all}
 use Rattle.line_texts.specs.Words.{kept_lines}
 use Rattle.line_texts.specs.Ahead.{first_number, rest_of}
 use Rattle.cell_library.specs.declared.listed.ListedCell.{ListedCell}
-use Rattle.cell_library.specs.Laws.{NamesAreExact}
+use Rattle.cell_library.specs.Laws.{OwnNamesAreExact}
 use Rattle.cell_text.specs.declared.fault.LibFault.{LibFault}
 use Rattle.cell_text.specs.declared.fault.LibFault.TheVariants as fault
 use Rattle.cell_text.specs.declared.reading.Kept.{Kept}
@@ -90,6 +90,7 @@ body_told bytes kept f are few none first = by f (subst (λ (rows : List Words).
     told f body =
         let count = are.keeps.count in
         told_first bytes f are.forms (omega arith) (ap (λ (rows : List Words). barred_after [] (map name_in rows)) (sym (rows_are bytes kept are few)) ∙ sym none) body
+
     by : (f : LibFault) → IsFirst f (first_in body_fault (cell_rows bytes)) → IsFault bytes f
     by (fault.LibLine line) first = told (fault.LibLine line) first
     by (fault.TooMany count) first = told (fault.TooMany count) first
@@ -97,7 +98,7 @@ body_told bytes kept f are few none first = by f (subst (λ (rows : List Words).
     by (fault.LibBody name) first = told (fault.LibBody name) first
     by fault.OutOfMemory first = tt
 
-pub library_told : NamesAreExact → (bytes : List ℕ) (kept : Kept) (library : List ListedCell) → AreLines bytes kept → kept.count ≤ 4096 → None ≡ barred_after [] (map name_in (rows_of kept.lines.items))
+pub library_told : OwnNamesAreExact → (bytes : List ℕ) (kept : Kept) (library : List ListedCell) → AreLines bytes kept → kept.count ≤ 4096 → None ≡ barred_after [] (map name_in (rows_of kept.lines.items))
     → map cell_in (rows_of kept.lines.items) ≡ map (λ (c : ListedCell). Some c) library → SpellsLibrary bytes library
 library_told exact bytes kept library are few none same =
     let rows = rows_are bytes kept are few in

@@ -14,8 +14,8 @@ use Rattle.first_faults.specs.Repeated.{has_name}
 use Rattle.cell_library.specs.declared.FlopKind.{FlopKind}
 use Rattle.cell_library.specs.declared.listed.ListedCell.{ListedCell}
 use Rattle.cell_library.specs.Gates.{flop_operand_count}
-use Rattle.cell_library.specs.Laws.{NamesAreExact}
-use Rattle.cell_library.specs.Library.{kind_named, flop_name}
+use Rattle.cell_library.specs.Laws.{OwnNamesAreExact}
+use Rattle.cell_library.specs.Library.{own_kind_named, flop_name}
 use Rattle.cell_library.specs.Sound.{is_cell_name, IsSoundCell, IsLibrary}
 use Rattle.cell_text.specs.declared.fault.LibFault.{LibFault}
 use Rattle.cell_text.specs.declared.fault.LibFault.TheVariants as fault
@@ -42,7 +42,7 @@ version_is (a ∷ b ∷ []) is =
     let two : b ≡ codes "1" = (bytes_eq-Decides b (codes "1")).0 (and_right (bytes_eq a (codes "cells")) (bytes_eq b (codes "1")) is) in
     rw (one, two) refl
 
-words_of_cells : NamesAreExact → (rows : List Words) (library : List ListedCell) → map cell_in rows ≡ map (λ (c : ListedCell). Some c) library → rows ≡ map cell_words library
+words_of_cells : OwnNamesAreExact → (rows : List Words) (library : List ListedCell) → map cell_in rows ≡ map (λ (c : ListedCell). Some c) library → rows ≡ map cell_words library
 words_of_cells exact [] [] same = refl
 words_of_cells exact [] (c ∷ library) same = absurd (cc)
 words_of_cells exact (w ∷ rows) [] same = absurd (cc)
@@ -73,7 +73,7 @@ forms_all (row ∷ rows) none =
 pub can_be_cells : (bytes : List ℕ) → line_fault (end_of bytes) (kept_lines bytes) ≡ None → length (cell_rows bytes) ≤ 4096 → barred_after [] (map name_in (cell_rows bytes)) ≡ None → CanBeCells (cell_rows bytes)
 can_be_cells bytes lines few names = record { few = few; forms = forms_all (rest_of (kept_lines bytes)) (begun (end_of bytes) (kept_lines bytes) lines).1; names = names }
 
-pub spelled : NamesAreExact → (bytes : List ℕ) (library : List ListedCell) → line_fault (end_of bytes) (kept_lines bytes) ≡ None → CanBeCells (cell_rows bytes)
+pub spelled : OwnNamesAreExact → (bytes : List ℕ) (library : List ListedCell) → line_fault (end_of bytes) (kept_lines bytes) ≡ None → CanBeCells (cell_rows bytes)
     → map cell_in (cell_rows bytes) ≡ map (λ (c : ListedCell). Some c) library → SpellsLibrary bytes library
 spelled exact bytes library lines can same = record {
   lines_are = (begun (end_of bytes) (kept_lines bytes) lines).0 ∙ ap (λ (l : List Words). version_words ∷ l) (words_of_cells exact (cell_rows bytes) library same);
@@ -146,15 +146,15 @@ all_there (d ∷ library) (suc k) c all at = all_there library k c (All-tail IsS
 names_free : (library : List ListedCell) → IsLibrary library → barred_after [] (map (λ (c : ListedCell). c.name) library) ≡ None
 names_free library is = none_barred [] (map (λ (c : ListedCell). c.name) library)
     (λ k name at.
-        let found = named_at library k name at in
-        let sound = all_there library k found.0 is.sound found.1 in
-        let proper : not (is_cell_name found.0.name) ≡ false = ap not sound.name in
-        let free : is_some (kind_named found.0.name) ≡ false = ap is_some (is.named k found.0 found.1) in
-        ap is_unfit (sym found.2) ∙ neither (not (is_cell_name found.0.name)) (is_some (kind_named found.0.name)) proper free)
+    let found = named_at library k name at in
+    let sound = all_there library k found.0 is.sound found.1 in
+    let proper : not (is_cell_name found.0.name) ≡ false = ap not sound.name in
+    let free : is_some (own_kind_named found.0.name) ≡ false = ap is_some (is.named k found.0 found.1) in
+    ap is_unfit (sym found.2) ∙ neither (not (is_cell_name found.0.name)) (is_some (own_kind_named found.0.name)) proper free)
     (λ i j name at there.
-        let a = named_at library i name at in
-        let b = named_at library j name there in
-        is.once i j a.0 b.0 a.1 b.1 (a.2 ∙ sym b.2))
+    let a = named_at library i name at in
+    let b = named_at library j name there in
+    is.once i j a.0 b.0 a.1 b.1 (a.2 ∙ sym b.2))
     (λ k name at. refl)
 
 no_body_fault : (library : List ListedCell) → All IsSoundCell library → first_in body_fault (map cell_words library) ≡ None
@@ -186,9 +186,9 @@ spelled_is_faultless bytes library is =
     let count : length (map cell_words library) ≡ length library = length-map library cell_words in
     let few = is.can_be.few in
     let rules : rule_fault (map cell_words library) ≡ None =
-      ap (λ (o : Option LibFault). or_else o (or_else (name_fault (map cell_words library)) (first_in body_fault (map cell_words library)))) (count_none (map cell_words library) (omega arith))
-      ∙ ap (λ (o : Option (List ℕ)). or_else (option_map fault.LibName o) (first_in body_fault (map cell_words library))) (ap (barred_after []) (names_again library) ∙ names_free library is.can_be)
-      ∙ no_body_fault library is.can_be.sound in
+    ap (λ (o : Option LibFault). or_else o (or_else (name_fault (map cell_words library)) (first_in body_fault (map cell_words library)))) (count_none (map cell_words library) (omega arith))
+    ∙ ap (λ (o : Option (List ℕ)). or_else (option_map fault.LibName o) (first_in body_fault (map cell_words library))) (ap (barred_after []) (names_again library) ∙ names_free library is.can_be)
+    ∙ no_body_fault library is.can_be.sound in
     ap (λ (o : Option ℕ). or_else (option_map fault.LibLine o) (rule_fault (cell_rows bytes))) lines.0 ∙ ap rule_fault lines.1 ∙ rules
 
 no_line : (o : Option ℕ) → option_map fault.LibLine o ≡ None → o ≡ None
@@ -218,7 +218,7 @@ cells_there (w ∷ rows) none =
     there None e h = absurd (let some : Some (fault.LibBody (name_in w)) ≡ None = h in cc)
     there (Some c) e h = (c, e)
 
-pub faultless_is_spelled : NamesAreExact → FaultlessIsSpelled
+pub faultless_is_spelled : OwnNamesAreExact → FaultlessIsSpelled
 faultless_is_spelled exact bytes none =
     let both = or_else-parts (option_map fault.LibLine (line_fault (end_of bytes) (kept_lines bytes))) (rule_fault (cell_rows bytes)) none in
     let lines = no_line (line_fault (end_of bytes) (kept_lines bytes)) both.0 in
@@ -242,7 +242,7 @@ gate_form (name ∷ output ∷ words) is = by (parted [] words) refl is
         let p = parts_of [] words parts e in
         record { name = name; output = output; inputs = parts.0; steps = parts.1; words_are = ap (λ (l : Words). codes "gate" ∷ name ∷ output ∷ l) p.words_are; few = p.few; some = p.some; short = p.short }
 
-flop_form : NamesAreExact → (words : Words) → is_flop words ≡ true → FlopForm (codes "flop" ∷ words)
+flop_form : OwnNamesAreExact → (words : Words) → is_flop words ≡ true → FlopForm (codes "flop" ∷ words)
 flop_form exact [] is = absurd (cc)
 flop_form exact (name ∷ []) is = absurd (cc)
 flop_form exact (name ∷ word ∷ ports) is = by (flop_named word) refl is
@@ -252,15 +252,19 @@ flop_form exact (name ∷ word ∷ ports) is = by (flop_named word) refl is
     taken kind named (output ∷ inputs) t =
         let l : suc (length inputs) ≡ 1 + flop_operand_count kind.reset = eqb-true (suc (length inputs)) (1 + flop_operand_count kind.reset) t in
         record {
-          name = name; kind = kind; output = output; inputs = inputs;
+          name = name;
+          kind = kind;
+          output = output;
+          inputs = inputs;
           words_are = ap (λ (w : List ℕ). codes "flop" ∷ name ∷ w ∷ output ∷ inputs) (flop_word exact word kind named);
           count = omega arith;
         }
+
     by : (o : Option FlopKind) → flop_named word ≡ o → option_map_or (takes ports) o false ≡ true → FlopForm (codes "flop" ∷ name ∷ word ∷ ports)
     by None e is = absurd (cc)
     by (Some kind) e is = taken kind e ports is
 
-form_there : NamesAreExact → (words : Words) → is_cell_line words ≡ true → GateForm words ⊎ FlopForm words
+form_there : OwnNamesAreExact → (words : Words) → is_cell_line words ≡ true → GateForm words ⊎ FlopForm words
 form_there exact [] is = absurd (cc)
 form_there exact (key ∷ words) is = by (bytes_eq key (codes "gate")) refl is
   where
@@ -277,5 +281,5 @@ form_reads words (inr f) =
     ap is_cell_line f.words_are ∙ ap (λ (o : Option FlopKind). option_map_or (takes (f.output ∷ f.inputs)) o false) (flop_there f.kind)
     ∙ eq-eqb (suc (length f.inputs)) (1 + flop_operand_count f.kind.reset) (omega arith)
 
-pub lines_have_forms : NamesAreExact → LinesHaveForms
+pub lines_have_forms : OwnNamesAreExact → LinesHaveForms
 lines_have_forms exact words = (form_there exact words, form_reads words)

@@ -11,8 +11,8 @@ use Rattle.cell_library.specs.declared.listed.Body.{Body}
 use Rattle.cell_library.specs.declared.listed.Body.TheVariants as body
 use Rattle.cell_library.specs.declared.listed.ListedCell.{ListedCell}
 use Rattle.cell_library.specs.Gates.{flop_operand_count}
-use Rattle.cell_library.specs.Library.{flop_name, kind_named, cell_name}
-use Rattle.cell_library.specs.Laws.{NamesAreExact}
+use Rattle.cell_library.specs.Library.{flop_name, own_kind_named, own_cell_name}
+use Rattle.cell_library.specs.Laws.{OwnNamesAreExact}
 use Rattle.cell_library.specs.Sound.{leaves_one, is_sound_body}
 use Rattle.cell_text.specs.Words.{Words, of_kind, flop_named, step_word}
 use Rattle.cell_text.specs.Lines.{parted, takes}
@@ -67,6 +67,7 @@ gate_behind key name output words cell gate e = by (parted [] words) refl e
         sound true l e =
             let p = parts_of [] words parts at in
             gate_is key name output words parts.0 parts.1 steps cell gate p.words_are p.few p.some p.short (steps_are_words parts.0 parts.1 steps is) l e
+
     by : (o : Option (Words × Words)) → parted [] words ≡ o → option_and_then (λ parts. gate_of name (output ∷ parts.0) parts.1) o ≡ Some cell → IsCellOf (key ∷ name ∷ output ∷ words) cell
     by None at e = absurd (let none : None ≡ Some cell = e in cc)
     by (Some parts) at e = left parts at (steps_of parts.0 parts.1) refl e
@@ -79,18 +80,18 @@ gate_line key (name ∷ output ∷ words) cell gate e = gate_behind key name out
 -- flip-flops
 
 -- the word that names a kind of flip-flop is that kind's name
-pub flop_word : NamesAreExact → (word : List ℕ) (kind : FlopKind) → flop_named word ≡ Some kind → word ≡ flop_name kind.edge kind.reset
-flop_word exact word kind e = by (kind_named word) refl e
+pub flop_word : OwnNamesAreExact → (word : List ℕ) (kind : FlopKind) → flop_named word ≡ Some kind → word ≡ flop_name kind.edge kind.reset
+flop_word exact word kind e = by (own_kind_named word) refl e
   where
-    by : (o : Option Kind) → kind_named word ≡ o → of_kind o ≡ Some kind → word ≡ flop_name kind.edge kind.reset
+    by : (o : Option Kind) → own_kind_named word ≡ o → of_kind o ≡ Some kind → word ≡ flop_name kind.edge kind.reset
     by None at e = absurd (let none : None ≡ Some kind = e in cc)
     by (Some (Flop k)) at e =
         let same : k ≡ kind = cc in
-        let named : cell_name (Flop k) ≡ Some word = (exact word (Flop k)).0 at in
+        let named : own_cell_name (Flop k) ≡ Some word = (exact word (Flop k)).0 at in
         let name : flop_name k.edge k.reset ≡ word = cc in sym name ∙ ap (λ (x : FlopKind). flop_name x.edge x.reset) same
     by (Some other) at e = absurd (let none : None ≡ Some kind = e in cc)
 
-flop_behind : NamesAreExact → (key name word : List ℕ) (ports : Words) (cell : ListedCell) → key ≡ codes "flop" → flop_in (name ∷ word ∷ ports) ≡ Some cell → IsCellOf (key ∷ name ∷ word ∷ ports) cell
+flop_behind : OwnNamesAreExact → (key name word : List ℕ) (ports : Words) (cell : ListedCell) → key ≡ codes "flop" → flop_in (name ∷ word ∷ ports) ≡ Some cell → IsCellOf (key ∷ name ∷ word ∷ ports) cell
 flop_behind exact key name word ports cell flop e = by (flop_named word) refl e
   where
     taken : (kind : FlopKind) → flop_named word ≡ Some kind → (ports : Words) → (b : Bool) → takes ports kind ≡ b → (if b then with_ports name ports (body.Flop kind) else None) ≡ Some cell
@@ -106,16 +107,17 @@ flop_behind exact key name word ports cell flop e = by (flop_named word) refl e
           ports = both.1;
           body = eq-eqb (length inputs) (flop_operand_count kind.reset) count;
         })
+
     by : (o : Option FlopKind) → flop_named word ≡ o → option_and_then (flop_of name ports) o ≡ Some cell → IsCellOf (key ∷ name ∷ word ∷ ports) cell
     by None named e = absurd (let none : None ≡ Some cell = e in cc)
     by (Some kind) named e = taken kind named ports (takes ports kind) refl e
 
-flop_line : NamesAreExact → (key : List ℕ) (words : Words) (cell : ListedCell) → key ≡ codes "flop" → flop_in words ≡ Some cell → IsCellOf (key ∷ words) cell
+flop_line : OwnNamesAreExact → (key : List ℕ) (words : Words) (cell : ListedCell) → key ≡ codes "flop" → flop_in words ≡ Some cell → IsCellOf (key ∷ words) cell
 flop_line exact key [] cell flop e = absurd (let none : None ≡ Some cell = e in cc)
 flop_line exact key (name ∷ []) cell flop e = absurd (let none : None ≡ Some cell = e in cc)
 flop_line exact key (name ∷ word ∷ ports) cell flop e = flop_behind exact key name word ports cell flop e
 
-pub cell_of_line : NamesAreExact → (words : Words) (cell : ListedCell) → cell_in words ≡ Some cell → IsCellOf words cell
+pub cell_of_line : OwnNamesAreExact → (words : Words) (cell : ListedCell) → cell_in words ≡ Some cell → IsCellOf words cell
 cell_of_line exact [] cell e = absurd (let none : None ≡ Some cell = e in cc)
 cell_of_line exact (key ∷ words) cell e = by (bytes_eq key (codes "gate")) (bytes_eq key (codes "flop")) refl refl e
   where

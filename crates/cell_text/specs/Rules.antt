@@ -1,7 +1,7 @@
 -- own: the rules on the cells of a library's lines, and the first that is broken.
 use Rattle.std.specs.Prelude.{ℕ, ◌||◌, not, nat_lt, Bool, List, [], ◌∷◌, ◌++◌, length, map, slice_index_or, Option, Some, None, is_some, is_none, if◌then◌else◌}
 use Rattle.std.specs.Option.{option_map}
-use Rattle.cell_library.specs.Library.{kind_named}
+use Rattle.cell_library.specs.Library.{own_kind_named}
 use Rattle.cell_library.specs.Sound.{is_cell_name}
 use Rattle.first_faults.specs.First.{or_else, first_in}
 use Rattle.first_faults.specs.Repeated.{has_name}
@@ -20,7 +20,7 @@ too_many rows = if nat_lt 4096 (length rows) then Some (fault.TooMany (length ro
 
 -- the name can't be a cell's, or is one of the seven
 abbrev pub is_unfit : List ℕ → Bool
-is_unfit name = not (is_cell_name name) || is_some (kind_named name)
+is_unfit name = not (is_cell_name name) || is_some (own_kind_named name)
 
 -- so it is, or one of these
 abbrev pub is_barred : Words → List ℕ → Bool

@@ -6,7 +6,7 @@ use Rattle.cell_library.specs.declared.Kind.{Kind}
 use Rattle.cell_library.specs.declared.Kind.TheVariants.{Flop}
 use Rattle.cell_library.specs.declared.listed.Step.{Step}
 use Rattle.cell_library.specs.declared.listed.Step.TheVariants as step
-use Rattle.cell_library.specs.Library.{kind_named}
+use Rattle.cell_library.specs.Library.{own_kind_named}
 
 -- a line's words
 abbrev pub Words : Type 0
@@ -26,7 +26,7 @@ of_kind _ = None
 
 -- the kind of flip-flop that a word names, of the six
 abbrev pub flop_named : List ℕ → Option FlopKind
-flop_named word = of_kind (kind_named word)
+flop_named word = of_kind (own_kind_named word)
 
 -- the operation or constant of a word
 abbrev pub step_named : List ℕ → Option Step

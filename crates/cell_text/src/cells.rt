@@ -8,12 +8,11 @@ ghost use Rattle.cell_text.specs.Cells as cells;
 
 use crate::lines::{colon_place, takes};
 use crate::words::{flop_named, step_of};
-use cell_library::{Body, ListedCell, Step};
+use cell_library::{Body, FlopKind, ListedCell, Step};
 use first_faults::first_repeated;
 use std::alloc::Global;
 use texts::{OutOfMemory, Row, Text};
 use verilog_lexicon::keywords::{is_simple_name, reserved_of};
-
 
 /// A simple name that is no key word, of at most 255 bytes.
 pub(crate) fn is_cell_name(word: &[u8]) -> bool
@@ -28,13 +27,13 @@ fn is_port_name(word: &[u8]) -> bool
     is_cell_name(word) && word != b"mux".as_slice()
 }
 
-#[tactic(auto, using(crate::proofs::Borrowed::all_texts))]
 fn are_port_names(words: &[&[u8]]) -> bool
-    ensures { result ≡ list_all sound.is_port_name (texts words.now) }
+    ensures { result ≡ list_all (λ word. sound.is_port_name word.now) words.now }
 {
     words.iter().all(|word| is_port_name(*word))
 }
 
+#[tactic(auto, using(crate::proofs::Borrowed::all_texts))]
 fn are_ports(alloc: Global, words: &[&[u8]]) -> Result<bool, OutOfMemory>
     ensures { IfOk result (λ are. are ≡ cells.are_ports (texts words.now)) }
 {
@@ -168,34 +167,56 @@ fn gate_of(
     }
 }
 
+// What stands behind the key `gate` and a name.
+fn gate_behind(
+    alloc: Global,
+    name: &[u8],
+    ports: &[&[u8]],
+) -> Result<Option<ListedCell>, OutOfMemory>
+    ensures { IfOk result (λ found. found ≡ cells.gate_in (name.now ∷ texts ports.now)) }
+{
+    match ports {
+        [] => Ok(None),
+        [_, rest @ ..] => match colon_place(rest) {
+            None => Ok(None),
+            Some(place) => gate_of(alloc, name, &ports[..place + 1], &rest[place + 1..]),
+        },
+    }
+}
+
 // What stands behind the key `gate`.
 fn gate_in(alloc: Global, words: &[&[u8]]) -> Result<Option<ListedCell>, OutOfMemory>
     ensures { IfOk result (λ found. found ≡ cells.gate_in (texts words.now)) }
 {
     match words {
-        [name, ports @ ..] => {
-            if ports.is_empty() {
-                return Ok(None);
-            }
-            match colon_place(&ports[1..]) {
-                None => Ok(None),
-                Some(place) => gate_of(alloc, *name, &ports[..place + 1], &ports[place + 2..]),
-            }
-        }
         [] => Ok(None),
+        [name, ports @ ..] => gate_behind(alloc, *name, ports),
     }
 }
 
+fn flop_of(
+    alloc: Global,
+    name: &[u8],
+    ports: &[&[u8]],
+    kind: FlopKind,
+) -> Result<Option<ListedCell>, OutOfMemory>
+    ensures { IfOk result (λ found. found ≡ cells.flop_of name.now (texts ports.now) kind) }
+{
+    if !takes(ports, kind) {
+        return Ok(None);
+    }
+    with_ports(alloc, name, ports, Body::Flop(kind))
+}
+
 // What stands behind the key `flop`.
+#[tactic(auto, using(crate::proofs::Parts::flop_short))]
 fn flop_in(alloc: Global, words: &[&[u8]]) -> Result<Option<ListedCell>, OutOfMemory>
     ensures { IfOk result (λ found. found ≡ cells.flop_in (texts words.now)) }
 {
     match words {
         [name, kind, ports @ ..] => match flop_named(*kind) {
-            Some(kind) if takes(ports, kind) => {
-                with_ports(alloc, *name, ports, Body::Flop(kind))
-            }
-            _ => Ok(None),
+            Some(kind) => flop_of(alloc, *name, ports, kind),
+            None => Ok(None),
         },
         _ => Ok(None),
     }

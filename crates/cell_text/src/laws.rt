@@ -1,6 +1,6 @@
 ghost use Rattle.cell_text.specs.Laws.{SpelledOnce, SpelledIsFaultless, FaultlessIsSpelled, LinesHaveForms};
 
-use cell_library::library_names_are_exact;
+use cell_library::own_names_are_exact;
 
 /// A law: bytes spell one library, or have a fault, and not both.
 pub fn texts_of_libraries_are_spelled_or_at_fault()
@@ -8,12 +8,12 @@ pub fn texts_of_libraries_are_spelled_or_at_fault()
     ensures faultless { SpelledIsFaultless }
     ensures spelled { FaultlessIsSpelled }
 {
-    library_names_are_exact();
+    own_names_are_exact();
 }
 
 /// A law: a line has the form of a cell's exactly where its words are written so.
 pub fn lines_have_forms()
     ensures { LinesHaveForms }
 {
-    library_names_are_exact();
+    own_names_are_exact();
 }

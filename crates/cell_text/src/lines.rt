@@ -2,10 +2,11 @@
 ghost use Rattle.std.specs.Prelude.{◌≡◌, ◌+◌, ◌<◌, ◌≤◌, [], length, take, drop, IfOk, None, Some, MatchOption};
 ghost use Rattle.line_texts.specs.Words.{words_of};
 ghost use Rattle.first_faults.specs.Repeated.{texts};
+ghost use Rattle.cell_library.specs.Gates.{flop_operand_count};
 ghost use Rattle.cell_text.specs.Lines as lines;
 
 use crate::words::{flop_named, gather_words, is_colon};
-use cell_library::{FlopKind, Kind, operand_port_count};
+use cell_library::{FlopKind, ResetTo};
 use line_texts::two_words;
 use texts::OutOfMemory;
 
@@ -42,11 +43,20 @@ pub(crate) fn colon_place(words: &[&[u8]]) -> Option<usize>
     None
 }
 
+fn operand_count(kind: FlopKind) -> usize
+    ensures { result ≡ flop_operand_count kind.reset }
+{
+    match kind.reset {
+        ResetTo::Nothing => 2,
+        ResetTo::Zero | ResetTo::One => 3,
+    }
+}
+
 /// An output, and as many inputs as the kind's operands.
 pub(crate) fn takes(ports: &[&[u8]], kind: FlopKind) -> bool
     ensures { result ≡ lines.takes (texts ports.now) kind }
 {
-    ports.len() == 1 + operand_port_count(Kind::Flop(kind)) as usize
+    ports.len() == 1 + operand_count(kind)
 }
 
 fn is_gate(words: &[&[u8]]) -> bool

@@ -6,7 +6,7 @@ ghost use Rattle.cell_text.specs.Reading.{rows_of, fit_count};
 
 use crate::cells::is_cell_name;
 use crate::words::name_in;
-use cell_library::kind_of;
+use cell_library::own_kind_of;
 use first_faults::first_repeated;
 use std::alloc::Global;
 use texts::OutOfMemory;
@@ -15,7 +15,7 @@ use texts::OutOfMemory;
 fn is_unfit(name: &[u8]) -> bool
     ensures { result ≡ rules.is_unfit name.now }
 {
-    !is_cell_name(name) || kind_of(name).is_some()
+    !is_cell_name(name) || own_kind_of(name).is_some()
 }
 
 fn gather_names<'a>(alloc: Global, lines: &[&'a [u8]]) -> Result<Vec<&'a [u8]>, OutOfMemory>

@@ -64,10 +64,10 @@ fn put_body(text: &mut Text, inputs: &[Text], steps: &[Step]) -> Result<(), OutO
     put_steps(text, inputs, steps)
 }
 
-fn flop_name(kind: FlopKind) -> &'static [u8]
+fn flop_name(library: &Library, kind: FlopKind) -> &[u8]
     ensures { result.now ≡ flop_name kind.edge kind.reset }
 {
-    match cell_name(Kind::Flop(kind)) {
+    match cell_name(library, Kind::Flop(kind)) {
         Some(name) => name,
         None => unreachable!(),
     }
@@ -93,23 +93,28 @@ fn put_gate(text: &mut Text, cell: &ListedCell, steps: &[Step]) -> Result<(), Ou
 }
 
 #[tactic(auto, using(crate::proofs::Printed::flop_text))]
-fn put_flop(text: &mut Text, cell: &ListedCell, kind: FlopKind) -> Result<(), OutOfMemory>
+fn put_flop(
+    text: &mut Text,
+    library: &Library,
+    cell: &ListedCell,
+    kind: FlopKind,
+) -> Result<(), OutOfMemory>
     ensures { OnOk result (text.new ≡ text.old ++ row_text
         (grammar.body_words cell.now.name cell.now.output cell.now.inputs (Body.Flop kind))) }
 {
     put_head(text, b"flop", cell.name.as_bytes())?;
-    put_word(text, flop_name(kind))?;
+    put_word(text, flop_name(library, kind))?;
     put_word(text, cell.output.as_bytes())?;
     put_words(text, cell.inputs.as_slice())?;
     text.push(b'\n')
 }
 
-fn put_cell(text: &mut Text, cell: &ListedCell) -> Result<(), OutOfMemory>
+fn put_cell(text: &mut Text, library: &Library, cell: &ListedCell) -> Result<(), OutOfMemory>
     ensures { OnOk result (text.new ≡ text.old ++ row_text (grammar.cell_words cell.now)) }
 {
     match &cell.body {
         Body::Gate(steps) => put_gate(text, cell, steps.as_slice()),
-        Body::Flop(kind) => put_flop(text, cell, *kind),
+        Body::Flop(kind) => put_flop(text, library, cell, *kind),
     }
 }
 
@@ -118,7 +123,7 @@ fn put_cells(text: &mut Text, library: &Library) -> Result<(), OutOfMemory>
     ensures { OnOk result (text.new ≡ text.old ++ rows_text (map grammar.cell_words library.now)) }
 {
     for number in 0..library.count() {
-        put_cell(text, library.cell(number))?;
+        put_cell(text, library, library.cell(number))?;
     }
     Ok(())
 }

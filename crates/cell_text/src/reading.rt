@@ -13,7 +13,7 @@ use crate::fault::LibFault;
 use crate::lines::{is_cell_line, is_version};
 use crate::names::find_barred;
 use crate::words::{gather_words, name_in};
-use cell_library::{Library, library_names_are_exact};
+use cell_library::{Library, own_names_are_exact};
 use line_texts::LineReader;
 use std::alloc::Global;
 use texts::{OutOfMemory, Text};
@@ -98,7 +98,7 @@ fn add_cells(alloc: Global, lines: &[&[u8]]) -> Result<Library, LibFault>
     ensures cells { IfOk result (λ library. map cells.cell_in (reading.rows_of lines.now) ≡ map Some library) }
     ensures fault { IfErr result (λ f. reading.IsFirst f (first_in rules.body_fault (reading.rows_of lines.now))) }
 {
-    library_names_are_exact();
+    own_names_are_exact();
     let mut library = Library::new(alloc);
     let mut words = Vec::new(alloc);
     for line in lines {
@@ -121,7 +121,7 @@ pub fn read_library(alloc: Global, bytes: &[u8]) -> Result<Library, LibFault>
     ensures spelled { IfOk result (SpellsLibrary bytes.now) }
     ensures fault { IfErr result (faults.IsFault bytes.now) }
 {
-    library_names_are_exact();
+    own_names_are_exact();
     let kept = read_lines(alloc, bytes)?;
     if kept.count > LIMIT as u64 {
         return Err(LibFault::TooMany { count: kept.count });

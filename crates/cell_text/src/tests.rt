@@ -32,10 +32,19 @@ and and and and and and and and and and and and and and and and";
 
 // The rows, each with its answer: first those that are right, then the faults, then those that surprise.
 const ROWS: [(&[u8], Told); 42] = [
-    (b"cells 1\ngate AOI21 Y A B C : A B and C or not\n", Told::Cells(1)),
+    (
+        b"cells 1\ngate AOI21 Y A B C : A B and C or not\n",
+        Told::Cells(1),
+    ),
     (b"cells 1", Told::Cells(0)),
-    (b"# a remark\n\tcells 1 \r\nflop FD DFFR Q D CP CDN\ngate T Y : 1", Told::Cells(2)),
-    (b"cells 1\ngate M Y S A B : S A B mux\nflop F DFFN Q D C", Told::Cells(2)),
+    (
+        b"# a remark\n\tcells 1 \r\nflop FD DFFR Q D CP CDN\ngate T Y : 1",
+        Told::Cells(2),
+    ),
+    (
+        b"cells 1\ngate M Y S A B : S A B mux\nflop F DFFN Q D C",
+        Told::Cells(2),
+    ),
     (LONG_STEPS, Told::Cells(1)),
     (b"cells 2\n", Told::Line(1)),
     (b"", Told::Line(1)),
@@ -47,7 +56,10 @@ const ROWS: [(&[u8], Told); 42] = [
     (b"cells 1\ngate G Y A\n", Told::Line(2)),
     (b"cells 1\ngate G Y A :\n", Told::Line(2)),
     (b"cells 1\ngates G Y A : A\n", Told::Line(2)),
-    (b"cells 1\ngate G Y a b c d e f g h i j k l m n o p q : a\n", Told::Line(2)),
+    (
+        b"cells 1\ngate G Y a b c d e f g h i j k l m n o p q : a\n",
+        Told::Line(2),
+    ),
     (TOO_MANY_STEPS, Told::Line(2)),
     (b"cells 1\nflop F DFFR Q D CK\n", Told::Line(2)),
     (b"cells 1\nflop F DFF Q D CK R\n", Told::Line(2)),
@@ -58,8 +70,14 @@ const ROWS: [(&[u8], Told); 42] = [
     (b"cells 1\ngate : Y A : A\n", Told::Name(b":")),
     (b"cells 1\ngate 2G Y A : A\n", Told::Name(b"2G")),
     (b"cells 1\ngate G\x0c Y A : A\n", Told::Name(b"G\x0c")),
-    (b"cells 1\ngate G Y A : A\ngate H Y A : A\ngate G Y A : A not\n", Told::Name(b"G")),
-    (b"cells 1\ngate B Y A : and\ngate G Y A : A\nflop G DFF Q D C\n", Told::Name(b"G")),
+    (
+        b"cells 1\ngate G Y A : A\ngate H Y A : A\ngate G Y A : A not\n",
+        Told::Name(b"G"),
+    ),
+    (
+        b"cells 1\ngate B Y A : and\ngate G Y A : A\nflop G DFF Q D C\n",
+        Told::Name(b"G"),
+    ),
     (b"cells 1\ngate G Y A : A and\n", Told::Body(b"G")),
     (b"cells 1\ngate G Y A : not\n", Told::Body(b"G")),
     (b"cells 1\ngate G Y A B : A B mux\n", Told::Body(b"G")),
@@ -72,7 +90,10 @@ const ROWS: [(&[u8], Told); 42] = [
     (b"cells 1\nflop F DFF mux D C\n", Told::Body(b"F")),
     (b"cells 1\ngate G : : A\n", Told::Body(b"G")),
     (b"cells 1\ngate G Y A : A : A\n", Told::Body(b"G")),
-    (b"cells 1\ngate G Y a b c d e f g h i j k l m n : : a\n", Told::Body(b"G")),
+    (
+        b"cells 1\ngate G Y a b c d e f g h i j k l m n : : a\n",
+        Told::Body(b"G"),
+    ),
     (SEVENTEEN_VALUES, Told::Body(b"G")),
 ];
 
@@ -131,7 +152,8 @@ fn a_long_name_is_none(rt: HostRuntime) -> Result<(), Fail> {
 
 #[test]
 fn a_library_gives_values_and_is_printed(rt: HostRuntime) -> Result<(), Fail> {
-    let text = b"cells 1\n gate AOI21 Y A B C : A B and C or not\n\nflop F DFFNS Q D C S".as_slice();
+    let text =
+        b"cells 1\n gate AOI21 Y A B C : A B and C or not\n\nflop F DFFNS Q D C S".as_slice();
     let read = match read_library(rt.alloc(), text) {
         Ok(library) => library,
         Err(_) => return Ok(assert!(rt; false)),
@@ -142,7 +164,8 @@ fn a_library_gives_values_and_is_printed(rt: HostRuntime) -> Result<(), Fail> {
     let values = [Sig::Zero, Sig::Unknown, Sig::Zero];
     assert!(rt; library.output_of(0, &values) == Sig::One);
     let printed = print_library(rt.alloc(), &library)?;
-    let wanted = b"cells 1\ngate AOI21 Y A B C : A B and C or not\nflop F DFFNS Q D C S\n".as_slice();
+    let wanted =
+        b"cells 1\ngate AOI21 Y A B C : A B and C or not\nflop F DFFNS Q D C S\n".as_slice();
     assert!(rt; printed.as_bytes() == wanted);
     Ok(())
 }

@@ -6,7 +6,7 @@ ghost use Rattle.first_faults.specs.Repeated.{texts};
 ghost use Rattle.cell_text.specs.Words as words;
 ghost use Rattle.cell_text.specs.Rules.{name_in};
 
-use cell_library::{FlopKind, Kind, Step, kind_of};
+use cell_library::{FlopKind, Kind, Step, own_kind_of};
 use line_texts::next_word;
 use texts::OutOfMemory;
 
@@ -14,10 +14,7 @@ use texts::OutOfMemory;
 const MOST_WORDS: usize = 84;
 
 /// The first 85 words of a line.
-pub(crate) fn gather_words<'a>(
-    line: &'a [u8],
-    words: &mut Vec<&'a [u8]>,
-) -> Result<(), OutOfMemory>
+pub(crate) fn gather_words<'a>(line: &'a [u8], words: &mut Vec<&'a [u8]>) -> Result<(), OutOfMemory>
     ensures { IfOk result (λ _. texts words.new.items ≡ take 85 (words_of line.now)) }
 {
     words.clear();
@@ -52,7 +49,7 @@ pub(crate) fn is_colon(word: &[u8]) -> bool
 pub(crate) fn flop_named(word: &[u8]) -> Option<FlopKind>
     ensures { result ≡ words.flop_named word.now }
 {
-    match kind_of(word) {
+    match own_kind_of(word) {
         Some(Kind::Flop(kind)) => Some(kind),
         _ => None,
     }
@@ -82,12 +79,13 @@ fn step_named(word: &[u8]) -> Option<Step>
 
 // The first place of a name.
 fn place_of(names: &[&[u8]], word: &[u8]) -> Option<usize>
-    ensures { result ≡ position (λ name. bytes_eq name word.now) (texts names.now) }
+    ensures { result ≡ position (λ name. bytes_eq name.now word.now) names.now }
 {
     names.iter().position(|name| *name == word)
 }
 
 /// The step of a word.
+#[tactic(auto, using(crate::proofs::Borrowed::position_texts))]
 pub(crate) fn step_of(inputs: &[&[u8]], word: &[u8]) -> Option<Step>
     requires { length inputs.now ≤ 16 }
     ensures { result ≡ words.step_of (texts inputs.now) word.now }

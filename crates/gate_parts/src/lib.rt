@@ -39,7 +39,7 @@ pub use laws::{
     contained_part_has_flops, contained_part_meets, flop_starts, flop_steps, free_net_stays,
     growth_keeps, levels_number, part_leaves_free_nets,
 };
-use netlist_arena::Netlist;
+pub use netlist_arena::Netlist;
 use netlist_model::{Feed, Name, NetId};
 
 /// What a gate of a table reads: the net of another gate of the table, or something that is handed in, by its place.

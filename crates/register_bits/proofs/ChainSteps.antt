@@ -9,7 +9,7 @@ use Rattle.netlist_model.specs.declared.Feed.{Feed}
 use Rattle.netlist_model.specs.declared.Feed.TheVariants.{Const}
 use Rattle.netlist_model.specs.Lists.{CellView, cell_count}
 use Rattle.netlist_model.specs.Contained.{IsDense}
-use Rattle.netlist_arena.specs.Arena.{ArenaView}
+use Rattle.gate_parts.specs.Arena.{ArenaView}
 use Rattle.gate_parts.specs.Appended.{Appended}
 use Rattle.gate_parts.specs.Laws.{AppendedNone, AppendedCount, AppendedMore}
 use Rattle.register_bits.specs.declared.Steering.{Steering}

@@ -7,8 +7,7 @@ ghost use Rattle.register_bits.specs.Bits.{AreNetsBelow};
 ghost use Rattle.register_bits.specs.Chains.{chain_cells, chain_last};
 
 use crate::{Steering, add_shift_bit};
-use gate_parts::{appended_count, appended_more, appended_none};
-use netlist_arena::Netlist;
+use gate_parts::{Netlist, appended_count, appended_more, appended_none};
 use netlist_model::{Feed, NetId};
 
 /// Adds a shift stage to a dense netlist, with a bit for each operand that it captures, the first of which is nearest TDO. It answers

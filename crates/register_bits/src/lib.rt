@@ -22,9 +22,8 @@ mod laws;
 
 use cell_library::{Edge, FlopKind, Kind, ResetTo};
 pub use chain::add_shift_chain;
-use gate_parts::{Gate, Pin, Pins, add_part};
+use gate_parts::{Gate, Netlist, Pin, Pins, add_part};
 pub use laws::{chains_follow, held_bits_follow, shift_bits_follow};
-use netlist_arena::Netlist;
 use netlist_model::{Feed, NetId};
 
 /// What steers the bits of a shift stage: TCK, TRST, and nets that are 1 exactly where the register captures, and where it shifts, on

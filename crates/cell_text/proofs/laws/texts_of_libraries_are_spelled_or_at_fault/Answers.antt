@@ -8,4 +8,4 @@ pub returns-clause-faultless : goal.returns-clause-faultless
 returns-clause-faultless c = spelled_is_faultless
 
 pub returns-clause-spelled : goal.returns-clause-spelled
-returns-clause-spelled c = faultless_is_spelled c.library_names_are_exact.ensures
+returns-clause-spelled c = faultless_is_spelled c.own_names_are_exact.ensures

@@ -1,4 +1,4 @@
-use Rattle.std.proofs.Common.{◌≡◌, ℕ, List, Some, true, false, sym, ap, ◌∙◌}
+use Rattle.std.proofs.Common.{ℕ, List, Some, sym, ap, ◌∙◌}
 use Rattle.cell_library.specs.Library.{operand_ports}
 use Rattle.link_model.specs.declared.fault.LinkFault.TheVariants.{PortMissing}
 use Rattle.link_names.proofs.PortPlaces.{missing_next, missing_here}
