@@ -1,18 +1,15 @@
 // Which nets stand in the cones of clocks, clears and presets.
 
 ghost use Rattle.std.specs.Prelude.{◌≡◌, ◌≤◌, ◌<◌, ◌↔◌, ℕ, IsSome, IsTrue, length, vec_capacity};
-ghost use Rattle.netlist_model.specs.Lists.{cell_count};
 ghost use Rattle.netlist_model.specs.Cones.{FlopReads, IsClockPort, IsControlPort};
-ghost use Rattle.netlist_model.specs.Contained.{IsDense};
 ghost use Rattle.netlist_model.specs.Formed.{IsWellFormed};
 ghost use Rattle.netlist_model.specs.Orders.{IsCellOrder};
 ghost use Rattle.netlist_arena.specs.Looks.{IsLive, feed_at};
 ghost use Rattle.cell_order.specs.Marks.{AddsMarks, AreInputs, FlopReadsAt, IsInConeOf, IsMarked, DrivesMarked, IsRead, IsReadAt, IsReadOfMarked};
 ghost use Rattle.cell_order.specs.Tables.{AreFlags};
 
-use crate::packed::Packed;
 use crate::room::refill;
-use netlist_laws::numbers_of_a_dense_netlist;
+use netlist_arena::Netlist;
 use netlist_model::{CellId, Feed};
 
 const CLOCK_PLACE: u32 = 1;
@@ -21,13 +18,11 @@ const CLEAR_PLACE: u32 = 2;
 
 /// Flags the control ports.
 pub(crate) fn flag_controls(
-    netlist: &Packed,
+    netlist: &Netlist,
     order: &[CellId],
     inputs: &[bool],
     flags: &mut Vec<bool>,
 )
-    requires formed { IsWellFormed netlist.now.lists }
-    requires dense { IsDense netlist.now.lists }
     requires order { IsCellOrder netlist.now.lists order.now }
     requires inputs { AreInputs netlist.now.lists inputs.now }
     requires room { length netlist.now.lists.nets ≤ vec_capacity flags.old }
@@ -36,21 +31,19 @@ pub(crate) fn flag_controls(
 {
     refill(flags, netlist.net_count(), false);
     let marks = flags.as_mut_slice();
-    mark_operands(netlist, CLOCK_PLACE, marks);
-    mark_operands(netlist, CLEAR_PLACE, marks);
+    mark_operands(netlist, order, CLOCK_PLACE, marks);
+    mark_operands(netlist, order, CLEAR_PLACE, marks);
     spread(netlist, order, marks);
     keep_inputs(inputs, marks);
 }
 
 /// Flags the clock ports.
 pub(crate) fn flag_clocks(
-    netlist: &Packed,
+    netlist: &Netlist,
     order: &[CellId],
     inputs: &[bool],
     flags: &mut Vec<bool>,
 )
-    requires formed { IsWellFormed netlist.now.lists }
-    requires dense { IsDense netlist.now.lists }
     requires order { IsCellOrder netlist.now.lists order.now }
     requires inputs { AreInputs netlist.now.lists inputs.now }
     requires room { length netlist.now.lists.nets ≤ vec_capacity flags.old }
@@ -59,25 +52,24 @@ pub(crate) fn flag_clocks(
 {
     refill(flags, netlist.net_count(), false);
     let marks = flags.as_mut_slice();
-    mark_operands(netlist, CLOCK_PLACE, marks);
+    mark_operands(netlist, order, CLOCK_PLACE, marks);
     spread(netlist, order, marks);
     keep_inputs(inputs, marks);
 }
 
 // Marks the net that each flip-flop reads at a place.
-fn mark_operands(netlist: &Packed, place: u32, marks: &mut [bool])
-    requires dense { IsDense netlist.now.lists }
+fn mark_operands(netlist: &Netlist, order: &[CellId], place: u32, marks: &mut [bool])
+    requires order { IsCellOrder netlist.now.lists order.now }
     requires long { length marks.old ≡ length netlist.now.lists.nets }
     ensures { AddsMarks (FlopReads netlist.now.lists place) marks.old marks.new }
 {
-    numbers_of_a_dense_netlist();
-    for number in 0..netlist.cell_count() {
-        mark_operand(netlist, CellId(number), place, marks);
+    for spot in 0..order.len() {
+        mark_operand(netlist, order[spot], place, marks);
     }
 }
 
 // Marks the net that a cell reads at a place, if it is a flip-flop.
-fn mark_operand(netlist: &Packed, cell: CellId, place: u32, marks: &mut [bool])
+fn mark_operand(netlist: &Netlist, cell: CellId, place: u32, marks: &mut [bool])
     requires live { IsLive netlist.now.lists cell.0 }
     requires long { length marks.old ≡ length netlist.now.lists.nets }
     ensures { AddsMarks (FlopReadsAt netlist.now.lists cell.0 place) marks.old marks.new }
@@ -88,7 +80,7 @@ fn mark_operand(netlist: &Packed, cell: CellId, place: u32, marks: &mut [bool])
 }
 
 // Marks the net that a cell reads at a place, if it is one.
-fn mark_feed(netlist: &Packed, cell: CellId, place: u32, marks: &mut [bool])
+fn mark_feed(netlist: &Netlist, cell: CellId, place: u32, marks: &mut [bool])
     requires there { IsSome (feed_at netlist.now.lists cell.0 place) }
     requires long { length marks.old ≡ length netlist.now.lists.nets }
     ensures { AddsMarks (IsReadAt netlist.now.lists cell.0 place) marks.old marks.new }
@@ -99,7 +91,7 @@ fn mark_feed(netlist: &Packed, cell: CellId, place: u32, marks: &mut [bool])
 }
 
 // Marks the cones of the marked nets, from the end of the order.
-fn spread(netlist: &Packed, order: &[CellId], marks: &mut [bool])
+fn spread(netlist: &Netlist, order: &[CellId], marks: &mut [bool])
     requires order { IsCellOrder netlist.now.lists order.now }
     requires long { length marks.old ≡ length netlist.now.lists.nets }
     ensures long { length marks.new ≡ length marks.old }
@@ -112,7 +104,7 @@ fn spread(netlist: &Packed, order: &[CellId], marks: &mut [bool])
 }
 
 // Marks what a gate reads, where it drives a marked net.
-fn spread_one(netlist: &Packed, cell: CellId, marks: &mut [bool])
+fn spread_one(netlist: &Netlist, cell: CellId, marks: &mut [bool])
     requires live { IsLive netlist.now.lists cell.0 }
     requires long { length marks.old ≡ length netlist.now.lists.nets }
     ensures { AddsMarks (IsReadOfMarked netlist.now.lists marks.old cell.0) marks.old marks.new }
@@ -126,7 +118,7 @@ fn spread_one(netlist: &Packed, cell: CellId, marks: &mut [bool])
 }
 
 // Whether a cell drives a marked net.
-fn drives_marked(netlist: &Packed, cell: CellId, marks: &[bool]) -> bool
+fn drives_marked(netlist: &Netlist, cell: CellId, marks: &[bool]) -> bool
     requires live { IsLive netlist.now.lists cell.0 }
     requires long { length marks.now ≡ length netlist.now.lists.nets }
     ensures { IsTrue result ↔ DrivesMarked netlist.now.lists marks.now cell.0 }
@@ -138,7 +130,7 @@ fn drives_marked(netlist: &Packed, cell: CellId, marks: &[bool]) -> bool
 }
 
 // Marks the nets that a cell reads.
-fn mark_feeds(netlist: &Packed, cell: CellId, marks: &mut [bool])
+fn mark_feeds(netlist: &Netlist, cell: CellId, marks: &mut [bool])
     requires live { IsLive netlist.now.lists cell.0 }
     requires long { length marks.old ≡ length netlist.now.lists.nets }
     ensures { AddsMarks (IsRead netlist.now.lists cell.0) marks.old marks.new }

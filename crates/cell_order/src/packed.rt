@@ -5,11 +5,15 @@ ghost use Rattle.cell_library.specs.Gates.{flop_of};
 ghost use Rattle.netlist_model.specs.Lists.{CellView, cell_at, cell_count};
 ghost use Rattle.netlist_model.specs.Below.{IsFeedBelow, IsNetBelow};
 ghost use Rattle.netlist_model.specs.Formed.{IsLaidOut};
-ghost use Rattle.netlist_model.specs.Orders.{StandsAt};
+ghost use Rattle.netlist_model.specs.Orders.{IsCellOrder, StandsAt};
 ghost use Rattle.netlist_arena.specs.Looks.{IsDrivenOnce, IsLive, feed_at};
 ghost use Rattle.cell_order.specs.Packed.{AreLiveCells, cell_under, packed};
+ghost use Rattle.cell_order.specs.Walk.{HasWalkRoom, IsClosed, KeepsRoom};
 
+use crate::drivers::note_drivers;
+use crate::order::order_cells;
 use crate::room::push_reserved;
+use crate::walk::Walk;
 use cell_library::FlopKind;
 use netlist_arena::Netlist;
 use netlist_model::{CellId, Feed, NetId};
@@ -114,8 +118,8 @@ fn number_of(netlist: &Netlist, cells: &[CellId], cell: CellId) -> CellId
     cells[cell.0 as usize]
 }
 
-/// Lists the live cells by rising number.
-pub(crate) fn note_cells(netlist: &Netlist, cells: &mut Vec<CellId>)
+// Lists the live cells by rising number.
+fn note_cells(netlist: &Netlist, cells: &mut Vec<CellId>)
     requires room { cell_count netlist.now.lists ≤ vec_capacity cells.old }
     ensures all { AreLiveCells netlist.now.lists cells.new.items }
     ensures count { length cells.new.items ≡ cell_count netlist.now.lists }
@@ -129,8 +133,40 @@ pub(crate) fn note_cells(netlist: &Netlist, cells: &mut Vec<CellId>)
     }
 }
 
-/// Puts in place of each number that which the list has under it.
-pub(crate) fn unpack(order: &mut [CellId], cells: &[CellId])
+/// Orders the cells of a netlist, or answers a cell of a path that closes there.
+pub(crate) fn search(
+    netlist: &Netlist,
+    live: &mut Vec<CellId>,
+    drivers: &mut Vec<Option<CellId>>,
+    walk: &mut Walk,
+) -> Option<CellId>
+    requires live { cell_count netlist.now.lists ≤ vec_capacity live.old }
+    requires drivers { length netlist.now.lists.nets ≤ vec_capacity drivers.old }
+    requires walk { HasWalkRoom (cell_count netlist.now.lists) walk.old }
+    ensures found { MatchOption result (IsCellOrder netlist.now.lists walk.new.order.items)
+        (λ on. IsClosed netlist.now.lists walk.new.path.items on.0) }
+    ensures live_room { vec_capacity live.old ≤ vec_capacity live.new }
+    ensures driver_room { vec_capacity drivers.old ≤ vec_capacity drivers.new }
+    ensures walk_room { KeepsRoom walk.old walk.new }
+{
+    note_cells(netlist, live);
+    let cells = live.as_slice();
+    let packed = Packed::new(netlist, cells);
+    note_drivers(&packed, drivers);
+    match order_cells(&packed, drivers.as_slice(), walk) {
+        None => {
+            unpack(walk.order.as_mut_slice(), cells);
+            None
+        }
+        Some(on) => {
+            unpack(walk.path.as_mut_slice(), cells);
+            Some(cells[on.0 as usize])
+        }
+    }
+}
+
+// Puts in place of each number that which the list has under it.
+fn unpack(order: &mut [CellId], cells: &[CellId])
     requires { (place number : ℕ) → StandsAt order.old place number → number < length cells.now }
     ensures { order.new ≡ map (cell_under cells.now) order.old }
 {

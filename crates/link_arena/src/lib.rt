@@ -46,21 +46,21 @@ pub struct Built {
     pub names: NameTable,
 }
 
-/// The netlist that the module denotes, and the table of its names. The nets are given back before the cells are added.
+/// The netlist that the module denotes, and the table of its names.
 pub fn build(
     alloc: Global,
     library: Library,
     tree: &Module,
-    nets: Vec<NetBit>,
+    nets: &[NetBit],
     cells: &[ItemCell],
 ) -> Result<Built, OutOfMemory>
     requires tree { IsTree tree.now }
     requires library { IsLibrary library }
     requires clear { text_fault library tree.now ≡ None }
-    requires nets { nets.items ≡ nets_in (declared_nets tree.now) }
+    requires nets { nets.now ≡ nets_in (declared_nets tree.now) }
     requires cells { cells.now ≡ cells_in library tree.now }
-    requires fits { FitCells library (length nets.items) cells.now }
-    requires driven { driver_fault nets.items cells.now ≡ None }
+    requires fits { FitCells library (length nets.now) cells.now }
+    requires driven { driver_fault nets.now cells.now ≡ None }
     ensures named { IfOk result (λ built. IsNamed built.names built.netlist.lists (denoted library tree.now)) }
     ensures library { IfOk result (λ built. built.netlist.lists.library ≡ library) }
     ensures dense { IfOk result (λ built. IsDense built.netlist.lists) }

@@ -161,19 +161,19 @@ first_in-map g test (x ∷ xs) = or_else-map g (test x) (first_in test xs) ∙ a
 abbrev pub link_pair : ControlLink → List ℕ × ℕ
 link_pair link = (link.flop, link.net)
 
-abbrev pub is_found_link : List (Option ℕ) → List Bool → ControlLink → Bool
-is_found_link drivers found link = is_found_net drivers found link.net
+abbrev pub is_found_link : List Bool → ControlLink → Bool
+is_found_link marks link = is_found_net marks link.net
 
-module _ (library : List ListedCell) (drivers : List (Option ℕ)) (found : List Bool) (names : List (List ℕ × Declared)) where
+module _ (library : List ListedCell) (marks : List Bool) (names : List (List ℕ × Declared)) where
   bit_pair : (flop : List ℕ) (net : ℕ) (b : Bool) → option_map (λ (n : ℕ). (flop, n)) (if b then Some net else None) ≡ option_map link_pair (cond b (Some (record { flop = flop; net = net })) None)
   bit_pair flop net true = refl
   bit_pair flop net false = refl
 
-  operand_pair : (flop : List ℕ) (o : Option Operand) → option_map (λ (n : ℕ). (flop, n)) (option_and_then (found_net drivers found) (feed_net (unwrap_or (option_map (feed_of names) o) (Const false))))
-      ≡ option_map link_pair (find (is_found_link drivers found) (bit_links flop names o))
+  operand_pair : (flop : List ℕ) (o : Option Operand) → option_map (λ (n : ℕ). (flop, n)) (option_and_then (found_net marks) (feed_net (unwrap_or (option_map (feed_of names) o) (Const false))))
+      ≡ option_map link_pair (find (is_found_link marks) (bit_links flop names o))
   operand_pair flop None = refl
   operand_pair flop (Some (operand.Const value)) = refl
-  operand_pair flop (Some (operand.Bit bit)) = bit_pair flop (net_of names bit).0 (is_found_net drivers found (net_of names bit).0)
+  operand_pair flop (Some (operand.Bit bit)) = bit_pair flop (net_of names bit).0 (is_found_net marks (net_of names bit).0)
 
   -- the operand of a port is that of its link
   port_operand : (i : Instance) (kind : Kind) (l : Link) (number : ℕ) → port_named library kind l.port ≡ Some (place.Input number) → linked_operand i.links l.port ≡ l.operand
@@ -183,54 +183,54 @@ module _ (library : List ListedCell) (drivers : List (Option ℕ)) (found : List
       ∙ ap (λ (o : Option Operand). feed_net (unwrap_or (option_map (feed_of names) o) (Const false))) once
 
   link_pair_of : (i : Instance) (kind : Kind) (l : Link) → is_flop library kind ≡ true → linked_operand i.links l.port ≡ l.operand
-      → option_map (λ (n : ℕ). (i.name, n)) (found_link library drivers found (library_cell library names i kind) l) ≡ option_map link_pair (find (is_found_link drivers found) (if is_control_place (port_named library kind l.port) then bit_links i.name names l.operand else []))
+      → option_map (λ (n : ℕ). (i.name, n)) (found_link library marks (library_cell library names i kind) l) ≡ option_map link_pair (find (is_found_link marks) (if is_control_place (port_named library kind l.port) then bit_links i.name names l.operand else []))
   link_pair_of i kind l flop once =
-      ap (λ (b : Bool). option_map (λ (n : ℕ). (i.name, n)) (option_and_then (found_net drivers found) (if b then placed_net (map (port_feed names i.links) (operand_ports library kind)) (port_named library kind l.port) else None))) flop
+      ap (λ (b : Bool). option_map (λ (n : ℕ). (i.name, n)) (option_and_then (found_net marks) (if b then placed_net (map (port_feed names i.links) (operand_ports library kind)) (port_named library kind l.port) else None))) flop
       ∙ placed (port_named library kind l.port) refl
     where
       chosen : (number : ℕ) (b : Bool) → operand_net (map (port_feed names i.links) (operand_ports library kind)) number ≡ feed_net (unwrap_or (option_map (feed_of names) l.operand) (Const false))
-          → option_map (λ (n : ℕ). (i.name, n)) (option_and_then (found_net drivers found) (if b then operand_net (map (port_feed names i.links) (operand_ports library kind)) number else None))
-          ≡ option_map link_pair (find (is_found_link drivers found) (if b then bit_links i.name names l.operand else []))
+          → option_map (λ (n : ℕ). (i.name, n)) (option_and_then (found_net marks) (if b then operand_net (map (port_feed names i.links) (operand_ports library kind)) number else None))
+          ≡ option_map link_pair (find (is_found_link marks) (if b then bit_links i.name names l.operand else []))
       chosen number false e = refl
-      chosen number true e = ap (λ (o : Option ℕ). option_map (λ (n : ℕ). (i.name, n)) (option_and_then (found_net drivers found) o)) e ∙ operand_pair i.name l.operand
+      chosen number true e = ap (λ (o : Option ℕ). option_map (λ (n : ℕ). (i.name, n)) (option_and_then (found_net marks) o)) e ∙ operand_pair i.name l.operand
 
       placed : (o : Option PortPlace) → port_named library kind l.port ≡ o
-          → option_map (λ (n : ℕ). (i.name, n)) (option_and_then (found_net drivers found) (placed_net (map (port_feed names i.links) (operand_ports library kind)) o))
-          ≡ option_map link_pair (find (is_found_link drivers found) (if is_control_place o then bit_links i.name names l.operand else []))
+          → option_map (λ (n : ℕ). (i.name, n)) (option_and_then (found_net marks) (placed_net (map (port_feed names i.links) (operand_ports library kind)) o))
+          ≡ option_map link_pair (find (is_found_link marks) (if is_control_place o then bit_links i.name names l.operand else []))
       placed None e = refl
       placed (Some place.Output) e = refl
       placed (Some (place.Input number)) e = chosen number (number == 1 || number == 2) (port_operand i kind l number e once)
 
   -- a cell that is no flip-flop has no such link
-  gate_links : (i : Instance) (kind : Kind) → is_flop library kind ≡ false → first_in (found_link library drivers found (library_cell library names i kind)) i.links ≡ None
-  gate_links i kind gate = first_in-none (found_link library drivers found (library_cell library names i kind)) i.links (λ l.
-      ap (λ (b : Bool). option_and_then (found_net drivers found) (if b then placed_net (map (port_feed names i.links) (operand_ports library kind)) (port_named library kind l.port) else None)) gate)
+  gate_links : (i : Instance) (kind : Kind) → is_flop library kind ≡ false → first_in (found_link library marks (library_cell library names i kind)) i.links ≡ None
+  gate_links i kind gate = first_in-none (found_link library marks (library_cell library names i kind)) i.links (λ l.
+      ap (λ (b : Bool). option_and_then (found_net marks) (if b then placed_net (map (port_feed names i.links) (operand_ports library kind)) (port_named library kind l.port) else None)) gate)
 
   kind_pair : (i : Instance) (kind : Kind) (b : Bool) → is_flop library kind ≡ b → port_twice i kind ≡ None
-      → option_map (λ (n : ℕ). (i.name, n)) (first_in (found_link library drivers found (library_cell library names i kind)) i.links) ≡ option_map link_pair (find (is_found_link drivers found) (flop_links library names i (Some kind)))
+      → option_map (λ (n : ℕ). (i.name, n)) (first_in (found_link library marks (library_cell library names i kind)) i.links) ≡ option_map link_pair (find (is_found_link marks) (flop_links library names i (Some kind)))
   kind_pair i kind false gate once =
       ap (option_map (λ (n : ℕ). (i.name, n))) (gate_links i kind gate)
-      ∙ sym (ap (λ (b : Bool). option_map link_pair (find (is_found_link drivers found) (if b then flat_map (λ (l : Link). if is_control_place (port_named library kind l.port) then bit_links i.name names l.operand else []) i.links else []))) gate)
+      ∙ sym (ap (λ (b : Bool). option_map link_pair (find (is_found_link marks) (if b then flat_map (λ (l : Link). if is_control_place (port_named library kind l.port) then bit_links i.name names l.operand else []) i.links else []))) gate)
   kind_pair i kind true flop once =
-      first_in-map (λ (n : ℕ). (i.name, n)) (found_link library drivers found (library_cell library names i kind)) i.links
-      ∙ first_in-joined (is_found_link drivers found) link_pair (λ (l : Link). if is_control_place (port_named library kind l.port) then bit_links i.name names l.operand else [])
-      (λ (l : Link). option_map (λ (n : ℕ). (i.name, n)) (found_link library drivers found (library_cell library names i kind) l)) i.links (λ k l here. link_pair_of i kind l flop (linked_once i kind k l once here))
-      ∙ sym (ap (λ (b : Bool). option_map link_pair (find (is_found_link drivers found) (if b then flat_map (λ (l : Link). if is_control_place (port_named library kind l.port) then bit_links i.name names l.operand else []) i.links else []))) flop)
+      first_in-map (λ (n : ℕ). (i.name, n)) (found_link library marks (library_cell library names i kind)) i.links
+      ∙ first_in-joined (is_found_link marks) link_pair (λ (l : Link). if is_control_place (port_named library kind l.port) then bit_links i.name names l.operand else [])
+      (λ (l : Link). option_map (λ (n : ℕ). (i.name, n)) (found_link library marks (library_cell library names i kind) l)) i.links (λ k l here. link_pair_of i kind l flop (linked_once i kind k l once here))
+      ∙ sym (ap (λ (b : Bool). option_map link_pair (find (is_found_link marks) (if b then flat_map (λ (l : Link). if is_control_place (port_named library kind l.port) then bit_links i.name names l.operand else []) i.links else []))) flop)
 
-  item_pair : (x : Item) → at_instance library port_twice x ≡ None → found_item library drivers found names x ≡ option_map link_pair (find (is_found_link drivers found) (item_links library names x))
+  item_pair : (x : Item) → at_instance library port_twice x ≡ None → found_item library marks names x ≡ option_map link_pair (find (is_found_link marks) (item_links library names x))
   item_pair (item.Gate g) once = refl
   item_pair (item.Assign output input) once = refl
   item_pair (item.Instance i) once = by (kind_named library i.cell) refl
     where
-      by : (o : Option Kind) → kind_named library i.cell ≡ o → found_item library drivers found names (item.Instance i) ≡ option_map link_pair (find (is_found_link drivers found) (item_links library names (item.Instance i)))
+      by : (o : Option Kind) → kind_named library i.cell ≡ o → found_item library marks names (item.Instance i) ≡ option_map link_pair (find (is_found_link marks) (item_links library names (item.Instance i)))
       by None e =
-          ap (λ (o : Option Kind). option_map (λ (n : ℕ). (i.name, n)) (first_in (found_link library drivers found (library_cell library names i (unwrap_or o kind.Buf))) i.links)) e
+          ap (λ (o : Option Kind). option_map (λ (n : ℕ). (i.name, n)) (first_in (found_link library marks (library_cell library names i (unwrap_or o kind.Buf))) i.links)) e
           ∙ ap (option_map (λ (n : ℕ). (i.name, n))) (gate_links i kind.Buf refl)
-          ∙ sym (ap (λ (o : Option Kind). option_map link_pair (find (is_found_link drivers found) (flop_links library names i o))) e)
+          ∙ sym (ap (λ (o : Option Kind). option_map link_pair (find (is_found_link marks) (flop_links library names i o))) e)
       by (Some k) e =
-          ap (λ (o : Option Kind). option_map (λ (n : ℕ). (i.name, n)) (first_in (found_link library drivers found (library_cell library names i (unwrap_or o kind.Buf))) i.links)) e
+          ap (λ (o : Option Kind). option_map (λ (n : ℕ). (i.name, n)) (first_in (found_link library marks (library_cell library names i (unwrap_or o kind.Buf))) i.links)) e
           ∙ kind_pair i k (is_flop library k) refl (sym (ap (option_and_then (port_twice i)) e) ∙ once)
-          ∙ sym (ap (λ (o : Option Kind). option_map link_pair (find (is_found_link drivers found) (flop_links library names i o))) e)
+          ∙ sym (ap (λ (o : Option Kind). option_map link_pair (find (is_found_link marks) (flop_links library names i o))) e)
 
 -- no port of an instance is linked twice
 pub linked_apart : (library : List ListedCell) (m : Module) → text_fault library m ≡ None → (k : ℕ) (x : Item) → slice_get m.items k ≡ Some x → at_instance library port_twice x ≡ None
@@ -248,7 +248,7 @@ linked_apart library m clear k x here =
     let after_missing = or_else-parts (first_in (at_instance library (port_missing library)) m.items) twice after_unknown.1 in
     first_in-at (at_instance library port_twice) m.items k x after_missing.1 here
 
-pub found_along : (library : List ListedCell) (m : Module) (drivers : List (Option ℕ)) (found : List Bool) → text_fault library m ≡ None
-    → first_in (found_item library drivers found (declared_names m)) m.items ≡ option_map link_pair (find (is_found_link drivers found) (control_links library m))
-found_along library m drivers found clear =
-    first_in-joined (is_found_link drivers found) link_pair (item_links library (declared_names m)) (found_item library drivers found (declared_names m)) m.items (λ k x here. item_pair library drivers found (declared_names m) x (linked_apart library m clear k x here))
+pub found_along : (library : List ListedCell) (m : Module) (marks : List Bool) → text_fault library m ≡ None
+    → first_in (found_item library marks (declared_names m)) m.items ≡ option_map link_pair (find (is_found_link marks) (control_links library m))
+found_along library m marks clear =
+    first_in-joined (is_found_link marks) link_pair (item_links library (declared_names m)) (found_item library marks (declared_names m)) m.items (λ k x here. item_pair library marks (declared_names m) x (linked_apart library m clear k x here))

@@ -1,10 +1,8 @@
 -- The nets in the cones of clocks, clears and presets.
-use Rattle.std.specs.Prelude.{◌≡◌, ℕ, ◌⊎◌, ◌||◌, Bool, true, false, List, slice_get, Some}
-use Rattle.std.specs.Option.{option_map_or}
+use Rattle.std.specs.Prelude.{◌≡◌, ℕ, ◌⊎◌, Bool, true, List, slice_get, Some}
 use Rattle.cell_library.specs.declared.listed.ListedCell.{ListedCell}
 use Rattle.cell_library.specs.Sound.{IsLibrary}
 use Rattle.netlist_model.specs.declared.Feed.TheVariants.{Net}
-use Rattle.netlist_model.specs.declared.NetId.{NetId}
 use Rattle.verilog_tree.specs.declared.tree.Module.{Module}
 use Rattle.link_model.specs.Nets.{NamedNet, declared_nets, nets_in}
 use Rattle.link_model.specs.Cells.{NamedCell}
@@ -25,13 +23,9 @@ pub record IsControlNet (cells : List NamedCell) (net : ℕ) : Type 0 where
   pub operand : FlopReads cells 1 root ⊎ FlopReads cells 2 root
   pub cone : InCone cells root net
 
--- own: the cell drives an inout net
-abbrev pub drives_inout : List NamedNet → NamedCell → Bool
-drives_inout nets cell = option_map_or (λ (n : NetId). option_map_or (λ (net : NamedNet). is_inout net.dir) (slice_get nets n.0) false) cell.output false
-
--- own: the cell is a flip-flop, or drives an inout net
-abbrev pub is_state_cell : List NamedNet → NamedCell → Bool
-is_state_cell nets cell = cell.keeps || drives_inout nets cell
+-- own: the net is that of an inout's bit
+abbrev pub is_inout_net : NamedNet → Bool
+is_inout_net net = is_inout net.dir
 
 -- own: where no link of a clock, clear or preset is derived, no such operand of a cell is
 abbrev pub ControlsAreLinks : Type 0

@@ -1,73 +1,103 @@
-ghost use Rattle.std.specs.Prelude.{◌≡◌, ◌↔◌, ℕ, ◌<◌, None, Some, true, length, map, MatchOption, IfOk};
-ghost use Rattle.gate_order.specs.Cone.{Marked};
+ghost use Rattle.std.specs.Prelude.{◌≡◌, ◌↔◌, ℕ, ◌<◌, List, None, true, length, map, MatchOption, IfOk};
+ghost use Rattle.netlist_model.specs.Orders.{IsCellOrder};
+ghost use Rattle.link_model.specs.Denoted.{AreCells};
 ghost use Rattle.link_model.specs.Fits.{CellsBelow, IsCellBelow};
 ghost use Rattle.link_model.specs.Nets.{declared_nets, declared_names, nets_in};
 ghost use Rattle.link_model.specs.Faults.{bit_name, cells_in, text_fault};
 ghost use Rattle.link_model.specs.Late.{HasNoDerived, IsDerived};
 ghost use Rattle.link_model.specs.Lists.{first_in};
-ghost use Rattle.link_drivers.specs.Drivers.{HasItsDrivers};
-ghost use Rattle.link_order.specs.Drivers.{AreOrdered, driver_in};
-ghost use Rattle.link_order.specs.Cones.{drives_inout, is_state_cell};
+ghost use Rattle.link_order.specs.Cones.{is_inout_net};
 ghost use Rattle.link_order.specs.Faults.{IsDerivedFault};
 ghost use Rattle.link_order.specs.Links.{control_net, found_link, found_net, is_found_net, operand_net};
 
-use crate::drivers::operand_net;
-use crate::order::CellOrder;
 use cell_library::{Library, PortPlace, port_of};
-use gate_order::cones_holding;
+use cell_order::mark_derived;
 use link_model::{ItemCell, LinkFault, NetBit, is_inout};
+use netlist_arena::Netlist;
+use netlist_model::{CellId, Feed};
 use std::alloc::Global;
-use texts::{OutOfMemory, Row, Text};
+use texts::{OutOfMemory, Text};
 use verilog_tree::{Item, Link, Module};
 
-/// The first clock, clear or preset in the text that has a flip-flop or an inout in its cone.
+/// The first clock, clear or preset in the text that has a flip-flop or an inout in its cone, where the module's cells
+/// stand in a netlist and are in order.
 pub fn find_derived(
     alloc: Global,
-    library: &Library,
     tree: &Module,
     nets: &[NetBit],
     cells: &[ItemCell],
-    order: &CellOrder,
+    netlist: &Netlist,
+    order: &[CellId],
 ) -> Result<Option<LinkFault>, OutOfMemory>
     requires nets { nets.now ≡ nets_in (declared_nets tree.now) }
-    requires cells { cells.now ≡ cells_in library.now tree.now }
+    requires cells { cells.now ≡ cells_in netlist.now.lists.library tree.now }
     requires fits { CellsBelow (length nets.now) cells.now }
-    requires text { text_fault library.now tree.now ≡ None }
-    requires drivers { HasItsDrivers nets.now cells.now }
-    requires order { AreOrdered (length nets.now) cells.now order.now }
-    ensures { IfOk result (λ found. MatchOption found (HasNoDerived library.now tree.now)
-        (IsDerivedFault library.now tree.now)) }
+    requires text { text_fault netlist.now.lists.library tree.now ≡ None }
+    requires count { length nets.now ≡ length netlist.now.lists.nets }
+    requires live { (table : List (List ℕ)) × AreCells table netlist.now.lists cells.now }
+    requires order { IsCellOrder netlist.now.lists order.now }
+    ensures { IfOk result (λ found. MatchOption found (HasNoDerived netlist.now.lists.library tree.now)
+        (IsDerivedFault netlist.now.lists.library tree.now)) }
 {
-    let found = cones_of_state(alloc, nets, cells, order)?;
+    let marks = derived_nets(alloc, tree, nets, cells, netlist, order)?;
     first_derived(
         alloc,
-        library,
+        netlist.library(),
         tree,
         nets,
         cells,
-        order.drivers(),
-        found.as_slice(),
+        marks.as_slice(),
     )
 }
 
-// The first clock, clear or preset in the text whose net has a driver that is found.
+// Of each net, whether a flip-flop or an inout is in its cone.
+fn derived_nets(
+    alloc: Global,
+    tree: &Module,
+    nets: &[NetBit],
+    cells: &[ItemCell],
+    netlist: &Netlist,
+    order: &[CellId],
+) -> Result<Vec<bool>, OutOfMemory>
+    requires cells { cells.now ≡ cells_in netlist.now.lists.library tree.now }
+    requires count { length nets.now ≡ length netlist.now.lists.nets }
+    requires live { (table : List (List ℕ)) × AreCells table netlist.now.lists cells.now }
+    requires order { IsCellOrder netlist.now.lists order.now }
+    ensures length { IfOk result (λ marks. length marks.items ≡ length nets.now) }
+    ensures derived { IfOk result (λ marks. (net : ℕ) → (is_found_net marks.items net ≡ true)
+        ↔ IsDerived nets.now cells.now net) }
+{
+    let mut marks = inout_nets(alloc, nets)?;
+    mark_derived(netlist, order, marks.as_mut_slice());
+    Ok(marks)
+}
+
+// Of each net, whether it is that of an inout's bit.
+fn inout_nets(alloc: Global, nets: &[NetBit]) -> Result<Vec<bool>, OutOfMemory>
+    ensures { IfOk result (λ marks. marks.items ≡ map is_inout_net nets.now) }
+{
+    let mut marks = Vec::with_capacity(alloc, nets.len())?;
+    for net in nets {
+        marks.push(is_inout(net.dir()))?;
+    }
+    Ok(marks)
+}
+
+// The first clock, clear or preset in the text whose net is marked.
 fn first_derived(
     alloc: Global,
     library: &Library,
     tree: &Module,
     nets: &[NetBit],
     cells: &[ItemCell],
-    drivers: &[Option<u32>],
-    found: &[bool],
+    marks: &[bool],
 ) -> Result<Option<LinkFault>, OutOfMemory>
     requires nets { nets.now ≡ nets_in (declared_nets tree.now) }
     requires cells { cells.now ≡ cells_in library.now tree.now }
     requires fits { CellsBelow (length nets.now) cells.now }
     requires text { text_fault library.now tree.now ≡ None }
-    requires drivers { length drivers.now ≡ length nets.now }
-    requires found { (net number : ℕ) → driver_in drivers.now net ≡ Some number
-        → number < length found.now }
-    requires derived { (net : ℕ) → (is_found_net drivers.now found.now net ≡ true)
+    requires marks { length marks.now ≡ length nets.now }
+    requires derived { (net : ℕ) → (is_found_net marks.now net ≡ true)
         ↔ IsDerived nets.now cells.now net }
     ensures { IfOk result (λ fault. MatchOption fault (HasNoDerived library.now tree.now)
         (IsDerivedFault library.now tree.now)) }
@@ -76,7 +106,7 @@ fn first_derived(
         match item {
             Item::Instance(instance) => {
                 let links = instance.links.as_slice();
-                match first_found(library, drivers, found, &cells[number], links) {
+                match first_found(library, marks, &cells[number], links) {
                     Some(net) => {
                         let fault = derived_fault(alloc, &instance.name, &nets[net as usize])?;
                         return Ok(Some(fault));
@@ -91,80 +121,19 @@ fn first_derived(
     Ok(None)
 }
 
-// Of each cell, whether a flip-flop, or the driver of an inout, is in its cone.
-fn cones_of_state(
-    alloc: Global,
-    nets: &[NetBit],
-    cells: &[ItemCell],
-    order: &CellOrder,
-) -> Result<Row<bool>, OutOfMemory>
-    requires fits { CellsBelow (length nets.now) cells.now }
-    requires drivers { HasItsDrivers nets.now cells.now }
-    requires order { AreOrdered (length nets.now) cells.now order.now }
-    ensures length { IfOk result (λ found. length found ≡ length cells.now) }
-    ensures derived { IfOk result (λ found. (net : ℕ) → (is_found_net order.now.drivers found net ≡ true)
-        ↔ IsDerived nets.now cells.now net) }
-{
-    let marks = state_cells(alloc, nets, cells)?;
-    cones_holding(alloc, order.graph(), order.numbers(), marks.as_slice())
-}
-
-// Of each cell, whether it is a flip-flop, or drives an inout.
-fn state_cells(alloc: Global, nets: &[NetBit], cells: &[ItemCell]) -> Result<Row<bool>, OutOfMemory>
-    requires { CellsBelow (length nets.now) cells.now }
-    ensures { IfOk result (λ marks. marks ≡ map (is_state_cell nets.now) cells.now) }
-{
-    let mut marks = Row::new(alloc);
-    for cell in cells {
-        marks.push(cell.keeps() || drives_inout(nets, cell))?;
-    }
-    Ok(marks)
-}
-
-// Whether the cell drives an inout.
-fn drives_inout(nets: &[NetBit], cell: &ItemCell) -> bool
-    requires { IsCellBelow (length nets.now) cell.now }
-    ensures { result ≡ drives_inout nets.now cell.now }
-{
-    match cell.output() {
-        Some(net) => is_inout(nets[net.0 as usize].dir()),
-        None => false,
-    }
-}
-
-// The net of the first link of the cell's clock, clear or preset whose driver is found.
-fn first_found(
-    library: &Library,
-    drivers: &[Option<u32>],
-    found: &[bool],
-    cell: &ItemCell,
-    links: &[Link],
-) -> Option<u32>
-    requires fits { IsCellBelow (length drivers.now) cell.now }
-    requires found { (net number : ℕ) → driver_in drivers.now net ≡ Some number
-        → number < length found.now }
-    ensures { result ≡ first_in (found_link library.now drivers.now found.now cell.now) links.now }
+// The net of the first link of the cell's clock, clear or preset that is marked.
+fn first_found(library: &Library, marks: &[bool], cell: &ItemCell, links: &[Link]) -> Option<u32>
+    requires fits { IsCellBelow (length marks.now) cell.now }
+    ensures { result ≡ first_in (found_link library.now marks.now cell.now) links.now }
 {
     for link in links {
         if let Some(net) = control_net(library, cell, link) {
-            if is_found_net(drivers, found, net) {
+            if marks[net as usize] {
                 return Some(net);
             }
         }
     }
     None
-}
-
-// Whether the driver of the net is found.
-fn is_found_net(drivers: &[Option<u32>], found: &[bool], net: u32) -> bool
-    requires net { net < length drivers.now }
-    requires found { (number : ℕ) → driver_in drivers.now net ≡ Some number → number < length found.now }
-    ensures { result ≡ is_found_net drivers.now found.now net }
-{
-    match drivers[net as usize] {
-        Some(number) => found[number as usize],
-        None => false,
-    }
 }
 
 // The net of a link, if that is of a flip-flop's clock, clear or preset.
@@ -189,4 +158,14 @@ fn derived_fault(alloc: Global, flop: &Text, net: &NetBit) -> Result<LinkFault, 
         flop: Text::from_bytes(alloc, flop.as_bytes())?,
         net: net.bit_name(alloc)?,
     })
+}
+
+// The net at a place of the operands.
+fn operand_net(feeds: &[Feed], place: usize) -> Option<u32>
+    ensures { result ≡ operand_net feeds.now place }
+{
+    match feeds.get(place) {
+        Some(Feed::Net(net)) => Some(net.0),
+        Some(Feed::Const(_)) | None => None,
+    }
 }

@@ -1,5 +1,5 @@
 -- The netlist that a module denotes is well named.
-use Rattle.std.proofs.Common.{◌≡◌, subst, ℕ, zero, suc, ◌+◌, ◌-◌, ◌<◌, ◌≤◌, inl, inr, true, false, List, [], ◌∷◌, ◌++◌, length, map, refl, ap, sym, ◌∙◌, Option, Some, None, arith, length-append, zero-add}
+use Rattle.std.proofs.Common.{◌≡◌, subst, ℕ, zero, suc, ◌+◌, ◌-◌, ◌<◌, ◌≤◌, inl, inr, List, [], ◌∷◌, ◌++◌, length, map, refl, ap, sym, ◌∙◌, Option, Some, None, arith, length-append, zero-add}
 use Rattle.std.specs.Prelude.{slice_get, IsSome, IfSome, unwrap_or}
 use Rattle.std.specs.List.{filter_map}
 use Rattle.std.specs.Option.{option_map}
@@ -35,7 +35,7 @@ use Rattle.link_drivers.specs.Drivers.{dir_at}
 use Rattle.netlist_link.specs.WellNamed.{IsKnown, IsWireNet, IsWireName, IsWellNamed, IsShortRange, index_from}
 use Rattle.netlist_link.proofs.LibraryKinds.{gate_unnamed, gate_no_assign, library_kind, known_cells}
 use Rattle.netlist_link.proofs.Ports.{bits_of, nets_in-first, nets_in-rest, port_bit}
-use Rattle.netlist_link.proofs.Cells.{named_at}
+use Rattle.link_order.proofs.Cells.{named_at}
 use Rattle.netlist_link.proofs.Spelled.{spelled_names}
 use Rattle.netlist_link.proofs.Formed.{direction_is}
 

@@ -13,14 +13,15 @@ use Rattle.link_model.specs.Late.{IsLinkable}
 use Rattle.link_names.specs.Laws.{ClearTextFits}
 use Rattle.link_drivers.specs.Drivers.{HaveTheirDrivers}
 use Rattle.link_order.specs.Cones.{ControlsAreLinks}
-use Rattle.link_order.specs.Orders.{LooplessHasOrder}
+use Rattle.cell_order.specs.Loops.{LooplessHasOrder}
 use Rattle.name_table.specs.Names.{IsOnce}
 use Rattle.link_arena.proofs.Parts.{are_below}
 use Rattle.netlist_link.specs.Linked.{LinkedView}
 use Rattle.netlist_link.specs.Links.{IsLinkOf}
 use Rattle.netlist_link.specs.ViewLaws.{LinkViewsAgree, LinkViewIsFormed, LinkViewIsNamed}
-use Rattle.netlist_link.proofs.Cells.{named_at}
-use Rattle.netlist_link.proofs.Formed.{well_formed}
+use Rattle.link_order.proofs.Cells.{kept, named_at}
+use Rattle.netlist_link.proofs.Formed.{driven_once, well_formed}
+use Rattle.netlist_link.proofs.Orders.{loop_named}
 use Rattle.netlist_link.proofs.Named.{same_name, well_named}
 use Rattle.netlist_link.proofs.NamesOnce.{names_once}
 
@@ -112,5 +113,6 @@ link_view_is_formed fit drive order control m linked tree listed link =
     let fits = fit library m tree faults.0 in
     let below = are_below library (length nets) cells fits in
     let driven = drive nets cells below faults.1 in
-    let ordered = order nets cells below driven link.linkable.loops in
+    let N : NetlistView = linked.arena.lists in
+    let ordered = order N (driven_once linked.names N m link.denoted driven) (λ numbers l. link.linkable.loops numbers (loop_named linked.names N cells numbers link.denoted.cells (kept N m) l)) in
     well_formed linked.names linked.arena.lists m ordered.0 link.denoted fits driven ordered.1 (control library m listed link.linkable.derived)

@@ -1,19 +1,23 @@
-ghost use Rattle.std.specs.Prelude.{◌≡◌, None, IfErr, IfOk, length};
+ghost use Rattle.std.specs.Prelude.{◌≡◌, None, IfErr, IfOk};
 ghost use Rattle.verilog_tree.specs.IsTree.{IsTree};
 ghost use Rattle.link_model.specs.Faults.{driver_fault};
 ghost use Rattle.link_model.specs.Late.{HasNoDerived};
-ghost use Rattle.link_order.specs.Drivers.{AreOrdered};
+ghost use Rattle.netlist_model.specs.Orders.{IsCellOrder};
+ghost use Rattle.cell_order.specs.Loops.{IsOrderFault};
+ghost use Rattle.cell_order.specs.Tables.{FitsRoom};
 ghost use Rattle.netlist_link.specs.Links.{IsLinkFault, IsLinkOf};
-ghost use Rattle.netlist_link.specs.Steps.{AreInOrder, AreNetsAndCells};
+ghost use Rattle.netlist_link.specs.Steps.{AreNetsAndCells, IsBuilt, link_fault};
 
 use crate::assemble::assemble;
 use crate::linked::Linked;
 use cell_library::Library;
-use link_arena::build;
+use cell_order::{OrderFault, WorkArea};
+use link_arena::{Built, build};
 use link_drivers::{find_driver_fault, nets_have_their_drivers};
 use link_model::LinkFault;
 use link_names::{Resolved, resolve};
-use link_order::{CellOrder, find_derived, order_cells};
+use link_order::find_derived;
+use netlist_arena::Netlist;
 use std::alloc::Global;
 use texts::OutOfMemory;
 use verilog_tree::Module;
@@ -68,41 +72,82 @@ fn link_driven(
     ensures library { IfOk result (λ linked. linked.arena.lists.library ≡ library) }
     ensures fault { IfErr result (IsLinkFault library tree.now) }
 {
-    nets_have_their_drivers();
-    match order_cells(alloc, &resolved.nets, &resolved.cells) {
-        Ok(order) => link_ordered(alloc, tree, library, resolved, order),
-        Err(fault) => Err(fault),
+    match build(alloc, library, tree, &resolved.nets, &resolved.cells) {
+        Ok(built) => link_built(alloc, tree, resolved, built),
+        Err(OutOfMemory) => Err(LinkFault::OutOfMemory),
     }
 }
 
+// Goes on with the netlist.
+fn link_built(
+    alloc: Global,
+    tree: &Module,
+    resolved: Resolved,
+    built: Built,
+) -> Result<Linked, LinkFault>
+    requires these { AreNetsAndCells built.netlist.lists.library tree.now resolved.nets.items resolved.cells.items }
+    requires drivers { driver_fault resolved.nets.items resolved.cells.items ≡ None }
+    requires built { IsBuilt tree.now built.netlist.lists built.names }
+    ensures ok { IfOk result (IsLinkOf tree.now) }
+    ensures library { IfOk result (λ linked. linked.arena.lists.library ≡ built.netlist.lists.library) }
+    ensures fault { IfErr result (IsLinkFault built.netlist.lists.library tree.now) }
+{
+    match ordered_area(alloc, &built.netlist) {
+        Ok(area) => link_ordered(alloc, tree, resolved, built, area),
+        Err(fault) => Err(link_fault(fault)),
+    }
+}
+
+// A fault of ordering as one of linking.
+fn link_fault(fault: OrderFault) -> LinkFault
+    ensures { result ≡ link_fault fault }
+{
+    match fault {
+        OrderFault::Loop { numbers } => LinkFault::Loop { numbers },
+        OrderFault::OutOfMemory => LinkFault::OutOfMemory,
+    }
+}
+
+// An order of the cells, or a loop.
+fn ordered_area(alloc: Global, netlist: &Netlist) -> Result<WorkArea, OrderFault>
+    ensures order { IfOk result (λ area. IsCellOrder netlist.now.lists area.order) }
+    ensures room { IfOk result (λ area. FitsRoom netlist.now.lists area.room) }
+    ensures fault { IfErr result (IsOrderFault netlist.now.lists) }
+{
+    let mut area = WorkArea::new(alloc);
+    area.reserve(netlist.cell_count(), netlist.net_count())?;
+    area.order_cells(alloc, netlist)?;
+    Ok(area)
+}
+
 // Goes on where no cells read in a loop.
-#[tactic(auto, using(link_arena::proofs::Parts::are_below))]
 fn link_ordered(
     alloc: Global,
     tree: &Module,
-    library: Library,
     resolved: Resolved,
-    order: CellOrder,
+    built: Built,
+    area: WorkArea,
 ) -> Result<Linked, LinkFault>
-    requires these { AreNetsAndCells library tree.now resolved.nets.items resolved.cells.items }
+    requires these { AreNetsAndCells built.netlist.lists.library tree.now resolved.nets.items resolved.cells.items }
     requires drivers { driver_fault resolved.nets.items resolved.cells.items ≡ None }
-    requires ordered { AreInOrder resolved.cells.items order.order }
-    requires of_these { AreOrdered (length resolved.nets.items) resolved.cells.items order }
+    requires built { IsBuilt tree.now built.netlist.lists built.names }
+    requires order { IsCellOrder built.netlist.lists area.order }
+    requires room { FitsRoom built.netlist.lists area.room }
     ensures ok { IfOk result (IsLinkOf tree.now) }
-    ensures library { IfOk result (λ linked. linked.arena.lists.library ≡ library) }
-    ensures fault { IfErr result (IsLinkFault library tree.now) }
+    ensures library { IfOk result (λ linked. linked.arena.lists.library ≡ built.netlist.lists.library) }
+    ensures fault { IfErr result (IsLinkFault built.netlist.lists.library tree.now) }
 {
     nets_have_their_drivers();
     match find_derived(
         alloc,
-        &library,
         tree,
         &resolved.nets,
         &resolved.cells,
-        &order,
+        &built.netlist,
+        area.order(),
     ) {
         Ok(Some(fault)) => Err(fault),
-        Ok(None) => match link_sound(alloc, tree, library, resolved, order) {
+        Ok(None) => match link_sound(alloc, tree, resolved, built, area) {
             Ok(linked) => Ok(linked),
             Err(OutOfMemory) => Err(LinkFault::OutOfMemory),
         },
@@ -110,26 +155,24 @@ fn link_ordered(
     }
 }
 
-// Builds the netlist where no fault stands. The order is given back before that, the nets on the way and the cells before
-// their tables are made, since each is large.
+// Makes the linked netlist where no fault stands. The nets and cells on the way are given back before that.
 fn link_sound(
     alloc: Global,
     tree: &Module,
-    library: Library,
     resolved: Resolved,
-    order: CellOrder,
+    built: Built,
+    area: WorkArea,
 ) -> Result<Linked, OutOfMemory>
-    requires these { AreNetsAndCells library tree.now resolved.nets.items resolved.cells.items }
+    requires these { AreNetsAndCells built.netlist.lists.library tree.now resolved.nets.items resolved.cells.items }
     requires drivers { driver_fault resolved.nets.items resolved.cells.items ≡ None }
-    requires ordered { AreInOrder resolved.cells.items order.order }
-    requires of_these { AreOrdered (length resolved.nets.items) resolved.cells.items order }
-    requires derived { HasNoDerived library tree.now }
+    requires built { IsBuilt tree.now built.netlist.lists built.names }
+    requires order { IsCellOrder built.netlist.lists area.order }
+    requires room { FitsRoom built.netlist.lists area.room }
+    requires derived { HasNoDerived built.netlist.lists.library tree.now }
     ensures ok { IfOk result (IsLinkOf tree.now) }
-    ensures library { IfOk result (λ linked. linked.arena.lists.library ≡ library) }
+    ensures library { IfOk result (λ linked. linked.arena.lists.library ≡ built.netlist.lists.library) }
 {
-    let Resolved { nets, cells } = resolved;
-    drop(order);
-    let built = build(alloc, library, tree, nets, &cells)?;
-    drop(cells);
-    assemble(alloc, tree, built)
+    nets_have_their_drivers();
+    drop(resolved);
+    assemble(alloc, tree, built, area)
 }

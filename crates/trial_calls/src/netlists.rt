@@ -35,9 +35,7 @@ fn reader(cell: u32, place: u32) -> Option<Reader> {
     })
 }
 
-#[test]
-fn readers_move_to_another_net(rt: HostRuntime) -> Result<(), Fail> {
-    let mut netlist = Netlist::new(rt.alloc(), Library::new(rt.alloc()));
+fn move_readers(rt: HostRuntime, netlist: &mut Netlist) -> Result<(), Fail> {
     netlist.reserve(2, 2, 0)?;
     let a = netlist.add_net(Name::Original(0), None);
     let b = netlist.add_net(Name::Original(1), None);
@@ -46,19 +44,23 @@ fn readers_move_to_another_net(rt: HostRuntime) -> Result<(), Fail> {
     let _buf = netlist.add_cell(Kind::Buf, None, &[Feed::Net(a)], None);
     netlist.move_readers(a, b);
     let first = netlist.first_reader(b);
-    let second = following(&netlist, first);
-    let third = following(&netlist, second);
+    let second = following(netlist, first);
+    let third = following(netlist, second);
     assert_eq!(rt; netlist.first_reader(a), None);
     assert_eq!(rt; first, reader(1, 0));
     assert_eq!(rt; second, reader(0, 2));
     assert_eq!(rt; third, reader(0, 0));
-    assert_eq!(rt; following(&netlist, third), None);
+    assert_eq!(rt; following(netlist, third), None);
     Ok(())
 }
 
 #[test]
-fn a_cell_takes_the_number_of_the_last_that_was_removed(rt: HostRuntime) -> Result<(), Fail> {
+fn readers_move_to_another_net(rt: HostRuntime) -> Result<(), Fail> {
     let mut netlist = Netlist::new(rt.alloc(), Library::new(rt.alloc()));
+    move_readers(rt, &mut netlist)
+}
+
+fn refill_the_last(rt: HostRuntime, netlist: &mut Netlist) -> Result<(), Fail> {
     netlist.reserve(4, 1, 0)?;
     let a = netlist.add_net(Name::Original(0), None);
     let first = netlist.add_cell(Kind::Buf, None, &[Feed::Net(a)], None);
@@ -74,6 +76,12 @@ fn a_cell_takes_the_number_of_the_last_that_was_removed(rt: HostRuntime) -> Resu
     Ok(())
 }
 
+#[test]
+fn a_cell_takes_the_number_of_the_last_that_was_removed(rt: HostRuntime) -> Result<(), Fail> {
+    let mut netlist = Netlist::new(rt.alloc(), Library::new(rt.alloc()));
+    refill_the_last(rt, &mut netlist)
+}
+
 // Removes a cell, if it is there.
 fn remove(netlist: &mut Netlist, cell: CellId)
     ensures nets { netlist.new.lists.nets ≡ netlist.old.lists.nets }
@@ -84,17 +92,15 @@ fn remove(netlist: &mut Netlist, cell: CellId)
     }
 }
 
-#[test]
-fn cells_take_the_numbers_of_two_that_were_removed(rt: HostRuntime) -> Result<(), Fail> {
-    let mut netlist = Netlist::new(rt.alloc(), Library::new(rt.alloc()));
+fn refill_two(rt: HostRuntime, netlist: &mut Netlist) -> Result<(), Fail> {
     netlist.reserve(5, 2, 0)?;
     let a = netlist.add_net(Name::Original(0), None);
     let b = netlist.add_net(Name::Original(1), None);
     let _buf = netlist.add_cell(Kind::Buf, None, &[Feed::Net(a)], None);
     let _not = netlist.add_cell(Kind::Not, None, &[Feed::Net(a)], None);
     let _last = netlist.add_cell(Kind::Buf, None, &[Feed::Net(b)], None);
-    remove(&mut netlist, CellId(1));
-    remove(&mut netlist, CellId(2));
+    remove(netlist, CellId(1));
+    remove(netlist, CellId(2));
     let and = netlist.add_cell(Kind::And, None, &[Feed::Net(a), Feed::Net(b)], None);
     let not = netlist.add_cell(Kind::Not, None, &[Feed::Net(b)], None);
     assert_eq!(rt; and, CellId(1));
@@ -102,12 +108,18 @@ fn cells_take_the_numbers_of_two_that_were_removed(rt: HostRuntime) -> Result<()
     assert_eq!(rt; netlist.cell_count(), 3);
     let of_a = netlist.first_reader(a);
     assert_eq!(rt; of_a, reader(1, 0));
-    assert_eq!(rt; following(&netlist, of_a), reader(0, 0));
+    assert_eq!(rt; following(netlist, of_a), reader(0, 0));
     let of_b = netlist.first_reader(b);
     assert_eq!(rt; of_b, reader(2, 0));
-    assert_eq!(rt; following(&netlist, of_b), reader(1, 1));
-    assert_eq!(rt; following(&netlist, reader(1, 1)), None);
+    assert_eq!(rt; following(netlist, of_b), reader(1, 1));
+    assert_eq!(rt; following(netlist, reader(1, 1)), None);
     Ok(())
+}
+
+#[test]
+fn cells_take_the_numbers_of_two_that_were_removed(rt: HostRuntime) -> Result<(), Fail> {
+    let mut netlist = Netlist::new(rt.alloc(), Library::new(rt.alloc()));
+    refill_two(rt, &mut netlist)
 }
 
 // Not the first net, and that with the second.
@@ -122,17 +134,21 @@ const PART: [Gate; 2] = [
     },
 ];
 
-#[test]
-fn the_gates_of_a_part_stand_on_nets_of_their_own(rt: HostRuntime) -> Result<(), Fail> {
-    let mut netlist = Netlist::new(rt.alloc(), Library::new(rt.alloc()));
+fn place_part(rt: HostRuntime, netlist: &mut Netlist) -> Result<(), Fail> {
     netlist.reserve(2, 4, 0)?;
     let a = netlist.add_net(Name::Original(0), None);
     let b = netlist.add_net(Name::Original(1), None);
-    let first = add_part(&mut netlist, &PART, &[Feed::Net(a), Feed::Net(b)]);
+    let first = add_part(netlist, &PART, &[Feed::Net(a), Feed::Net(b)]);
     assert_eq!(rt; first, NetId(2));
     assert_eq!(rt; netlist.net_count(), 4);
     assert_eq!(rt; netlist.cell_count(), 2);
-    assert_eq!(rt; operand(&netlist, CellId(1), 0), Some(Feed::Net(first)));
-    assert_eq!(rt; operand(&netlist, CellId(1), 1), Some(Feed::Net(b)));
+    assert_eq!(rt; operand(netlist, CellId(1), 0), Some(Feed::Net(first)));
+    assert_eq!(rt; operand(netlist, CellId(1), 1), Some(Feed::Net(b)));
     Ok(())
+}
+
+#[test]
+fn the_gates_of_a_part_stand_on_nets_of_their_own(rt: HostRuntime) -> Result<(), Fail> {
+    let mut netlist = Netlist::new(rt.alloc(), Library::new(rt.alloc()));
+    place_part(rt, &mut netlist)
 }

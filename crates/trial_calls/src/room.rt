@@ -5,9 +5,7 @@ use netlist_arena::Netlist;
 use netlist_model::{CellId, Dir, Feed, Name, Range};
 use std::test::Fail;
 
-#[test]
-fn what_was_reserved_is_enough(rt: HostRuntime) -> Result<(), Fail> {
-    let mut netlist = Netlist::new(rt.alloc(), Library::new(rt.alloc()));
+fn fill_room(rt: HostRuntime, netlist: &mut Netlist) -> Result<(), Fail> {
     netlist.reserve(3, 4, 1)?;
     let a = netlist.add_net(Name::Original(0), None);
     let b = netlist.add_net(Name::Original(1), Some(3));
@@ -29,15 +27,19 @@ fn what_was_reserved_is_enough(rt: HostRuntime) -> Result<(), Fail> {
     assert_eq!(rt; netlist.cell_count(), 3);
     assert_eq!(rt; netlist.pin_count(), 1);
     for (place, feed) in (0..5).zip(feeds) {
-        assert_eq!(rt; operand(&netlist, wide, place), Some(feed));
+        assert_eq!(rt; operand(netlist, wide, place), Some(feed));
     }
-    assert_eq!(rt; operand(&netlist, wide, 5), None);
+    assert_eq!(rt; operand(netlist, wide, 5), None);
     Ok(())
 }
 
 #[test]
-fn a_copy_has_the_operands_of_a_wide_cell(rt: HostRuntime) -> Result<(), Fail> {
+fn what_was_reserved_is_enough(rt: HostRuntime) -> Result<(), Fail> {
     let mut netlist = Netlist::new(rt.alloc(), Library::new(rt.alloc()));
+    fill_room(rt, &mut netlist)
+}
+
+fn place_wide(rt: HostRuntime, netlist: &mut Netlist) -> Result<(), Fail> {
     netlist.reserve(3, 4, 1)?;
     let a = netlist.add_net(Name::Original(0), None);
     let b = netlist.add_net(Name::Original(1), None);
@@ -60,8 +62,12 @@ fn a_copy_has_the_operands_of_a_wide_cell(rt: HostRuntime) -> Result<(), Fail> {
 }
 
 #[test]
-fn a_port_has_a_net_for_each_bit(rt: HostRuntime) -> Result<(), Fail> {
+fn a_copy_has_the_operands_of_a_wide_cell(rt: HostRuntime) -> Result<(), Fail> {
     let mut netlist = Netlist::new(rt.alloc(), Library::new(rt.alloc()));
+    place_wide(rt, &mut netlist)
+}
+
+fn place_port(rt: HostRuntime, netlist: &mut Netlist) -> Result<(), Fail> {
     netlist.reserve(0, 2, 2)?;
     let a = netlist.add_net(Name::Original(1), None);
     let b = netlist.add_net(Name::Original(2), None);
@@ -73,4 +79,10 @@ fn a_port_has_a_net_for_each_bit(rt: HostRuntime) -> Result<(), Fail> {
     assert_eq!(rt; netlist.port_range(port), range);
     assert_eq!(rt; netlist.pin_count(), 2);
     Ok(())
+}
+
+#[test]
+fn a_port_has_a_net_for_each_bit(rt: HostRuntime) -> Result<(), Fail> {
+    let mut netlist = Netlist::new(rt.alloc(), Library::new(rt.alloc()));
+    place_port(rt, &mut netlist)
 }

@@ -10,6 +10,6 @@ returns c =
     let m = c.args.tree.now in
     let library = c.args.netlist.now.lists.library in
     let sound = c.requires.sound in
-    is_formed c.args.names.now c.args.netlist.now.lists m sound c.requires.built.named
+    is_formed c.args.names.now c.args.netlist.now.lists m c.args.order.now sound c.requires.built.named
     (c.nets_have_their_drivers.ensures (nets_in (declared_nets m)) (cells_in library m)
-    (are_below library (length (nets_in (declared_nets m))) (cells_in library m) sound.fits) sound.drivers) (c.controls_are_links.ensures library m sound.listed sound.derived)
+    (are_below library (length (nets_in (declared_nets m))) (cells_in library m) sound.fits) sound.drivers) c.requires.order (c.controls_are_links.ensures library m sound.listed sound.derived)
