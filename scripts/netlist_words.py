@@ -11,6 +11,20 @@ WORD = re.compile(
     r"|\\[!-~]+[ \t\n\r\f]|1'[bBoOdDhH][01]|[A-Za-z_][\w$]*|\d+|[()\[\],;:.=]",
     re.ASCII,
 )
+SIMPLE = re.compile(r"[A-Za-z_][\w$]*", re.ASCII)
+# The key words of IEEE Std 1364-2001.
+KEY_WORDS = frozenset(
+    """
+    always and assign automatic begin buf bufif0 bufif1 case casex casez cell cmos config deassign default defparam design
+    disable edge else end endcase endconfig endfunction endgenerate endmodule endprimitive endspecify endtable endtask event for
+    force forever fork function generate genvar highz0 highz1 if ifnone incdir include initial inout input instance integer join
+    large liblist library localparam macromodule medium module nand negedge nmos nor noshowcancelled not notif0 notif1 or output
+    parameter pmos posedge primitive pull0 pull1 pulldown pullup pulsestyle_ondetect pulsestyle_onevent rcmos real realtime reg
+    release repeat rnmos rpmos rtran rtranif0 rtranif1 scalared showcancelled signed small specify specparam strong0 strong1
+    supply0 supply1 table task time tran tranif0 tranif1 tri tri0 tri1 triand trior trireg unsigned use vectored wait wand weak0
+    weak1 while wire wor xnor xor
+    """.split()
+)
 DECLARATIONS = ("module", "input", "output", "inout", "wire")
 
 
@@ -37,6 +51,16 @@ def words_of_netlist(text):
 def plain(word):
     """A name as its bytes."""
     return word[1:-1] if word.startswith("\\") else word
+
+
+def is_simple(name):
+    """A name that stands without an escape."""
+    return SIMPLE.fullmatch(name) is not None and name not in KEY_WORDS
+
+
+def spelled(name):
+    """A name as a text has it, escaped where it must be."""
+    return name if is_simple(name) else f"\\{name} "
 
 
 @dataclass

@@ -1,7 +1,7 @@
 """The benches of scripts/bench say under Icarus what `check` says, on netlists as written and on spoiled ones."""
 import os, re, sys
 
-from chips import CELLS, keep, run, text_of
+from chips import CELLS, TOP, keep, run, text_of
 from script_trials import demo, most_rows, refusals, script, small_chips
 
 NEEDS = ("iverilog", "vvp")
@@ -53,6 +53,15 @@ def tried(program, room):
     if said != wanted:
         sys.exit(f"a spoiled counter: the bench prints\n{said}\nand check\n{wanted}")
     yield f"a spoiled counter: the bench misses what `check` misses, {said.strip().split()[-1]} expectations"
+    cells, netlist, bsdl = (os.path.join(TOP, "examples/synthesis", end) for end in ("small.cells", "pulse.chip.v", "pulse.bsd"))
+    run([program, "vectors", bsdl, vectors])
+    bench, simulation = os.path.join(room, "bench.v"), os.path.join(room, "bench.vvp")
+    script("bench", bsdl, vectors, bench, cells)
+    run(["iverilog", "-g2001", "-o", simulation, bench, netlist, CELLS])
+    said, wanted = run(["vvp", "-n", simulation]), run([program, "check", netlist, bsdl, vectors, cells])
+    if said != wanted:
+        sys.exit(f"pulse: the bench prints\n{said}\nand check\n{wanted}")
+    yield f"pulse, of a library's cells, with the models of its text: {said.strip()}"
     netlist, bsdl = demo(program, room, 999)
     run([program, "vectors", bsdl, vectors])
     yield f"demo 999: {played(room, bsdl, vectors, apart(room, netlist), '--module', 'demo').strip()}"
@@ -68,6 +77,7 @@ def tried(program, room):
     wrong = {"no file": [bsdl, os.path.join(room, "missing"), bench], "a netlist": [netlist, vectors, bench], "no events": [bsdl, bsdl, bench]}
     wrong["a folder to write to"] = [bsdl, vectors, room]
     wrong["a pin of another chip"] = [chips[1][2], vectors, bench]
+    wrong["a netlist as the library"] = [bsdl, vectors, bench, netlist]
     wrong["no time"] = [bsdl, vectors, bench, "--step", "0"]
     yield refusals("bench", wrong)
 

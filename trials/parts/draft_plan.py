@@ -1,7 +1,7 @@
 """Plans that scripts/draft_plan drafts are taken by `insert`, and what comes of them does what its BSDL file says."""
 import os, re, sys
 
-from chips import keep, run, text_of
+from chips import TOP, keep, run, text_of
 from script_trials import SCRIPTS, SMALL, demo, refusals, script
 
 NEEDS = ()
@@ -27,13 +27,13 @@ def cells_of(plan):
     return dict(re.findall(r"^pin (\S+) \S+ (BC_\d)$", plan, re.M))
 
 
-def taken(program, room, name, netlist, *more):
+def taken(program, room, name, netlist, *more, library=()):
     """The draft of a netlist, of which `insert` makes a chip that does what its file says."""
     plan, *made = (os.path.join(room, end) for end in ("draft.plan", "draft.v", "draft.bsd", "draft.events"))
-    keep(plan, script("draft_plan", netlist, *more, "--program", program))
-    run([program, "insert", netlist, plan, *made[:2]])
+    keep(plan, script("draft_plan", netlist, *library, *more, "--program", program))
+    run([program, "insert", netlist, plan, *made[:2], *library])
     run([program, "vectors", *made[1:]])
-    said = run([program, "check", *made]).strip()
+    said = run([program, "check", *made, *library]).strip()
     if not re.fullmatch(r"done \d+ 0", said):
         sys.exit(f"{name}: {said}")
     return text_of(plan), said
@@ -75,6 +75,10 @@ def tried(program, room):
         yield f"{name}: {', '.join(f'{kinds.count(kind)} of {kind}' for kind in sorted(set(kinds)))}; {said}"
         if name == "counter8" and cells_of(plan) != cells_of(text_of(os.path.join(folder, name + ".plan"))):
             sys.exit("the counter has other cells than in its own plan")
+    for folder, name, end in (("examples", "accumulator.v", "accumulator.lib"), ("examples/synthesis", "pulse.net.v", "small.cells")):
+        netlist, library = (os.path.join(TOP, folder, it) for it in (name, end))
+        plan, said = taken(program, room, name, netlist, library=[library])
+        yield f"{name}, of a library's cells: BC_4 at {', '.join(bit for bit, kind in cells_of(plan).items() if kind == 'BC_4')}; {said}"
     yield names(program, room)
     yield with_usercode(program, room)
     large, _ = demo(program, room, 9999)
@@ -85,6 +89,10 @@ def tried(program, room):
     for what, changed in spoiled(text).items():
         wrong[what] = [keep(os.path.join(room, f"{what.replace(' ', '_')}.v"), changed), "--program", program]
     wrong["a user code of 31 bits"] = [os.path.join(SMALL[0][0], "counter8.v"), "--usercode", CODE[1:], "--program", program]
+    linked = os.path.join(TOP, "examples/accumulator.v")
+    wrong["cells of a library without it"] = [linked, "--program", program]
+    wrong["a netlist as the library"] = [linked, linked, "--program", program]
+    wrong["no library of the name"] = [linked, os.path.join(room, "missing"), "--program", program]
     wrong["no program"] = [os.path.join(SMALL[0][0], "counter8.v"), "--program", os.path.join(room, "missing")]
     yield refusals("draft_plan", wrong)
 

@@ -175,6 +175,34 @@ def most(room, program):
     return f"one of 4,091 rows: line {places[1][0]}, {places[1][2]}"
 
 
+# Lines of a library, the fault, and what is said of the cell that it names.
+CELLS = (
+    ("gate and Y A : A", "LibName and", "and is no simple name of Verilog, or a key word"),
+    ("gate MUX2 Y A : A", "LibName MUX2", "MUX2 is one of the seven known cells"),
+    ("gate X Y A : A\n  gate X Y B : B", "LibName X", "the name stands before, at line 2"),
+    ("gate X Y mux : mux", "LibBody X", "its port mux is no simple name"),
+    ("gate X Y A A : A", "LibBody X", "its port A stands twice"),
+    ("gate X Y A : B", "LibBody X", "B is no input of it and no step"),
+    ("gate X Y A : A and", "LibBody X", "`and` takes 2 values, and there stand 1"),
+    ("gate X Y A B : A B", "LibBody X", "2 values are left at the end"),
+    ("gate X Y A : " + "A " * 17 + "and " * 16, "LibBody X", "more than 16 values stand at once"),
+    ("flop X DFF Q D D", "LibBody X", "its port D stands twice"),
+)
+
+
+def listed(program, room):
+    """Libraries that the program refuses, and the rule that is told of each."""
+    net, events, library = (os.path.join(TOP, "examples/first.v"), os.path.join(room, "none.events"), os.path.join(room, "wrong.lib"))
+    keep(events, "events 1\nstart a 0\nstart b 0\n")
+    for lines, fault, rule in CELLS:
+        keep(library, f"cells 1\n{lines}\n")
+        said = run([program, "sim", net, events, library], (1,)).strip()
+        told = script("place", library, "--cell", fault.split()[1])
+        if said != fault or rule not in told:
+            sys.exit(f"{lines!r}: {said}: {told}")
+    return f"{len(CELLS)} wrong libraries: the cell and the rule each time"
+
+
 def tried(program, room):
     counter, first, bsdl = (os.path.join(TOP, "examples", name) for name in ("counter8.v", "first.v", "counter8.bsd"))
     for command, path in (("canon", counter), ("canon", first), ("showbsdl", bsdl)):
@@ -185,10 +213,14 @@ def tried(program, room):
     yield changed_words(program, room, text_of(bsdl))
     yield most(room, program)
     yield loop(program, room)
+    yield listed(program, room)
+    yield items(program, room, os.path.join(TOP, "examples/synthesis/pulse.net.v"))
     for netlist in (counter, first, demo(program, room, 9999)[0]):
         yield items(program, room, netlist)
     wrong = {"no file": [os.path.join(room, "missing"), "0"], "a folder": [room, "0"], "a place behind the end": [counter, "99999"]}
     wrong.update({"a place before the beginning": [counter, "--", "-1"], "no place": [counter], "a word as a place": [counter, "x"], "no word": []})
     wrong.update({"an item that isn't there": [counter, "--item", "32"], "items of a BSDL file": [bsdl, "--item", "0"]})
+    wrong["a cell that isn't listed"] = [os.path.join(TOP, "examples/accumulator.lib"), "--cell", "X"]
+    wrong["a place and a cell"] = [counter, "0", "--cell", "X"]
     wrong["items of a text that is cut off"] = [keep(os.path.join(room, "cut.v"), text_of(counter)[:1000]), "--item", "0"]
     yield refusals("place", wrong)

@@ -1,7 +1,7 @@
 """The dumps of scripts/vcd give at each time the readings of `sim`, and the controller's states."""
 import os, re, sys
 
-from chips import keep, run, text_of
+from chips import TOP, keep, run, text_of
 from script_trials import demo, most_rows, refusals, script, small_chips
 
 NEEDS = ()
@@ -74,6 +74,13 @@ def tried(program, room):
     _, netlist, bsdl = chips[0]
     run([program, "vectors", bsdl, events])
     script("vcd", netlist, events, dump, "--program", program)
+    netlist, library = (os.path.join(TOP, "examples", name) for name in ("accumulator.v", "accumulator.lib"))
+    own = os.path.join(TOP, "examples/accumulator.events")
+    script("vcd", netlist, own, dump, library, "--program", program)
+    said_of_cells = run([program, "sim", netlist, own, library])
+    yield f"accumulator, of a library's cells: {compared('accumulator', values_at(dump), said_of_cells, own)} readings as `sim` has them"
+    unlisted = [netlist, own, dump, "--program", program]
+    _, netlist, bsdl = chips[0]
     most = most_rows(room)
     run([program, "vectors", most, events])
     keep(said, "".join(f"y[{number}] 0\n" for number in reversed(range(2046))) + "TDO z\n")
@@ -84,5 +91,6 @@ def tried(program, room):
     wrong["a folder to write to"] = [netlist, events, room, "--program", program]
     wrong["the BSDL file of another chip"] = [netlist, events, dump, "--bsdl", chips[5][2], "--program", program]
     wrong["readings of another chip"] = [netlist, events, dump, "--said", said, "--bsdl", bsdl]
+    wrong["cells of a library without it"] = unlisted
     wrong["what `sim` didn't print"] = [netlist, events, dump, "--said", bsdl]
     yield refusals("vcd", wrong)

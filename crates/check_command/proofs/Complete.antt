@@ -111,10 +111,10 @@ texts_memory laws library net text events f ok bad = absurd bad.stands
 
 -- with the library behind the others
 pub all_memory : Laws → (f : Fault) (texts : List (List ℕ)) → AreCheckableTexts texts → HaveFault texts f → status_of f ≡ status.Memory
-all_memory laws f (net ∷ text ∷ events ∷ more) ok (inl bad) = library_memory laws.no_library_fault more ok.0 f ok.1 bad
+all_memory laws f (net ∷ text ∷ events ∷ more) ok (inl bad) = library_memory laws.no_library_fault more ok.0 f ok.1.0 bad
 all_memory laws f (net ∷ text ∷ events ∷ more) ok (inr (library, (is, stands))) =
-    let same : library ≡ ok.0 = one_library laws.one_library more library ok.0 is ok.1 in
-    texts_memory laws ok.0 net text events f ok.2 (subst (λ (l : List ListedCell). StandsInAll l net text events f) same stands)
+    let same : library ≡ ok.0 = one_library laws.one_library more library ok.0 is ok.1.0 in
+    texts_memory laws ok.0 net text events f ok.1.1 (subst (λ (l : List ListedCell). StandsInAll l net text events f) same stands)
 all_memory laws f [] ok stands = absurd stands
 all_memory laws f (net ∷ []) ok stands = absurd stands
 all_memory laws f (net ∷ text ∷ []) ok stands = absurd stands

@@ -58,7 +58,7 @@ plan_stands library net text linked f is stands = absurd stands
 
 -- The netlist with its test logic.
 
-listed_of : (library : List ListedCell) (net : List ℕ) (linked : LinkedView) → IsNetlistOf library net linked → IsLibrary linked.arena.lists.library
+pub listed_of : (library : List ListedCell) (net : List ℕ) (linked : LinkedView) → IsNetlistOf library net linked → IsLibrary linked.arena.lists.library
 listed_of library net linked is = subst IsLibrary (sym is.library_is) is.listed
 
 pub linked_tree : (library : List ListedCell) (net : List ℕ) (linked : LinkedView) → IsNetlistOf library net linked → IsLinkedTree linked

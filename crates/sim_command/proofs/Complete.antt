@@ -57,9 +57,9 @@ both_memory laws library fault.OutOfMemory net text ok stands = refl
 both_memory laws library f net text ok stands = absurd stands
 
 pub texts_memory : Laws → (f : Fault) (texts : List (List ℕ)) → AreSimulable texts → HaveFault texts f → status_of f ≡ status.Memory
-texts_memory laws f (net ∷ events ∷ more) ok (inl bad) = library_memory laws.no_library_fault more ok.0 f ok.1 bad
+texts_memory laws f (net ∷ events ∷ more) ok (inl bad) = library_memory laws.no_library_fault more ok.0 f ok.1.0 bad
 texts_memory laws f (net ∷ events ∷ more) ok (inr (library, (is, stands))) =
-    let same : library ≡ ok.0 = one_library laws.one_library more library ok.0 is ok.1 in
-    both_memory laws ok.0 f net events ok.2 (subst (λ (l : List ListedCell). StandsInBoth l net events f) same stands)
+    let same : library ≡ ok.0 = one_library laws.one_library more library ok.0 is ok.1.0 in
+    both_memory laws ok.0 f net events ok.1.1 (subst (λ (l : List ListedCell). StandsInBoth l net events f) same stands)
 texts_memory laws f [] ok stands = absurd stands
 texts_memory laws f (net ∷ []) ok stands = absurd stands

@@ -7,6 +7,7 @@ use Rattle.command_faults.specs.Statuses.{status_of}
 use Rattle.verilog_tree.specs.declared.tree.Module.{Module}
 use Rattle.verilog_texts.specs.Reading.{IsReadAs}
 use Rattle.cell_library.specs.declared.listed.ListedCell.{ListedCell}
+use Rattle.link_model.specs.Late.{IsLinkable}
 use Rattle.netlist_link.specs.Linked.{LinkedView}
 use Rattle.netlist_link.specs.Links.{IsLinkOf}
 use Rattle.edge_io.specs.Shelf.{SameTold}
@@ -47,7 +48,7 @@ netlist_stands library net events (fault.Link f) stands = stands
 netlist_stands library net events f stands = absurd stands
 
 events_stand : (library : List ListedCell) (net events : List ℕ) (tree : Module) (linked : LinkedView) (f : Fault) → IsReadAs net tree → linked.arena.lists.library ≡ library → IsLinkOf tree linked → StandsInEvents linked events f → StandsInBoth library net events f
-events_stand library net events tree linked (fault.Events f) read listed links stands = (record { tree = tree; spells = read.spells; linkable = links.linkable }, stands)
+events_stand library net events tree linked (fault.Events f) read listed links stands = (record { tree = tree; spells = read.spells; linkable = subst (λ (l : List ListedCell). IsLinkable l tree) listed links.linkable }, stands)
 events_stand library net events tree linked (fault.Script f) read listed links (lines, (spelled, stands)) =
     record { tree = tree; spells = read.spells; only = read.only; linked = linked; library_is = listed; links = links; lines = lines; spells_lines = spelled; fault = stands }
 events_stand library net events tree linked fault.OutOfMemory read listed links stands = tt

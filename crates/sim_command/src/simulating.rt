@@ -43,8 +43,9 @@ fn simulate_files<'a, S: Shelf, O: Sink>(
     play_all(alloc, texts, out)
 }
 
-/// Plays the events that lie under one name on the netlist that lies under another, with the library that lies under a third if there is one, and puts what the run puts, as it goes. The
-/// status is `Done`, or `Missed` where an expectation isn't met.
+/// Plays the events that lie under one name on the netlist that lies under another, with the library that lies under a
+/// third if there is one, and puts what the run puts, as it goes. The status is `Done`, or `Missed` where an expectation
+/// isn't met.
 pub fn simulate<'a, S: Shelf, O: Sink>(
     alloc: Global,
     shelf: &mut S,
@@ -53,19 +54,19 @@ pub fn simulate<'a, S: Shelf, O: Sink>(
     events: &'a str,
     library: Option<&'a str>,
 ) -> Result<Status, Fault<'a>>
-    ensures done { IfOk result (Finishes (sim_task netlist.now events.now (name_of library))
+    ensures done { IfOk result (Finishes (sim_task netlist.now events.now (name_of library.entry))
         (shelf_seen S.tells S.held S.written S.faults shelf.old shelf.new)
         (sink_seen O.given O.faults out.old out.new)) }
     ensures ended { IfOk result IsEnd }
-    ensures fault { IfErr result (λ fault. Stands (sim_task netlist.now events.now (name_of library))
+    ensures fault { IfErr result (λ fault. Stands (sim_task netlist.now events.now (name_of library.entry))
         (shelf_seen S.tells S.held S.written S.faults shelf.old shelf.new)
         (sink_seen O.given O.faults out.old out.new) fault (O.given out.new)) }
 
     // Where no fault stands in the texts, and no count rises, it wants memory.
-    ensures complete { IfErr result (λ fault. Completes (sim_task netlist.now events.now (name_of library))
+    ensures complete { IfErr result (λ fault. Completes (sim_task netlist.now events.now (name_of library.entry))
         (shelf_seen S.tells S.held S.written S.faults shelf.old shelf.new)
         (sink_seen O.given O.faults out.old out.new) (status_of fault)) }
-    ensures keeps { Keeps (λ name. IsOneOf name (sim_task netlist.now events.now (name_of library)).writes)
+    ensures keeps { Keeps (λ name. IsOneOf name (sim_task netlist.now events.now (name_of library.entry)).writes)
         (shelf_seen S.tells S.held S.written S.faults shelf.old shelf.new)
         (sink_seen O.given O.faults out.old out.new) }
 {

@@ -1,11 +1,14 @@
 // Netlists that are changed: readers move, cells go, and parts come in.
 ghost use Rattle.std.specs.Prelude.{◌≡◌, IfSome, Some};
+ghost use Rattle.netlist_model.specs.Contained.{IsDense};
 ghost use Rattle.netlist_arena.specs.Looks.{feed_at};
 
 use cell_library::{Kind, Library};
 use gate_parts::{Gate, Pin, Pins, add_part};
 use netlist_arena::Netlist;
 use netlist_model::{CellId, Feed, Name, NetId, Reader};
+use std::alloc::Global;
+use std::process::Abort;
 use std::test::Fail;
 
 // The operand at a place, if it is there.
@@ -35,7 +38,7 @@ fn reader(cell: u32, place: u32) -> Option<Reader> {
     })
 }
 
-fn move_readers(rt: HostRuntime, netlist: &mut Netlist) -> Result<(), Fail> {
+fn move_readers(rt: &impl Abort, netlist: &mut Netlist) -> Result<(), Fail> {
     netlist.reserve(2, 2, 0)?;
     let a = netlist.add_net(Name::Original(0), None);
     let b = netlist.add_net(Name::Original(1), None);
@@ -57,10 +60,10 @@ fn move_readers(rt: HostRuntime, netlist: &mut Netlist) -> Result<(), Fail> {
 #[test]
 fn readers_move_to_another_net(rt: HostRuntime) -> Result<(), Fail> {
     let mut netlist = Netlist::new(rt.alloc(), Library::new(rt.alloc()));
-    move_readers(rt, &mut netlist)
+    move_readers(&rt, &mut netlist)
 }
 
-fn refill_the_last(rt: HostRuntime, netlist: &mut Netlist) -> Result<(), Fail> {
+fn refill_the_last(rt: &impl Abort, alloc: Global, netlist: &mut Netlist) -> Result<(), Fail> {
     netlist.reserve(4, 1, 0)?;
     let a = netlist.add_net(Name::Original(0), None);
     let first = netlist.add_cell(Kind::Buf, None, &[Feed::Net(a)], None);
@@ -71,7 +74,7 @@ fn refill_the_last(rt: HostRuntime, netlist: &mut Netlist) -> Result<(), Fail> {
     assert_eq!(rt; first, CellId(0));
     assert_eq!(rt; again, CellId(1));
     assert_eq!(rt; next, CellId(2));
-    let copy = netlist.copy(rt.alloc())?;
+    let copy = netlist.copy(alloc)?;
     assert_eq!(rt; copy.cell_count(), 3);
     Ok(())
 }
@@ -79,7 +82,7 @@ fn refill_the_last(rt: HostRuntime, netlist: &mut Netlist) -> Result<(), Fail> {
 #[test]
 fn a_cell_takes_the_number_of_the_last_that_was_removed(rt: HostRuntime) -> Result<(), Fail> {
     let mut netlist = Netlist::new(rt.alloc(), Library::new(rt.alloc()));
-    refill_the_last(rt, &mut netlist)
+    refill_the_last(&rt, rt.alloc(), &mut netlist)
 }
 
 // Removes a cell, if it is there.
@@ -92,7 +95,7 @@ fn remove(netlist: &mut Netlist, cell: CellId)
     }
 }
 
-fn refill_two(rt: HostRuntime, netlist: &mut Netlist) -> Result<(), Fail> {
+fn refill_two(rt: &impl Abort, netlist: &mut Netlist) -> Result<(), Fail> {
     netlist.reserve(5, 2, 0)?;
     let a = netlist.add_net(Name::Original(0), None);
     let b = netlist.add_net(Name::Original(1), None);
@@ -119,7 +122,7 @@ fn refill_two(rt: HostRuntime, netlist: &mut Netlist) -> Result<(), Fail> {
 #[test]
 fn cells_take_the_numbers_of_two_that_were_removed(rt: HostRuntime) -> Result<(), Fail> {
     let mut netlist = Netlist::new(rt.alloc(), Library::new(rt.alloc()));
-    refill_two(rt, &mut netlist)
+    refill_two(&rt, &mut netlist)
 }
 
 // Not the first net, and that with the second.
@@ -134,7 +137,9 @@ const PART: [Gate; 2] = [
     },
 ];
 
-fn place_part(rt: HostRuntime, netlist: &mut Netlist) -> Result<(), Fail> {
+fn place_part(rt: &impl Abort, netlist: &mut Netlist) -> Result<(), Fail>
+    requires { IsDense netlist.old.lists }
+{
     netlist.reserve(2, 4, 0)?;
     let a = netlist.add_net(Name::Original(0), None);
     let b = netlist.add_net(Name::Original(1), None);
@@ -150,5 +155,5 @@ fn place_part(rt: HostRuntime, netlist: &mut Netlist) -> Result<(), Fail> {
 #[test]
 fn the_gates_of_a_part_stand_on_nets_of_their_own(rt: HostRuntime) -> Result<(), Fail> {
     let mut netlist = Netlist::new(rt.alloc(), Library::new(rt.alloc()));
-    place_part(rt, &mut netlist)
+    place_part(&rt, &mut netlist)
 }

@@ -3,9 +3,11 @@ use crate::netlists::operand;
 use cell_library::{Kind, Library};
 use netlist_arena::Netlist;
 use netlist_model::{CellId, Dir, Feed, Name, Range};
+use std::alloc::Global;
+use std::process::Abort;
 use std::test::Fail;
 
-fn fill_room(rt: HostRuntime, netlist: &mut Netlist) -> Result<(), Fail> {
+fn fill_room(rt: &impl Abort, netlist: &mut Netlist) -> Result<(), Fail> {
     netlist.reserve(3, 4, 1)?;
     let a = netlist.add_net(Name::Original(0), None);
     let b = netlist.add_net(Name::Original(1), Some(3));
@@ -36,10 +38,10 @@ fn fill_room(rt: HostRuntime, netlist: &mut Netlist) -> Result<(), Fail> {
 #[test]
 fn what_was_reserved_is_enough(rt: HostRuntime) -> Result<(), Fail> {
     let mut netlist = Netlist::new(rt.alloc(), Library::new(rt.alloc()));
-    fill_room(rt, &mut netlist)
+    fill_room(&rt, &mut netlist)
 }
 
-fn place_wide(rt: HostRuntime, netlist: &mut Netlist) -> Result<(), Fail> {
+fn place_wide(rt: &impl Abort, alloc: Global, netlist: &mut Netlist) -> Result<(), Fail> {
     netlist.reserve(3, 4, 1)?;
     let a = netlist.add_net(Name::Original(0), None);
     let b = netlist.add_net(Name::Original(1), None);
@@ -52,7 +54,7 @@ fn place_wide(rt: HostRuntime, netlist: &mut Netlist) -> Result<(), Fail> {
     ];
     let wide = netlist.add_wide_cell(Kind::Nor, None, &feeds, None)?;
     let _port = netlist.add_port(Name::Original(0), Dir::Input, None, &[a])?;
-    let copy = netlist.copy(rt.alloc())?;
+    let copy = netlist.copy(alloc)?;
     assert_eq!(rt; copy.cell_count(), 1);
     assert_eq!(rt; copy.pin_count(), 1);
     for (place, feed) in (0..5).zip(feeds) {
@@ -64,16 +66,16 @@ fn place_wide(rt: HostRuntime, netlist: &mut Netlist) -> Result<(), Fail> {
 #[test]
 fn a_copy_has_the_operands_of_a_wide_cell(rt: HostRuntime) -> Result<(), Fail> {
     let mut netlist = Netlist::new(rt.alloc(), Library::new(rt.alloc()));
-    place_wide(rt, &mut netlist)
+    place_wide(&rt, rt.alloc(), &mut netlist)
 }
 
-fn place_port(rt: HostRuntime, netlist: &mut Netlist) -> Result<(), Fail> {
+fn place_port(rt: &impl Abort, alloc: Global, netlist: &mut Netlist) -> Result<(), Fail> {
     netlist.reserve(0, 2, 2)?;
     let a = netlist.add_net(Name::Original(1), None);
     let b = netlist.add_net(Name::Original(2), None);
     let range = Some(Range { left: 1, right: 0 });
     let port = netlist.add_port(Name::Original(0), Dir::Output, range, &[b, a])?;
-    let nets = netlist.port_nets(rt.alloc(), port)?;
+    let nets = netlist.port_nets(alloc, port)?;
     assert!(rt; nets.as_slice() == [b, a].as_slice());
     assert_eq!(rt; netlist.port_dir(port), Dir::Output);
     assert_eq!(rt; netlist.port_range(port), range);
@@ -84,5 +86,5 @@ fn place_port(rt: HostRuntime, netlist: &mut Netlist) -> Result<(), Fail> {
 #[test]
 fn a_port_has_a_net_for_each_bit(rt: HostRuntime) -> Result<(), Fail> {
     let mut netlist = Netlist::new(rt.alloc(), Library::new(rt.alloc()));
-    place_port(rt, &mut netlist)
+    place_port(&rt, rt.alloc(), &mut netlist)
 }

@@ -8,15 +8,15 @@ use Rattle.check_command.proofs.Complete.{Laws, all_memory}
 use Rattle.check_command.proofs.checking.CheckTextCommand.make.Goals as goal
 
 -- of the library's text
-pub returns-in_err-take_three-clause-fault : goal.returns-in_err-take_three-clause-fault
-returns-in_err-take_three-clause-fault c =
-    let bad = c.in_err-take_three.ensures.fault in
-    err_is c.from_residual.result c.in_err-take_three.field-0.0 (HaveFault c.args.texts.now) c.from_residual.ensures.1
-    (subst (λ (ts : List (List ℕ)). HaveFault ts c.in_err-take_three.field-0.0) (sym bad.are) (inl bad.stands))
+pub returns-in_err-net-clause-fault : goal.returns-in_err-net-clause-fault
+returns-in_err-net-clause-fault c =
+    let bad = c.in_err-net.ensures.fault in
+    err_is c.from_residual.result c.in_err-net.field-0.0 (HaveFault c.args.texts.now) c.from_residual.ensures.1
+    (subst (λ (ts : List (List ℕ)). HaveFault ts c.in_err-net.field-0.0) (sym bad.are) (inl bad.stands))
 
-pub returns-in_err-take_three-clause-free : goal.returns-in_err-take_three-clause-free
-returns-in_err-take_three-clause-free c =
-    let bad = c.in_err-take_three.ensures.fault in
+pub returns-in_err-net-clause-free : goal.returns-in_err-net-clause-free
+returns-in_err-net-clause-free c =
+    let bad = c.in_err-net.ensures.fault in
     let laws : Laws = record {
       links = c.faults_forbid_links.ensures;
       once = c.texts_of_events_are_spelled_or_at_fault.ensures.once;
@@ -24,20 +24,20 @@ returns-in_err-take_three-clause-free c =
       one_library = c.texts_of_libraries_are_spelled_or_at_fault.ensures.once;
       no_library_fault = c.texts_of_libraries_are_spelled_or_at_fault.ensures.faultless;
     } in
-    err_is c.from_residual.result c.in_err-take_three.field-0.0 (λ f. AreCheckableTexts c.args.texts.now → status_of f ≡ status.Memory) c.from_residual.ensures.1
-    (λ free. all_memory laws c.in_err-take_three.field-0.0 c.args.texts.now free
-    (subst (λ (ts : List (List ℕ)). HaveFault ts c.in_err-take_three.field-0.0) (sym bad.are) (inl bad.stands)))
+    err_is c.from_residual.result c.in_err-net.field-0.0 (λ f. AreCheckableTexts c.args.texts.now → status_of f ≡ status.Memory) c.from_residual.ensures.1
+    (λ free. all_memory laws c.in_err-net.field-0.0 c.args.texts.now free
+    (subst (λ (ts : List (List ℕ)). HaveFault ts c.in_err-net.field-0.0) (sym bad.are) (inl bad.stands)))
 
 -- of the others
 pub returns-in_err-checked-clause-fault : goal.returns-in_err-checked-clause-fault
 returns-in_err-checked-clause-fault c =
-    let taken = c.in_ok-take_three.ensures.taken in
+    let taken = c.in_ok-net.ensures.taken in
     err_is c.from_residual-in_err-checked.result c.in_err-checked.field-0.0 (HaveFault c.args.texts.now) c.from_residual-in_err-checked.ensures.1
-    (subst (λ (ts : List (List ℕ)). HaveFault ts c.in_err-checked.field-0.0) (sym taken.are) (inr (c.in_ok-take_three.field-0.3, (taken.is, c.in_err-checked.ensures.fault))))
+    (subst (λ (ts : List (List ℕ)). HaveFault ts c.in_err-checked.field-0.0) (sym taken.are) (inr (c.in_ok-net.library, (taken.is, c.in_err-checked.ensures.fault))))
 
 pub returns-in_err-checked-clause-free : goal.returns-in_err-checked-clause-free
 returns-in_err-checked-clause-free c =
-    let taken = c.in_ok-take_three.ensures.taken in
+    let taken = c.in_ok-net.ensures.taken in
     let laws : Laws = record {
       links = c.faults_forbid_links.ensures;
       once = c.texts_of_events_are_spelled_or_at_fault.ensures.once;
@@ -47,11 +47,11 @@ returns-in_err-checked-clause-free c =
     } in
     err_is c.from_residual-in_err-checked.result c.in_err-checked.field-0.0 (λ f. AreCheckableTexts c.args.texts.now → status_of f ≡ status.Memory) c.from_residual-in_err-checked.ensures.1
     (λ free. all_memory laws c.in_err-checked.field-0.0 c.args.texts.now free
-    (subst (λ (ts : List (List ℕ)). HaveFault ts c.in_err-checked.field-0.0) (sym taken.are) (inr (c.in_ok-take_three.field-0.3, (taken.is, c.in_err-checked.ensures.fault)))))
+    (subst (λ (ts : List (List ℕ)). HaveFault ts c.in_err-checked.field-0.0) (sym taken.are) (inr (c.in_ok-net.library, (taken.is, c.in_err-checked.ensures.fault)))))
 
 pub returns-clause-made : goal.returns-clause-made
 returns-clause-made c =
-    let taken = c.in_ok-take_three.ensures.taken in
-    let checked = c.in_ok-checked-checked.field-0 in
+    let taken = c.in_ok-net.ensures.taken in
+    let checked = c.in_ok-checked.checked in
     subst (λ (ts : List (List ℕ)). AreChecked ts c.new.result checked.text c.status_after.result) (sym taken.are)
-    (c.in_ok-take_three.field-0.3, (taken.is, (checked.missed, (c.in_ok-checked-checked.ensures.checked, c.status_after.ensures.status))))
+    (c.in_ok-net.library, (taken.is, (checked.missed, (c.in_ok-checked.ensures.checked, c.status_after.ensures.status))))

@@ -10,15 +10,15 @@ use Rattle.insert_command.proofs.Complete.{Laws, all_memory, ok_with}
 use Rattle.insert_command.proofs.inserting.InsertTextCommand.make.Goals as goal
 
 -- of the library's text
-pub returns-in_err-take_two-clause-fault : goal.returns-in_err-take_two-clause-fault
-returns-in_err-take_two-clause-fault c =
-    let bad = c.in_err-take_two.ensures.fault in
-    err_is c.from_residual.result c.in_err-take_two.field-0.0 (HaveFault c.args.texts.now) c.from_residual.ensures.1
-    (subst (λ (ts : List (List ℕ)). HaveFault ts c.in_err-take_two.field-0.0) (sym bad.are) (inl bad.stands))
+pub returns-in_err-net-clause-fault : goal.returns-in_err-net-clause-fault
+returns-in_err-net-clause-fault c =
+    let bad = c.in_err-net.ensures.fault in
+    err_is c.from_residual.result c.in_err-net.field-0.0 (HaveFault c.args.texts.now) c.from_residual.ensures.1
+    (subst (λ (ts : List (List ℕ)). HaveFault ts c.in_err-net.field-0.0) (sym bad.are) (inl bad.stands))
 
-pub returns-in_err-take_two-clause-free : goal.returns-in_err-take_two-clause-free
-returns-in_err-take_two-clause-free c =
-    let bad = c.in_err-take_two.ensures.fault in
+pub returns-in_err-net-clause-free : goal.returns-in_err-net-clause-free
+returns-in_err-net-clause-free c =
+    let bad = c.in_err-net.ensures.fault in
     let laws : Laws = record {
       links = c.insertion_faults_stand_apart.ensures.links;
       once = c.insertion_faults_stand_apart.ensures.once;
@@ -26,29 +26,29 @@ returns-in_err-take_two-clause-free c =
       one_library = c.insertion_faults_stand_apart.ensures.one_library;
       no_library_fault = c.insertion_faults_stand_apart.ensures.no_library_fault;
     } in
-    err_is c.from_residual.result c.in_err-take_two.field-0.0 (λ f. AreInsertable c.args.texts.now → status_of f ≡ status.Memory) c.from_residual.ensures.1
-    (λ free. all_memory laws c.in_err-take_two.field-0.0 c.args.texts.now free
-    (subst (λ (ts : List (List ℕ)). HaveFault ts c.in_err-take_two.field-0.0) (sym bad.are) (inl bad.stands)))
+    err_is c.from_residual.result c.in_err-net.field-0.0 (λ f. AreInsertable c.args.texts.now → status_of f ≡ status.Memory) c.from_residual.ensures.1
+    (λ free. all_memory laws c.in_err-net.field-0.0 c.args.texts.now free
+    (subst (λ (ts : List (List ℕ)). HaveFault ts c.in_err-net.field-0.0) (sym bad.are) (inl bad.stands)))
 
 -- of the others
 pub returns-clause-made : goal.returns-clause-made
 returns-clause-made c =
-    let taken = c.in_ok-take_two.ensures.taken in
+    let taken = c.in_ok-net.ensures.taken in
     subst (λ (ts : List (List ℕ)). IfOk c.inserted.result (λ made. AreInserted ts made.outputs made.put made.status)) (sym taken.are)
-    (ok_with c.inserted.result (λ made. IsInserted c.in_ok-take_two.field-0.2 c.in_ok-take_two.field-0.0 c.in_ok-take_two.field-0.1 made.outputs made.put made.status)
-    (λ made. AreInserted (c.in_ok-take_two.field-0.0 ∷ c.in_ok-take_two.field-0.1 ∷ taken.more) made.outputs made.put made.status)
-    (λ made is. (c.in_ok-take_two.field-0.2, (taken.is, is))) c.inserted.ensures.made)
+    (ok_with c.inserted.result (λ made. IsInserted c.in_ok-net.library c.in_ok-net.net c.in_ok-net.plan made.outputs made.put made.status)
+    (λ made. AreInserted (c.in_ok-net.net ∷ c.in_ok-net.plan ∷ taken.more) made.outputs made.put made.status)
+    (λ made is. (c.in_ok-net.library, (taken.is, is))) c.inserted.ensures.made)
 
 pub returns-clause-fault : goal.returns-clause-fault
 returns-clause-fault c =
-    let taken = c.in_ok-take_two.ensures.taken in
+    let taken = c.in_ok-net.ensures.taken in
     subst (λ (ts : List (List ℕ)). IfErr c.inserted.result (HaveFault ts)) (sym taken.are)
-    (err_weaker c.inserted.result (StandsInInputs c.in_ok-take_two.field-0.2 c.in_ok-take_two.field-0.0 c.in_ok-take_two.field-0.1)
-    (HaveFault (c.in_ok-take_two.field-0.0 ∷ c.in_ok-take_two.field-0.1 ∷ taken.more)) (λ f bad. inr (c.in_ok-take_two.field-0.2, (taken.is, bad))) c.inserted.ensures.fault)
+    (err_weaker c.inserted.result (StandsInInputs c.in_ok-net.library c.in_ok-net.net c.in_ok-net.plan)
+    (HaveFault (c.in_ok-net.net ∷ c.in_ok-net.plan ∷ taken.more)) (λ f bad. inr (c.in_ok-net.library, (taken.is, bad))) c.inserted.ensures.fault)
 
 pub returns-clause-free : goal.returns-clause-free
 returns-clause-free c =
-    let taken = c.in_ok-take_two.ensures.taken in
+    let taken = c.in_ok-net.ensures.taken in
     let laws : Laws = record {
       links = c.insertion_faults_stand_apart.ensures.links;
       once = c.insertion_faults_stand_apart.ensures.once;
@@ -56,6 +56,6 @@ returns-clause-free c =
       one_library = c.insertion_faults_stand_apart.ensures.one_library;
       no_library_fault = c.insertion_faults_stand_apart.ensures.no_library_fault;
     } in
-    err_weaker c.inserted.result (StandsInInputs c.in_ok-take_two.field-0.2 c.in_ok-take_two.field-0.0 c.in_ok-take_two.field-0.1) (λ f. AreInsertable c.args.texts.now → status_of f ≡ status.Memory)
+    err_weaker c.inserted.result (StandsInInputs c.in_ok-net.library c.in_ok-net.net c.in_ok-net.plan) (λ f. AreInsertable c.args.texts.now → status_of f ≡ status.Memory)
     (λ f bad free. all_memory laws f c.args.texts.now free
-    (subst (λ (ts : List (List ℕ)). HaveFault ts f) (sym taken.are) (inr (c.in_ok-take_two.field-0.2, (taken.is, bad))))) c.inserted.ensures.fault
+    (subst (λ (ts : List (List ℕ)). HaveFault ts f) (sym taken.are) (inr (c.in_ok-net.library, (taken.is, bad))))) c.inserted.ensures.fault
