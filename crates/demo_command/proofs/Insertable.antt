@@ -1,6 +1,7 @@
 -- No fault stands in the texts of a demonstration, and a fault that stands in such texts is want of memory.
 use Rattle.std.proofs.Common.{◌≡◌, ℕ, [], ◌+◌, ◌*◌, ◌<◌, ◌≤◌, Bool, cond, length, Option, Some, None, sym, ap, ◌∙◌, subst, arith, le-ltb}
 use Rattle.std.specs.Option.{option_or}
+use Rattle.std.proofs.lemmas.List.Elements.{All-nil}
 use Rattle.verilog_tree.specs.declared.tree.Module.{Module}
 use Rattle.verilog_tree.specs.IsTree.{IsTree}
 use Rattle.verilog_tree.specs.Texts.{SpellsText}

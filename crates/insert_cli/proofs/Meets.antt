@@ -38,7 +38,7 @@ library_told law held None library other [] holds read is = is ∙ sym holds
 library_told law held None library other (text ∷ more) holds read is = absurd read
 library_told law held (Some name) library other [] holds read is = absurd read
 library_told law held (Some name) library other (text ∷ more) holds read is =
-    law text other library is (subst (λ (t : List ℕ). SpellsLibrary t library) (sym (told_same (held name) text holds.0 read.0.0 holds.1)) holds.2)
+    law text other library is (subst (λ (t : List ℕ). SpellsLibrary t library) (sym (told_same (held name) text holds.0 read.0.0 holds.1.0)) holds.1.1)
 
 -- texts that were read are those that are told
 checked_told : libraries.SpelledOnce → (held : List ℕ → Option (List ℕ)) (netlist bsdl events net text lines put : List ℕ) (name : Option (List ℕ)) (library : List ListedCell) (texts outputs : List (List ℕ)) (end : Status)

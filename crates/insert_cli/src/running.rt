@@ -31,17 +31,17 @@ fn run_insert<'a, S: Shelf, O: Sink>(
     insert: Insert<'a>,
 ) -> Result<Status, Fault<'a>>
     requires { StandOnce (insert.outnet.now ∷ insert.outbsdl.now ∷ []) }
-    ensures done { IfOk result (Finishes (insert_task insert.netlist.now insert.plan.now insert.outnet.now insert.outbsdl.now (name_of insert.library))
+    ensures done { IfOk result (Finishes (insert_task insert.entry.netlist.now insert.entry.plan.now insert.entry.outnet.now insert.entry.outbsdl.now (name_of insert.entry.library))
         (shelf_seen S.tells S.held S.written S.faults shelf.old shelf.new)
         (sink_seen O.given O.faults out.old out.new)) }
     ensures ended { IfOk result IsEnd }
-    ensures fault { IfErr result (λ fault. Stands (insert_task insert.netlist.now insert.plan.now insert.outnet.now insert.outbsdl.now (name_of insert.library))
+    ensures fault { IfErr result (λ fault. Stands (insert_task insert.entry.netlist.now insert.entry.plan.now insert.entry.outnet.now insert.entry.outbsdl.now (name_of insert.entry.library))
         (shelf_seen S.tells S.held S.written S.faults shelf.old shelf.new)
         (sink_seen O.given O.faults out.old out.new) fault (O.given out.new)) }
-    ensures complete { IfErr result (λ fault. Completes (insert_task insert.netlist.now insert.plan.now insert.outnet.now insert.outbsdl.now (name_of insert.library))
+    ensures complete { IfErr result (λ fault. Completes (insert_task insert.entry.netlist.now insert.entry.plan.now insert.entry.outnet.now insert.entry.outbsdl.now (name_of insert.entry.library))
         (shelf_seen S.tells S.held S.written S.faults shelf.old shelf.new)
         (sink_seen O.given O.faults out.old out.new) (status_of fault)) }
-    ensures keeps { Keeps (λ name. IsOneOf name (insert_task insert.netlist.now insert.plan.now insert.outnet.now insert.outbsdl.now (name_of insert.library)).writes)
+    ensures keeps { Keeps (λ name. IsOneOf name (insert_task insert.entry.netlist.now insert.entry.plan.now insert.entry.outnet.now insert.entry.outbsdl.now (name_of insert.entry.library)).writes)
         (shelf_seen S.tells S.held S.written S.faults shelf.old shelf.new)
         (sink_seen O.given O.faults out.old out.new) }
 {
@@ -75,17 +75,17 @@ fn run_check<'a, S: Shelf, O: Sink>(
     out: &mut O,
     check: Check<'a>,
 ) -> Result<Status, Fault<'a>>
-    ensures done { IfOk result (Finishes (check_task check.netlist.now check.bsdl.now check.events.now (name_of check.library))
+    ensures done { IfOk result (Finishes (check_task check.entry.netlist.now check.entry.bsdl.now check.entry.events.now (name_of check.entry.library))
         (shelf_seen S.tells S.held S.written S.faults shelf.old shelf.new)
         (sink_seen O.given O.faults out.old out.new)) }
     ensures ended { IfOk result IsEnd }
-    ensures fault { IfErr result (λ fault. Stands (check_task check.netlist.now check.bsdl.now check.events.now (name_of check.library))
+    ensures fault { IfErr result (λ fault. Stands (check_task check.entry.netlist.now check.entry.bsdl.now check.entry.events.now (name_of check.entry.library))
         (shelf_seen S.tells S.held S.written S.faults shelf.old shelf.new)
         (sink_seen O.given O.faults out.old out.new) fault (O.given out.new)) }
-    ensures complete { IfErr result (λ fault. Completes (check_task check.netlist.now check.bsdl.now check.events.now (name_of check.library))
+    ensures complete { IfErr result (λ fault. Completes (check_task check.entry.netlist.now check.entry.bsdl.now check.entry.events.now (name_of check.entry.library))
         (shelf_seen S.tells S.held S.written S.faults shelf.old shelf.new)
         (sink_seen O.given O.faults out.old out.new) (status_of fault)) }
-    ensures keeps { Keeps (λ name. IsOneOf name (check_task check.netlist.now check.bsdl.now check.events.now (name_of check.library)).writes)
+    ensures keeps { Keeps (λ name. IsOneOf name (check_task check.entry.netlist.now check.entry.bsdl.now check.entry.events.now (name_of check.entry.library)).writes)
         (shelf_seen S.tells S.held S.written S.faults shelf.old shelf.new)
         (sink_seen O.given O.faults out.old out.new) }
 {

@@ -1,5 +1,5 @@
 use Rattle.std.proofs.Common.{arith, map, string_bytes, refl}
-use Rattle.insert_cli.proofs.Forms.{five_are, words_of_five}
+use Rattle.insert_cli.proofs.Forms.{five_are, six_are, words_of_five, words_of_six}
 use Rattle.insert_cli.proofs.FormLaws.{plain_as}
 use Rattle.insert_cli.proofs.command.plain_command.Goals as goal
 
@@ -10,3 +10,11 @@ returns-in-len5 c =
     (words_of_five (map string_bytes c.args.words.now) c.args.words.now c.word-item-then-words-lt6.result c.first-item-then-words-lt6.result c.second-item-then-words-lt6.result c.third-item-then-words-lt6.result c.fourth-item.result _ _ _ _ _ refl are
     c.as_str-in-len5.ensures.value c.as_str-in-len5-2.ensures.value c.as_str-in-len5-3.ensures.value c.as_str-in-len5-4.ensures.value c.as_str-in-len5-5.ensures.value)
     c.of_four.ensures
+
+pub returns-in-len6 : goal.returns-in-len6
+returns-in-len6 c =
+    let are = six_are c.args.words.now c.word-item-then-words-lt7.result c.first-item-then-words-lt7.result c.second-item-then-words-lt7.result c.third-item-then-words-lt7.result c.fourth-item-then-words-lt7.result c.fifth-item.result (omega arith) (omega arith) c.word-item-then-words-lt7.is c.first-item-then-words-lt7.is c.second-item-then-words-lt7.is c.third-item-then-words-lt7.is c.fourth-item-then-words-lt7.is c.fifth-item.is in
+    plain_as (map string_bytes c.args.words.now) _ c.of_five.result
+    (words_of_six (map string_bytes c.args.words.now) c.args.words.now c.word-item-then-words-lt7.result c.first-item-then-words-lt7.result c.second-item-then-words-lt7.result c.third-item-then-words-lt7.result c.fourth-item-then-words-lt7.result c.fifth-item.result _ _ _ _ _ _ refl are
+    c.as_str-in-len6.ensures.value c.as_str-in-len6-2.ensures.value c.as_str-in-len6-3.ensures.value c.as_str-in-len6-4.ensures.value c.as_str-in-len6-5.ensures.value c.as_str-in-len6-6.ensures.value)
+    c.of_five.ensures
