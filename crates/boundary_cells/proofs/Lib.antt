@@ -1,3 +1,4 @@
+pub use Rattle.register_bits.proofs as register_bits
 pub mod Adding
 pub mod Stages
 pub mod Cells

@@ -15,13 +15,13 @@ use Rattle.netlist_model.specs.Settled.{IsSettled}
 use Rattle.netlist_model.specs.Formed.{IsWellFormed}
 use Rattle.netlist_model.specs.Contained.{HasCells}
 use Rattle.netlist_model.specs.Runs.{Moment, PinEvent, IsStep}
-use Rattle.test_logic.specs.declared.Levels.{Levels}
-use Rattle.test_logic.specs.declared.ScanNets.{ScanNets}
-use Rattle.test_logic.specs.Controller.{act}
-use Rattle.test_logic.specs.Registers.{shifted, update_bit}
-use Rattle.test_logic.specs.Machine.{TestLogic, Machine, in_effect, edge_of, machine_step}
-use Rattle.test_logic.specs.Rows.{CellAt}
-use Rattle.register_bits.specs.Laws.{Carries, on_edge, bit_after}
+use Rattle.wrapped_chip.specs.test_logic.declared.Levels.{Levels}
+use Rattle.wrapped_chip.specs.test_logic.declared.ScanNets.{ScanNets}
+use Rattle.wrapped_chip.specs.test_logic.Controller.{act}
+use Rattle.wrapped_chip.specs.test_logic.Registers.{shifted, update_bit}
+use Rattle.wrapped_chip.specs.test_logic.Machine.{TestLogic, Machine, in_effect, edge_of, machine_step}
+use Rattle.wrapped_chip.specs.test_logic.Rows.{CellAt}
+use Rattle.boundary_cells.specs.register_bits.Laws.{Carries, on_edge, bit_after}
 use Rattle.boundary_cells.specs.Laws.{ShiftLaws, UpdateLaws}
 use Rattle.boundary_cells.specs.MachineRows.{bit_at, boundary_action, boundary_updates, RowsStep}
 use Rattle.boundary_runs.specs.Rows.{IsSteered}

@@ -7,8 +7,8 @@ use Rattle.netlist_model.specs.declared.NetId.{NetId}
 use Rattle.netlist_model.specs.Lists.{NetlistView}
 use Rattle.bsdl_device.specs.declared.values.CellRow.{CellRow}
 use Rattle.bsdl_device.specs.declared.values.Device.{Device}
-use Rattle.test_logic.specs.Machine.{Machine, in_effect, test_logic_of}
-use Rattle.test_logic.specs.Rows.{row_captured}
+use Rattle.wrapped_chip.specs.test_logic.Machine.{Machine, in_effect, test_logic_of}
+use Rattle.wrapped_chip.specs.test_logic.Rows.{row_captured}
 use Rattle.wrapped_chip.specs.Cells.{net_of_row, cell_at_net, captured_from, captured}
 use Rattle.boundary_cells.specs.MachineRows.{bit_at}
 use Rattle.boundary_runs.specs.ChipRows.{chip_cell, ChipRows}

@@ -7,14 +7,14 @@ use Rattle.cell_library.specs.declared.Edge.{Edge}
 use Rattle.cell_library.specs.declared.Edge.TheVariants.{Rise, Fall}
 use Rattle.cell_library.specs.declared.codes.BoundaryKind.{BoundaryKind}
 use Rattle.bsdl_device.specs.declared.entries.Register.TheVariants.{Boundary}
-use Rattle.test_logic.specs.declared.Levels.{Levels}
-use Rattle.test_logic.specs.declared.Action.{Action}
-use Rattle.test_logic.specs.declared.Action.TheVariants.{Captures, Shifts, Keeps}
-use Rattle.test_logic.specs.declared.TapState.{TapState}
-use Rattle.test_logic.specs.declared.TapState.TheVariants.{TestLogicReset, RunTestIdle, SelectDrScan, CaptureDr, ShiftDr, Exit1Dr, PauseDr, Exit2Dr, UpdateDr, SelectIrScan, CaptureIr, ShiftIr, Exit1Ir, PauseIr, Exit2Ir, UpdateIr}
-use Rattle.test_logic.specs.Controller.{dr_action, act}
-use Rattle.test_logic.specs.Registers.{shifted, updated, updated_after, boundary_after}
-use Rattle.test_logic.specs.Machine.{TestLogic, Machine, IsHistory, selects, zeros, reset, edge_of, clocked, step_under}
+use Rattle.wrapped_chip.specs.test_logic.declared.Levels.{Levels}
+use Rattle.wrapped_chip.specs.test_logic.declared.Action.{Action}
+use Rattle.wrapped_chip.specs.test_logic.declared.Action.TheVariants.{Captures, Shifts, Keeps}
+use Rattle.wrapped_chip.specs.test_logic.declared.TapState.{TapState}
+use Rattle.wrapped_chip.specs.test_logic.declared.TapState.TheVariants.{TestLogicReset, RunTestIdle, SelectDrScan, CaptureDr, ShiftDr, Exit1Dr, PauseDr, Exit2Dr, UpdateDr, SelectIrScan, CaptureIr, ShiftIr, Exit1Ir, PauseIr, Exit2Ir, UpdateIr}
+use Rattle.wrapped_chip.specs.test_logic.Controller.{dr_action, act}
+use Rattle.wrapped_chip.specs.test_logic.Registers.{shifted, updated, updated_after, boundary_after}
+use Rattle.wrapped_chip.specs.test_logic.Machine.{TestLogic, Machine, IsHistory, selects, zeros, reset, edge_of, clocked, step_under}
 use Rattle.boundary_runs.specs.Lengths.{AreLong, LengthsStay}
 use Rattle.signal_values.specs.declared.Sig.TheVariants.{Unknown}
 use Rattle.boundary_cells.specs.MachineRows.{bit_at}

@@ -1,3 +1,6 @@
+pub use Rattle.instruction_gates.proofs.register_gates as register_gates
+pub use Rattle.boundary_cells.proofs.register_bits as register_bits
+pub use Rattle.instruction_gates.proofs as instruction_gates
 pub mod Lengths
 pub mod Bits
 pub mod Rows

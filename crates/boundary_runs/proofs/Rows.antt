@@ -14,13 +14,13 @@ use Rattle.netlist_model.specs.Formed.{IsWellFormed}
 use Rattle.netlist_model.specs.Contained.{HasCells}
 use Rattle.netlist_model.specs.Runs.{Moment, PinEvent, IsStart}
 use Rattle.netlist_laws.specs.Runs.{RunHasMoments}
-use Rattle.test_logic.specs.declared.Levels.{Levels}
-use Rattle.test_logic.specs.declared.ScanNets.{ScanNets}
-use Rattle.test_logic.specs.Instructions.{mode_of, is_extest}
-use Rattle.test_logic.specs.Registers.{update_bit}
-use Rattle.test_logic.specs.Machine.{TestLogic, Machine, in_effect, reset, machine_step}
-use Rattle.test_logic.specs.Rows.{CellAt, output_captured, row_captured}
-use Rattle.register_bits.specs.Laws.{Carries}
+use Rattle.wrapped_chip.specs.test_logic.declared.Levels.{Levels}
+use Rattle.wrapped_chip.specs.test_logic.declared.ScanNets.{ScanNets}
+use Rattle.wrapped_chip.specs.test_logic.Instructions.{mode_of, is_extest}
+use Rattle.wrapped_chip.specs.test_logic.Registers.{update_bit}
+use Rattle.wrapped_chip.specs.test_logic.Machine.{TestLogic, Machine, in_effect, reset, machine_step}
+use Rattle.wrapped_chip.specs.test_logic.Rows.{CellAt, output_captured, row_captured}
+use Rattle.boundary_cells.specs.register_bits.Laws.{Carries}
 use Rattle.boundary_cells.specs.Laws.{CarriesMode, ObserveCellsFollow, InputCellsFollow, OutputCellsFollow, StandsAtPin, StandsAtInput, StandsAtOutput}
 use Rattle.boundary_cells.specs.ThreeState.{ControlCellsFollow, BidirCellsFollow, StandsAtInout}
 use Rattle.boundary_cells.specs.MachineRows.{RowsStep}

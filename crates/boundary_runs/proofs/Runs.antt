@@ -6,10 +6,10 @@ use Rattle.netlist_model.specs.Lists.{NetlistView}
 use Rattle.netlist_model.specs.Formed.{IsWellFormed}
 use Rattle.netlist_model.specs.Contained.{HasCells}
 use Rattle.netlist_model.specs.Runs.{Moment, PinEvent, IsRun}
-use Rattle.test_logic.specs.declared.Levels.{Levels}
-use Rattle.test_logic.specs.declared.ScanNets.{ScanNets}
-use Rattle.test_logic.specs.Machine.{TestLogic, Machine, IsHistory, in_effect}
-use Rattle.test_logic.specs.Rows.{CellAt}
+use Rattle.wrapped_chip.specs.test_logic.declared.Levels.{Levels}
+use Rattle.wrapped_chip.specs.test_logic.declared.ScanNets.{ScanNets}
+use Rattle.wrapped_chip.specs.test_logic.Machine.{TestLogic, Machine, IsHistory, in_effect}
+use Rattle.wrapped_chip.specs.test_logic.Rows.{CellAt}
 use Rattle.boundary_cells.specs.MachineRows.{bit_at}
 use Rattle.boundary_runs.specs.Rows.{BoundaryRow, row_cells, row_kind, IsRowOf, HoldsRow}
 use Rattle.boundary_runs.specs.Laws.{Captures, IsServed, RowsFollow}

@@ -3,13 +3,13 @@ use Rattle.std.proofs.Common.{◌≡◌, Bool, true, false, ◌&&◌, refl, ap, 
 use Rattle.std.specs.Prelude.{if◌then◌else◌}
 use Rattle.signal_values.specs.Values.{bit}
 use Rattle.bsdl_device.specs.declared.entries.Register.TheVariants.{Boundary}
-use Rattle.test_logic.specs.declared.Action.TheVariants.{Keeps}
-use Rattle.test_logic.specs.declared.TapState.{TapState}
-use Rattle.test_logic.specs.declared.TapState.TheVariants.{CaptureDr, ShiftDr, UpdateDr}
-use Rattle.test_logic.specs.Controller.{dr_action}
-use Rattle.test_logic.specs.Machine.{selects}
-use Rattle.tap_gates.specs.Controller.{same_state}
-use Rattle.register_bits.specs.Laws.{is_capture, is_shift}
+use Rattle.wrapped_chip.specs.test_logic.declared.Action.TheVariants.{Keeps}
+use Rattle.wrapped_chip.specs.test_logic.declared.TapState.{TapState}
+use Rattle.wrapped_chip.specs.test_logic.declared.TapState.TheVariants.{CaptureDr, ShiftDr, UpdateDr}
+use Rattle.wrapped_chip.specs.test_logic.Controller.{dr_action}
+use Rattle.wrapped_chip.specs.test_logic.Machine.{selects}
+use Rattle.instruction_gates.specs.tap_gates.Controller.{same_state}
+use Rattle.boundary_cells.specs.register_bits.Laws.{is_capture, is_shift}
 use Rattle.boundary_cells.specs.MachineRows.{is_update}
 use Rattle.boundary_runs.specs.Selections.{SelectedSteers}
 

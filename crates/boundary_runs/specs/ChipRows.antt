@@ -6,8 +6,8 @@ use Rattle.signal_values.specs.declared.PinSig.{PinSig}
 use Rattle.netlist_model.specs.Lists.{NetlistView}
 use Rattle.bsdl_device.specs.declared.values.CellRow.{CellRow}
 use Rattle.bsdl_device.specs.declared.values.Device.{Device}
-use Rattle.test_logic.specs.Machine.{Machine, in_effect, test_logic_of}
-use Rattle.test_logic.specs.Rows.{CellAt, row_captured}
+use Rattle.wrapped_chip.specs.test_logic.Machine.{Machine, in_effect, test_logic_of}
+use Rattle.wrapped_chip.specs.test_logic.Rows.{CellAt, row_captured}
 use Rattle.wrapped_chip.specs.Cells.{net_of_row, cell_at_net, captured}
 use Rattle.boundary_cells.specs.MachineRows.{bit_at}
 

@@ -9,12 +9,12 @@ use Rattle.netlist_model.specs.Settled.{Meets, IsSettled}
 use Rattle.netlist_model.specs.Formed.{IsWellFormed}
 use Rattle.netlist_model.specs.Contained.{HasCells}
 use Rattle.netlist_model.specs.Runs.{Moment, PinEvent, IsStart, IsStep, IsRun}
-use Rattle.test_logic.specs.declared.Levels.{Levels}
-use Rattle.test_logic.specs.declared.ScanNets.{ScanNets}
-use Rattle.test_logic.specs.Instructions.{mode_of}
-use Rattle.test_logic.specs.Machine.{TestLogic, Machine, IsHistory, in_effect, reset, machine_step}
-use Rattle.test_logic.specs.Rows.{CellAt, row_captured}
-use Rattle.register_bits.specs.Laws.{Carries}
+use Rattle.wrapped_chip.specs.test_logic.declared.Levels.{Levels}
+use Rattle.wrapped_chip.specs.test_logic.declared.ScanNets.{ScanNets}
+use Rattle.wrapped_chip.specs.test_logic.Instructions.{mode_of}
+use Rattle.wrapped_chip.specs.test_logic.Machine.{TestLogic, Machine, IsHistory, in_effect, reset, machine_step}
+use Rattle.wrapped_chip.specs.test_logic.Rows.{CellAt, row_captured}
+use Rattle.boundary_cells.specs.register_bits.Laws.{Carries}
 use Rattle.boundary_cells.specs.Laws.{CarriesMode}
 use Rattle.boundary_cells.specs.MachineRows.{bit_at}
 use Rattle.boundary_runs.specs.Rows.{BoundaryRow, row_cells, row_kind, row_function, IsRowOf, IsSteered, StandsAtRow, HoldsUpdate, HoldsRow, Gives}

@@ -2,8 +2,8 @@
 -- IEEE Std 1149.1-2001: boundary-scan register.
 use Rattle.std.specs.Prelude.{◌≡◌, ℕ, ◌<◌, ◌≤◌, List, length}
 use Rattle.signal_values.specs.declared.Sig.{Sig}
-use Rattle.test_logic.specs.declared.Levels.{Levels}
-use Rattle.test_logic.specs.Machine.{TestLogic, Machine, IsHistory, reset, machine_step}
+use Rattle.wrapped_chip.specs.test_logic.declared.Levels.{Levels}
+use Rattle.wrapped_chip.specs.test_logic.Machine.{TestLogic, Machine, IsHistory, reset, machine_step}
 
 pub record AreLong (L : TestLogic) (m : Machine) : Type 0 where
   pub boundary : length m.boundary ≡ length L.kinds

@@ -13,13 +13,13 @@ use Rattle.netlist_model.specs.declared.Feed.{Feed}
 use Rattle.netlist_model.specs.Lists.{CellView}
 use Rattle.netlist_model.specs.Settled.{feed_value}
 use Rattle.netlist_model.specs.Runs.{Moment}
-use Rattle.test_logic.specs.declared.Levels.{Levels}
-use Rattle.test_logic.specs.declared.Mode.{Mode}
-use Rattle.test_logic.specs.declared.ScanNets.{ScanNets}
-use Rattle.test_logic.specs.Registers.{shifted}
-use Rattle.test_logic.specs.Machine.{TestLogic, Machine, in_effect}
-use Rattle.test_logic.specs.Rows.{ControlAt, CellAt, datum, level, input_into, row_reading}
-use Rattle.register_bits.specs.Laws.{Carries, Steers}
+use Rattle.wrapped_chip.specs.test_logic.declared.Levels.{Levels}
+use Rattle.wrapped_chip.specs.test_logic.declared.Mode.{Mode}
+use Rattle.wrapped_chip.specs.test_logic.declared.ScanNets.{ScanNets}
+use Rattle.wrapped_chip.specs.test_logic.Registers.{shifted}
+use Rattle.wrapped_chip.specs.test_logic.Machine.{TestLogic, Machine, in_effect}
+use Rattle.wrapped_chip.specs.test_logic.Rows.{ControlAt, CellAt, datum, level, input_into, row_reading}
+use Rattle.boundary_cells.specs.register_bits.Laws.{Carries, Steers}
 use Rattle.boundary_cells.specs.Cells.{steering_of, observe_cells, input_cells, output_cells}
 use Rattle.boundary_cells.specs.ThreeState.{control_cells, bidir_cells}
 use Rattle.boundary_cells.specs.Laws.{CarriesMode}

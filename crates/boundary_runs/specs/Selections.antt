@@ -4,11 +4,11 @@ use Rattle.std.specs.Prelude.{◌≡◌, ℕ}
 use Rattle.signal_values.specs.Values.{bit}
 use Rattle.netlist_model.specs.declared.NetId.{NetId}
 use Rattle.netlist_model.specs.Runs.{Moment}
-use Rattle.test_logic.specs.declared.Levels.{Levels}
-use Rattle.test_logic.specs.declared.InstrNets.{InstrNets}
-use Rattle.test_logic.specs.Registers.{shifted}
-use Rattle.test_logic.specs.Machine.{TestLogic, Machine, in_effect}
-use Rattle.register_bits.specs.Laws.{Carries}
+use Rattle.wrapped_chip.specs.test_logic.declared.Levels.{Levels}
+use Rattle.wrapped_chip.specs.test_logic.declared.InstrNets.{InstrNets}
+use Rattle.wrapped_chip.specs.test_logic.Registers.{shifted}
+use Rattle.wrapped_chip.specs.test_logic.Machine.{TestLogic, Machine, in_effect}
+use Rattle.boundary_cells.specs.register_bits.Laws.{Carries}
 use Rattle.boundary_cells.specs.MachineRows.{bit_at}
 use Rattle.instruction_gates.specs.Selections.{Selected}
 use Rattle.boundary_runs.specs.Rows.{IsSteered}

@@ -28,6 +28,7 @@ use boundary_cells::{
     bidir_cells_follow, control_cells_follow, input_cells_follow, observe_cells_follow,
     output_cells_follow, rows_step_as_bits,
 };
+pub use instruction_gates::lower_register_gates;
 use netlist_laws::moments_of_a_run;
 
 /// In every well-formed netlist that contains a row's cells, at every moment of every run, they carry the test logic's bits of that

@@ -1,6 +1,6 @@
 use crate::values::{Disable, Safe};
+use bsdl_lexicon::lower_texts::{Row, Text};
 use cell_library::{Bits, BoundaryKind, Function};
-use texts::{Row, Text};
 
 /// The pins of a port as a pin map has them: one, or some in parentheses.
 #[derive(Drop)]

@@ -1,3 +1,4 @@
+pub use Rattle.list_laws.proofs as list_laws
 pub mod Reading
 pub mod SameNames
 pub mod ReservedWords

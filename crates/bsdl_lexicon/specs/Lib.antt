@@ -1,3 +1,4 @@
+pub use Rattle.list_laws.specs as list_laws
 pub mod Bytes
 pub mod Names
 pub mod NameKeys

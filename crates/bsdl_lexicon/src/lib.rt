@@ -31,5 +31,6 @@ pub use names::same_name;
 pub use reader::BsdlReader;
 pub use reserved::is_reserved;
 pub use symbol::BsdlSymbol;
+pub use texts as lower_texts;
 pub use token::{BsdlSpanned, BsdlToken};
 pub use words::BsdlWords;

@@ -11,3 +11,6 @@ pub mod numbers;
 pub mod opcodes;
 pub mod runs;
 pub mod written;
+
+pub use bsdl_device as lower_bsdl_device;
+pub use bsdl_device::lower_cell_library;

@@ -1,11 +1,11 @@
 // The values of digits, and patterns of ones.
 ghost use Rattle.std.specs.Prelude.{◌≡◌, ◌==◌, ◌+◌, ◌*◌, ◌-◌, ◌^◌, ◌<◌, ◌≤◌, length, IsTrue};
-ghost use Rattle.bsdl_lexicon.specs.Bytes.{is_digit};
+ghost use Rattle.bsdl_device.specs.bsdl_lexicon.Bytes.{is_digit};
 ghost use Rattle.bsdl_device.specs.Runs.{value_after};
 ghost use Rattle.std.specs.List.{list_all};
 ghost use Rattle.bsdl_runs.specs.Digits.{is_bit};
 
-use cell_library::Bits;
+use bsdl_device::lower_cell_library::Bits;
 use word_cutter::with_digit;
 
 /// The value of decimal digits.

@@ -5,9 +5,9 @@ ghost use Rattle.bsdl_device.specs.Instructions as profile;
 ghost use Rattle.bsdl_device.specs.Checks as rule;
 
 use crate::numbers::is_ones;
+use bsdl_device::lower_bsdl_lexicon::same_name;
+use bsdl_device::lower_cell_library::{Bits, Instr};
 use bsdl_device::{OpcodeEntry, instruction_word};
-use bsdl_lexicon::same_name;
-use cell_library::{Bits, Instr};
 
 /// The name is the instruction's.
 pub fn names_instruction(instruction: Instr, name: &[u8]) -> bool

@@ -2,7 +2,7 @@
 ghost use Rattle.std.specs.Prelude.{◌≡◌, ◌≤◌, length, IsTrue};
 ghost use Rattle.std.specs.List.{list_all};
 ghost use Rattle.bsdl_runs.specs.Digits.{is_bit};
-ghost use Rattle.bsdl_lexicon.specs.Bytes as bytes;
+ghost use Rattle.bsdl_device.specs.bsdl_lexicon.Bytes as bytes;
 ghost use Rattle.bsdl_device.specs.Runs as runs;
 
 /// Whether the byte is a letter.

@@ -4,7 +4,7 @@ ghost use Rattle.std.specs.Fmt.{decimal};
 ghost use Rattle.bsdl_device.specs.Grammar as words;
 ghost use Rattle.bsdl_device.specs.Canonical as text_of;
 
-use cell_library::{Bits, BoundaryKind};
+use bsdl_device::lower_cell_library::{Bits, BoundaryKind};
 use texts::{OutOfMemory, Text};
 
 /// Adds a number in decimal, without leading zeros.

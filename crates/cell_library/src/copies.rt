@@ -3,7 +3,7 @@ ghost use Rattle.std.specs.Prelude.{◌≡◌, IfOk};
 
 use crate::listed::{Body, ListedCell, Step};
 use std::alloc::Global;
-use texts::{OutOfMemory, Row, Text};
+use verilog_lexicon::lower_texts::{OutOfMemory, Row, Text};
 
 fn copy_of_text(alloc: Global, text: &Text) -> Result<Text, OutOfMemory>
     ensures { IfOk result (λ copy. copy ≡ text.now) }

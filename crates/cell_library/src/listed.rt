@@ -13,7 +13,7 @@ use crate::{FlopKind, PortPlace};
 use signal_values::Sig;
 use std::alloc::Global;
 use std::marker::Model;
-use texts::{OutOfMemory, Row, Text};
+use verilog_lexicon::lower_texts::{OutOfMemory, Row, Text};
 
 /// A step of a gate: it puts a value on top of those that stand, or takes one, two or three from there and puts one in their place.
 #[derive(Clone, Copy, Drop)]

@@ -25,7 +25,7 @@ use Rattle.scan_vectors.specs.Exactly.{SpelledOnce, SpelledIsFaultless}
 use Rattle.event_scripts.specs.declared.fault.ScriptFault.{ScriptFault}
 use Rattle.event_scripts.specs.declared.fault.ScriptFault.TheVariants as script
 use Rattle.event_scripts.specs.Rules.{AreLegal}
-use Rattle.conformance_report.specs.Agreement.{PortsAgree}
+use Rattle.check_runs.specs.conformance_report.Agreement.{PortsAgree}
 use Rattle.check_runs.specs.Rules.{KeepsTapRule, IsIllegalAt}
 use Rattle.check_runs.specs.Rules.IsIllegalAt.{wrong, unstarted}
 use Rattle.command_faults.specs.declared.fault.Fault.{Fault}

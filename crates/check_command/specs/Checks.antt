@@ -14,7 +14,7 @@ use Rattle.bsdl_device.specs.Spelled as bsdl
 use Rattle.scan_vectors.specs.declared.lines.Lines.{Lines}
 use Rattle.scan_vectors.specs.Grammar.{SpellsLines}
 use Rattle.event_scripts.specs.Rules.{AreLegal}
-use Rattle.conformance_report.specs.Agreement.{PortsAgree}
+use Rattle.check_runs.specs.conformance_report.Agreement.{PortsAgree}
 use Rattle.check_runs.specs.Rules.{KeepsTapRule}
 use Rattle.check_runs.specs.Checks.{IsChecked}
 

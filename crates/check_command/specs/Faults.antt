@@ -13,7 +13,7 @@ use Rattle.scan_vectors.specs.declared.lines.Lines.{Lines}
 use Rattle.scan_vectors.specs.Grammar.{SpellsLines}
 use Rattle.scan_vectors.specs.Faults.{IsFault}
 use Rattle.event_scripts.specs.declared.fault.ScriptFault.{ScriptFault}
-use Rattle.conformance_report.specs.Agreement.{PortsAgree}
+use Rattle.check_runs.specs.conformance_report.Agreement.{PortsAgree}
 use Rattle.check_runs.specs.Rules.{IsLinesFault}
 use Rattle.check_runs.specs.Checks.{IsChecked}
 use Rattle.command_faults.specs.declared.fault.Fault.{Fault}

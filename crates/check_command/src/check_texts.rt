@@ -8,9 +8,9 @@ ghost use Rattle.check_command.specs.Faults.{IsCheckOf, IsDeviceFor, StandsInAll
 use bsdl_device::{Device, DeviceTextFault, MeaningKind};
 use bsdl_values::read_device;
 use cell_library::Library;
+use check_runs::lower_conformance_report::ports_agree;
 use check_runs::{Checked, check_lines};
 use command_faults::Fault;
-use conformance_report::ports_agree;
 use edge_io::Text;
 use netlist_link::{Linked, link};
 use scan_vectors::read_events;

@@ -1,3 +1,4 @@
+pub use Rattle.conformance_report.specs as conformance_report
 pub mod Rules
 pub mod Firsts
 pub mod Checks

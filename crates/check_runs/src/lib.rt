@@ -15,4 +15,5 @@ mod legal;
 mod line_check;
 mod tap;
 
+pub use conformance_report as lower_conformance_report;
 pub use line_check::{Checked, check_lines};

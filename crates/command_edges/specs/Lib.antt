@@ -1,3 +1,4 @@
+pub use Rattle.command_faults.specs as command_faults
 pub mod Lengths
 pub mod Seen
 pub mod EdgeFaults

@@ -21,6 +21,7 @@ mod taking;
 mod tasks;
 mod writing;
 
+pub use command_faults as lower_command_faults;
 pub use libraries::library_of;
 pub use reading::{read_all, read_text};
 pub use taking::{take_one, take_three, take_two};

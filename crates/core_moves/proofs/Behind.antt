@@ -9,12 +9,12 @@ use Rattle.netlist_model.specs.Lists.{CellView, NetlistView, live_cell, cell_at,
 use Rattle.netlist_model.specs.Settled.{is_output}
 use Rattle.netlist_images.specs.Nested.{renamed_net, renamed_feed}
 use Rattle.netlist_arena.specs.Moves.{moved_feed, with_moved_feeds, with_moved_output, moved_readers, moved_driver}
-use Rattle.plan_fitting.specs.declared.fitted.FitRow.{FitRow}
-use Rattle.stitch_model.specs.declared.Site.{Site}
-use Rattle.stitch_model.specs.declared.Site.TheVariants as site
-use Rattle.stitch_model.specs.Sites.{Boundary, row_net, site_of, sides_of}
-use Rattle.stitch_model.specs.Sides.{is_moved, moves, side_from, is_driven, drives, level_net, feeds_from}
-use Rattle.stitch_model.proofs.Moves.{side_range}
+use Rattle.scan_sides.specs.plan_fitting.declared.fitted.FitRow.{FitRow}
+use Rattle.scan_sides.specs.stitch_model.declared.Site.{Site}
+use Rattle.scan_sides.specs.stitch_model.declared.Site.TheVariants as site
+use Rattle.scan_sides.specs.stitch_model.Sites.{Boundary, row_net, site_of, sides_of}
+use Rattle.scan_sides.specs.stitch_model.Sides.{is_moved, moves, side_from, is_driven, drives, level_net, feeds_from}
+use Rattle.scan_sides.proofs.stitch_model.Moves.{side_range}
 use Rattle.core_moves.specs.Ready.{HasDriver, IsDrivenAt}
 use Rattle.core_moves.specs.Steps.{with_driver_feeds, fed_driver, stood_at, stood_by}
 use Rattle.core_moves.proofs.Cells.{cell_with, net_is, cell_same, moved_cell, moved_reader, fed_cell, or_none, mapped_same, mapped_twice}

@@ -7,7 +7,7 @@ use Rattle.netlist_model.specs.Lists.{CellView, NetlistView, live_cell, cell_at,
 use Rattle.netlist_model.specs.Settled.{is_output}
 use Rattle.netlist_arena.specs.Looks.{IsDrivenOnce, feed_at}
 use Rattle.netlist_arena.specs.Moves.{with_feed, connected}
-use Rattle.stitch_model.proofs.Moves.{output_is}
+use Rattle.scan_sides.proofs.stitch_model.Moves.{output_is}
 use Rattle.core_moves.specs.Ready.{HasDriver}
 use Rattle.core_moves.specs.Steps.{with_driver_feeds, fed_driver}
 

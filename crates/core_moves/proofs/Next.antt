@@ -12,12 +12,12 @@ use Rattle.netlist_model.specs.Settled.{is_output}
 use Rattle.netlist_laws.proofs.Ports.{direction_has_bit}
 use Rattle.netlist_arena.specs.Adds.{IsFree}
 use Rattle.netlist_arena.proofs.Laid.{All-slice_get}
-use Rattle.plan_fitting.specs.declared.fitted.FitRow.{FitRow}
-use Rattle.stitch_model.specs.declared.Site.{Site}
-use Rattle.stitch_model.specs.declared.Site.TheVariants as site
-use Rattle.stitch_model.specs.Sites.{pin_net, row_net, site_of, row_sides, sides_of}
-use Rattle.stitch_model.specs.Sides.{moves, side_from, drives, level_net}
-use Rattle.stitch_model.proofs.Moves.{sides_within, moves_some, side_range, side_stays, feeds_none, output_is}
+use Rattle.scan_sides.specs.plan_fitting.declared.fitted.FitRow.{FitRow}
+use Rattle.scan_sides.specs.stitch_model.declared.Site.{Site}
+use Rattle.scan_sides.specs.stitch_model.declared.Site.TheVariants as site
+use Rattle.scan_sides.specs.stitch_model.Sites.{pin_net, row_net, site_of, row_sides, sides_of}
+use Rattle.scan_sides.specs.stitch_model.Sides.{moves, side_from, drives, level_net}
+use Rattle.scan_sides.proofs.stitch_model.Moves.{sides_within, moves_some, side_range, side_stays, feeds_none, output_is}
 use Rattle.scan_sides.specs.Pins.{between}
 use Rattle.core_moves.specs.Ready.{IsDrivenAt, IsControlAt, HasControl, CanStandBehind}
 use Rattle.core_moves.specs.Steps.{CanStandAt, CanStandBy}

@@ -8,10 +8,10 @@ use Rattle.netlist_model.specs.declared.Feed.{Feed}
 use Rattle.netlist_model.specs.declared.Feed.TheVariants.{Net}
 use Rattle.netlist_model.specs.Lists.{PortView}
 use Rattle.netlist_model.specs.Settled.{is_output}
-use Rattle.plan_fitting.specs.declared.fitted.FitRow.{FitRow}
-use Rattle.stitch_model.specs.Sites.{Boundary, row_net, site_of, row_sides, sides_of, side_at}
-use Rattle.stitch_model.specs.Sides.{moves, side_from, is_driven, drives, level_net, driver_feeds, feeds_from}
-use Rattle.stitch_model.proofs.Moves.{sides_cons, moved_on, fed_here, fed_on}
+use Rattle.scan_sides.specs.plan_fitting.declared.fitted.FitRow.{FitRow}
+use Rattle.scan_sides.specs.stitch_model.Sites.{Boundary, row_net, site_of, row_sides, sides_of, side_at}
+use Rattle.scan_sides.specs.stitch_model.Sides.{moves, side_from, is_driven, drives, level_net, driver_feeds, feeds_from}
+use Rattle.scan_sides.proofs.stitch_model.Moves.{sides_cons, moved_on, fed_here, fed_on}
 
 pub sides_more : (ports : List PortView) (rows : List FitRow) (row : FitRow) → sides_of ports (rows ++ row ∷ []) ≡ sides_of ports rows + row_sides ports row
 sides_more ports rows row =

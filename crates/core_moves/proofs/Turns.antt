@@ -5,10 +5,10 @@ use Rattle.std.proofs.lemmas.List.Sums.{sum_by-take-le}
 use Rattle.std.proofs.lemmas.Option.{slice_get_within, get_or_from_slice_get}
 use Rattle.netlist_model.specs.declared.NetId.{NetId}
 use Rattle.netlist_model.specs.Lists.{CellView, NetlistView}
-use Rattle.plan_fitting.specs.declared.fitted.FitRow.{FitRow}
-use Rattle.stitch_model.specs.Sites.{row_net, site_of, row_sides, sides_of}
-use Rattle.stitch_model.specs.Sides.{level_net}
-use Rattle.stitch_model.proofs.Moves.{sides_few}
+use Rattle.scan_sides.specs.plan_fitting.declared.fitted.FitRow.{FitRow}
+use Rattle.scan_sides.specs.stitch_model.Sites.{row_net, site_of, row_sides, sides_of}
+use Rattle.scan_sides.specs.stitch_model.Sides.{level_net}
+use Rattle.scan_sides.proofs.stitch_model.Moves.{sides_few}
 use Rattle.scan_sides.specs.Pins.{between}
 use Rattle.core_moves.specs.Ready.{CanStandBehind, with_core_behind}
 use Rattle.core_moves.specs.Steps.{stood_by, CanStandBy}

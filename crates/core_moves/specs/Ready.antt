@@ -7,11 +7,11 @@ use Rattle.netlist_model.specs.declared.NetId.{NetId}
 use Rattle.netlist_model.specs.declared.Dir.TheVariants.{Input}
 use Rattle.netlist_model.specs.Lists.{CellView, NetlistView, bit_net, direction, Drives, IsUndriven}
 use Rattle.netlist_model.specs.Formed.{IsDriven}
-use Rattle.plan_fitting.specs.declared.fitted.FitRow.{FitRow}
-use Rattle.stitch_model.specs.declared.Site.{Site}
-use Rattle.stitch_model.specs.declared.Site.TheVariants as site
-use Rattle.stitch_model.specs.Sites.{Boundary, row_net, site_of, sides_of}
-use Rattle.stitch_model.specs.Sides.{core_cell}
+use Rattle.scan_sides.specs.plan_fitting.declared.fitted.FitRow.{FitRow}
+use Rattle.scan_sides.specs.stitch_model.declared.Site.{Site}
+use Rattle.scan_sides.specs.stitch_model.declared.Site.TheVariants as site
+use Rattle.scan_sides.specs.stitch_model.Sites.{Boundary, row_net, site_of, sides_of}
+use Rattle.scan_sides.specs.stitch_model.Sides.{core_cell}
 use Rattle.scan_sides.specs.Pins.{ArePinsThere, AreFew}
 
 -- The core.

@@ -10,8 +10,8 @@ use Rattle.netlist_model.specs.Formed.{IsDriven}
 use Rattle.netlist_model.specs.Settled.{is_output}
 use Rattle.netlist_arena.specs.Adds.{IsFree}
 use Rattle.netlist_arena.specs.Moves.{moved_readers, moved_driver}
-use Rattle.stitch_model.specs.declared.Site.{Site}
-use Rattle.stitch_model.specs.declared.Site.TheVariants as site
+use Rattle.scan_sides.specs.stitch_model.declared.Site.{Site}
+use Rattle.scan_sides.specs.stitch_model.declared.Site.TheVariants as site
 use Rattle.core_moves.specs.Ready.{HasDriver}
 
 -- own: the cell with these operands if it drives the net

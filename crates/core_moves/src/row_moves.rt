@@ -1,16 +1,16 @@
 ghost use Rattle.std.specs.Prelude.{◌≡◌, ◌+◌, ◌*◌, ◌^◌, ◌<◌, [], ◌∷◌, ⊤, length, MatchOption};
 ghost use Rattle.netlist_model.specs.declared.Feed.TheVariants.{Net};
-ghost use Rattle.stitch_model.specs.Sites as sites;
-ghost use Rattle.stitch_model.specs.Sides as model;
+ghost use Rattle.scan_sides.specs.stitch_model.Sites as sites;
+ghost use Rattle.scan_sides.specs.stitch_model.Sides as model;
 ghost use Rattle.scan_sides.specs.Pins.{IsPinThere, ArePinsThere, AreFew, between};
 ghost use Rattle.core_moves.specs.Ready.{CanStandBehind, HasDriver, with_core_behind};
 ghost use Rattle.core_moves.specs.Steps.{fed_driver, stood_by, CanStandBy};
 
 use netlist_arena::Netlist;
 use netlist_model::{Feed, NetId, Source};
-use plan_fitting::FitRow;
+use scan_sides::lower_plan_fitting::FitRow;
+use scan_sides::lower_stitch_model::Site;
 use scan_sides::{level_net, row_net, side_count, site_of};
-use stitch_model::Site;
 
 // Gives the driver of a net its data and its control.
 fn feed_driver(netlist: &mut Netlist, net: NetId, value: NetId, level: NetId)

@@ -1,2 +1,3 @@
+pub use Rattle.list_laws.specs as list_laws
 pub mod First
 pub mod Repeated

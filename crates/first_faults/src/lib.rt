@@ -16,6 +16,7 @@ ghost use Rattle.first_faults.specs.Repeated.{has_name, repeated, bytes_of, seen
 use indexmap::IndexSet;
 pub use places::first_places;
 use std::alloc::Global;
+pub use texts as lower_texts;
 use texts::OutOfMemory;
 
 // Notes a name, and says whether it is new.

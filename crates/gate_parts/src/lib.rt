@@ -23,24 +23,26 @@
 #![tactic(auto)]
 
 ghost use Rattle.std.specs.Prelude.{◌≡◌, ◌≢◌, ℕ, ◌+◌, ◌<◌, ◌≤◌, ◌^◌, [], ◌∷◌, length, IsTrue, Some};
-ghost use Rattle.cell_library.specs.Gates.{Takes};
-ghost use Rattle.netlist_model.specs.Lists.{cell_count};
-ghost use Rattle.netlist_model.specs.Contained.{IsDense};
-ghost use Rattle.netlist_model.specs.Below.{IsFeedBelow, AreFeedsBelow};
+ghost use Rattle.netlist_laws.specs.cell_library.Gates.{Takes};
+ghost use Rattle.netlist_laws.specs.netlist_model.Lists.{cell_count};
+ghost use Rattle.netlist_laws.specs.netlist_model.Contained.{IsDense};
+ghost use Rattle.netlist_laws.specs.netlist_model.Below.{IsFeedBelow, AreFeedsBelow};
 ghost use Rattle.netlist_arena.specs.Adds.{IsFree};
 ghost use Rattle.gate_parts.specs.Parts.{feed_of, gate_cell, part_cells, is_sound_pin, is_sound_gate, is_sound};
 ghost use Rattle.gate_parts.specs.Appended.{Appended};
 
 mod laws;
 
-use cell_library::Kind;
 pub use laws::{
     appended_count, appended_grows, appended_is_there, appended_more, appended_none,
     contained_part_has_flops, contained_part_meets, flop_starts, flop_steps, free_net_stays,
     growth_keeps, levels_number, part_leaves_free_nets,
 };
+pub use netlist_arena as lower_netlist_arena;
 pub use netlist_arena::Netlist;
-use netlist_model::{Feed, Name, NetId};
+pub use netlist_laws as lower_netlist_laws;
+use netlist_laws::lower_cell_library::Kind;
+use netlist_laws::lower_netlist_model::{Feed, Name, NetId};
 
 /// What a gate of a table reads: the net of another gate of the table, or something that is handed in, by its place.
 #[derive(Clone, Copy, Debug)]

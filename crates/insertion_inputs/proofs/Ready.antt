@@ -21,16 +21,16 @@ use Rattle.plan_fitting.specs.declared.fitted.Fitted.{Fitted}
 use Rattle.plan_fitting.specs.Pins.{PinSeen}
 use Rattle.plan_fitting.specs.Rows.{rows}
 use Rattle.plan_fitting.specs.Devices.{IsFitted, fit_port, device_of}
-use Rattle.plan_devices.specs.Fitting.{IsFitting, HasRoom}
-use Rattle.plan_devices.specs.Laws.{TapNamesAreNew, FittedIsFitting, PlansMakeDevices}
-use Rattle.plan_devices.proofs.PlanClock.{plans_have_registers}
+use Rattle.scan_stitch.specs.plan_devices.Fitting.{IsFitting, HasRoom}
+use Rattle.scan_stitch.specs.plan_devices.Laws.{TapNamesAreNew, FittedIsFitting, PlansMakeDevices}
+use Rattle.scan_stitch.proofs.plan_devices.PlanClock.{plans_have_registers}
 use Rattle.scan_stitch.specs.Ready.{IsSmall, HasTapNames}
 use Rattle.scan_stitch.specs.Laws.{FittedBitsAreThere}
-use Rattle.stitch_names.specs.Prepared.{room_of, ports_of, prepared}
+use Rattle.scan_stitch.specs.stitch_names.Prepared.{room_of, ports_of, prepared}
 use Rattle.bsdl_device.specs.IsDevice.{IsDevice}
-use Rattle.plan_devices.proofs.Facts.{facts_of}
-use Rattle.plan_devices.proofs.DeviceIs.{rows_within}
-use Rattle.stitch_names.proofs.Limits.{few_bits}
+use Rattle.scan_stitch.proofs.plan_devices.Facts.{facts_of}
+use Rattle.scan_stitch.proofs.plan_devices.DeviceIs.{rows_within}
+use Rattle.scan_stitch.proofs.stitch_names.Limits.{few_bits}
 use Rattle.insertion_inputs.specs.Inputs.{IsLinkedTree, IsReadyAs, IsPreparedAs, HasRoomFor}
 use Rattle.insertion_inputs.specs.Reserves.{reserve_fault}
 use Rattle.insertion_inputs.specs.Faults.{StandsInFit}

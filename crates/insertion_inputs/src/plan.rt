@@ -9,9 +9,9 @@ use bsdl_device::Device;
 use netlist_laws::{direction_of_a_bit, driver_is_found};
 use netlist_link::Linked;
 use pin_plan::fit;
-use plan_devices::{fitted_is_fitting, plans_make_devices, tap_names_are_new};
 use plan_fitting::Fitted;
 use plan_texts::{Plan, read_plan};
+use scan_stitch::lower_plan_devices::{fitted_is_fitting, plans_make_devices, tap_names_are_new};
 use scan_stitch::{device_of_fit, fitted_bits_are_there, prepare};
 use std::alloc::Global;
 

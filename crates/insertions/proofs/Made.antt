@@ -23,16 +23,16 @@ use Rattle.plan_texts.specs.Exactly.{SpelledOnce}
 use Rattle.plan_texts.specs.Grammar.{SpellsPlan}
 use Rattle.plan_fitting.specs.declared.fitted.Fitted.{Fitted}
 use Rattle.plan_fitting.specs.Devices.{IsFitted, fitted_of, device_of}
-use Rattle.stitch_model.specs.declared.TapNames.{TapNames}
-use Rattle.stitch_model.specs.declared.TapPort.{TapPort}
-use Rattle.stitch_model.specs.Stitched.{tap_ports, tap_port}
+use Rattle.written_runs.specs.stitch_model.declared.TapNames.{TapNames}
+use Rattle.written_runs.specs.stitch_model.declared.TapPort.{TapPort}
+use Rattle.written_runs.specs.stitch_model.Stitched.{tap_ports, tap_port}
 use Rattle.insertion_report.specs.Reports.{report_of}
 use Rattle.insertion_inputs.specs.declared.fault.InsertFault.{InsertFault}
 use Rattle.insertion_inputs.specs.declared.fault.InsertFault.TheVariants as fault
 use Rattle.insertion_inputs.specs.Inputs.{IsNetlistOf, IsLinkedTree, IsFittingAs}
 use Rattle.insertion_inputs.specs.Faults.{StandsInNetlist, StandsInPlan, StandsInTexts}
-use Rattle.plan_devices.specs.Laws.{FittedIsFitting}
-use Rattle.stitch_names.specs.Prepared.{prepared, with_tap_names, AreTapNames}
+use Rattle.written_runs.specs.plan_devices.Laws.{FittedIsFitting}
+use Rattle.written_runs.specs.stitch_names.Prepared.{prepared, with_tap_names, AreTapNames}
 use Rattle.insertion_inputs.specs.Stitch.{CanStitch, IsStitched}
 use Rattle.written_runs.specs.Written.{IsStitchedOf, WritesStitched}
 use Rattle.written_runs.specs.TextLaws.{IsStitching, StitchedCanBeWritten, StitchedIsWritten}

@@ -8,10 +8,10 @@ use Rattle.netlist_link.specs.Linked.{LinkedView}
 use Rattle.netlist_unlink.specs.Rows.{rows}
 use Rattle.netlist_unlink.specs.Trees.{Naming, item_of, items_from, port_of, wire_of, added_from, tree_of}
 use Rattle.plan_fitting.specs.declared.fitted.Fitted.{Fitted}
-use Rattle.stitch_model.specs.declared.TapNames.{TapNames}
-use Rattle.stitch_model.specs.Stitched.{stitched}
-use Rattle.stitch_names.specs.Prepared.{with_tap_names}
-use Rattle.stitch_names.specs.Same.{IsSameNetlist}
+use Rattle.written_runs.specs.stitch_model.declared.TapNames.{TapNames}
+use Rattle.written_runs.specs.stitch_model.Stitched.{stitched}
+use Rattle.written_runs.specs.stitch_names.Prepared.{with_tap_names}
+use Rattle.written_runs.specs.stitch_names.Same.{IsSameNetlist}
 use Rattle.insertions.specs.Insertions.{with_test_logic}
 
 same_cell : (a b : CellView) → Some a ≡ Some b → a ≡ b

@@ -28,9 +28,9 @@ use Rattle.wrapped_chip.specs.Legal.{HasControls}
 use Rattle.wrapped_chip.specs.Home.{FindsHome, AloneFromHome}
 use Rattle.insertion_report.specs.Reports.{report_of}
 use Rattle.insertion_inputs.specs.Inputs.{IsNetlistOf, IsFittingAs}
-use Rattle.stitch_model.specs.declared.TapNames.{TapNames}
-use Rattle.stitch_model.specs.Stitched.{stitched}
-use Rattle.stitch_names.specs.Prepared.{with_tap_names, AreTapNames}
+use Rattle.written_runs.specs.stitch_model.declared.TapNames.{TapNames}
+use Rattle.written_runs.specs.stitch_model.Stitched.{stitched}
+use Rattle.written_runs.specs.stitch_names.Prepared.{with_tap_names, AreTapNames}
 use Rattle.written_runs.specs.Written.{spelt, tap_of}
 
 -- Texts that are written.

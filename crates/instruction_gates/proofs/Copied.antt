@@ -9,11 +9,11 @@ use Rattle.netlist_model.specs.Settled.{IsSettled}
 use Rattle.netlist_model.specs.Formed.{IsWellFormed}
 use Rattle.netlist_model.specs.Contained.{HasCells}
 use Rattle.netlist_model.specs.Runs.{Moment}
-use Rattle.netlist_laws.specs.Contained.{ContainedParts}
-use Rattle.netlist_arena.specs.Arena.{ArenaView}
-use Rattle.gate_parts.specs.Appended.{Appended}
-use Rattle.gate_parts.specs.Parts.{part_cells}
-use Rattle.gate_parts.specs.PartLaws.{ContainedPartMeets}
+use Rattle.register_gates.specs.netlist_laws.Contained.{ContainedParts}
+use Rattle.register_gates.specs.netlist_arena.Arena.{ArenaView}
+use Rattle.register_gates.specs.gate_parts.Appended.{Appended}
+use Rattle.register_gates.specs.gate_parts.Parts.{part_cells}
+use Rattle.register_gates.specs.gate_parts.PartLaws.{ContainedPartMeets}
 use Rattle.register_gates.specs.Steps.{AddedInTurn}
 use Rattle.instruction_gates.specs.declared.copies.TheConstants.{COPY}
 use Rattle.instruction_gates.specs.Latches.{latch_values}

@@ -1,3 +1,6 @@
+pub use Rattle.register_gates.proofs.test_logic as test_logic
+pub use Rattle.register_gates.proofs as register_gates
+pub use Rattle.register_gates.proofs.register_bits as register_bits
 pub mod RowSteps
 pub mod LatchAdded
 pub mod LatchedBits

@@ -30,6 +30,10 @@ pub use laws::{
 };
 pub use matches::{EQUAL_BIT, add_match};
 use netlist_model::Feed;
+pub use register_gates as lower_register_gates;
+pub use register_gates::{
+    lower_gate_parts, lower_netlist_arena, lower_tap_gates, lower_test_logic,
+};
 pub use selections::{Matched, SELECTIONS, add_selections};
 pub use stages::{LOADS, Stages, add_stages};
 

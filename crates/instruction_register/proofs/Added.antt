@@ -7,13 +7,13 @@ use Rattle.netlist_model.specs.declared.Feed.{Feed}
 use Rattle.netlist_model.specs.Below.{AreFeedsBelow}
 use Rattle.netlist_model.specs.Contained.{IsDense}
 use Rattle.netlist_model.specs.Lists.{CellView, cell_count}
-use Rattle.netlist_arena.specs.Arena.{ArenaView}
-use Rattle.gate_parts.specs.Appended.{Appended}
-use Rattle.gate_parts.specs.Laws.{AppendedNone}
-use Rattle.test_logic.specs.declared.Codes.{Codes}
-use Rattle.test_logic.specs.declared.TapNets.{TapNets}
-use Rattle.register_gates.specs.Constants.{constant_bits, ConstantsAreBits}
-use Rattle.register_gates.specs.Steps.{AddedInTurn}
+use Rattle.instruction_gates.specs.netlist_arena.Arena.{ArenaView}
+use Rattle.instruction_gates.specs.gate_parts.Appended.{Appended}
+use Rattle.instruction_gates.specs.gate_parts.Laws.{AppendedNone}
+use Rattle.instruction_gates.specs.test_logic.declared.Codes.{Codes}
+use Rattle.instruction_gates.specs.test_logic.declared.TapNets.{TapNets}
+use Rattle.instruction_gates.specs.register_gates.Constants.{constant_bits, ConstantsAreBits}
+use Rattle.instruction_gates.specs.register_gates.Steps.{AddedInTurn}
 use Rattle.instruction_gates.specs.declared.selections.Matched.{Matched}
 use Rattle.instruction_gates.specs.Copies.{copies_cells}
 use Rattle.instruction_gates.specs.Selections.{selections_cells}

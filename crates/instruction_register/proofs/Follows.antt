@@ -16,16 +16,16 @@ use Rattle.netlist_model.specs.Contained.{HasCells}
 use Rattle.netlist_model.specs.Runs.{Moment, PinEvent, IsStart, IsRun}
 use Rattle.netlist_laws.specs.Contained.{ContainedParts}
 use Rattle.netlist_laws.specs.Runs.{RunHasMoments}
-use Rattle.test_logic.specs.declared.Codes.{Codes}
-use Rattle.test_logic.specs.declared.TapNets.{TapNets}
-use Rattle.test_logic.specs.Instructions.{is_pattern, opcode_of, is_opcode, instruction_of, reset_opcode}
-use Rattle.test_logic.specs.declared.TapState.TheVariants.{TestLogicReset}
-use Rattle.test_logic.specs.declared.Levels.{Levels}
-use Rattle.test_logic.specs.Registers.{first_bit}
-use Rattle.test_logic.specs.Machine.{TestLogic, Machine, AreCodes, IsHistory, reset}
-use Rattle.tap_gates.specs.Laws.{ShowsState}
-use Rattle.register_gates.specs.Constants.{ConstantsAreBits}
-use Rattle.register_gates.specs.Steps.{StepsByRegister}
+use Rattle.instruction_gates.specs.test_logic.declared.Codes.{Codes}
+use Rattle.instruction_gates.specs.test_logic.declared.TapNets.{TapNets}
+use Rattle.instruction_gates.specs.test_logic.Instructions.{is_pattern, opcode_of, is_opcode, instruction_of, reset_opcode}
+use Rattle.instruction_gates.specs.test_logic.declared.TapState.TheVariants.{TestLogicReset}
+use Rattle.instruction_gates.specs.test_logic.declared.Levels.{Levels}
+use Rattle.instruction_gates.specs.test_logic.Registers.{first_bit}
+use Rattle.instruction_gates.specs.test_logic.Machine.{TestLogic, Machine, AreCodes, IsHistory, reset}
+use Rattle.instruction_gates.specs.tap_gates.Laws.{ShowsState}
+use Rattle.instruction_gates.specs.register_gates.Constants.{ConstantsAreBits}
+use Rattle.instruction_gates.specs.register_gates.Steps.{StepsByRegister}
 use Rattle.instruction_gates.specs.Rows.{bits_in}
 use Rattle.instruction_gates.specs.Copies.{row_values, copies_cells, CopiesTell}
 use Rattle.instruction_gates.specs.Latches.{latch_values}

@@ -5,17 +5,17 @@ use Rattle.signal_values.specs.declared.Sig.{Sig}
 use Rattle.signal_values.specs.Values.{bit}
 use Rattle.cell_library.specs.declared.Edge.{Edge}
 use Rattle.cell_library.specs.declared.Edge.TheVariants.{Rise, Fall}
-use Rattle.test_logic.specs.declared.Action.{Action}
-use Rattle.test_logic.specs.declared.Action.TheVariants.{Captures, Shifts, Keeps}
-use Rattle.test_logic.specs.declared.Levels.{Levels}
-use Rattle.test_logic.specs.declared.TapState.{TapState}
-use Rattle.test_logic.specs.declared.TapState.TheVariants.{TestLogicReset, RunTestIdle, SelectDrScan, CaptureDr, ShiftDr, Exit1Dr, PauseDr, Exit2Dr, UpdateDr, SelectIrScan, CaptureIr, ShiftIr, Exit1Ir, PauseIr, Exit2Ir, UpdateIr}
-use Rattle.test_logic.specs.Controller.{ir_action, act}
-use Rattle.test_logic.specs.Instructions.{bits_of, reset_opcode}
-use Rattle.test_logic.specs.Registers.{shifted, shifted_after, latched_after}
-use Rattle.test_logic.specs.Machine.{TestLogic, Machine, IsHistory, zeros, edge_of}
-use Rattle.register_bits.specs.Laws.{on_edge, bit_after}
-use Rattle.register_gates.specs.Steps.{StepsByRegister}
+use Rattle.instruction_gates.specs.test_logic.declared.Action.{Action}
+use Rattle.instruction_gates.specs.test_logic.declared.Action.TheVariants.{Captures, Shifts, Keeps}
+use Rattle.instruction_gates.specs.test_logic.declared.Levels.{Levels}
+use Rattle.instruction_gates.specs.test_logic.declared.TapState.{TapState}
+use Rattle.instruction_gates.specs.test_logic.declared.TapState.TheVariants.{TestLogicReset, RunTestIdle, SelectDrScan, CaptureDr, ShiftDr, Exit1Dr, PauseDr, Exit2Dr, UpdateDr, SelectIrScan, CaptureIr, ShiftIr, Exit1Ir, PauseIr, Exit2Ir, UpdateIr}
+use Rattle.instruction_gates.specs.test_logic.Controller.{ir_action, act}
+use Rattle.instruction_gates.specs.test_logic.Instructions.{bits_of, reset_opcode}
+use Rattle.instruction_gates.specs.test_logic.Registers.{shifted, shifted_after, latched_after}
+use Rattle.instruction_gates.specs.test_logic.Machine.{TestLogic, Machine, IsHistory, zeros, edge_of}
+use Rattle.instruction_gates.specs.register_bits.Laws.{on_edge, bit_after}
+use Rattle.instruction_gates.specs.register_gates.Steps.{StepsByRegister}
 use Rattle.instruction_gates.specs.Matches.{IsKnown, AreKnown}
 
 pub known_bit : (b : Bool) → IsKnown (bit b)

@@ -2,17 +2,17 @@
 use Rattle.std.proofs.Common.{◌≡◌, Bool, true, false, if◌then◌else◌, ◌⊎◌, inl, inr, List, refl, sym, ap, ◌∙◌, subst}
 use Rattle.signal_values.specs.declared.Sig.{Sig}
 use Rattle.signal_values.specs.Values.{bit}
-use Rattle.test_logic.specs.declared.Codes.{Codes}
-use Rattle.test_logic.specs.declared.Levels.{Levels}
-use Rattle.test_logic.specs.declared.TapState.{TapState}
-use Rattle.test_logic.specs.declared.TapState.TheVariants.{TestLogicReset, RunTestIdle, SelectDrScan, CaptureDr, ShiftDr, Exit1Dr, PauseDr, Exit2Dr, UpdateDr, SelectIrScan, CaptureIr, ShiftIr, Exit1Ir, PauseIr, Exit2Ir, UpdateIr}
-use Rattle.test_logic.specs.Controller.{state_after}
-use Rattle.test_logic.specs.Instructions.{reset_opcode}
-use Rattle.test_logic.specs.Registers.{shifted, shifted_after, latched_after}
-use Rattle.test_logic.specs.Machine.{TestLogic, Machine, AreCodes, zeros, edge_of, machine_step}
-use Rattle.tap_gates.specs.Laws.{StepIsTheMachines}
-use Rattle.register_bits.specs.Laws.{on_edge}
-use Rattle.register_gates.specs.Steps.{StepsByRegister}
+use Rattle.instruction_gates.specs.test_logic.declared.Codes.{Codes}
+use Rattle.instruction_gates.specs.test_logic.declared.Levels.{Levels}
+use Rattle.instruction_gates.specs.test_logic.declared.TapState.{TapState}
+use Rattle.instruction_gates.specs.test_logic.declared.TapState.TheVariants.{TestLogicReset, RunTestIdle, SelectDrScan, CaptureDr, ShiftDr, Exit1Dr, PauseDr, Exit2Dr, UpdateDr, SelectIrScan, CaptureIr, ShiftIr, Exit1Ir, PauseIr, Exit2Ir, UpdateIr}
+use Rattle.instruction_gates.specs.test_logic.Controller.{state_after}
+use Rattle.instruction_gates.specs.test_logic.Instructions.{reset_opcode}
+use Rattle.instruction_gates.specs.test_logic.Registers.{shifted, shifted_after, latched_after}
+use Rattle.instruction_gates.specs.test_logic.Machine.{TestLogic, Machine, AreCodes, zeros, edge_of, machine_step}
+use Rattle.instruction_gates.specs.tap_gates.Laws.{StepIsTheMachines}
+use Rattle.instruction_gates.specs.register_bits.Laws.{on_edge}
+use Rattle.instruction_gates.specs.register_gates.Steps.{StepsByRegister}
 use Rattle.instruction_gates.specs.Matches.{AreKnown}
 use Rattle.instruction_register.specs.Steps.{is_captured, IsLegible, InstructionsStayLegible}
 use Rattle.instruction_register.proofs.Known.{known_bit, known_bits, known_zeros, known_shifted, known_after}

@@ -6,10 +6,10 @@ use Rattle.netlist_model.specs.declared.Feed.{Feed}
 use Rattle.netlist_model.specs.Below.{IsFeedBelow}
 use Rattle.netlist_model.specs.Contained.{IsDense}
 use Rattle.netlist_model.specs.Lists.{CellView, cell_count}
-use Rattle.netlist_arena.specs.Arena.{ArenaView}
-use Rattle.gate_parts.specs.Appended.{Appended}
-use Rattle.gate_parts.specs.Laws.{AppendedNone, AppendedCount}
-use Rattle.test_logic.specs.declared.Codes.{Codes}
+use Rattle.instruction_gates.specs.netlist_arena.Arena.{ArenaView}
+use Rattle.instruction_gates.specs.gate_parts.Appended.{Appended}
+use Rattle.instruction_gates.specs.gate_parts.Laws.{AppendedNone, AppendedCount}
+use Rattle.instruction_gates.specs.test_logic.declared.Codes.{Codes}
 use Rattle.instruction_gates.specs.Matches.{match_before, matches_cells}
 use Rattle.instruction_register.specs.Register.{size_with, cells_with}
 use Rattle.instruction_register.proofs.Sizes.{matches_length}

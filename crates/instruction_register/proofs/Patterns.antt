@@ -6,11 +6,11 @@ use Rattle.cell_library.specs.declared.codes.Bits.{Bits}
 use Rattle.netlist_model.specs.declared.NetId.{NetId}
 use Rattle.netlist_model.specs.declared.Feed.{Feed}
 use Rattle.netlist_model.specs.Settled.{feed_values}
-use Rattle.test_logic.specs.declared.Codes.{Codes}
-use Rattle.test_logic.specs.Instructions.{bits_of, pattern}
-use Rattle.test_logic.specs.Registers.{first_bit}
-use Rattle.register_bits.specs.Chains.{chain_last, chain_values}
-use Rattle.register_gates.specs.Constants.{constant_bits, ConstantsAreBits}
+use Rattle.instruction_gates.specs.test_logic.declared.Codes.{Codes}
+use Rattle.instruction_gates.specs.test_logic.Instructions.{bits_of, pattern}
+use Rattle.instruction_gates.specs.test_logic.Registers.{first_bit}
+use Rattle.instruction_gates.specs.register_bits.Chains.{chain_last, chain_values}
+use Rattle.instruction_gates.specs.register_gates.Constants.{constant_bits, ConstantsAreBits}
 use Rattle.instruction_gates.specs.Rows.{bits_in}
 use Rattle.instruction_gates.specs.Latches.{latch_values}
 use Rattle.instruction_register.specs.Register.{pattern_bits, latches_from, held_opcode}

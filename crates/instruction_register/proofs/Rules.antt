@@ -16,9 +16,9 @@ use Rattle.bsdl_device.specs.declared.entries.OpcodeEntry.{OpcodeEntry}
 use Rattle.bsdl_device.specs.Instructions.{instruction_word, names_instruction, is_instruction, same_bits}
 use Rattle.bsdl_device.specs.Checks.{any_pair, has_instruction, has_other_length, are_sample_and_preload, opcodes_clash}
 use Rattle.bsdl_device.specs.IsDevice.{IsBits, opcode_entry, opcode_entries}
-use Rattle.test_logic.specs.Instructions.{bits_of, pattern, opcode_of}
-use Rattle.test_logic.specs.Registers.{first_bit}
-use Rattle.test_logic.proofs.Lengths.{length_bits_of, right_length}
+use Rattle.instruction_gates.specs.test_logic.Instructions.{bits_of, pattern, opcode_of}
+use Rattle.instruction_gates.specs.test_logic.Registers.{first_bit}
+use Rattle.instruction_gates.proofs.test_logic.Lengths.{length_bits_of, right_length}
 use Rattle.instruction_gates.specs.Selections.{is_sampling, may_share}
 use Rattle.instruction_register.specs.Laws.{RegistersFit}
 

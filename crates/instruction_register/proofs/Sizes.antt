@@ -6,11 +6,11 @@ use Rattle.cell_library.specs.declared.codes.Instr.{Instr}
 use Rattle.netlist_model.specs.declared.NetId.{NetId}
 use Rattle.netlist_model.specs.declared.Feed.{Feed}
 use Rattle.netlist_model.specs.declared.Feed.TheVariants.{Net}
-use Rattle.test_logic.specs.declared.Codes.{Codes}
-use Rattle.test_logic.specs.declared.TapNets.{TapNets}
-use Rattle.test_logic.specs.Instructions.{opcode_of}
-use Rattle.register_bits.proofs.Lengths.{chain_length, held_length}
-use Rattle.register_gates.specs.Constants.{ConstantsAreBits}
+use Rattle.instruction_gates.specs.test_logic.declared.Codes.{Codes}
+use Rattle.instruction_gates.specs.test_logic.declared.TapNets.{TapNets}
+use Rattle.instruction_gates.specs.test_logic.Instructions.{opcode_of}
+use Rattle.instruction_gates.proofs.register_bits.Lengths.{chain_length, held_length}
+use Rattle.instruction_gates.specs.register_gates.Constants.{ConstantsAreBits}
 use Rattle.instruction_gates.specs.declared.latches.Latching.{Latching}
 use Rattle.instruction_gates.specs.Rows.{is_one}
 use Rattle.instruction_gates.specs.Latches.{holding_of, latch_cells, latches_cells}

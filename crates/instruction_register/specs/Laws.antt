@@ -10,16 +10,16 @@ use Rattle.netlist_model.specs.Lists.{NetlistView}
 use Rattle.netlist_model.specs.Formed.{IsWellFormed}
 use Rattle.netlist_model.specs.Contained.{HasCells}
 use Rattle.netlist_model.specs.Runs.{Moment, PinEvent, IsRun}
-use Rattle.test_logic.specs.declared.Codes.{Codes}
-use Rattle.test_logic.specs.declared.TapNets.{TapNets}
-use Rattle.test_logic.specs.declared.TapState.{TapState}
-use Rattle.test_logic.specs.declared.Levels.{Levels}
+use Rattle.instruction_gates.specs.test_logic.declared.Codes.{Codes}
+use Rattle.instruction_gates.specs.test_logic.declared.TapNets.{TapNets}
+use Rattle.instruction_gates.specs.test_logic.declared.TapState.{TapState}
+use Rattle.instruction_gates.specs.test_logic.declared.Levels.{Levels}
 use Rattle.bsdl_device.specs.IsDevice.{IsInstructionRegister}
-use Rattle.test_logic.specs.Instructions.{pattern, opcode_of, reset_opcode}
-use Rattle.test_logic.specs.Registers.{first_bit}
-use Rattle.test_logic.specs.Machine.{TestLogic, Machine, AreCodes, IsHistory, in_effect}
-use Rattle.tap_gates.specs.Laws.{ShowsState}
-use Rattle.register_bits.specs.Laws.{Carries}
+use Rattle.instruction_gates.specs.test_logic.Instructions.{pattern, opcode_of, reset_opcode}
+use Rattle.instruction_gates.specs.test_logic.Registers.{first_bit}
+use Rattle.instruction_gates.specs.test_logic.Machine.{TestLogic, Machine, AreCodes, IsHistory, in_effect}
+use Rattle.instruction_gates.specs.tap_gates.Laws.{ShowsState}
+use Rattle.instruction_gates.specs.register_bits.Laws.{Carries}
 use Rattle.instruction_gates.specs.Copies.{row_values}
 use Rattle.instruction_gates.specs.Selections.{AreApart, Selected}
 use Rattle.instruction_register.specs.Register.{instruction_cells, instruction_nets, held_shift, held_opcode}

@@ -10,12 +10,12 @@ use Rattle.netlist_model.specs.declared.Feed.{Feed}
 use Rattle.netlist_model.specs.declared.Feed.TheVariants.{Const}
 use Rattle.netlist_model.specs.Below.{IsFeedBelow}
 use Rattle.netlist_model.specs.Lists.{CellView}
-use Rattle.test_logic.specs.declared.Codes.{Codes}
-use Rattle.test_logic.specs.declared.InstrNets.{InstrNets}
-use Rattle.test_logic.specs.declared.TapNets.{TapNets}
-use Rattle.test_logic.specs.Instructions.{opcode_of}
-use Rattle.register_bits.specs.Chains.{chain_last}
-use Rattle.register_gates.specs.Constants.{constant_bits}
+use Rattle.instruction_gates.specs.test_logic.declared.Codes.{Codes}
+use Rattle.instruction_gates.specs.test_logic.declared.InstrNets.{InstrNets}
+use Rattle.instruction_gates.specs.test_logic.declared.TapNets.{TapNets}
+use Rattle.instruction_gates.specs.test_logic.Instructions.{opcode_of}
+use Rattle.instruction_gates.specs.register_bits.Chains.{chain_last}
+use Rattle.instruction_gates.specs.register_gates.Constants.{constant_bits}
 use Rattle.instruction_gates.specs.declared.selections.Matched.{Matched}
 use Rattle.instruction_gates.specs.Copies.{copies_cells}
 use Rattle.instruction_gates.specs.Matches.{match_before, matches_cells}

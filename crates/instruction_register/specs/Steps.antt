@@ -8,15 +8,15 @@ use Rattle.netlist_model.specs.Settled.{IsSettled}
 use Rattle.netlist_model.specs.Formed.{IsWellFormed}
 use Rattle.netlist_model.specs.Contained.{HasCells}
 use Rattle.netlist_model.specs.Runs.{Moment, PinEvent, IsStart, IsStep}
-use Rattle.test_logic.specs.declared.Codes.{Codes}
-use Rattle.test_logic.specs.declared.TapNets.{TapNets}
-use Rattle.test_logic.specs.declared.TapState.{TapState}
-use Rattle.test_logic.specs.declared.TapState.TheVariants.{TestLogicReset, ShiftIr, Exit1Ir, PauseIr, Exit2Ir, UpdateIr}
-use Rattle.test_logic.specs.declared.Levels.{Levels}
-use Rattle.test_logic.specs.Instructions.{reset_opcode}
-use Rattle.test_logic.specs.Machine.{TestLogic, Machine, AreCodes, reset, machine_step}
-use Rattle.tap_gates.specs.Laws.{ShowsState}
-use Rattle.register_bits.specs.Laws.{Carries}
+use Rattle.instruction_gates.specs.test_logic.declared.Codes.{Codes}
+use Rattle.instruction_gates.specs.test_logic.declared.TapNets.{TapNets}
+use Rattle.instruction_gates.specs.test_logic.declared.TapState.{TapState}
+use Rattle.instruction_gates.specs.test_logic.declared.TapState.TheVariants.{TestLogicReset, ShiftIr, Exit1Ir, PauseIr, Exit2Ir, UpdateIr}
+use Rattle.instruction_gates.specs.test_logic.declared.Levels.{Levels}
+use Rattle.instruction_gates.specs.test_logic.Instructions.{reset_opcode}
+use Rattle.instruction_gates.specs.test_logic.Machine.{TestLogic, Machine, AreCodes, reset, machine_step}
+use Rattle.instruction_gates.specs.tap_gates.Laws.{ShowsState}
+use Rattle.instruction_gates.specs.register_bits.Laws.{Carries}
 use Rattle.instruction_gates.specs.Matches.{AreKnown}
 use Rattle.instruction_register.specs.Register.{instruction_cells, held_shift, held_opcode}
 use Rattle.instruction_register.specs.Laws.{FitTheRegister, IsFed, Follows}

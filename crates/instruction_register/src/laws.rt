@@ -1,10 +1,10 @@
 ghost use Rattle.instruction_register.specs.Laws.{InstructionFollows, RegistersFit};
 ghost use Rattle.instruction_register.specs.Steps.{InstructionSteps, InstructionsStayLegible};
 
+use instruction_gates::lower_register_gates::{constants_are_bits, steps_by_register};
+use instruction_gates::lower_tap_gates::step_is_the_machines;
 use instruction_gates::{copies_tell, matches_tell, selections_tell, stages_follow, stages_step};
 use netlist_laws::{contained_parts, moments_of_a_run};
-use register_gates::{constants_are_bits, steps_by_register};
-use tap_gates::step_is_the_machines;
 
 /// In every well-formed netlist that contains its cells, the instruction register is that of the test logic, and so is what the
 /// instruction in effect selects.

@@ -27,22 +27,23 @@
 ghost use Rattle.std.specs.Prelude.{◌≡◌, ◌+◌, ◌*◌, ◌<◌, ◌≤◌, length};
 ghost use Rattle.netlist_model.specs.Lists.{cell_count};
 ghost use Rattle.netlist_model.specs.Contained.{IsDense};
-ghost use Rattle.gate_parts.specs.Appended.{Appended};
-ghost use Rattle.register_bits.specs.Bits.{AreNetsBelow};
+ghost use Rattle.instruction_gates.specs.gate_parts.Appended.{Appended};
+ghost use Rattle.instruction_gates.specs.register_bits.Bits.{AreNetsBelow};
 ghost use Rattle.instruction_register.specs.Register.{instruction_size, instruction_cells, instruction_nets};
 
 mod laws;
 mod opcodes;
 mod stages;
 
+use instruction_gates::lower_netlist_arena::Netlist;
+pub use instruction_gates::lower_register_gates;
+use instruction_gates::lower_register_gates::{added_in_turn, constants_are_bits};
+use instruction_gates::lower_test_logic::{Codes, InstrNets, TapNets};
 use instruction_gates::{add_copies, add_selections};
 pub use laws::{instruction_follows, instruction_steps, instructions_stay_legible, registers_fit};
-use netlist_arena::Netlist;
 use netlist_model::NetId;
 use opcodes::add_opcodes;
-use register_gates::{added_in_turn, constants_are_bits};
 use stages::add_coded_stages;
-use test_logic::{Codes, InstrNets, TapNets};
 
 /// Adds the instruction register with these codes to a dense netlist, and answers its nets. For n bits it takes at most 11 + 21 n cells
 /// and nets of the room that is there: 11 + 7 n, and 2 n for each opcode but that of BYPASS.

@@ -4,16 +4,16 @@ ghost use Rattle.std.specs.Prelude.{◌≡◌, ℕ, ◌+◌, ◌*◌, ◌≤◌,
 ghost use Rattle.netlist_model.specs.Lists.{cell_count};
 ghost use Rattle.netlist_model.specs.Contained.{IsDense};
 ghost use Rattle.netlist_model.specs.Below.{IsFeedBelow};
-ghost use Rattle.gate_parts.specs.Appended.{Appended};
+ghost use Rattle.instruction_gates.specs.gate_parts.Appended.{Appended};
 ghost use Rattle.instruction_register.specs.Register.{opcode_size, opcode_cells, opcode_told, opcodes_size, opcodes_cells, opcodes_told, AreToldBelow, matched_instructions};
 
 use cell_library::Instr;
-use gate_parts::{appended_count, appended_none};
+use instruction_gates::lower_gate_parts::{appended_count, appended_none};
+use instruction_gates::lower_netlist_arena::Netlist;
+use instruction_gates::lower_register_gates::{added_in_turn, constants_are_bits, constants_of};
+use instruction_gates::lower_test_logic::{Codes, opcode_of};
 use instruction_gates::{Matched, add_match};
-use netlist_arena::Netlist;
 use netlist_model::{Feed, NetId};
-use register_gates::{added_in_turn, constants_are_bits, constants_of};
-use test_logic::{Codes, opcode_of};
 
 // Adds what tells whether an instruction's opcode is latched, and answers it; 0 where the instruction has none.
 fn add_opcode(netlist: &mut Netlist, latches: NetId, codes: &Codes, instruction: Instr) -> Feed

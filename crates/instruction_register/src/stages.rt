@@ -3,18 +3,18 @@
 ghost use Rattle.std.specs.Prelude.{◌≡◌, ◌+◌, ◌*◌, ◌<◌, ◌≤◌, length};
 ghost use Rattle.netlist_model.specs.Lists.{cell_count};
 ghost use Rattle.netlist_model.specs.Contained.{IsDense};
-ghost use Rattle.gate_parts.specs.Appended.{Appended};
-ghost use Rattle.register_bits.specs.Bits.{AreNetsBelow};
-ghost use Rattle.register_bits.specs.Chains.{chain_last};
+ghost use Rattle.instruction_gates.specs.gate_parts.Appended.{Appended};
+ghost use Rattle.instruction_gates.specs.register_bits.Bits.{AreNetsBelow};
+ghost use Rattle.instruction_gates.specs.register_bits.Chains.{chain_last};
 ghost use Rattle.instruction_gates.specs.Stages.{stages_cells};
 ghost use Rattle.instruction_register.specs.Register.{pattern_bits, stages_size, latches_from};
 
-use gate_parts::appended_count;
+use instruction_gates::lower_gate_parts::appended_count;
+use instruction_gates::lower_netlist_arena::Netlist;
+use instruction_gates::lower_register_gates::{constants_are_bits, constants_of};
+use instruction_gates::lower_test_logic::{Codes, TapNets};
 use instruction_gates::{Stages, add_stages};
-use netlist_arena::Netlist;
 use netlist_model::NetId;
-use register_gates::{constants_are_bits, constants_of};
-use test_logic::{Codes, TapNets};
 
 /// Adds the two stages of the instruction register to a dense netlist: the first captures the codes' pattern, the second latches the
 /// opcode of reset.

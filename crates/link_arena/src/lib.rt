@@ -11,13 +11,13 @@
 #![tactic(auto)]
 
 ghost use Rattle.std.specs.Prelude.{◌≡◌, IfOk, None, length};
-ghost use Rattle.cell_library.specs.Sound.{IsLibrary};
-ghost use Rattle.verilog_tree.specs.IsTree.{IsTree};
-ghost use Rattle.netlist_model.specs.Contained.{IsDense};
-ghost use Rattle.link_model.specs.Nets.{declared_nets, nets_in};
-ghost use Rattle.link_model.specs.Fits.{FitCells};
-ghost use Rattle.link_model.specs.Faults.{text_fault, driver_fault, cells_in, names_of};
-ghost use Rattle.link_model.specs.Denoted.{IsNamed, denoted};
+ghost use Rattle.netlist_arena.specs.cell_library.Sound.{IsLibrary};
+ghost use Rattle.link_drivers.specs.verilog_tree.IsTree.{IsTree};
+ghost use Rattle.netlist_arena.specs.netlist_model.Contained.{IsDense};
+ghost use Rattle.link_drivers.specs.link_model.Nets.{declared_nets, nets_in};
+ghost use Rattle.link_drivers.specs.link_model.Fits.{FitCells};
+ghost use Rattle.link_drivers.specs.link_model.Faults.{text_fault, driver_fault, cells_in, names_of};
+ghost use Rattle.link_drivers.specs.link_model.Denoted.{IsNamed, denoted};
 
 mod cells;
 mod names;
@@ -30,14 +30,16 @@ use crate::names::names_of_module;
 use crate::nets::add_nets;
 use crate::ports::add_ports;
 use crate::room::netlist_with_room;
-use cell_library::Library;
+pub use link_drivers as lower_link_drivers;
+use link_drivers::lower_link_model::{ItemCell, NetBit};
+use link_drivers::lower_verilog_tree::Module;
 use link_drivers::nets_have_their_drivers;
-use link_model::{ItemCell, NetBit};
 use name_table::NameTable;
+pub use netlist_arena as lower_netlist_arena;
 use netlist_arena::Netlist;
+use netlist_arena::lower_cell_library::Library;
 use std::alloc::Global;
 use texts::OutOfMemory;
-use verilog_tree::Module;
 
 /// A netlist, and the table that has its original names.
 #[derive(Drop)]

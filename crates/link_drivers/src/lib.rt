@@ -21,6 +21,8 @@ mod uses;
 use crate::rule::first_broken;
 use crate::uses::uses_of_nets;
 pub use laws::nets_have_their_drivers;
+pub use link_model as lower_link_model;
+pub use link_model::{lower_cell_library, lower_netlist_model, lower_verilog_tree};
 use link_model::{ItemCell, LinkFault, NetBit};
 use std::alloc::Global;
 use texts::OutOfMemory;

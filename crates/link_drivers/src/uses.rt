@@ -1,12 +1,12 @@
 ghost use Rattle.std.specs.Prelude.{◌≡◌, ℕ, ◌<◌, ◌^◌, IfOk, length, slice_set};
-ghost use Rattle.cell_library.specs.Gates.{is_three_state};
-ghost use Rattle.netlist_model.specs.Below.{AreFeedsBelow};
+ghost use Rattle.link_model.specs.cell_library.Gates.{is_three_state};
+ghost use Rattle.link_model.specs.netlist_model.Below.{AreFeedsBelow};
 ghost use Rattle.link_model.specs.Fits.{CellsBelow, IsCellBelow};
 ghost use Rattle.link_drivers.specs.Uses.{uses_at, uses_among, driven, with_output, with_feeds};
 
-use cell_library::Kind;
 use link_model::ItemCell;
-use netlist_model::{Feed, NetId};
+use link_model::lower_cell_library::Kind;
+use link_model::lower_netlist_model::{Feed, NetId};
 use std::alloc::Global;
 use texts::OutOfMemory;
 

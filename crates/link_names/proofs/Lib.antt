@@ -1,3 +1,4 @@
+pub use Rattle.link_model.proofs.cell_library as cell_library
 pub mod Tables
 pub mod Numbering
 pub mod Firsts

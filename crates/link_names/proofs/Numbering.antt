@@ -9,8 +9,8 @@ use Rattle.std.proofs.lemmas.Option.{slice_get_within}
 use Rattle.std.proofs.lemmas.Iterator.Adapters.{position_from-zero}
 use Rattle.std.specs.List.{position_from}
 use Rattle.list_laws.proofs.Lists.{taken_more}
-use Rattle.cell_library.specs.declared.listed.ListedCell.{ListedCell}
-use Rattle.cell_library.specs.Sound.{IsLibrary}
+use Rattle.link_model.specs.cell_library.declared.listed.ListedCell.{ListedCell}
+use Rattle.link_model.specs.cell_library.Sound.{IsLibrary}
 use Rattle.link_model.specs.Lists.{has_name}
 use Rattle.link_names.specs.Numbering.{number_entry, numbered_from}
 

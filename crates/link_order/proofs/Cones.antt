@@ -1,16 +1,16 @@
 -- Cones of the netlist and of its named cells.
 use Rattle.std.proofs.Common.{◌≡◌, ℕ, List, Option, Some, None, refl, true, ◌⊎◌, inl, inr, ap, sym, ◌∙◌}
 use Rattle.std.specs.Prelude.{slice_get, is_some, ◌↔◌}
-use Rattle.cell_library.specs.declared.FlopKind.{FlopKind}
-use Rattle.cell_library.specs.Gates.{flop_of, is_flop}
-use Rattle.netlist_model.specs.Lists.{NetlistView}
-use Rattle.netlist_model.specs.Cones as model
-use Rattle.netlist_model.specs.Cones.{InCone, GateReads}
-use Rattle.netlist_model.specs.Cones.InCone.{itself, behind}
-use Rattle.link_model.specs.Cells.{NamedCell}
-use Rattle.link_model.specs.Late as late
+use Rattle.link_drivers.specs.cell_library.declared.FlopKind.{FlopKind}
+use Rattle.link_drivers.specs.cell_library.Gates.{flop_of, is_flop}
+use Rattle.link_drivers.specs.netlist_model.Lists.{NetlistView}
+use Rattle.link_drivers.specs.netlist_model.Cones as model
+use Rattle.link_drivers.specs.netlist_model.Cones.{InCone, GateReads}
+use Rattle.link_drivers.specs.netlist_model.Cones.InCone.{itself, behind}
+use Rattle.link_drivers.specs.link_model.Cells.{NamedCell}
+use Rattle.link_drivers.specs.link_model.Late as late
 use Rattle.link_order.specs.Cones as named
-use Rattle.link_model.specs.Denoted.{AreCells}
+use Rattle.link_drivers.specs.link_model.Denoted.{AreCells}
 use Rattle.link_order.proofs.Cells.{named_at, live_at, Keeps}
 
 -- what is there is something

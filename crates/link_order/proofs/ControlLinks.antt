@@ -6,27 +6,27 @@ use Rattle.std.specs.Option.{option_map}
 use Rattle.std.specs.Str.{bytes_eq}
 use Rattle.std.specs.Cmp.Lexicographic.{bytes_decides}
 use Rattle.std.proofs.lemmas.Option.{slice_get-map, none-some, same_Some, option_and_then_some}
-use Rattle.cell_library.specs.declared.listed.ListedCell.{ListedCell}
-use Rattle.cell_library.specs.declared.Kind.{Kind}
-use Rattle.cell_library.specs.declared.Kind.TheVariants as kind
-use Rattle.cell_library.specs.declared.PortPlace.TheVariants as place
-use Rattle.cell_library.specs.Gates.{is_flop}
-use Rattle.cell_library.specs.Library.{kind_named, port_named, operand_ports}
-use Rattle.cell_library.specs.Sound.{IsLibrary}
-use Rattle.cell_library.proofs.PortLaws.{operand_is_found}
-use Rattle.netlist_model.specs.declared.Feed.{Feed}
-use Rattle.netlist_model.specs.declared.Feed.TheVariants.{Net, Const}
-use Rattle.verilog_tree.specs.declared.tree.Module.{Module}
-use Rattle.verilog_tree.specs.declared.tree.Operand.{Operand}
-use Rattle.verilog_tree.specs.declared.tree.Operand.TheVariants as operand
-use Rattle.verilog_tree.specs.declared.tree.Link.{Link}
-use Rattle.verilog_tree.specs.declared.tree.Instance.{Instance}
-use Rattle.verilog_tree.specs.declared.tree.Item.{Item}
-use Rattle.verilog_tree.specs.declared.tree.Item.TheVariants as item
-use Rattle.link_model.specs.Nets.{Declared, net_of, declared_names, declared_nets, nets_in}
-use Rattle.link_model.specs.Cells.{NamedCell, feed_of, linked_operand, port_feed, library_cell, cell_of}
-use Rattle.link_model.specs.Faults.{cells_in}
-use Rattle.link_model.specs.Late.{is_control_place, bit_links, flop_links, item_links, IsDerived, HasNoDerived}
+use Rattle.link_drivers.specs.cell_library.declared.listed.ListedCell.{ListedCell}
+use Rattle.link_drivers.specs.cell_library.declared.Kind.{Kind}
+use Rattle.link_drivers.specs.cell_library.declared.Kind.TheVariants as kind
+use Rattle.link_drivers.specs.cell_library.declared.PortPlace.TheVariants as place
+use Rattle.link_drivers.specs.cell_library.Gates.{is_flop}
+use Rattle.link_drivers.specs.cell_library.Library.{kind_named, port_named, operand_ports}
+use Rattle.link_drivers.specs.cell_library.Sound.{IsLibrary}
+use Rattle.link_drivers.proofs.cell_library.PortLaws.{operand_is_found}
+use Rattle.link_drivers.specs.netlist_model.declared.Feed.{Feed}
+use Rattle.link_drivers.specs.netlist_model.declared.Feed.TheVariants.{Net, Const}
+use Rattle.link_drivers.specs.verilog_tree.declared.tree.Module.{Module}
+use Rattle.link_drivers.specs.verilog_tree.declared.tree.Operand.{Operand}
+use Rattle.link_drivers.specs.verilog_tree.declared.tree.Operand.TheVariants as operand
+use Rattle.link_drivers.specs.verilog_tree.declared.tree.Link.{Link}
+use Rattle.link_drivers.specs.verilog_tree.declared.tree.Instance.{Instance}
+use Rattle.link_drivers.specs.verilog_tree.declared.tree.Item.{Item}
+use Rattle.link_drivers.specs.verilog_tree.declared.tree.Item.TheVariants as item
+use Rattle.link_drivers.specs.link_model.Nets.{Declared, net_of, declared_names, declared_nets, nets_in}
+use Rattle.link_drivers.specs.link_model.Cells.{NamedCell, feed_of, linked_operand, port_feed, library_cell, cell_of}
+use Rattle.link_drivers.specs.link_model.Faults.{cells_in}
+use Rattle.link_drivers.specs.link_model.Late.{is_control_place, bit_links, flop_links, item_links, IsDerived, HasNoDerived}
 use Rattle.link_order.specs.Cones.{FlopReads}
 use Rattle.link_order.proofs.LinkNets.{find-first}
 use Rattle.list_laws.proofs.Lists.{before_push}

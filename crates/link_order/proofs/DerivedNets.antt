@@ -6,17 +6,17 @@ use Rattle.std.proofs.lemmas.Option.{slice_get-map, get_or_from_slice_get}
 use Rattle.std.proofs.lemmas.Bool.Decides.{leb_tells}
 use Rattle.std.proofs.lemmas.List.{length-map, get_or_past}
 use Rattle.list_laws.proofs.Lists.{slice_get_there}
-use Rattle.cell_library.specs.Gates.{is_flop}
-use Rattle.netlist_model.specs.declared.Dir.{Dir}
-use Rattle.netlist_model.specs.declared.Dir.TheVariants.{Input, Output, Inout}
-use Rattle.netlist_model.specs.Lists.{NetlistView}
+use Rattle.link_drivers.specs.cell_library.Gates.{is_flop}
+use Rattle.link_drivers.specs.netlist_model.declared.Dir.{Dir}
+use Rattle.link_drivers.specs.netlist_model.declared.Dir.TheVariants.{Input, Output, Inout}
+use Rattle.link_drivers.specs.netlist_model.Lists.{NetlistView}
 use Rattle.cell_order.specs.Marks as marks
 use Rattle.cell_order.specs.Marks.{HasInCone, IsMarked}
-use Rattle.link_model.specs.Nets.{NamedNet}
-use Rattle.link_model.specs.Cells.{NamedCell}
-use Rattle.link_model.specs.Faults.{is_inout}
-use Rattle.link_model.specs.Late.{IsKept, IsInoutNet, IsDerived}
-use Rattle.link_model.specs.Denoted.{AreCells}
+use Rattle.link_drivers.specs.link_model.Nets.{NamedNet}
+use Rattle.link_drivers.specs.link_model.Cells.{NamedCell}
+use Rattle.link_drivers.specs.link_model.Faults.{is_inout}
+use Rattle.link_drivers.specs.link_model.Late.{IsKept, IsInoutNet, IsDerived}
+use Rattle.link_drivers.specs.link_model.Denoted.{AreCells}
 use Rattle.link_order.specs.Cones.{is_inout_net}
 use Rattle.link_order.specs.Links.{is_found_net}
 use Rattle.link_order.proofs.Cells.{Keeps, drives_live, drives_named}

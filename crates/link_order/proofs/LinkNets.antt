@@ -10,28 +10,28 @@ use Rattle.std.proofs.lemmas.List.Quantifiers.{position-Some}
 use Rattle.std.proofs.lemmas.Option.{slice_get-map, slice_get-get_or, none-some, same_Some}
 use Rattle.list_laws.proofs.Options.{or_else-parts, first_in-at, not_there}
 use Rattle.list_laws.proofs.Bytes.{bytes_eq-same}
-use Rattle.cell_library.specs.declared.listed.ListedCell.{ListedCell}
-use Rattle.cell_library.specs.declared.Kind.{Kind}
-use Rattle.cell_library.specs.declared.Kind.TheVariants as kind
-use Rattle.cell_library.specs.declared.PortPlace.{PortPlace}
-use Rattle.cell_library.specs.declared.PortPlace.TheVariants as place
-use Rattle.cell_library.specs.Gates.{is_flop}
-use Rattle.cell_library.specs.Library.{kind_named, port_named, operand_ports, output_port}
-use Rattle.netlist_model.specs.declared.Feed.TheVariants.{Const}
-use Rattle.verilog_tree.specs.declared.tree.Module.{Module}
-use Rattle.verilog_tree.specs.declared.tree.Operand.{Operand}
-use Rattle.verilog_tree.specs.declared.tree.Operand.TheVariants as operand
-use Rattle.verilog_tree.specs.declared.tree.Link.{Link}
-use Rattle.verilog_tree.specs.declared.tree.Instance.{Instance}
-use Rattle.verilog_tree.specs.declared.tree.Item.{Item}
-use Rattle.verilog_tree.specs.declared.tree.Item.TheVariants as item
-use Rattle.link_model.specs.declared.fault.LinkFault.{LinkFault}
-use Rattle.link_model.specs.declared.fault.LinkFault.TheVariants as fault
-use Rattle.link_model.specs.Lists.{or_else, first_in, has_name, repeated_after, repeated}
-use Rattle.link_model.specs.Nets.{Declared, net_of, declared_names}
-use Rattle.link_model.specs.Cells.{feed_of, linked_operand, port_feed, library_cell}
-use Rattle.link_model.specs.Faults.{text_fault, too_many_in, name_twice, bit_faults, instance_faults, at_instance, cell_unknown, port_unknown, port_missing, port_twice, item_width}
-use Rattle.link_model.specs.Late.{ControlLink, is_control_place, bit_links, flop_links, item_links, control_links}
+use Rattle.link_drivers.specs.cell_library.declared.listed.ListedCell.{ListedCell}
+use Rattle.link_drivers.specs.cell_library.declared.Kind.{Kind}
+use Rattle.link_drivers.specs.cell_library.declared.Kind.TheVariants as kind
+use Rattle.link_drivers.specs.cell_library.declared.PortPlace.{PortPlace}
+use Rattle.link_drivers.specs.cell_library.declared.PortPlace.TheVariants as place
+use Rattle.link_drivers.specs.cell_library.Gates.{is_flop}
+use Rattle.link_drivers.specs.cell_library.Library.{kind_named, port_named, operand_ports, output_port}
+use Rattle.link_drivers.specs.netlist_model.declared.Feed.TheVariants.{Const}
+use Rattle.link_drivers.specs.verilog_tree.declared.tree.Module.{Module}
+use Rattle.link_drivers.specs.verilog_tree.declared.tree.Operand.{Operand}
+use Rattle.link_drivers.specs.verilog_tree.declared.tree.Operand.TheVariants as operand
+use Rattle.link_drivers.specs.verilog_tree.declared.tree.Link.{Link}
+use Rattle.link_drivers.specs.verilog_tree.declared.tree.Instance.{Instance}
+use Rattle.link_drivers.specs.verilog_tree.declared.tree.Item.{Item}
+use Rattle.link_drivers.specs.verilog_tree.declared.tree.Item.TheVariants as item
+use Rattle.link_drivers.specs.link_model.declared.fault.LinkFault.{LinkFault}
+use Rattle.link_drivers.specs.link_model.declared.fault.LinkFault.TheVariants as fault
+use Rattle.link_drivers.specs.link_model.Lists.{or_else, first_in, has_name, repeated_after, repeated}
+use Rattle.link_drivers.specs.link_model.Nets.{Declared, net_of, declared_names}
+use Rattle.link_drivers.specs.link_model.Cells.{feed_of, linked_operand, port_feed, library_cell}
+use Rattle.link_drivers.specs.link_model.Faults.{text_fault, too_many_in, name_twice, bit_faults, instance_faults, at_instance, cell_unknown, port_unknown, port_missing, port_twice, item_width}
+use Rattle.link_drivers.specs.link_model.Late.{ControlLink, is_control_place, bit_links, flop_links, item_links, control_links}
 use Rattle.link_order.specs.Links.{feed_net, operand_net, placed_net, is_found_net, found_net, found_link, found_item}
 
 -- Along lists.

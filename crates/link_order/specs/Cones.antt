@@ -1,13 +1,13 @@
 -- The nets in the cones of clocks, clears and presets.
 use Rattle.std.specs.Prelude.{◌≡◌, ℕ, ◌⊎◌, Bool, true, List, slice_get, Some}
-use Rattle.cell_library.specs.declared.listed.ListedCell.{ListedCell}
-use Rattle.cell_library.specs.Sound.{IsLibrary}
-use Rattle.netlist_model.specs.declared.Feed.TheVariants.{Net}
-use Rattle.verilog_tree.specs.declared.tree.Module.{Module}
-use Rattle.link_model.specs.Nets.{NamedNet, declared_nets, nets_in}
-use Rattle.link_model.specs.Cells.{NamedCell}
-use Rattle.link_model.specs.Faults.{is_inout, cells_in}
-use Rattle.link_model.specs.Late.{InCone, IsDerived, HasNoDerived}
+use Rattle.link_drivers.specs.cell_library.declared.listed.ListedCell.{ListedCell}
+use Rattle.link_drivers.specs.cell_library.Sound.{IsLibrary}
+use Rattle.link_drivers.specs.netlist_model.declared.Feed.TheVariants.{Net}
+use Rattle.link_drivers.specs.verilog_tree.declared.tree.Module.{Module}
+use Rattle.link_drivers.specs.link_model.Nets.{NamedNet, declared_nets, nets_in}
+use Rattle.link_drivers.specs.link_model.Cells.{NamedCell}
+use Rattle.link_drivers.specs.link_model.Faults.{is_inout, cells_in}
+use Rattle.link_drivers.specs.link_model.Late.{InCone, IsDerived, HasNoDerived}
 
 -- own: a flip-flop reads the net at this place: D is 0, CK is 1, RN or SN is 2
 pub record FlopReads (cells : List NamedCell) (place net : ℕ) : Type 0 where

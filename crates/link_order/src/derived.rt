@@ -1,23 +1,23 @@
 ghost use Rattle.std.specs.Prelude.{◌≡◌, ◌↔◌, ℕ, ◌<◌, List, None, true, length, map, MatchOption, IfOk};
-ghost use Rattle.netlist_model.specs.Orders.{IsCellOrder};
-ghost use Rattle.link_model.specs.Denoted.{AreCells};
-ghost use Rattle.link_model.specs.Fits.{CellsBelow, IsCellBelow};
-ghost use Rattle.link_model.specs.Nets.{declared_nets, declared_names, nets_in};
-ghost use Rattle.link_model.specs.Faults.{bit_name, cells_in, text_fault};
-ghost use Rattle.link_model.specs.Late.{HasNoDerived, IsDerived};
-ghost use Rattle.link_model.specs.Lists.{first_in};
+ghost use Rattle.link_drivers.specs.netlist_model.Orders.{IsCellOrder};
+ghost use Rattle.link_drivers.specs.link_model.Denoted.{AreCells};
+ghost use Rattle.link_drivers.specs.link_model.Fits.{CellsBelow, IsCellBelow};
+ghost use Rattle.link_drivers.specs.link_model.Nets.{declared_nets, declared_names, nets_in};
+ghost use Rattle.link_drivers.specs.link_model.Faults.{bit_name, cells_in, text_fault};
+ghost use Rattle.link_drivers.specs.link_model.Late.{HasNoDerived, IsDerived};
+ghost use Rattle.link_drivers.specs.link_model.Lists.{first_in};
 ghost use Rattle.link_order.specs.Cones.{is_inout_net};
 ghost use Rattle.link_order.specs.Faults.{IsDerivedFault};
 ghost use Rattle.link_order.specs.Links.{control_net, found_link, found_net, is_found_net, operand_net};
 
-use cell_library::{Library, PortPlace, port_of};
+use cell_order::lower_netlist_arena::Netlist;
 use cell_order::mark_derived;
-use link_model::{ItemCell, LinkFault, NetBit, is_inout};
-use netlist_arena::Netlist;
-use netlist_model::{CellId, Feed};
+use link_drivers::lower_cell_library::{Library, PortPlace, port_of};
+use link_drivers::lower_link_model::{ItemCell, LinkFault, NetBit, is_inout};
+use link_drivers::lower_netlist_model::{CellId, Feed};
+use link_drivers::lower_verilog_tree::{Item, Link, Module};
 use std::alloc::Global;
 use texts::{OutOfMemory, Text};
-use verilog_tree::{Item, Link, Module};
 
 /// The first clock, clear or preset in the text that has a flip-flop or an inout in its cone, where the module's cells
 /// stand in a netlist and are in order.

@@ -1,3 +1,4 @@
+pub use Rattle.numbered_places.proofs.list_laws as list_laws
 pub mod Writing
 pub mod Feeds
 pub mod Operands

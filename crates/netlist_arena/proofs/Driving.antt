@@ -4,13 +4,13 @@ use Rattle.std.specs.List.{slice_get}
 use Rattle.std.proofs.lemmas.Bool.{cases_eq, ne_eqb}
 use Rattle.std.proofs.lemmas.List.{map-set}
 use Rattle.std.proofs.lemmas.Option.{slice_get-map}
-use Rattle.netlist_model.specs.declared.NetId.{NetId}
-use Rattle.netlist_model.specs.declared.CellId.{CellId}
-use Rattle.netlist_model.specs.declared.Reader.{Reader}
-use Rattle.netlist_model.specs.Lists.{CellView, NetlistView, live_cell, IsUndriven}
+use Rattle.linked_cells.specs.netlist_model.declared.NetId.{NetId}
+use Rattle.linked_cells.specs.netlist_model.declared.CellId.{CellId}
+use Rattle.linked_cells.specs.netlist_model.declared.Reader.{Reader}
+use Rattle.linked_cells.specs.netlist_model.Lists.{CellView, NetlistView, live_cell, IsUndriven}
 use Rattle.netlist_arena.specs.Arena.{DrivesIn}
 use Rattle.netlist_arena.specs.Moves.{moved_output, with_moved_output}
-use Rattle.numbered_places.specs.Places.{there_at, place_at}
+use Rattle.linked_cells.specs.numbered_places.Places.{there_at, place_at}
 use Rattle.linked_cells.specs.Views.{CellSlots}
 use Rattle.linked_cells.specs.Cells.{cell_view, cells_of, slot_at}
 use Rattle.linked_cells.proofs.Writing.{place_set_same, place_set_other}

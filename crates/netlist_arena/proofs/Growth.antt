@@ -3,10 +3,10 @@ use Rattle.std.proofs.Common.{◌≡◌, ℕ, suc, zero, ◌<◌, ◌≤◌, Lis
 use Rattle.std.specs.Option.{MatchOption}
 use Rattle.std.specs.List.{All, slice_get}
 use Rattle.std.proofs.lemmas.List.Elements.{All-head, All-tail}
-use Rattle.cell_library.specs.declared.listed.ListedCell.{ListedCell}
-use Rattle.netlist_model.specs.declared.NetId.{NetId}
-use Rattle.netlist_model.specs.Lists.{PortView, CellView, NetlistView, live_cell, is_among, direction, IsUndriven}
-use Rattle.netlist_model.specs.Below.{IsNetBelow}
+use Rattle.linked_cells.specs.cell_library.declared.listed.ListedCell.{ListedCell}
+use Rattle.linked_cells.specs.netlist_model.declared.NetId.{NetId}
+use Rattle.linked_cells.specs.netlist_model.Lists.{PortView, CellView, NetlistView, live_cell, is_among, direction, IsUndriven}
+use Rattle.linked_cells.specs.netlist_model.Below.{IsNetBelow}
 use Rattle.netlist_arena.specs.Arena.{HasItsOperands, IsPlaceBelow, IsPortBelow}
 
 -- a live cell names nets that are there

@@ -7,13 +7,13 @@ use Rattle.std.proofs.lemmas.List.{length-map, map-append}
 use Rattle.std.proofs.lemmas.List.Sums.{sum_by-cons}
 use Rattle.std.proofs.lemmas.List.Elements.{All-set}
 use Rattle.std.proofs.lemmas.Option.{slice_get-map, slice_get_within}
-use Rattle.cell_library.specs.declared.listed.ListedCell.{ListedCell}
-use Rattle.netlist_model.specs.declared.NetId.{NetId}
-use Rattle.netlist_model.specs.declared.Reader.{Reader}
-use Rattle.netlist_model.specs.declared.Feed.{Feed}
-use Rattle.netlist_model.specs.declared.Feed.TheVariants.{Net as OnNet, Const as Fixed}
-use Rattle.netlist_model.specs.Lists.{PortView, NetView, CellView, NetlistView, live_cell}
-use Rattle.netlist_model.specs.Below.{IsFeedBelow, IsNetBelow}
+use Rattle.linked_cells.specs.cell_library.declared.listed.ListedCell.{ListedCell}
+use Rattle.linked_cells.specs.netlist_model.declared.NetId.{NetId}
+use Rattle.linked_cells.specs.netlist_model.declared.Reader.{Reader}
+use Rattle.linked_cells.specs.netlist_model.declared.Feed.{Feed}
+use Rattle.linked_cells.specs.netlist_model.declared.Feed.TheVariants.{Net as OnNet, Const as Fixed}
+use Rattle.linked_cells.specs.netlist_model.Lists.{PortView, NetView, CellView, NetlistView, live_cell}
+use Rattle.linked_cells.specs.netlist_model.Below.{IsFeedBelow, IsNetBelow}
 use Rattle.netlist_arena.specs.Arena.{HasItsOperands, IsPlaceBelow, IsPortBelow}
 use Rattle.netlist_arena.specs.Adds.{CanDrive}
 use Rattle.netlist_arena.specs.Walks.{IsReader, IsWalk}
@@ -22,7 +22,7 @@ use Rattle.netlist_arena.proofs.Laid.{feed_below}
 use Rattle.netlist_arena.proofs.Changes.{with_feed_below, with_feed_count}
 use Rattle.linked_cells.specs.Links.{Threaded}
 use Rattle.linked_cells.proofs.Threads.{visits_once}
-use Rattle.numbered_places.specs.Places.{there_at, place_at, Puts}
+use Rattle.linked_cells.specs.numbered_places.Places.{there_at, place_at, Puts}
 use Rattle.linked_cells.specs.Views.{CellSlots}
 use Rattle.linked_cells.specs.declared.Net.{Net}
 use Rattle.linked_cells.specs.Cells.{cells_of, net_view, values, nets_of, slot_at, first_at, driver_at, KeepsNets, with_feed, with_slot_feed, feed_in, IsFeedThere, moved_feed, with_moved_feeds}

@@ -4,12 +4,12 @@ use Rattle.std.specs.Option.{IsSome, MatchOption}
 use Rattle.std.specs.List.{slice_get}
 use Rattle.std.proofs.lemmas.List.{length-map}
 use Rattle.std.proofs.lemmas.Option.{slice_get-map, slice_get_within}
-use Rattle.list_laws.proofs.Options.{some_there}
-use Rattle.netlist_model.specs.declared.CellId.{CellId}
-use Rattle.netlist_model.specs.Lists.{CellView, NetlistView, live_cell, cell_at, Drives, IsUndriven}
+use Rattle.linked_cells.proofs.list_laws.Options.{some_there}
+use Rattle.linked_cells.specs.netlist_model.declared.CellId.{CellId}
+use Rattle.linked_cells.specs.netlist_model.Lists.{CellView, NetlistView, live_cell, cell_at, Drives, IsUndriven}
 use Rattle.netlist_arena.specs.Looks.{feed_at}
 use Rattle.linked_cells.specs.declared.Slot.{Slot}
-use Rattle.numbered_places.specs.Places.{there_at, place_at}
+use Rattle.linked_cells.specs.numbered_places.Places.{there_at, place_at}
 use Rattle.linked_cells.specs.Views.{CellSlots}
 use Rattle.linked_cells.specs.declared.Net.{Net}
 use Rattle.linked_cells.specs.Cells.{cell_view, cells_of, net_view, nets_of}

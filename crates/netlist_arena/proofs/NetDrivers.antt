@@ -3,11 +3,11 @@ use Rattle.std.proofs.Common.{◌≡◌, ◌≢◌, ◌⊎◌, inl, inr, ℕ, su
 use Rattle.std.specs.List.{slice_get}
 use Rattle.std.proofs.lemmas.Bool.{cases_eq}
 use Rattle.std.proofs.lemmas.Option.{slice_get-map}
-use Rattle.list_laws.proofs.Lists.{slice_get-set_other}
-use Rattle.netlist_model.specs.declared.NetId.{NetId}
-use Rattle.netlist_model.specs.declared.CellId.{CellId}
-use Rattle.netlist_model.specs.declared.Feed.{Feed}
-use Rattle.netlist_model.specs.Lists.{CellView, NetlistView, live_cell, cell_at}
+use Rattle.linked_cells.proofs.list_laws.Lists.{slice_get-set_other}
+use Rattle.linked_cells.specs.netlist_model.declared.NetId.{NetId}
+use Rattle.linked_cells.specs.netlist_model.declared.CellId.{CellId}
+use Rattle.linked_cells.specs.netlist_model.declared.Feed.{Feed}
+use Rattle.linked_cells.specs.netlist_model.Lists.{CellView, NetlistView, live_cell, cell_at}
 use Rattle.netlist_arena.specs.Arena.{DrivesIn, HasSingleDrivers}
 use Rattle.netlist_arena.specs.Adds.{CanDrive, AddsCell}
 use Rattle.netlist_arena.proofs.Single.{removed_back}

@@ -6,17 +6,17 @@ use Rattle.std.proofs.lemmas.Bool.{cases_eq}
 use Rattle.std.proofs.lemmas.List.{map-set, map-append, length-map, set-set, length-replicate}
 use Rattle.std.proofs.lemmas.List.Sums.{sum_by-cons}
 use Rattle.std.proofs.lemmas.Option.{slice_get-map, slice_get_within, slice_get_past}
-use Rattle.list_laws.proofs.Lists.{slice_get-set_same, slice_get-set_other, last_push}
-use Rattle.netlist_model.specs.declared.Reader.{Reader}
-use Rattle.netlist_model.specs.declared.Feed.{Feed}
-use Rattle.netlist_model.specs.declared.Feed.TheVariants.{Net as OnNet, Const as Fixed}
-use Rattle.netlist_model.specs.Lists.{CellView, live_cell}
+use Rattle.linked_cells.proofs.list_laws.Lists.{slice_get-set_same, slice_get-set_other, last_push}
+use Rattle.linked_cells.specs.netlist_model.declared.Reader.{Reader}
+use Rattle.linked_cells.specs.netlist_model.declared.Feed.{Feed}
+use Rattle.linked_cells.specs.netlist_model.declared.Feed.TheVariants.{Net as OnNet, Const as Fixed}
+use Rattle.linked_cells.specs.netlist_model.Lists.{CellView, live_cell}
 use Rattle.netlist_arena.specs.Adds.{PutsCell}
 use Rattle.netlist_arena.proofs.Places.{slice_get-push_other}
 use Rattle.linked_cells.specs.declared.Slot.{Slot}
 use Rattle.linked_cells.specs.Links.{Threaded}
 use Rattle.linked_cells.proofs.Threads.{threaded_loosely}
-use Rattle.numbered_places.specs.Places.{there_at, place_at, Puts}
+use Rattle.linked_cells.specs.numbered_places.Places.{there_at, place_at, Puts}
 use Rattle.linked_cells.specs.Views.{CellSlots}
 use Rattle.linked_cells.specs.Cells.{cell_view, cells_of, slot_at, blank_slot, given_upto, feed_in}
 use Rattle.linked_cells.proofs.Operands.{all_given, all_taken, feed_found}

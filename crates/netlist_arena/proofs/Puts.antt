@@ -6,10 +6,10 @@ use Rattle.std.proofs.lemmas.Bool.{cases_eq}
 use Rattle.std.proofs.lemmas.List.Elements.{All-set, All-push}
 use Rattle.std.proofs.lemmas.List.Sums.{sum_by-cons}
 use Rattle.std.proofs.lemmas.Option.{slice_get_within, slice_get_past}
-use Rattle.list_laws.proofs.Lists.{last_push}
-use Rattle.cell_library.specs.declared.listed.ListedCell.{ListedCell}
-use Rattle.netlist_model.specs.Lists.{CellView, NetlistView, live_cell, cell_at, cell_count}
-use Rattle.netlist_model.specs.Contained.{IsDense}
+use Rattle.linked_cells.proofs.list_laws.Lists.{last_push}
+use Rattle.linked_cells.specs.cell_library.declared.listed.ListedCell.{ListedCell}
+use Rattle.linked_cells.specs.netlist_model.Lists.{CellView, NetlistView, live_cell, cell_at, cell_count}
+use Rattle.linked_cells.specs.netlist_model.Contained.{IsDense}
 use Rattle.netlist_arena.specs.Arena.{HasItsOperands, IsPlaceBelow, live_count}
 use Rattle.netlist_arena.specs.Adds.{AddsCell, PutsCell}
 use Rattle.netlist_arena.specs.Moves.{RemovesCell}

@@ -4,16 +4,16 @@ use Rattle.std.specs.Option.{IsSome, IfSome, MatchOption}
 use Rattle.std.specs.Bool.{⊤}
 use Rattle.std.specs.List.{slice_get, All}
 use Rattle.std.proofs.lemmas.List.{length-map, map-set}
-use Rattle.list_laws.proofs.Options.{some_there}
-use Rattle.netlist_model.specs.declared.NetId.{NetId}
-use Rattle.netlist_model.specs.declared.Feed.{Feed}
-use Rattle.netlist_model.specs.declared.Feed.TheVariants.{Const as Fixed}
-use Rattle.netlist_model.specs.Lists.{CellView, live_cell}
-use Rattle.netlist_model.specs.Below.{IsNetBelow}
+use Rattle.linked_cells.proofs.list_laws.Options.{some_there}
+use Rattle.linked_cells.specs.netlist_model.declared.NetId.{NetId}
+use Rattle.linked_cells.specs.netlist_model.declared.Feed.{Feed}
+use Rattle.linked_cells.specs.netlist_model.declared.Feed.TheVariants.{Const as Fixed}
+use Rattle.linked_cells.specs.netlist_model.Lists.{CellView, live_cell}
+use Rattle.linked_cells.specs.netlist_model.Below.{IsNetBelow}
 use Rattle.netlist_arena.specs.Arena.{IsPlaceBelow}
 use Rattle.netlist_arena.proofs.Growth.{place_at as found_below}
 use Rattle.netlist_arena.proofs.Single.{live_below}
-use Rattle.numbered_places.specs.Places.{place_at}
+use Rattle.linked_cells.specs.numbered_places.Places.{place_at}
 use Rattle.linked_cells.specs.declared.Slot.{Slot}
 use Rattle.linked_cells.specs.Views.{CellSlots}
 use Rattle.linked_cells.specs.Cells.{cell_view, cells_of, given_upto, feed_in}

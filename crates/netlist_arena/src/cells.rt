@@ -1,7 +1,7 @@
 ghost use Rattle.std.specs.Prelude.{◌≡◌, ℕ, ◌-◌, ◌<◌, ◌≤◌, ◌↔◌, length, replicate, option_map, Some, IfOk, IfSome, OnErr, IsSome, IsTrue, MatchOption, ⊤, is_ok, if◌then◌else◌};
-ghost use Rattle.cell_library.specs.Gates.{Takes, flop_of};
-ghost use Rattle.netlist_model.specs.Lists.{CellView, cell_at, cell_count};
-ghost use Rattle.netlist_model.specs.Below.{AreFeedsBelow, IsFeedBelow, IsNetBelow};
+ghost use Rattle.linked_cells.specs.cell_library.Gates.{Takes, flop_of};
+ghost use Rattle.linked_cells.specs.netlist_model.Lists.{CellView, cell_at, cell_count};
+ghost use Rattle.linked_cells.specs.netlist_model.Below.{AreFeedsBelow, IsFeedBelow, IsNetBelow};
 ghost use Rattle.linked_cells.specs.Cells.{blank_slot, cell_view};
 ghost use Rattle.netlist_arena.specs.Arena.{HasItsOperands, IsPlaceBelow};
 ghost use Rattle.netlist_arena.specs.Adds.{CanDrive, AddsCell};
@@ -9,10 +9,10 @@ ghost use Rattle.netlist_arena.specs.Looks.{IsLive, feed_at};
 
 use crate::Netlist;
 use crate::links::{add_loose, note_driver};
-use cell_library::{FlopKind, Kind, flop_of};
 use linked_cells::Cell;
-use netlist_model::{CellId, Feed, Name, NetId};
-use texts::OutOfMemory;
+use linked_cells::lower_cell_library::{FlopKind, Kind, flop_of};
+use linked_cells::lower_netlist_model::{CellId, Feed, Name, NetId};
+use linked_cells::lower_texts::OutOfMemory;
 
 impl Netlist {
     /// Adds a cell of at most four operands, which takes one spare cell.

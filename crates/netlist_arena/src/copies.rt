@@ -2,9 +2,9 @@ ghost use Rattle.std.specs.Prelude.{◌≡◌, ◌+◌, ◌<◌, ◌≤◌, ◌^
 
 use crate::room::push_reserved;
 use crate::{Netlist, Port};
+use linked_cells::lower_texts::OutOfMemory;
 use linked_cells::{copied_cells, copied_nets};
 use std::alloc::Global;
-use texts::OutOfMemory;
 
 impl Netlist {
     /// An equal netlist, with as much room. A walk over the readers of a net goes on in it.

@@ -36,10 +36,11 @@ mod ports;
 mod readers;
 mod room;
 
-use cell_library::Library;
+use linked_cells::lower_cell_library::Library;
+use linked_cells::lower_netlist_model::{Dir, Name, NetId, Range};
+use linked_cells::lower_numbered_places::Places;
+pub use linked_cells::{lower_cell_library, lower_netlist_model};
 use linked_cells::{Cell, Net};
-use netlist_model::{Dir, Name, NetId, Range};
-use numbered_places::Places;
 pub use room::ReserveFault;
 use std::alloc::Global;
 use std::marker::Model;
@@ -56,7 +57,7 @@ struct Port {
 
 impl Model for Port {
     ghost use Rattle.std.specs.Prelude.{◌∷◌};
-    ghost use Rattle.netlist_model.specs.Lists.{PortView};
+    ghost use Rattle.linked_cells.specs.netlist_model.Lists.{PortView};
 
     ghost Value = { PortView };
 
@@ -87,7 +88,7 @@ pub struct Netlist {
 impl Model for Netlist {
     ghost use Rattle.std.specs.Prelude.{◌≡◌, ℕ, ◌+◌, ◌<◌, ◌≤◌, ◌^◌, length, vec_len, vec_capacity, All, IsSome};
     ghost use Rattle.linked_cells.specs.Links.{Threaded};
-    ghost use Rattle.numbered_places.specs.Places.{place_at};
+    ghost use Rattle.linked_cells.specs.numbered_places.Places.{place_at};
     ghost use Rattle.linked_cells.specs.Cells.{slot_at, first_at, driver_at, cells_of, nets_of};
     ghost use Rattle.linked_cells.specs.Walks.{walks_of};
     ghost use Rattle.netlist_arena.specs.Arena.{ArenaView, HasRoom, HasItsOperands, IsPlaceBelow, IsPortBelow, bit_count};

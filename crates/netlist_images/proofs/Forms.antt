@@ -3,12 +3,12 @@ use Rattle.std.proofs.Common.{◌≡◌, ℕ, List, [], ◌∷◌, map, length, 
 use Rattle.std.specs.Prelude.{Some, None}
 use Rattle.cell_library.specs.declared.listed.ListedCell.{ListedCell}
 use Rattle.cell_library.specs.Gates.{is_flop, Takes}
-use Rattle.netlist_model.specs.declared.Feed.{Feed}
-use Rattle.netlist_model.specs.declared.Feed.TheVariants.{Net, Const}
-use Rattle.netlist_model.specs.declared.Name.{Name}
-use Rattle.netlist_model.specs.declared.NetId.{NetId}
-use Rattle.netlist_model.specs.Lists.{PortView, CellView, NetlistView, cell_at, direction}
-use Rattle.netlist_model.specs.Formed.{IsDriven, IsCombinational, FeedsBelow, IsWellFormed}
+use Rattle.netlist_laws.specs.netlist_model.declared.Feed.{Feed}
+use Rattle.netlist_laws.specs.netlist_model.declared.Feed.TheVariants.{Net, Const}
+use Rattle.netlist_laws.specs.netlist_model.declared.Name.{Name}
+use Rattle.netlist_laws.specs.netlist_model.declared.NetId.{NetId}
+use Rattle.netlist_laws.specs.netlist_model.Lists.{PortView, CellView, NetlistView, cell_at, direction}
+use Rattle.netlist_laws.specs.netlist_model.Formed.{IsDriven, IsCombinational, FeedsBelow, IsWellFormed}
 use Rattle.std.specs.Option.{option_map}
 use Rattle.std.specs.Prelude.{Option}
 use Rattle.netlist_laws.proofs.Search.{cell_at_once}

@@ -5,13 +5,13 @@ use Rattle.signal_values.specs.declared.Sig.{Sig}
 use Rattle.cell_library.specs.declared.listed.ListedCell.{ListedCell}
 use Rattle.cell_library.specs.Gates.{flop_of}
 use Rattle.cell_library.specs.Flops.{flop_next, flop_start}
-use Rattle.netlist_model.specs.declared.Feed.{Feed}
-use Rattle.netlist_model.specs.declared.Feed.TheVariants.{Net, Const}
-use Rattle.netlist_model.specs.declared.NetId.{NetId}
-use Rattle.netlist_model.specs.Settled.{feed_values, cell_value, Meets}
+use Rattle.netlist_laws.specs.netlist_model.declared.Feed.{Feed}
+use Rattle.netlist_laws.specs.netlist_model.declared.Feed.TheVariants.{Net, Const}
+use Rattle.netlist_laws.specs.netlist_model.declared.NetId.{NetId}
+use Rattle.netlist_laws.specs.netlist_model.Settled.{feed_values, cell_value, Meets}
 use Rattle.netlist_images.specs.Nested.{renamed_feed, renamed_net, renamed_cell, Nested}
-use Rattle.netlist_model.specs.Lists.{NetlistView}
-use Rattle.netlist_model.specs.Runs.{FlopsStart, FlopsStep}
+use Rattle.netlist_laws.specs.netlist_model.Lists.{NetlistView}
+use Rattle.netlist_laws.specs.netlist_model.Runs.{FlopsStart, FlopsStep}
 
 pub feeds_renamed : (to : ℕ → ℕ) (v : ℕ → Sig) (feeds : List Feed) → feed_values v (map (renamed_feed to) feeds) ≡ feed_values (λ n. v (to n)) feeds
 feeds_renamed to v [] = refl

@@ -5,12 +5,12 @@ use Rattle.cell_library.specs.Gates.{flop_of, is_flop}
 use Rattle.std.specs.Prelude.{Option, Some, None, slice_get, ◌==◌}
 use Rattle.std.specs.Option.{option_map}
 use Rattle.std.proofs.lemmas.Bool.Decides.{eqb_tells}
-use Rattle.netlist_model.specs.declared.Feed.TheVariants.{Net}
-use Rattle.netlist_model.specs.declared.NetId.{NetId}
-use Rattle.netlist_model.specs.Lists.{PortView, CellView, NetlistView, bit_net, is_among, direction, Drives, Reads}
-use Rattle.netlist_model.specs.Settled.{follows_pin}
-use Rattle.netlist_model.specs.Cones.{GateReads, InCone, itself, behind, FlopReads, IsClockNet, IsControlNet}
-use Rattle.netlist_model.specs.Formed.{IsDriven}
+use Rattle.netlist_laws.specs.netlist_model.declared.Feed.TheVariants.{Net}
+use Rattle.netlist_laws.specs.netlist_model.declared.NetId.{NetId}
+use Rattle.netlist_laws.specs.netlist_model.Lists.{PortView, CellView, NetlistView, bit_net, is_among, direction, Drives, Reads}
+use Rattle.netlist_laws.specs.netlist_model.Settled.{follows_pin}
+use Rattle.netlist_laws.specs.netlist_model.Cones.{GateReads, InCone, itself, behind, FlopReads, IsClockNet, IsControlNet}
+use Rattle.netlist_laws.specs.netlist_model.Formed.{IsDriven}
 use Rattle.netlist_images.specs.Nested.{renamed_net, renamed_feed, renamed_cell, Nested}
 use Rattle.netlist_images.specs.Renumbering.{IsPortImage, ArePortImages, IsCopied}
 use Rattle.netlist_images.proofs.Nests.{output_renamed}

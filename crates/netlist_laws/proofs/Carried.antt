@@ -1,14 +1,14 @@
 -- What holds between the values of two valuations, net by net, along the numbers of the gates.
 use Rattle.std.proofs.Common.{◌≡◌, ℕ, zero, suc, ◌<◌, true, false, List, Some, arith, inl, inr}
-use Rattle.list_laws.proofs.Tests.{true_or_false}
-use Rattle.signal_values.specs.declared.Sig.{Sig}
-use Rattle.signal_values.specs.declared.Sig.TheVariants.{Unknown}
-use Rattle.cell_library.specs.declared.Kind.{Kind}
-use Rattle.cell_library.specs.declared.FlopKind.{FlopKind}
-use Rattle.cell_library.specs.declared.listed.ListedCell.{ListedCell}
+use Rattle.netlist_model.proofs.list_laws.Tests.{true_or_false}
+use Rattle.netlist_model.specs.signal_values.declared.Sig.{Sig}
+use Rattle.netlist_model.specs.signal_values.declared.Sig.TheVariants.{Unknown}
+use Rattle.netlist_model.specs.cell_library.declared.Kind.{Kind}
+use Rattle.netlist_model.specs.cell_library.declared.FlopKind.{FlopKind}
+use Rattle.netlist_model.specs.cell_library.declared.listed.ListedCell.{ListedCell}
 use Rattle.netlist_model.specs.Lists.{CellView, NetlistView, direction, Drives, IsUndriven}
 use Rattle.netlist_model.specs.Settled.{feed_values, cell_value, follows_pin, Meets}
-use Rattle.cell_library.specs.Gates.{flop_of, is_flop}
+use Rattle.netlist_model.specs.cell_library.Gates.{flop_of, is_flop}
 use Rattle.netlist_laws.proofs.KindLaws.{flop_or_gate, cell_value-flop}
 use Rattle.netlist_laws.proofs.Search.{search_driver}
 

@@ -2,14 +2,14 @@
 use Rattle.std.proofs.Common.{◌≡◌, ℕ, suc, ◌⊎◌, true, false, List, [], ◌∷◌, length, refl, ap, sym, ◌∙◌, inl, inr, arith, All}
 use Rattle.std.specs.Prelude.{Some, slice_get, is_some}
 use Rattle.std.proofs.lemmas.List.Elements.{All-cons}
-use Rattle.list_laws.proofs.Tests.{true_or_false}
-use Rattle.signal_values.specs.declared.Sig.{Sig}
-use Rattle.signal_values.specs.Values.{bit}
-use Rattle.cell_library.specs.declared.FlopKind.{FlopKind}
-use Rattle.cell_library.specs.Gates.{flop_of, is_flop, is_three_state, Takes}
+use Rattle.netlist_model.proofs.list_laws.Tests.{true_or_false}
+use Rattle.netlist_model.specs.signal_values.declared.Sig.{Sig}
+use Rattle.netlist_model.specs.signal_values.Values.{bit}
+use Rattle.netlist_model.specs.cell_library.declared.FlopKind.{FlopKind}
+use Rattle.netlist_model.specs.cell_library.Gates.{flop_of, is_flop, is_three_state, Takes}
 use Rattle.netlist_laws.proofs.KindLaws.{two_state, cell_value-two_state}
-use Rattle.cell_library.specs.Laws.{IsKnown}
-use Rattle.cell_library.proofs.CellLaws.{is_known-gate_output}
+use Rattle.netlist_model.specs.cell_library.Laws.{IsKnown}
+use Rattle.netlist_model.proofs.cell_library.CellLaws.{is_known-gate_output}
 use Rattle.netlist_model.specs.declared.Feed.{Feed}
 use Rattle.netlist_model.specs.declared.Feed.TheVariants.{Net, Const}
 use Rattle.netlist_model.specs.Lists.{CellView, NetlistView, direction, Drives, Reads}

@@ -1,15 +1,15 @@
 -- Some valuation meets the equations: each net's value after as many rounds as its number says.
 use Rattle.std.proofs.Common.{◌≡◌, ℕ, zero, suc, ◌<◌, ◌⊎◌, true, false, List, if◌then◌else◌, refl, ap, sym, ◌∙◌, inl, inr, arith}
 use Rattle.std.proofs.lemmas.Bool.Decides.{eqb_tells}
-use Rattle.list_laws.proofs.Tests.{true_or_false}
-use Rattle.signal_values.specs.declared.Sig.{Sig}
-use Rattle.signal_values.specs.declared.Sig.TheVariants.{Unknown}
-use Rattle.cell_library.specs.declared.Kind.{Kind}
-use Rattle.cell_library.specs.declared.listed.ListedCell.{ListedCell}
+use Rattle.netlist_model.proofs.list_laws.Tests.{true_or_false}
+use Rattle.netlist_model.specs.signal_values.declared.Sig.{Sig}
+use Rattle.netlist_model.specs.signal_values.declared.Sig.TheVariants.{Unknown}
+use Rattle.netlist_model.specs.cell_library.declared.Kind.{Kind}
+use Rattle.netlist_model.specs.cell_library.declared.listed.ListedCell.{ListedCell}
 use Rattle.netlist_model.specs.declared.Feed.{Feed}
 use Rattle.netlist_model.specs.Lists.{CellView, NetlistView, direction, Drives, IsUndriven}
 use Rattle.netlist_model.specs.Settled.{feed_values, cell_value, follows_pin, Meets}
-use Rattle.cell_library.specs.Gates.{is_flop}
+use Rattle.netlist_model.specs.cell_library.Gates.{is_flop}
 use Rattle.netlist_model.specs.Formed.{FeedsBelow, IsNumbered}
 use Rattle.netlist_laws.specs.Settle.{IsCausal, IsDrivenOnce}
 use Rattle.netlist_laws.proofs.Search.{Found, NoneDrives, search_driver, cell_at_once}

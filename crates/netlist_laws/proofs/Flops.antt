@@ -1,15 +1,15 @@
 -- A flip-flop, and what its next value hangs on.
 use Rattle.std.proofs.Common.{◌≡◌, ℕ, zero, suc, false, List, [], ◌∷◌, refl, sym, ◌∙◌, inl, inr}
 use Rattle.std.specs.Prelude.{Some, slice_get}
-use Rattle.signal_values.specs.declared.Sig.{Sig}
-use Rattle.signal_values.specs.declared.Sig.TheVariants.{Zero, One, Unknown}
-use Rattle.cell_library.specs.declared.FlopKind.{FlopKind}
-use Rattle.cell_library.specs.declared.Edge.{Edge}
-use Rattle.cell_library.specs.declared.Edge.TheVariants.{Rise, Fall}
-use Rattle.cell_library.specs.declared.ResetTo.{ResetTo}
-use Rattle.cell_library.specs.declared.ResetTo.TheVariants.{Nothing, Zero as ToZero, One as ToOne}
-use Rattle.cell_library.specs.Gates.{flop_of, operand}
-use Rattle.cell_library.specs.Flops.{is_edge, reset_or, flop_next, flop_start}
+use Rattle.netlist_model.specs.signal_values.declared.Sig.{Sig}
+use Rattle.netlist_model.specs.signal_values.declared.Sig.TheVariants.{Zero, One, Unknown}
+use Rattle.netlist_model.specs.cell_library.declared.FlopKind.{FlopKind}
+use Rattle.netlist_model.specs.cell_library.declared.Edge.{Edge}
+use Rattle.netlist_model.specs.cell_library.declared.Edge.TheVariants.{Rise, Fall}
+use Rattle.netlist_model.specs.cell_library.declared.ResetTo.{ResetTo}
+use Rattle.netlist_model.specs.cell_library.declared.ResetTo.TheVariants.{Nothing, Zero as ToZero, One as ToOne}
+use Rattle.netlist_model.specs.cell_library.Gates.{flop_of, operand}
+use Rattle.netlist_model.specs.cell_library.Flops.{is_edge, reset_or, flop_next, flop_start}
 use Rattle.netlist_model.specs.declared.Feed.{Feed}
 use Rattle.netlist_model.specs.declared.Feed.TheVariants.{Net, Const}
 use Rattle.netlist_model.specs.Lists.{CellView, NetlistView, cell_at}

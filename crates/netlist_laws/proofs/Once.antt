@@ -1,9 +1,9 @@
 -- At most one valuation meets the equations.
 use Rattle.std.proofs.Common.{◌≡◌, ℕ, zero, suc, ◌<◌, true, List, [], ◌∷◌, refl, ap, ◌∙◌}
 use Rattle.std.specs.Prelude.{Some, slice_get}
-use Rattle.signal_values.specs.declared.Sig.{Sig}
-use Rattle.cell_library.specs.declared.FlopKind.{FlopKind}
-use Rattle.cell_library.specs.Gates.{flop_of}
+use Rattle.netlist_model.specs.signal_values.declared.Sig.{Sig}
+use Rattle.netlist_model.specs.cell_library.declared.FlopKind.{FlopKind}
+use Rattle.netlist_model.specs.cell_library.Gates.{flop_of}
 use Rattle.netlist_laws.proofs.KindLaws.{cell_value-gate}
 use Rattle.netlist_model.specs.declared.NetId.{NetId}
 use Rattle.netlist_model.specs.declared.Feed.{Feed}

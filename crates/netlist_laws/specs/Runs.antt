@@ -1,12 +1,12 @@
 -- A start and a list of legal events have exactly one run, and an event that repeats the present value changes nothing in it.
 use Rattle.std.specs.Prelude.{◌≡◌, ℕ, suc, ◌≤◌, List, length, slice_get, Option, Some, None, All}
-use Rattle.signal_values.specs.declared.Sig.{Sig}
-use Rattle.signal_values.specs.declared.PinSig.{PinSig}
-use Rattle.cell_library.specs.declared.Kind.{Kind}
-use Rattle.cell_library.specs.declared.FlopKind.{FlopKind}
-use Rattle.cell_library.specs.declared.listed.ListedCell.{ListedCell}
-use Rattle.cell_library.specs.Gates.{flop_of}
-use Rattle.cell_library.specs.Flops.{flop_next, flop_start}
+use Rattle.netlist_model.specs.signal_values.declared.Sig.{Sig}
+use Rattle.netlist_model.specs.signal_values.declared.PinSig.{PinSig}
+use Rattle.netlist_model.specs.cell_library.declared.Kind.{Kind}
+use Rattle.netlist_model.specs.cell_library.declared.FlopKind.{FlopKind}
+use Rattle.netlist_model.specs.cell_library.declared.listed.ListedCell.{ListedCell}
+use Rattle.netlist_model.specs.cell_library.Gates.{flop_of}
+use Rattle.netlist_model.specs.cell_library.Flops.{flop_next, flop_start}
 use Rattle.netlist_model.specs.Lists.{CellView, NetlistView}
 use Rattle.netlist_model.specs.Settled.{feed_values, IsSettled}
 use Rattle.netlist_model.specs.Cones.{IsControlNet, IsControlPort}

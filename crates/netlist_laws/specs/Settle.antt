@@ -1,9 +1,9 @@
 -- A netlist has exactly one valuation that meets its equations.
 use Rattle.std.specs.Prelude.{◌≡◌, ℕ, ◌<◌, true, Some}
-use Rattle.signal_values.specs.declared.Sig.{Sig}
-use Rattle.signal_values.specs.declared.PinSig.{PinSig}
-use Rattle.cell_library.specs.declared.FlopKind.{FlopKind}
-use Rattle.cell_library.specs.Gates.{flop_of}
+use Rattle.netlist_model.specs.signal_values.declared.Sig.{Sig}
+use Rattle.netlist_model.specs.signal_values.declared.PinSig.{PinSig}
+use Rattle.netlist_model.specs.cell_library.declared.FlopKind.{FlopKind}
+use Rattle.netlist_model.specs.cell_library.Gates.{flop_of}
 use Rattle.netlist_model.specs.Lists.{CellView, NetlistView, cell_at, direction}
 pub use Rattle.netlist_model.specs.Lists.{IsDrivenOnce}
 use Rattle.netlist_model.specs.Settled.{follows_pin, IsSettled}

@@ -2,20 +2,20 @@
 use Rattle.std.proofs.Common.{◌≡◌, ℕ, List, refl, Option, Some, None}
 use Rattle.std.specs.Prelude.{slice_get, IsSome}
 use Rattle.list_laws.proofs.Options.{or_else-parts, first_in-at}
-use Rattle.cell_library.specs.declared.listed.ListedCell.{ListedCell}
-use Rattle.cell_library.specs.declared.Kind.{Kind}
-use Rattle.cell_library.specs.declared.Kind.TheVariants as kind
-use Rattle.cell_library.specs.Library.{cell_name, kind_named}
-use Rattle.cell_library.proofs.NameLaws.{found_has_name}
-use Rattle.verilog_tree.specs.declared.tree.GateKind.{GateKind}
-use Rattle.verilog_tree.specs.declared.tree.GateKind.TheVariants as gate
-use Rattle.verilog_tree.specs.declared.tree.Item.{Item}
-use Rattle.verilog_tree.specs.declared.tree.Module.{Module}
-use Rattle.link_model.specs.declared.fault.LinkFault.{LinkFault}
-use Rattle.link_model.specs.Lists.{or_else, first_in}
-use Rattle.link_model.specs.Cells.{kind_of_gate}
-use Rattle.link_model.specs.Faults.{text_fault, too_many_in, name_twice, bit_faults, instance_faults, cell_unknown, at_instance, port_unknown, port_missing, port_twice, item_width}
-use Rattle.link_model.specs.Nets.{declared_names}
+use Rattle.link_names.specs.cell_library.declared.listed.ListedCell.{ListedCell}
+use Rattle.link_names.specs.cell_library.declared.Kind.{Kind}
+use Rattle.link_names.specs.cell_library.declared.Kind.TheVariants as kind
+use Rattle.link_names.specs.cell_library.Library.{cell_name, kind_named}
+use Rattle.link_names.proofs.cell_library.NameLaws.{found_has_name}
+use Rattle.link_names.specs.verilog_tree.declared.tree.GateKind.{GateKind}
+use Rattle.link_names.specs.verilog_tree.declared.tree.GateKind.TheVariants as gate
+use Rattle.link_names.specs.verilog_tree.declared.tree.Item.{Item}
+use Rattle.link_names.specs.verilog_tree.declared.tree.Module.{Module}
+use Rattle.link_names.specs.link_model.declared.fault.LinkFault.{LinkFault}
+use Rattle.link_names.specs.link_model.Lists.{or_else, first_in}
+use Rattle.link_names.specs.link_model.Cells.{kind_of_gate}
+use Rattle.link_names.specs.link_model.Faults.{text_fault, too_many_in, name_twice, bit_faults, instance_faults, cell_unknown, at_instance, port_unknown, port_missing, port_twice, item_width}
+use Rattle.link_names.specs.link_model.Nets.{declared_names}
 
 -- a primitive gate is no library cell and no `assign`
 pub gate_unnamed : (library : List ListedCell) (g : GateKind) → cell_name library (kind_of_gate g) ≡ None

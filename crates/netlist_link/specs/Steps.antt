@@ -1,21 +1,21 @@
 -- What is known of a module on the way to its link.
 use Rattle.std.specs.Prelude.{◌≡◌, ℕ, List, length, None}
-use Rattle.cell_library.specs.declared.listed.ListedCell.{ListedCell}
-use Rattle.cell_library.specs.Sound.{IsLibrary}
-use Rattle.verilog_tree.specs.declared.tree.Module.{Module}
-use Rattle.verilog_tree.specs.IsTree.{IsTree}
-use Rattle.netlist_model.specs.Lists.{NetlistView}
-use Rattle.netlist_model.specs.Contained.{IsDense}
-use Rattle.cell_order.specs.declared.fault.OrderFault.{OrderFault}
-use Rattle.cell_order.specs.declared.fault.OrderFault.TheVariants as order
-use Rattle.link_model.specs.declared.fault.LinkFault.{LinkFault}
-use Rattle.link_model.specs.declared.fault.LinkFault.TheVariants as fault
-use Rattle.link_model.specs.Nets.{NamedNet, declared_nets, nets_in}
-use Rattle.link_model.specs.Cells.{NamedCell}
-use Rattle.link_model.specs.Fits.{FitCells}
-use Rattle.link_model.specs.Faults.{text_fault, driver_fault, cells_in, names_of}
-use Rattle.link_model.specs.Late.{IsLoop, HasNoDerived}
-use Rattle.link_model.specs.Denoted.{IsNamed, denoted}
+use Rattle.link_names.specs.cell_library.declared.listed.ListedCell.{ListedCell}
+use Rattle.link_names.specs.cell_library.Sound.{IsLibrary}
+use Rattle.link_names.specs.verilog_tree.declared.tree.Module.{Module}
+use Rattle.link_names.specs.verilog_tree.IsTree.{IsTree}
+use Rattle.link_names.specs.netlist_model.Lists.{NetlistView}
+use Rattle.link_names.specs.netlist_model.Contained.{IsDense}
+use Rattle.link_order.specs.cell_order.declared.fault.OrderFault.{OrderFault}
+use Rattle.link_order.specs.cell_order.declared.fault.OrderFault.TheVariants as order
+use Rattle.link_names.specs.link_model.declared.fault.LinkFault.{LinkFault}
+use Rattle.link_names.specs.link_model.declared.fault.LinkFault.TheVariants as fault
+use Rattle.link_names.specs.link_model.Nets.{NamedNet, declared_nets, nets_in}
+use Rattle.link_names.specs.link_model.Cells.{NamedCell}
+use Rattle.link_names.specs.link_model.Fits.{FitCells}
+use Rattle.link_names.specs.link_model.Faults.{text_fault, driver_fault, cells_in, names_of}
+use Rattle.link_names.specs.link_model.Late.{IsLoop, HasNoDerived}
+use Rattle.link_names.specs.link_model.Denoted.{IsNamed, denoted}
 
 -- own: these are the nets and cells of a tree in whose text no fault stands
 pub record AreNetsAndCells (library : List ListedCell) (m : Module) (nets : List NamedNet) (cells : List NamedCell) : Type 0 where

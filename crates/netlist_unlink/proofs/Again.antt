@@ -20,7 +20,7 @@ use Rattle.link_model.specs.Nets.{NetDeclaration, bits_in, declared_names, decla
 use Rattle.link_model.specs.Cells.{cell_of}
 use Rattle.link_model.specs.Denoted.{IsNamed, IsNet, NamedNetlist, denoted}
 use Rattle.link_model.specs.Faults.{bit_faults, cells_in, counted, driver_fault, early_fault, gate_operands, instance_faults, item_width, name_twice, text_fault, too_many, too_many_in}
-use Rattle.link_names.proofs.NetCounts.{length-nets_in}
+use Rattle.netlist_link.proofs.link_names.NetCounts.{length-nets_in}
 use Rattle.netlist_link.specs.Linked.{LinkedView}
 use Rattle.netlist_unlink.specs.Trees.{naming_of, tree_of}
 use Rattle.netlist_unlink.specs.Prefixes.{IsFreePrefix}

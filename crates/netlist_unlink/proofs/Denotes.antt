@@ -22,7 +22,7 @@ use Rattle.link_model.specs.Cells.{cell_of}
 use Rattle.link_model.specs.Denoted as link
 use Rattle.link_model.specs.Denoted.{NamedNetlist, NamedPort, denoted, net_id, ports_from}
 use Rattle.link_model.specs.Faults.{at_bit, at_instance, bit_faults, bit_outside, cell_unknown, first_bit, gate_operands, instance_faults, item_bits, item_width, names_of, name_twice, name_unknown, port_missing, port_twice, port_unknown, text_fault, too_many, too_many_in}
-use Rattle.link_names.proofs.NetCounts.{length-nets_in}
+use Rattle.netlist_link.proofs.link_names.NetCounts.{length-nets_in}
 use Rattle.netlist_link.specs.Linked.{LinkedView}
 use Rattle.netlist_unlink.specs.Trees.{Naming, bit_of, dir_of, item_of, items_from, naming_of, port_of, port_text, range_of, tree_of}
 use Rattle.netlist_unlink.specs.Renumbered.{added_test, named_net, net_order, new_cell, new_net, new_port, numbers_from, passed_limit, place_of, port_numbers, renumbered, wire_test}

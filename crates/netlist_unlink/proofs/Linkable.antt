@@ -32,7 +32,7 @@ use Rattle.link_model.specs.Faults.{cells_in, driver_fault}
 use Rattle.link_model.specs.Late as late
 use Rattle.link_model.specs.Late.InCone.{itself as late_itself, behind as late_behind}
 use Rattle.link_model.specs.Late.{ControlLink, IsDerivedAt, IsLinkable, IsLoop, bit_links, control_links, flop_links, item_links}
-use Rattle.link_drivers.specs.Drivers.{DrivesNet, HasDriver, HasItsDrivers, ReadsNet, dir_at}
+use Rattle.netlist_link.specs.link_drivers.Drivers.{DrivesNet, HasDriver, HasItsDrivers, ReadsNet, dir_at}
 use Rattle.netlist_link.specs.Linked.{LinkedView}
 use Rattle.netlist_link.proofs.Drivers.{no_driver_fault}
 use Rattle.netlist_link.proofs.Loops.{IsRising, feeds_lower, no_loop}

@@ -1,3 +1,5 @@
+pub use Rattle.netlist_link.specs as netlist_link
+pub use Rattle.netlist_link.specs.cell_order as cell_order
 pub mod Rows
 pub mod Flags
 pub mod Parts

@@ -28,5 +28,6 @@ mod rows;
 mod tree;
 mod wires;
 
+pub use netlist_link as lower_netlist_link;
 pub use prefix::is_free_prefix;
 pub use tree::{items_keep_their_cells, unlink, unlink_undoes_link};

@@ -19,10 +19,10 @@ use Rattle.netlist_model.specs.Settled.{feed_value, feed_values, driver_of}
 use Rattle.netlist_model.specs.Formed.{IsDriven, IsWellFormed}
 use Rattle.netlist_laws.specs.Ports.{BitHasDirection}
 use Rattle.netlist_laws.specs.Drivers.{DriverIsFound, DriverDrives, IsDriverOf}
-use Rattle.netlist_link.specs.Linked.{LinkedView}
+use Rattle.netlist_unlink.specs.netlist_link.Linked.{LinkedView}
 use Rattle.wrapped_chip.specs.Cells.{core_datum, core_control}
 use Rattle.first_faults.specs.First.{or_else}
-use Rattle.plan_texts.specs.declared.plan.Plan.{Plan}
+use Rattle.plan_fitting.specs.plan_texts.declared.plan.Plan.{Plan}
 use Rattle.plan_fitting.specs.declared.fitted.FitRow.{FitRow}
 use Rattle.plan_fitting.specs.Pins.{PinSeen}
 use Rattle.plan_fitting.specs.Rows.{Driver, gate_driver, three_state, added_driver, same_bool, same_feed, controls, rows, has_highz}

@@ -15,15 +15,15 @@ use Rattle.netlist_model.specs.declared.PinBit.{PinBit}
 use Rattle.netlist_model.specs.declared.Range.{Range}
 use Rattle.netlist_model.specs.Lists.{PortView}
 use Rattle.netlist_model.specs.Formed.{width_of}
-use Rattle.netlist_link.specs.Linked.{LinkedView}
-use Rattle.netlist_link.specs.PinWords.{pin_at}
-use Rattle.netlist_link.specs.WellNamed.{index_from}
+use Rattle.netlist_unlink.specs.netlist_link.Linked.{LinkedView}
+use Rattle.netlist_unlink.specs.netlist_link.PinWords.{pin_at}
+use Rattle.netlist_unlink.specs.netlist_link.WellNamed.{index_from}
 use Rattle.bsdl_device.specs.declared.values.DevPort.{DevPort}
 use Rattle.bsdl_device.specs.declared.values.DevBit.{DevBit}
 use Rattle.bsdl_device.specs.Checks.{any_pair}
 use Rattle.bsdl_device.specs.Ports.{width, indices, index_at, counted_from, is_mode}
 use Rattle.bsdl_device.specs.IsDevice.{is_tap_place, tap_places, own_bits_at, own_bits, is_at}
-use Rattle.plan_texts.specs.declared.plan.Plan.{Plan}
+use Rattle.plan_fitting.specs.plan_texts.declared.plan.Plan.{Plan}
 use Rattle.plan_fitting.specs.declared.fitted.FitRow.{FitRow}
 use Rattle.plan_fitting.specs.declared.fitted.Fitted.{Fitted}
 use Rattle.plan_fitting.specs.Pins.{PinSeen, same_bit}

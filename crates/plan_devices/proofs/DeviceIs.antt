@@ -12,12 +12,12 @@ use Rattle.netlist_model.specs.Formed.{width_of}
 use Rattle.netlist_arena.specs.Arena.{bit_count}
 use Rattle.netlist_laws.specs.Ports.{BitHasDirection}
 use Rattle.netlist_laws.specs.Drivers.{DriverIsFound}
-use Rattle.netlist_link.specs.Linked.{LinkedView}
-use Rattle.netlist_link.specs.PinWords.{pin_at}
+use Rattle.netlist_unlink.specs.netlist_link.Linked.{LinkedView}
+use Rattle.netlist_unlink.specs.netlist_link.PinWords.{pin_at}
 use Rattle.bsdl_device.specs.declared.values.DevBit.{DevBit}
 use Rattle.bsdl_device.specs.declared.values.CellRow.{CellRow}
 use Rattle.bsdl_device.specs.IsDevice.{IsInstructionRegister, IsDeviceRow, AreDeviceRows, is_at}
-use Rattle.plan_texts.specs.declared.plan.Plan.{Plan}
+use Rattle.plan_fitting.specs.plan_texts.declared.plan.Plan.{Plan}
 use Rattle.plan_fitting.specs.Pins.{PinSeen, same_bit}
 use Rattle.plan_fitting.specs.Names.{NamedBit, port_bits}
 use Rattle.plan_fitting.specs.Fits.{has_line}

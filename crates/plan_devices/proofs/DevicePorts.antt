@@ -25,13 +25,13 @@ use Rattle.netlist_model.specs.declared.Name.TheVariants.{Original}
 use Rattle.netlist_model.specs.Lists.{PortView}
 use Rattle.netlist_model.specs.Formed.{width_of}
 use Rattle.netlist_arena.specs.Arena.{bit_count}
-use Rattle.netlist_link.specs.Linked.{LinkedView}
-use Rattle.netlist_link.specs.PinWords.{pin_at}
-use Rattle.netlist_link.specs.WellNamed.{IsShortRange, IsWellNamed}
+use Rattle.netlist_unlink.specs.netlist_link.Linked.{LinkedView}
+use Rattle.netlist_unlink.specs.netlist_link.PinWords.{pin_at}
+use Rattle.netlist_unlink.specs.netlist_link.WellNamed.{IsShortRange, IsWellNamed}
 use Rattle.bsdl_lexicon.proofs.SameNames.{same_turned}
-use Rattle.plan_texts.specs.declared.plan.Plan.{Plan}
-use Rattle.plan_texts.specs.declared.plan.TapLine.{TapLine}
-use Rattle.plan_texts.specs.declared.plan.PinLine.{PinLine}
+use Rattle.plan_fitting.specs.plan_texts.declared.plan.Plan.{Plan}
+use Rattle.plan_fitting.specs.plan_texts.declared.plan.TapLine.{TapLine}
+use Rattle.plan_fitting.specs.plan_texts.declared.plan.PinLine.{PinLine}
 use Rattle.plan_fitting.specs.Pins.{PinSeen}
 use Rattle.plan_fitting.specs.Names.{NamedBit, port_name, port_names, named_bit, bits_of_port, port_bits}
 use Rattle.plan_fitting.specs.Fits.{has_line, tap_lines, names_of}

@@ -13,8 +13,8 @@ use Rattle.bsdl_device.specs.declared.values.DevPort.{DevPort}
 use Rattle.bsdl_device.specs.Ports.{is_mode}
 use Rattle.bsdl_device.specs.Checks.{any_pair}
 use Rattle.bsdl_device.specs.IsDevice.{is_scalar_at, IsDeviceTap}
-use Rattle.netlist_link.specs.Linked.{LinkedView}
-use Rattle.plan_texts.specs.declared.plan.Plan.{Plan}
+use Rattle.netlist_unlink.specs.netlist_link.Linked.{LinkedView}
+use Rattle.plan_fitting.specs.plan_texts.declared.plan.Plan.{Plan}
 use Rattle.plan_fitting.specs.declared.fitted.Fitted.{Fitted}
 use Rattle.plan_fitting.specs.Pins.{PinSeen}
 use Rattle.plan_fitting.specs.Devices.{fitted_of, dev_port, scalar_port, tap_ports, dev_ports, device_of}

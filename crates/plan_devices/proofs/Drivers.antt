@@ -12,7 +12,7 @@ use Rattle.netlist_model.specs.Lists.{CellView, NetlistView, direction, Drives}
 use Rattle.netlist_model.specs.Formed.{IsWellFormed}
 use Rattle.netlist_laws.specs.Ports.{BitHasDirection}
 use Rattle.netlist_laws.specs.Drivers.{DriverIsFound}
-use Rattle.netlist_link.specs.Linked.{LinkedView}
+use Rattle.netlist_unlink.specs.netlist_link.Linked.{LinkedView}
 use Rattle.plan_fitting.specs.Pins.{PinSeen, IsSeen}
 use Rattle.plan_fitting.specs.Rows.{gate_driver, three_state}
 use Rattle.plan_devices.proofs.RowCounts.{makes_row}

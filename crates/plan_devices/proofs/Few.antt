@@ -13,7 +13,7 @@ use Rattle.list_laws.proofs.Options.{some_same}
 use Rattle.link_model.specs.Nets.{counted_from}
 use Rattle.netlist_model.specs.Lists.{PortView}
 use Rattle.netlist_arena.specs.Arena.{bit_count}
-use Rattle.netlist_link.specs.Linked.{LinkedView}
+use Rattle.netlist_unlink.specs.netlist_link.Linked.{LinkedView}
 use Rattle.plan_fitting.specs.Pins.{PinSeen, IsSeen, same_bit}
 use Rattle.plan_fitting.specs.Names.{NamedBit, named_bit, bits_of_port, port_bits}
 use Rattle.plan_devices.proofs.Lists.{enumerated_at}

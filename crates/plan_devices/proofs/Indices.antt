@@ -12,13 +12,13 @@ use Rattle.netlist_model.specs.declared.Range.{Range}
 use Rattle.netlist_model.specs.declared.PinBit.{PinBit}
 use Rattle.netlist_model.specs.Lists.{PortView}
 use Rattle.netlist_model.specs.Formed.{width_of}
-use Rattle.netlist_link.specs.Linked.{LinkedView}
-use Rattle.netlist_link.specs.WellNamed.{index_from}
+use Rattle.netlist_unlink.specs.netlist_link.Linked.{LinkedView}
+use Rattle.netlist_unlink.specs.netlist_link.WellNamed.{index_from}
 use Rattle.bsdl_device.specs.declared.values.PortMode.TheVariants as mode
 use Rattle.bsdl_device.specs.declared.values.DevBit.{DevBit}
 use Rattle.bsdl_device.specs.Ports.{has_bit, is_within, same_index}
 use Rattle.wrapped_chip.specs.Cells.{bit_place, net_of_bit}
-use Rattle.plan_texts.specs.declared.plan.Plan.{Plan}
+use Rattle.plan_fitting.specs.plan_texts.declared.plan.Plan.{Plan}
 use Rattle.plan_fitting.specs.declared.fitted.FitPort.{FitPort}
 use Rattle.plan_fitting.specs.Pins.{PinSeen, same_bit}
 use Rattle.plan_fitting.specs.Devices.{fit_port, fitted_of, dev_port, port_range, scalar_port, tap_ports, dev_ports, range_at, dev_bit}

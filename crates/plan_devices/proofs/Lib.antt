@@ -1,3 +1,4 @@
+pub use Rattle.plan_fitting.proofs as plan_fitting
 pub mod Tests
 pub mod Pairs
 pub mod Identifiers

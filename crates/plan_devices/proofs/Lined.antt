@@ -6,10 +6,10 @@ use Rattle.cell_library.specs.declared.codes.Function.TheVariants as function
 use Rattle.netlist_model.specs.declared.Dir.{Dir}
 use Rattle.netlist_model.specs.declared.Dir.TheVariants as dir
 use Rattle.bsdl_device.specs.IsDevice.{suits}
-use Rattle.netlist_link.specs.Linked.{LinkedView}
-use Rattle.plan_texts.specs.declared.plan.Plan.{Plan}
-use Rattle.plan_texts.specs.declared.plan.PinLine.{PinLine}
-use Rattle.plan_texts.specs.Grammar.{IsControl}
+use Rattle.netlist_unlink.specs.netlist_link.Linked.{LinkedView}
+use Rattle.plan_fitting.specs.plan_texts.declared.plan.Plan.{Plan}
+use Rattle.plan_fitting.specs.plan_texts.declared.plan.PinLine.{PinLine}
+use Rattle.plan_fitting.specs.plan_texts.Grammar.{IsControl}
 use Rattle.plan_fitting.specs.declared.fault.FitFault.{FitFault}
 use Rattle.plan_fitting.specs.declared.fault.FitFault.TheVariants as fault
 use Rattle.plan_fitting.specs.Pins.{PinSeen, IsSeen, AreSeen}

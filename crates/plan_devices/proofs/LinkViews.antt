@@ -10,9 +10,9 @@ use Rattle.link_model.specs.Nets.{dir_of, width, counted_from}
 use Rattle.link_model.specs.Denoted.{range_of, NamedPort, IsPort, ports_from, net_id}
 use Rattle.netlist_model.specs.declared.NetId.{NetId}
 use Rattle.netlist_model.specs.Formed.{width_of}
-use Rattle.netlist_link.specs.Linked.{LinkedView}
-use Rattle.netlist_link.specs.Links.{IsLinkOf}
-use Rattle.netlist_link.specs.ViewLaws.{LinkViewIsNamed, LinkViewIsFormed}
+use Rattle.netlist_unlink.specs.netlist_link.Linked.{LinkedView}
+use Rattle.netlist_unlink.specs.netlist_link.Links.{IsLinkOf}
+use Rattle.netlist_unlink.specs.netlist_link.ViewLaws.{LinkViewIsNamed, LinkViewIsFormed}
 use Rattle.plan_devices.specs.Fitting.{HasWidths}
 use Rattle.plan_devices.specs.Laws.{FittedIsFitting}
 

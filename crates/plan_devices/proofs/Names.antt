@@ -9,11 +9,11 @@ use Rattle.bsdl_lexicon.specs.Reserved.{is_reserved}
 use Rattle.bsdl_device.specs.Runs.{is_identifier}
 use Rattle.bsdl_device.specs.Checks.{is_repeated}
 use Rattle.bsdl_device.specs.IsDevice.{IsDeviceName}
-use Rattle.netlist_link.specs.Linked.{LinkedView}
+use Rattle.netlist_unlink.specs.netlist_link.Linked.{LinkedView}
 use Rattle.first_faults.specs.First.{or_else}
 use Rattle.first_faults.specs.Repeated.{has_name}
 use Rattle.bsdl_lexicon.proofs.SameNames.{same_turned}
-use Rattle.plan_texts.specs.declared.plan.Plan.{Plan}
+use Rattle.plan_fitting.specs.plan_texts.declared.plan.Plan.{Plan}
 use Rattle.plan_fitting.specs.Names.{net_names, cell_names}
 use Rattle.plan_fitting.specs.Fits.{is_barred, barred_after, names_of, tap_lines, unit_names, name_fault}
 use Rattle.plan_devices.proofs.Identifiers.{is_device_name}

@@ -11,12 +11,12 @@ use Rattle.cell_library.specs.declared.codes.Opcode.{Opcode}
 use Rattle.bsdl_device.specs.declared.entries.OpcodeEntry.{OpcodeEntry}
 use Rattle.bsdl_device.specs.Runs.{is_pattern, value_after}
 use Rattle.bsdl_device.specs.IsDevice.{IsBits, IsUsercode}
-use Rattle.plan_texts.specs.declared.plan.Plan.{Plan}
-use Rattle.plan_texts.specs.Forms.{bits_of}
-use Rattle.plan_texts.specs.Rules.{instructions_of, instruction_of}
-use Rattle.plan_texts.specs.Meaning.{typed, value_of, plan_of}
-use Rattle.plan_texts.specs.Grammar.{PlanSource, IsSource, OpcodeWords, IsOpcode, IsUserIf, entry_of, written_of}
-use Rattle.plan_texts.specs.Canonical.{IsPlan}
+use Rattle.plan_fitting.specs.plan_texts.declared.plan.Plan.{Plan}
+use Rattle.plan_fitting.specs.plan_texts.Forms.{bits_of}
+use Rattle.plan_fitting.specs.plan_texts.Rules.{instructions_of, instruction_of}
+use Rattle.plan_fitting.specs.plan_texts.Meaning.{typed, value_of, plan_of}
+use Rattle.plan_fitting.specs.plan_texts.Grammar.{PlanSource, IsSource, OpcodeWords, IsOpcode, IsUserIf, entry_of, written_of}
+use Rattle.plan_fitting.specs.plan_texts.Canonical.{IsPlan}
 
 pattern_bits : (word : List ℕ) → is_pattern word ≡ true → IsBits (bits_of word)
 pattern_bits word h =

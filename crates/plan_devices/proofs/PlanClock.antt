@@ -6,11 +6,11 @@ use Rattle.list_laws.proofs.Tests.{and_left, and_right}
 use Rattle.bsdl_lexicon.specs.Bytes.{is_digit}
 use Rattle.bsdl_lexicon.specs.Pieces.{IsReal}
 use Rattle.bsdl_device.specs.Runs.{is_integer, value_after}
-use Rattle.plan_texts.specs.declared.plan.Plan.{Plan}
-use Rattle.plan_texts.specs.Forms.{is_clock}
-use Rattle.plan_texts.specs.Meaning.{plan_of}
-use Rattle.plan_texts.specs.Grammar.{PlanSource, IsSource, written_of}
-use Rattle.plan_texts.specs.Canonical.{IsPlan}
+use Rattle.plan_fitting.specs.plan_texts.declared.plan.Plan.{Plan}
+use Rattle.plan_fitting.specs.plan_texts.Forms.{is_clock}
+use Rattle.plan_fitting.specs.plan_texts.Meaning.{plan_of}
+use Rattle.plan_fitting.specs.plan_texts.Grammar.{PlanSource, IsSource, written_of}
+use Rattle.plan_fitting.specs.plan_texts.Canonical.{IsPlan}
 
 each_digit : (bytes : List ℕ) → list_all is_digit bytes ≡ true → AllByRecursion (λ c. IsTrue (is_digit c)) bytes
 each_digit [] h = tt

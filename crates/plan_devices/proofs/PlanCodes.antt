@@ -17,18 +17,18 @@ use Rattle.bsdl_device.specs.Canonical.{has_opcode}
 use Rattle.bsdl_device.specs.IsDevice.{IsDeviceCode, opcode_entries}
 use Rattle.first_faults.specs.First.{or_else, first_in}
 use Rattle.first_faults.specs.Repeated.{has_name, repeated, repeated_after}
-use Rattle.plan_texts.specs.declared.plan.Plan.{Plan}
-use Rattle.plan_texts.specs.declared.written.CodeGroups.{CodeGroups}
-use Rattle.plan_texts.specs.declared.written.Written.{Written}
-use Rattle.plan_texts.specs.Rules.{first_instructions, instructions_of, instruction_of, known, names_of, twice_fault, opcode_fault, idcode_fails, idcode_fault, usercode_fails, usercode_fault, unknown_fault, groups_misfit, code_of, rule_fault}
-use Rattle.plan_texts.specs.Forms.{bits_of}
-use Rattle.plan_texts.specs.Meaning.{typed, value_of, plan_of}
-use Rattle.plan_texts.specs.Grammar.{PlanSource, IsSource, IsUserIf, written_of}
-use Rattle.plan_texts.specs.Canonical.{IsPlan}
+use Rattle.plan_fitting.specs.plan_texts.declared.plan.Plan.{Plan}
+use Rattle.plan_fitting.specs.plan_texts.declared.written.CodeGroups.{CodeGroups}
+use Rattle.plan_fitting.specs.plan_texts.declared.written.Written.{Written}
+use Rattle.plan_fitting.specs.plan_texts.Rules.{first_instructions, instructions_of, instruction_of, known, names_of, twice_fault, opcode_fault, idcode_fails, idcode_fault, usercode_fails, usercode_fault, unknown_fault, groups_misfit, code_of, rule_fault}
+use Rattle.plan_fitting.specs.plan_texts.Forms.{bits_of}
+use Rattle.plan_fitting.specs.plan_texts.Meaning.{typed, value_of, plan_of}
+use Rattle.plan_fitting.specs.plan_texts.Grammar.{PlanSource, IsSource, IsUserIf, written_of}
+use Rattle.plan_fitting.specs.plan_texts.Canonical.{IsPlan}
 use Rattle.plan_fitting.proofs.Opcodes.{name_of, opcode_with}
 use Rattle.plan_devices.proofs.Pairs.{any_front, any_back}
 use Rattle.cell_library.specs.declared.codes.Instr.TheVariants as instr
-use Rattle.plan_texts.specs.declared.fault.PlanFault.TheVariants as fault
+use Rattle.plan_fitting.specs.plan_texts.declared.fault.PlanFault.TheVariants as fault
 
 -- Names that stand once.
 

@@ -10,13 +10,13 @@ use Rattle.bsdl_lexicon.specs.Bytes.{is_digit, is_name_byte}
 use Rattle.bsdl_device.specs.Runs.{begins_with_letter, has_single_underscores, is_identifier}
 use Rattle.bsdl_device.specs.IsDevice.{IsDevicePin}
 use Rattle.bsdl_device.proofs.Identifiers.{digits_are_name_bytes}
-use Rattle.plan_texts.specs.declared.plan.Plan.{Plan}
-use Rattle.plan_texts.specs.declared.plan.TapLine.{TapLine}
-use Rattle.plan_texts.specs.declared.plan.PinLine.{PinLine}
-use Rattle.plan_texts.specs.Forms.{is_pin}
-use Rattle.plan_texts.specs.Meaning.{plan_of}
-use Rattle.plan_texts.specs.Grammar.{PlanSource, IsSource, IsTapLine, IsPinLine, plan_rows, opcode_words, idcode_rows, user_rows, pin_words, tap_words, written_of}
-use Rattle.plan_texts.specs.Canonical.{IsPlan}
+use Rattle.plan_fitting.specs.plan_texts.declared.plan.Plan.{Plan}
+use Rattle.plan_fitting.specs.plan_texts.declared.plan.TapLine.{TapLine}
+use Rattle.plan_fitting.specs.plan_texts.declared.plan.PinLine.{PinLine}
+use Rattle.plan_fitting.specs.plan_texts.Forms.{is_pin}
+use Rattle.plan_fitting.specs.plan_texts.Meaning.{plan_of}
+use Rattle.plan_fitting.specs.plan_texts.Grammar.{PlanSource, IsSource, IsTapLine, IsPinLine, plan_rows, opcode_words, idcode_rows, user_rows, pin_words, tap_words, written_of}
+use Rattle.plan_fitting.specs.plan_texts.Canonical.{IsPlan}
 use Rattle.plan_fitting.specs.Fits.{tap_lines}
 use Rattle.plan_devices.proofs.FilledWords.{IsFilled, AreFilled, kept_lines_filled}
 

@@ -6,10 +6,10 @@ use Rattle.list_laws.proofs.Tests.{and_left, and_right, and_true}
 use Rattle.bsdl_lexicon.specs.Bytes as bsdl
 use Rattle.verilog_lexicon.specs.Bytes as verilog
 use Rattle.netlist_unlink.specs.Prefixes.{IsPrefix}
-use Rattle.plan_texts.specs.declared.plan.Plan.{Plan}
-use Rattle.plan_texts.specs.Forms.{begins_prefix, is_prefix}
-use Rattle.plan_texts.specs.Grammar.{IsControl}
-use Rattle.plan_texts.specs.Canonical.{IsPlan}
+use Rattle.plan_fitting.specs.plan_texts.declared.plan.Plan.{Plan}
+use Rattle.plan_fitting.specs.plan_texts.Forms.{begins_prefix, is_prefix}
+use Rattle.plan_fitting.specs.plan_texts.Grammar.{IsControl}
+use Rattle.plan_fitting.specs.plan_texts.Canonical.{IsPlan}
 
 first_byte : (b : ℕ) → (bsdl.is_letter b || b == 95) ≡ true → verilog.is_letter b ≡ true
 first_byte b h = grind arith

@@ -13,8 +13,8 @@ use Rattle.netlist_model.specs.declared.CellId.{CellId}
 use Rattle.netlist_model.specs.declared.Reader.{Reader}
 use Rattle.netlist_model.specs.Lists.{PortView, NetView, CellView}
 use Rattle.netlist_arena.specs.Arena.{SpareView}
-use Rattle.cell_order.specs.Tables.{RoomView}
-use Rattle.netlist_link.specs.Linked.{LinkedView}
+use Rattle.netlist_unlink.specs.cell_order.Tables.{RoomView}
+use Rattle.netlist_unlink.specs.netlist_link.Linked.{LinkedView}
 use Rattle.first_faults.specs.First.{first_in}
 use Rattle.plan_fitting.specs.declared.fault.FitFault.{FitFault}
 use Rattle.plan_fitting.specs.declared.fault.FitFault.TheVariants as fault

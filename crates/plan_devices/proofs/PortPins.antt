@@ -9,9 +9,9 @@ use Rattle.bsdl_device.specs.Checks.{any_pair, is_repeated}
 use Rattle.bsdl_device.specs.IsDevice.{IsDevicePin}
 use Rattle.netlist_model.specs.declared.PinBit.{PinBit}
 use Rattle.bsdl_lexicon.proofs.SameNames.{same_turned}
-use Rattle.plan_texts.specs.declared.plan.Plan.{Plan}
-use Rattle.plan_texts.specs.declared.plan.TapLine.{TapLine}
-use Rattle.plan_texts.specs.declared.plan.PinLine.{PinLine}
+use Rattle.plan_fitting.specs.plan_texts.declared.plan.Plan.{Plan}
+use Rattle.plan_fitting.specs.plan_texts.declared.plan.TapLine.{TapLine}
+use Rattle.plan_fitting.specs.plan_texts.declared.plan.PinLine.{PinLine}
 use Rattle.plan_fitting.specs.Pins.{PinSeen, same_bit}
 use Rattle.plan_fitting.specs.Names.{NamedBit}
 use Rattle.plan_fitting.specs.Fits.{has_line, tap_lines}

@@ -9,10 +9,10 @@ use Rattle.link_model.specs.Denoted.{name_bytes}
 use Rattle.netlist_model.specs.declared.Name.{Name}
 use Rattle.netlist_model.specs.declared.Name.TheVariants.{Original}
 use Rattle.netlist_model.specs.Lists.{PortView, NetView, CellView, live_cell}
-use Rattle.netlist_link.specs.Linked.{LinkedView}
+use Rattle.netlist_unlink.specs.netlist_link.Linked.{LinkedView}
 use Rattle.netlist_unlink.specs.Prefixes.{IsUsed, port as used_port, net as used_net, cell as used_cell}
 use Rattle.first_faults.specs.First.{first_in}
-use Rattle.plan_texts.specs.declared.plan.TapLine.{TapLine}
+use Rattle.plan_fitting.specs.plan_texts.declared.plan.TapLine.{TapLine}
 use Rattle.plan_fitting.specs.declared.fault.FitFault.TheVariants as fault
 use Rattle.plan_fitting.specs.Names.{port_names, net_names, cell_names, name_of_cell}
 use Rattle.plan_fitting.specs.Fits.{tap_lines, names_of, begun_fault}

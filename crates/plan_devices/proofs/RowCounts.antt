@@ -13,7 +13,7 @@ use Rattle.cell_library.specs.declared.codes.Function.TheVariants as function
 use Rattle.netlist_model.specs.declared.Dir.{Dir}
 use Rattle.netlist_model.specs.declared.Dir.TheVariants as dir
 use Rattle.netlist_model.specs.declared.PinBit.{PinBit}
-use Rattle.plan_texts.specs.declared.plan.PinLine.{PinLine}
+use Rattle.plan_fitting.specs.plan_texts.declared.plan.PinLine.{PinLine}
 use Rattle.plan_fitting.specs.declared.fitted.FitRow.{FitRow}
 use Rattle.plan_fitting.specs.Pins.{PinSeen, same_bit}
 use Rattle.plan_fitting.specs.Rows.{Driver, controls, input_row, two_state_row, data_row, control_row, controlled_by, output_rows, inout_rows, rows_at, rows_after, output_driver, three_state}

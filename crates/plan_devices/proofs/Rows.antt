@@ -13,8 +13,8 @@ use Rattle.netlist_model.specs.declared.Dir.{Dir}
 use Rattle.netlist_model.specs.declared.Dir.TheVariants as dir
 use Rattle.netlist_model.specs.declared.Feed.{Feed}
 use Rattle.netlist_model.specs.declared.Feed.TheVariants.{Net, Const}
-use Rattle.plan_texts.specs.declared.plan.Plan.{Plan}
-use Rattle.plan_texts.specs.declared.plan.PinLine.{PinLine}
+use Rattle.plan_fitting.specs.plan_texts.declared.plan.Plan.{Plan}
+use Rattle.plan_fitting.specs.plan_texts.declared.plan.PinLine.{PinLine}
 use Rattle.plan_fitting.specs.declared.fitted.FitRow.{FitRow}
 use Rattle.plan_fitting.specs.Pins.{PinSeen}
 use Rattle.plan_fitting.specs.Rows.{Driver, same_bool, same_feed, controls, input_row, two_state_row, data_row, control_row, controlled_by, output_rows, inout_rows, rows_at, rows_after, rows, output_driver, three_state, has_highz}

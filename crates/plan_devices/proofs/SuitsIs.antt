@@ -20,13 +20,13 @@ use Rattle.netlist_model.specs.Lists.{CellView, direction, Drives}
 use Rattle.netlist_model.specs.Cones.{IsControlPort}
 use Rattle.netlist_laws.specs.Ports.{BitHasDirection, DirectionHasBit}
 use Rattle.netlist_laws.specs.Drivers.{DriverIsFound}
-use Rattle.netlist_link.specs.Linked.{LinkedView}
+use Rattle.netlist_unlink.specs.netlist_link.Linked.{LinkedView}
 use Rattle.bsdl_device.specs.declared.values.Disable.{Disable}
 use Rattle.bsdl_device.specs.declared.values.CellRow.{CellRow}
 use Rattle.wrapped_chip.specs.Cells.{Numbered, row_of}
 use Rattle.wrapped_chip.specs.Suits.{IsRead, inactive_level, SuitsDriver, HasCell, is_input, is_output, is_bidir}
 use Rattle.first_faults.specs.First.{or_else}
-use Rattle.plan_texts.specs.declared.plan.Plan.{Plan}
+use Rattle.plan_fitting.specs.plan_texts.declared.plan.Plan.{Plan}
 use Rattle.plan_fitting.specs.declared.fitted.FitRow.{FitRow}
 use Rattle.plan_fitting.specs.Pins.{PinSeen}
 use Rattle.plan_fitting.specs.Fits.{suits_port}

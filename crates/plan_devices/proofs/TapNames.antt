@@ -13,11 +13,11 @@ use Rattle.bsdl_device.specs.Checks.{is_repeated}
 use Rattle.bsdl_device.specs.IsDevice.{IsDeviceName}
 use Rattle.verilog_tree.specs.IsTree.{IsVisible, IsTreeName}
 use Rattle.netlist_model.specs.declared.Name.TheVariants.{Original}
-use Rattle.netlist_link.specs.Linked.{LinkedView}
+use Rattle.netlist_unlink.specs.netlist_link.Linked.{LinkedView}
 use Rattle.netlist_unlink.specs.Prefixes.{IsUsed}
 use Rattle.first_faults.specs.Repeated.{has_name}
 use Rattle.bsdl_lexicon.proofs.SameNames.{same_turned}
-use Rattle.plan_texts.specs.declared.plan.TapLine.{TapLine}
+use Rattle.plan_fitting.specs.plan_texts.declared.plan.TapLine.{TapLine}
 use Rattle.plan_fitting.specs.Names.{port_names, net_names, cell_names}
 use Rattle.plan_fitting.specs.Fits.{tap_lines, names_of, unit_names}
 use Rattle.plan_devices.specs.Laws.{TapNamesAreNew}

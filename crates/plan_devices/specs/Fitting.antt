@@ -4,10 +4,10 @@ use Rattle.std.specs.Prelude.{◌≡◌, ℕ, ◌+◌, ◌≤◌, List, length, 
 use Rattle.netlist_model.specs.Lists.{PortView, NetlistView}
 use Rattle.netlist_model.specs.Formed.{width_of, IsWellFormed}
 use Rattle.netlist_arena.specs.Arena.{bit_count}
-use Rattle.netlist_link.specs.Linked.{LinkedView}
-use Rattle.netlist_link.specs.WellNamed.{IsWellNamed}
-use Rattle.plan_texts.specs.declared.plan.Plan.{Plan}
-use Rattle.plan_texts.specs.Canonical.{IsPlan}
+use Rattle.netlist_unlink.specs.netlist_link.Linked.{LinkedView}
+use Rattle.netlist_unlink.specs.netlist_link.WellNamed.{IsWellNamed}
+use Rattle.plan_fitting.specs.plan_texts.declared.plan.Plan.{Plan}
+use Rattle.plan_fitting.specs.plan_texts.Canonical.{IsPlan}
 use Rattle.plan_fitting.specs.Pins.{PinSeen, AreSeen}
 use Rattle.plan_fitting.specs.Fits.{fault_with}
 

@@ -15,9 +15,9 @@ use Rattle.netlist_model.specs.declared.NetId.{NetId}
 use Rattle.netlist_model.specs.declared.PinBit.{PinBit}
 use Rattle.netlist_model.specs.Lists.{PortView, bit_net}
 use Rattle.netlist_model.specs.Settled.{feed_value, driver_of}
-use Rattle.netlist_link.specs.Linked.{LinkedView}
-use Rattle.netlist_link.specs.Links.{IsLinkOf}
-use Rattle.netlist_link.specs.PinWords.{pin_at}
+use Rattle.netlist_unlink.specs.netlist_link.Linked.{LinkedView}
+use Rattle.netlist_unlink.specs.netlist_link.Links.{IsLinkOf}
+use Rattle.netlist_unlink.specs.netlist_link.PinWords.{pin_at}
 use Rattle.netlist_unlink.specs.Prefixes.{IsUsed, IsFreePrefix}
 use Rattle.bsdl_device.specs.declared.values.PortMode.TheVariants as mode
 use Rattle.bsdl_device.specs.declared.values.DevPort.{DevPort}
@@ -25,9 +25,9 @@ use Rattle.bsdl_device.specs.declared.values.Device.{Device}
 use Rattle.bsdl_device.specs.IsDevice.{IsDevice}
 use Rattle.wrapped_chip.specs.Cells.{row_of, core_datum, core_control}
 use Rattle.wrapped_chip.specs.Suits.{Suits}
-use Rattle.plan_texts.specs.declared.plan.Plan.{Plan}
-use Rattle.plan_texts.specs.declared.plan.TapLine.{TapLine}
-use Rattle.plan_texts.specs.Canonical.{IsPlan}
+use Rattle.plan_fitting.specs.plan_texts.declared.plan.Plan.{Plan}
+use Rattle.plan_fitting.specs.plan_texts.declared.plan.TapLine.{TapLine}
+use Rattle.plan_fitting.specs.plan_texts.Canonical.{IsPlan}
 use Rattle.plan_fitting.specs.declared.fitted.FitRow.{FitRow}
 use Rattle.plan_fitting.specs.declared.fitted.Fitted.{Fitted}
 use Rattle.plan_fitting.specs.Pins.{PinSeen}

@@ -1,7 +1,7 @@
 ghost use Rattle.plan_devices.specs.Laws.{PlansMakeDevices, PlansSuitNetlists, PrefixesAreFree, TapNamesAreNew, DevicesHavePorts, RowsStandAtBits, BitsHaveRows, RowsTakeTheCore, ControlsTakeTheCore, ControlsFollowTheirRows, FittedIsFitting};
 
 use netlist_laws::{bit_of_a_direction, direction_of_a_bit, driver_is_found, found_driver_drives};
-use netlist_link::{link_view_is_formed, link_view_is_named};
+use netlist_unlink::lower_netlist_link::{link_view_is_formed, link_view_is_named};
 use plan_fitting::{
     control_cells_are_there, drivers_agree, highz_disables_all, opcodes_keep_the_rules,
 };

@@ -26,3 +26,4 @@ pub use laws::{
     fitted_is_fitting, plans_make_devices, plans_suit_netlists, prefixes_are_free,
     rows_stand_at_bits, rows_take_the_core, tap_names_are_new,
 };
+pub use plan_fitting as lower_plan_fitting;

@@ -9,14 +9,14 @@ use Rattle.std.specs.Cmp.Lexicographic.{bytes_decides}
 use Rattle.std.proofs.lemmas.List.Elements.{All-nil, All-cons, All-head, All-tail}
 use Rattle.list_laws.proofs.Tests.{both_true, not_false, or_second}
 use Rattle.list_laws.proofs.Options.{or_else-parts, not_there, found}
-use Rattle.cell_library.specs.declared.codes.Instr.{Instr}
-use Rattle.cell_library.specs.declared.codes.Instr.TheVariants as instr
+use Rattle.bsdl_runs.specs.cell_library.declared.codes.Instr.{Instr}
+use Rattle.bsdl_runs.specs.cell_library.declared.codes.Instr.TheVariants as instr
 use Rattle.bsdl_lexicon.specs.Bytes.{is_digit}
-use Rattle.bsdl_device.specs.Instructions.{instruction_word}
-use Rattle.bsdl_device.specs.Canonical.{bits_text, pattern_text}
-use Rattle.bsdl_device.specs.Runs.{is_integer, value_after}
-use Rattle.bsdl_device.specs.Checks.{has_instruction, has_other_length}
-use Rattle.bsdl_device.specs.declared.entries.OpcodeEntry.{OpcodeEntry}
+use Rattle.bsdl_runs.specs.bsdl_device.Instructions.{instruction_word}
+use Rattle.bsdl_runs.specs.bsdl_device.Canonical.{bits_text, pattern_text}
+use Rattle.bsdl_runs.specs.bsdl_device.Runs.{is_integer, value_after}
+use Rattle.bsdl_runs.specs.bsdl_device.Checks.{has_instruction, has_other_length}
+use Rattle.bsdl_runs.specs.bsdl_device.declared.entries.OpcodeEntry.{OpcodeEntry}
 use Rattle.line_texts.specs.Words.{is_line_end, is_blank_byte, kept_lines}
 use Rattle.line_texts.specs.Rows.{IsWordByte, IsWord, IsRow, rows_text}
 use Rattle.line_texts.specs.Laws.{KeptAreRows, ReadsBack, RowsReadBack}

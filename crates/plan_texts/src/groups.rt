@@ -10,8 +10,8 @@ use crate::lines::{
 };
 use crate::plan::{PinLine, TapLine};
 use crate::written::{CodeGroups, Codes, Names, Pins, Registers, TapLines, Written};
-use bsdl_device::OpcodeEntry;
-use cell_library::{Bits, BoundaryKind};
+use bsdl_runs::lower_bsdl_device::OpcodeEntry;
+use bsdl_runs::lower_cell_library::{Bits, BoundaryKind};
 use line_texts::LineReader;
 use std::alloc::Global;
 use texts::{OutOfMemory, Row, Text};

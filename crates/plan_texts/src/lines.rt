@@ -8,7 +8,7 @@ use crate::forms::{
     bits_of, cell_named, is_clock, is_name, is_pin, is_prefix, length_of, version_of,
 };
 use crate::written::CodeGroups;
-use cell_library::{Bits, BoundaryKind};
+use bsdl_runs::lower_cell_library::{Bits, BoundaryKind};
 use line_texts::{after_key, four_words, one_word, three_words, two_words};
 
 // The one word behind the key.

@@ -1,4 +1,4 @@
-use cell_library::{Bits, BoundaryKind, Opcode};
+use bsdl_runs::lower_cell_library::{Bits, BoundaryKind, Opcode};
 use texts::{Row, Text};
 
 /// A port beside the netlist's, of the test access port or for linkage, and its physical pin.

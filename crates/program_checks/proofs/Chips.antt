@@ -23,12 +23,12 @@ use Rattle.plan_fitting.specs.Pins.{PinSeen}
 use Rattle.plan_fitting.specs.Devices.{fitted_of, device_of}
 use Rattle.plan_devices.specs.Fitting.{HasWidths, IsFitting}
 use Rattle.plan_devices.specs.Laws.{PlansSuitNetlists, DevicesHavePorts, FittedIsFitting}
-use Rattle.program_runs.specs.Laws.{PlansStandAround}
+use Rattle.program_scripts.specs.program_runs.Laws.{PlansStandAround}
 use Rattle.scan_vectors.specs.declared.lines.Lines.{Lines}
 use Rattle.scan_vectors.specs.Canonical.{canonical_lines}
 use Rattle.scan_vectors.specs.Exactly.{SpelledOnce}
 use Rattle.scan_programs.specs.Program.{program_of}
-use Rattle.conformance_report.specs.Agreement.{PortsAgree}
+use Rattle.program_scripts.specs.conformance_report.Agreement.{PortsAgree}
 use Rattle.program_scripts.specs.Beside.{IsDescribed}
 use Rattle.program_scripts.specs.Laws.{HasChip, ProgramsAreLegal, ScriptsAreMet}
 use Rattle.insertions.specs.Written.{spelt, tap_of}

@@ -27,7 +27,7 @@ use Rattle.plan_fitting.specs.Devices.{mode_of_side, port_range, scalar_port}
 use Rattle.plan_devices.specs.Laws.{HasPorts, HasTapPlaces}
 use Rattle.plan_devices.proofs.DevicePorts.{HasBytes, ports_have_bytes}
 use Rattle.scan_programs.specs.Met.{input_place}
-use Rattle.conformance_report.specs.Agreement.{IsSamePort, PortsAgree}
+use Rattle.program_scripts.specs.conformance_report.Agreement.{IsSamePort, PortsAgree}
 use Rattle.program_scripts.specs.Words.{IsPlain, ArePlain}
 use Rattle.program_scripts.specs.Beside.{HasPortAs, HasScalarPort, HasInnerPort}
 use Rattle.program_scripts.proofs.Pins.{side_is}

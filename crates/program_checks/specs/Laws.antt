@@ -16,9 +16,9 @@ use Rattle.event_scripts.specs.declared.script.ScriptLine.{ScriptLine}
 use Rattle.event_scripts.specs.Rules.{AreLegal}
 use Rattle.event_scripts.specs.Scripts.{IsResolved}
 use Rattle.scan_programs.specs.Program.{program_of}
-use Rattle.conformance_report.specs.declared.verdict.Verdict.{Verdict}
-use Rattle.conformance_report.specs.Agreement.{PortsAgree}
-use Rattle.conformance_report.specs.Verdicts.{IsVerdict}
+use Rattle.program_scripts.specs.conformance_report.declared.verdict.Verdict.{Verdict}
+use Rattle.program_scripts.specs.conformance_report.Agreement.{PortsAgree}
+use Rattle.program_scripts.specs.conformance_report.Verdicts.{IsVerdict}
 use Rattle.program_scripts.specs.Laws.{HasChip, IsProgramScript}
 use Rattle.insertions.specs.Insertions.{IsInsertion}
 use Rattle.vectors_command.specs.Programs.{IsProgramText}

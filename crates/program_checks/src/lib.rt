@@ -24,7 +24,7 @@ use bsdl_round_trip::spelled_devices_keep_the_conditions;
 use bsdl_values::spells_one_device;
 use netlist_link::{link_view_is_formed, link_view_is_named, link_views_agree};
 use plan_devices::{devices_have_ports, fitted_is_fitting, plans_suit_netlists};
-use program_runs::plans_stand_around;
+use program_scripts::lower_program_runs::plans_stand_around;
 use program_scripts::{programs_are_legal, scripts_are_met};
 use realised_copies::same_realises;
 use scan_vectors::texts_of_events_are_spelled_or_at_fault;

@@ -19,6 +19,7 @@ ghost use Rattle.program_scripts.specs.Laws.{ProgramsAreLegal, ScriptsRunThere, 
 ghost use Rattle.program_scripts.specs.Levels.{ProgramsKeepLevels};
 
 use netlist_laws::direction_of_a_bit;
+pub use program_runs as lower_program_runs;
 use program_runs::{netlist_meets_program, program_names_pins};
 
 /// What the word of a bit names is that bit alone.

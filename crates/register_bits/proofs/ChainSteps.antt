@@ -4,11 +4,11 @@ use Rattle.std.proofs.Math.Seq.{drop-cons, drop-length}
 use Rattle.std.proofs.lemmas.List.{length-drop}
 use Rattle.std.proofs.lemmas.Option.{slice_get_within, get_or_from_slice_get}
 use Rattle.std.specs.List.{slice_get}
-use Rattle.netlist_model.specs.declared.NetId.{NetId}
-use Rattle.netlist_model.specs.declared.Feed.{Feed}
-use Rattle.netlist_model.specs.declared.Feed.TheVariants.{Const}
-use Rattle.netlist_model.specs.Lists.{CellView, cell_count}
-use Rattle.netlist_model.specs.Contained.{IsDense}
+use Rattle.test_logic.specs.netlist_model.declared.NetId.{NetId}
+use Rattle.test_logic.specs.netlist_model.declared.Feed.{Feed}
+use Rattle.test_logic.specs.netlist_model.declared.Feed.TheVariants.{Const}
+use Rattle.test_logic.specs.netlist_model.Lists.{CellView, cell_count}
+use Rattle.test_logic.specs.netlist_model.Contained.{IsDense}
 use Rattle.gate_parts.specs.Arena.{ArenaView}
 use Rattle.gate_parts.specs.Appended.{Appended}
 use Rattle.gate_parts.specs.Laws.{AppendedNone, AppendedCount, AppendedMore}

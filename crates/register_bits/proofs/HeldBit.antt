@@ -4,16 +4,16 @@ use Rattle.std.specs.Prelude.{if◌then◌else◌}
 use Rattle.signal_values.specs.declared.Sig.{Sig}
 use Rattle.signal_values.specs.Values.{bit, sig_mux}
 use Rattle.signal_values.proofs.Laws.{mux-one, mux-zero}
-use Rattle.cell_library.specs.declared.Edge.TheVariants.{Fall}
-use Rattle.cell_library.specs.declared.ResetTo.{ResetTo}
-use Rattle.cell_library.specs.declared.ResetTo.TheVariants.{Zero as ToZero, One as ToOne}
-use Rattle.cell_library.specs.Flops.{is_edge, reset_or}
-use Rattle.netlist_model.specs.declared.Feed.{Feed}
-use Rattle.netlist_model.specs.Lists.{NetlistView}
-use Rattle.netlist_model.specs.Settled.{feed_value, IsSettled}
-use Rattle.netlist_model.specs.Formed.{IsWellFormed}
-use Rattle.netlist_model.specs.Contained.{HasCells}
-use Rattle.netlist_model.specs.Runs.{Moment, PinEvent, IsStart, IsStep}
+use Rattle.test_logic.specs.cell_library.declared.Edge.TheVariants.{Fall}
+use Rattle.test_logic.specs.cell_library.declared.ResetTo.{ResetTo}
+use Rattle.test_logic.specs.cell_library.declared.ResetTo.TheVariants.{Zero as ToZero, One as ToOne}
+use Rattle.test_logic.specs.cell_library.Flops.{is_edge, reset_or}
+use Rattle.test_logic.specs.netlist_model.declared.Feed.{Feed}
+use Rattle.test_logic.specs.netlist_model.Lists.{NetlistView}
+use Rattle.test_logic.specs.netlist_model.Settled.{feed_value, IsSettled}
+use Rattle.test_logic.specs.netlist_model.Formed.{IsWellFormed}
+use Rattle.test_logic.specs.netlist_model.Contained.{HasCells}
+use Rattle.test_logic.specs.netlist_model.Runs.{Moment, PinEvent, IsStart, IsStep}
 use Rattle.gate_parts.specs.Laws.{FlopStarts, FlopSteps}
 use Rattle.gate_parts.specs.PartLaws.{ContainedPartMeets, ContainedPartHasFlops}
 use Rattle.test_logic.specs.declared.Levels.{Levels}

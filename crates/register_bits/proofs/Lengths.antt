@@ -1,7 +1,7 @@
 -- How many cells a chain and a bit that holds have.
 use Rattle.std.proofs.Common.{◌≡◌, ℕ, ◌+◌, ◌*◌, Bool, true, false, List, [], ◌∷◌, length, length-append, refl, arith}
-use Rattle.netlist_model.specs.declared.NetId.{NetId}
-use Rattle.netlist_model.specs.declared.Feed.{Feed}
+use Rattle.test_logic.specs.netlist_model.declared.NetId.{NetId}
+use Rattle.test_logic.specs.netlist_model.declared.Feed.{Feed}
 use Rattle.register_bits.specs.declared.Holding.{Holding}
 use Rattle.register_bits.specs.declared.Steering.{Steering}
 use Rattle.register_bits.specs.Bits.{shift_bit_cells, held_bit_cells}

@@ -1,10 +1,10 @@
 -- The cells of one bit of a register.
 -- IEEE Std 1149.1-2001: instruction register, test data registers; the gates are own.
 use Rattle.std.specs.Prelude.{ℕ, ◌<◌, Bool, List, [], ◌∷◌, if◌then◌else◌}
-use Rattle.netlist_model.specs.declared.NetId.{NetId}
-use Rattle.netlist_model.specs.declared.Feed.{Feed}
-use Rattle.netlist_model.specs.declared.Feed.TheVariants.{Net}
-use Rattle.netlist_model.specs.Lists.{CellView}
+use Rattle.test_logic.specs.netlist_model.declared.NetId.{NetId}
+use Rattle.test_logic.specs.netlist_model.declared.Feed.{Feed}
+use Rattle.test_logic.specs.netlist_model.declared.Feed.TheVariants.{Net}
+use Rattle.test_logic.specs.netlist_model.Lists.{CellView}
 use Rattle.gate_parts.specs.declared.Gate.{Gate}
 use Rattle.gate_parts.specs.Parts.{part_cells}
 use Rattle.register_bits.specs.declared.Steering.{Steering}

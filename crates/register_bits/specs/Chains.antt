@@ -3,13 +3,13 @@
 use Rattle.std.specs.Prelude.{◌≡◌, ℕ, ◌+◌, ◌*◌, false, List, [], ◌∷◌, ◌++◌, map, length}
 use Rattle.signal_values.specs.declared.Sig.{Sig}
 use Rattle.signal_values.specs.declared.Sig.TheVariants.{Zero}
-use Rattle.netlist_model.specs.declared.NetId.{NetId}
-use Rattle.netlist_model.specs.declared.Feed.{Feed}
-use Rattle.netlist_model.specs.Lists.{CellView, NetlistView}
-use Rattle.netlist_model.specs.Settled.{feed_values, IsSettled}
-use Rattle.netlist_model.specs.Formed.{IsWellFormed}
-use Rattle.netlist_model.specs.Contained.{HasCells}
-use Rattle.netlist_model.specs.Runs.{Moment, PinEvent, IsStart, IsStep}
+use Rattle.test_logic.specs.netlist_model.declared.NetId.{NetId}
+use Rattle.test_logic.specs.netlist_model.declared.Feed.{Feed}
+use Rattle.test_logic.specs.netlist_model.Lists.{CellView, NetlistView}
+use Rattle.test_logic.specs.netlist_model.Settled.{feed_values, IsSettled}
+use Rattle.test_logic.specs.netlist_model.Formed.{IsWellFormed}
+use Rattle.test_logic.specs.netlist_model.Contained.{HasCells}
+use Rattle.test_logic.specs.netlist_model.Runs.{Moment, PinEvent, IsStart, IsStep}
 use Rattle.test_logic.specs.declared.Levels.{Levels}
 use Rattle.test_logic.specs.declared.Action.{Action}
 use Rattle.test_logic.specs.Controller.{act}

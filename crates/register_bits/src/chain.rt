@@ -1,14 +1,14 @@
 ghost use Rattle.std.specs.Prelude.{◌≡◌, ◌+◌, ◌*◌, ◌<◌, ◌≤◌, ◌^◌, length};
-ghost use Rattle.netlist_model.specs.Lists.{cell_count};
-ghost use Rattle.netlist_model.specs.Contained.{IsDense};
-ghost use Rattle.netlist_model.specs.Below.{AreFeedsBelow};
+ghost use Rattle.test_logic.specs.netlist_model.Lists.{cell_count};
+ghost use Rattle.test_logic.specs.netlist_model.Contained.{IsDense};
+ghost use Rattle.test_logic.specs.netlist_model.Below.{AreFeedsBelow};
 ghost use Rattle.gate_parts.specs.Appended.{Appended};
 ghost use Rattle.register_bits.specs.Bits.{AreNetsBelow};
 ghost use Rattle.register_bits.specs.Chains.{chain_cells, chain_last};
 
 use crate::{Steering, add_shift_bit};
 use gate_parts::{Netlist, appended_count, appended_more, appended_none};
-use netlist_model::{Feed, NetId};
+use test_logic::lower_netlist_model::{Feed, NetId};
 
 /// Adds a shift stage to a dense netlist, with a bit for each operand that it captures, the first of which is nearest TDO. It answers
 /// the net of that bit, and TDI's where there is none.

@@ -1,3 +1,5 @@
+pub use Rattle.register_bits.proofs.test_logic as test_logic
+pub use Rattle.register_bits.proofs as register_bits
 pub mod ConstantBits
 pub mod ChoiceBits
 pub mod Added

@@ -2,19 +2,19 @@
 use Rattle.std.proofs.Common.{◌≡◌, ℕ, ◌+◌, Bool, true, false, refl, arith}
 use Rattle.std.specs.Prelude.{if◌then◌else◌}
 use Rattle.signal_values.specs.Values.{bit, sig_and}
-use Rattle.netlist_model.specs.declared.NetId.{NetId}
-use Rattle.netlist_model.specs.Lists.{NetlistView}
-use Rattle.netlist_model.specs.Settled.{IsSettled}
-use Rattle.netlist_model.specs.Formed.{IsWellFormed}
-use Rattle.netlist_model.specs.Contained.{HasCells}
-use Rattle.netlist_model.specs.Runs.{Moment}
-use Rattle.gate_parts.specs.PartLaws.{ContainedPartMeets}
-use Rattle.test_logic.specs.declared.TapNets.{TapNets}
-use Rattle.test_logic.specs.declared.TapState.{TapState}
-use Rattle.test_logic.specs.declared.TapState.TheVariants.{CaptureDr, ShiftDr}
-use Rattle.test_logic.specs.declared.Action.{Action}
-use Rattle.test_logic.specs.declared.Action.TheVariants.{Keeps}
-use Rattle.test_logic.specs.Controller.{dr_action, act}
+use Rattle.register_bits.specs.netlist_model.declared.NetId.{NetId}
+use Rattle.register_bits.specs.netlist_model.Lists.{NetlistView}
+use Rattle.register_bits.specs.netlist_model.Settled.{IsSettled}
+use Rattle.register_bits.specs.netlist_model.Formed.{IsWellFormed}
+use Rattle.register_bits.specs.netlist_model.Contained.{HasCells}
+use Rattle.register_bits.specs.netlist_model.Runs.{Moment}
+use Rattle.register_bits.specs.gate_parts.PartLaws.{ContainedPartMeets}
+use Rattle.register_bits.specs.test_logic.declared.TapNets.{TapNets}
+use Rattle.register_bits.specs.test_logic.declared.TapState.{TapState}
+use Rattle.register_bits.specs.test_logic.declared.TapState.TheVariants.{CaptureDr, ShiftDr}
+use Rattle.register_bits.specs.test_logic.declared.Action.{Action}
+use Rattle.register_bits.specs.test_logic.declared.Action.TheVariants.{Keeps}
+use Rattle.register_bits.specs.test_logic.Controller.{dr_action, act}
 use Rattle.tap_gates.specs.Controller.{same_state}
 use Rattle.tap_gates.specs.Laws.{ShowsState}
 use Rattle.register_bits.specs.Laws.{Steers, is_capture, is_shift}

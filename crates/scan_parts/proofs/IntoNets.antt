@@ -8,14 +8,14 @@ use Rattle.netlist_model.specs.Lists.{CellView, NetlistView, direction, IsUndriv
 use Rattle.netlist_model.specs.Settled.{is_output}
 use Rattle.netlist_arena.specs.Adds.{IsFree}
 use Rattle.plan_fitting.specs.declared.fitted.FitRow.{FitRow}
-use Rattle.stitch_model.specs.declared.Site.{Site}
-use Rattle.stitch_model.specs.declared.Site.TheVariants as site
-use Rattle.stitch_model.specs.Sites.{Boundary, row_net, site_of, side_count, row_sides, sides_of}
-use Rattle.stitch_model.specs.Sides.{is_moved, moves, side_from}
-use Rattle.stitch_model.specs.Rows.{net_at}
+use Rattle.scan_sides.specs.stitch_model.declared.Site.{Site}
+use Rattle.scan_sides.specs.stitch_model.declared.Site.TheVariants as site
+use Rattle.scan_sides.specs.stitch_model.Sites.{Boundary, row_net, site_of, side_count, row_sides, sides_of}
+use Rattle.scan_sides.specs.stitch_model.Sides.{is_moved, moves, side_from}
+use Rattle.scan_sides.specs.stitch_model.Rows.{net_at}
 use Rattle.std.proofs.lemmas.List.Sums.{sum_by-cons}
 use Rattle.std.specs.List.{sum_by}
-use Rattle.stitch_model.proofs.Moves.{moved_counts, side_range, moved_here, moved_on}
+use Rattle.scan_sides.proofs.stitch_model.Moves.{moved_counts, side_range, moved_here, moved_on}
 use Rattle.list_laws.proofs.Tests.{both_true, true_or_false}
 use Rattle.scan_parts.specs.Rows.{into_at, into_of, into_from, IsApart, AreApart, AreFree}
 

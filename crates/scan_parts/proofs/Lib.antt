@@ -1,3 +1,4 @@
+pub use Rattle.scan_sides.proofs.stitch_model as stitch_model
 pub mod Lists
 pub mod Outputs
 pub mod Sizes

@@ -5,7 +5,7 @@ use Rattle.std.proofs.lemmas.List.Sums.{sum_by-cons}
 use Rattle.netlist_model.specs.Lists.{NetlistView}
 use Rattle.netlist_arena.specs.Adds.{IsFree}
 use Rattle.plan_fitting.specs.declared.fitted.FitRow.{FitRow}
-use Rattle.stitch_model.specs.Sites.{Boundary, row_sides, sides_of}
+use Rattle.scan_sides.specs.stitch_model.Sites.{Boundary, row_sides, sides_of}
 use Rattle.scan_parts.specs.Rows.{into_of, into_from, IsApart, AreApart, AreFree}
 
 pub apart_right : (xs ys : List ℕ) (net : ℕ) → IsApart (xs ++ ys) net → IsApart ys net

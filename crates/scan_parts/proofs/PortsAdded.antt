@@ -11,7 +11,7 @@ use Rattle.netlist_arena.specs.Arena.{SpareView}
 use Rattle.netlist_arena.specs.Adds.{with_net, with_port, CanBePin}
 use Rattle.gate_parts.specs.Parts.{added_nets}
 use Rattle.gate_parts.proofs.Steps.{length-added_nets, added_nets-add}
-use Rattle.stitch_model.specs.Stitched.{scalar, with_nets}
+use Rattle.scan_sides.specs.stitch_model.Stitched.{scalar, with_nets}
 
 by_first : (here : Bool) (dir : Dir) (rest : Option Dir) → (if here then Some dir else rest) ≡ None → (here ≡ false) × (rest ≡ None)
 by_first true dir rest e = absurd (cc)

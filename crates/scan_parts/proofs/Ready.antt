@@ -4,11 +4,11 @@ use Rattle.netlist_model.specs.Lists.{NetlistView}
 use Rattle.netlist_arena.specs.Adds.{IsFree}
 use Rattle.boundary_cells.proofs.Adding.{feed_more}
 use Rattle.plan_fitting.specs.declared.fitted.FitRow.{FitRow}
-use Rattle.stitch_model.specs.declared.Site.{Site}
-use Rattle.stitch_model.specs.declared.Site.TheVariants as site
-use Rattle.stitch_model.specs.Sites.{Boundary, site_of, side_count, row_sides}
-use Rattle.stitch_model.specs.Sides.{core_feed}
-use Rattle.stitch_model.specs.Rows.{net_at, enable_of}
+use Rattle.scan_sides.specs.stitch_model.declared.Site.{Site}
+use Rattle.scan_sides.specs.stitch_model.declared.Site.TheVariants as site
+use Rattle.scan_sides.specs.stitch_model.Sites.{Boundary, site_of, side_count, row_sides}
+use Rattle.scan_sides.specs.stitch_model.Sides.{core_feed}
+use Rattle.scan_sides.specs.stitch_model.Rows.{net_at, enable_of}
 use Rattle.scan_parts.specs.Rows.{into_at, into_of, IsApart, AreApart, AreFree, IsReady}
 
 pub ready_more : (B : Boundary) (n m : ℕ) (row : FitRow) → n ≤ m → IsReady B n row → IsReady B m row

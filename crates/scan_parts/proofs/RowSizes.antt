@@ -12,13 +12,13 @@ use Rattle.test_logic.specs.declared.ScanNets.{ScanNets}
 use Rattle.boundary_cells.specs.Cells.{output_cells}
 use Rattle.boundary_cells.specs.ThreeState.{control_cells, bidir_cells}
 use Rattle.plan_fitting.specs.declared.fitted.FitRow.{FitRow}
-use Rattle.stitch_model.specs.declared.Site.{Site}
-use Rattle.stitch_model.specs.declared.Site.TheVariants as site
-use Rattle.stitch_model.specs.Sites.{Boundary, site_of, row_sides, sides_of}
-use Rattle.stitch_model.specs.Sides.{core_feed, level_net}
-use Rattle.stitch_model.specs.Rows.{nets_by, row_nets, nets_of_rows, behind, net_at, enable_of, is_active_high, added_driver, site_cells, row_cells, last_bit, rows_cells}
-use Rattle.stitch_model.proofs.Moves.{count_few}
-use Rattle.stitch_model.proofs.Few.{nets_by_few}
+use Rattle.scan_sides.specs.stitch_model.declared.Site.{Site}
+use Rattle.scan_sides.specs.stitch_model.declared.Site.TheVariants as site
+use Rattle.scan_sides.specs.stitch_model.Sites.{Boundary, site_of, row_sides, sides_of}
+use Rattle.scan_sides.specs.stitch_model.Sides.{core_feed, level_net}
+use Rattle.scan_sides.specs.stitch_model.Rows.{nets_by, row_nets, nets_of_rows, behind, net_at, enable_of, is_active_high, added_driver, site_cells, row_cells, last_bit, rows_cells}
+use Rattle.scan_sides.proofs.stitch_model.Moves.{count_few}
+use Rattle.scan_sides.proofs.stitch_model.Few.{nets_by_few}
 
 pub output_length : (cell : BoundaryKind) (first number : ℕ) (scan : ScanNets) (core : Feed) (into next : NetId)
     → length (output_cells cell first number scan core into next) ≤ 7

@@ -16,10 +16,10 @@ use Rattle.gate_parts.specs.Laws.{AppendedCount, AppendedMore}
 use Rattle.test_logic.specs.declared.ScanNets.{ScanNets}
 use Rattle.boundary_cells.specs.ThreeState.{bidir_cells}
 use Rattle.plan_fitting.specs.declared.fitted.FitRow.{FitRow}
-use Rattle.stitch_model.specs.declared.Site.TheVariants as site
-use Rattle.stitch_model.specs.Sites.{Boundary, row_sides, sides_of}
-use Rattle.stitch_model.specs.Sides.{core_feed}
-use Rattle.stitch_model.specs.Rows.{net_at, control_row, enable_of, is_active_high, row_nets, site_cells, row_cells}
+use Rattle.scan_sides.specs.stitch_model.declared.Site.TheVariants as site
+use Rattle.scan_sides.specs.stitch_model.Sites.{Boundary, row_sides, sides_of}
+use Rattle.scan_sides.specs.stitch_model.Sides.{core_feed}
+use Rattle.scan_sides.specs.stitch_model.Rows.{net_at, control_row, enable_of, is_active_high, row_nets, site_cells, row_cells}
 use Rattle.scan_sides.specs.Pins.{between}
 use Rattle.scan_parts.specs.Rows.{into_of, into_from, IsApart, AreApart, AreFree, CanTakeRows}
 use Rattle.scan_parts.proofs.RowSizes.{last_sides, sides_behind, last_there}

@@ -13,8 +13,8 @@ use Rattle.gate_parts.specs.Appended.{Appended}
 use Rattle.gate_parts.specs.Laws.{AppendedNone, AppendedCount, AppendedMore}
 use Rattle.test_logic.specs.declared.ScanNets.{ScanNets}
 use Rattle.plan_fitting.specs.declared.fitted.FitRow.{FitRow}
-use Rattle.stitch_model.specs.Sites.{Boundary, row_sides, sides_of}
-use Rattle.stitch_model.specs.Rows.{row_nets, nets_of_rows, row_cells, last_bit, rows_cells}
+use Rattle.scan_sides.specs.stitch_model.Sites.{Boundary, row_sides, sides_of}
+use Rattle.scan_sides.specs.stitch_model.Rows.{row_nets, nets_of_rows, row_cells, last_bit, rows_cells}
 use Rattle.scan_parts.specs.Rows.{into_of, into_from, IsApart, AreApart, AreFree}
 use Rattle.scan_parts.proofs.Lists.{apart_left, apart_right, apart_front, apart_back, free_front, free_back, free_kept, of_last_rows}
 use Rattle.scan_parts.proofs.LogicAdded.{behind_added, counted_as}

@@ -16,7 +16,7 @@ use Rattle.instruction_register.specs.Register.{pattern_bits, latches_from, opco
 use Rattle.instruction_gates.proofs.Copied.{copies_length}
 use Rattle.instruction_register.proofs.Sizes.{opcodes_length}
 use Rattle.instruction_register.proofs.Added.{stages_counted}
-use Rattle.stitch_model.proofs.Few.{inverse_counted, captured_counted}
+use Rattle.scan_sides.proofs.stitch_model.Few.{inverse_counted, captured_counted}
 
 -- the instruction register has as many cells as nets
 pub instruction_length : ConstantsAreBits → (first number : ℕ) (tap : TapNets) (tdi : NetId) (codes : Codes) → length (instruction_cells first number tap tdi codes) ≡ instruction_size codes

@@ -20,12 +20,12 @@ use Rattle.register_bits.specs.Bits.{AreNetsBelow}
 use Rattle.boundary_cells.specs.Cells.{AreScanNetsBelow}
 use Rattle.plan_fitting.specs.declared.fitted.FitRow.{FitRow}
 use Rattle.plan_fitting.specs.declared.fitted.Fitted.{Fitted}
-use Rattle.stitch_model.specs.declared.TapPort.{TapPort}
-use Rattle.stitch_model.specs.declared.Logic.{Logic}
-use Rattle.stitch_model.specs.Sites.{Boundary, site_of, sides_of}
-use Rattle.stitch_model.specs.Rows.{behind, nets_by, row_nets, nets_of_rows, last_bit, rows_cells}
-use Rattle.stitch_model.specs.Logic.{logic_size, logic_at, logic_cells}
-use Rattle.stitch_model.specs.Stitched.{rows_part, boundary_last, tdo_part, test_logic_nets, test_logic_cells}
+use Rattle.scan_sides.specs.stitch_model.declared.TapPort.{TapPort}
+use Rattle.scan_sides.specs.stitch_model.declared.Logic.{Logic}
+use Rattle.scan_sides.specs.stitch_model.Sites.{Boundary, site_of, sides_of}
+use Rattle.scan_sides.specs.stitch_model.Rows.{behind, nets_by, row_nets, nets_of_rows, last_bit, rows_cells}
+use Rattle.scan_sides.specs.stitch_model.Logic.{logic_size, logic_at, logic_cells}
+use Rattle.scan_sides.specs.stitch_model.Stitched.{rows_part, boundary_last, tdo_part, test_logic_nets, test_logic_cells}
 use Rattle.scan_sides.specs.Pins.{between}
 use Rattle.scan_parts.specs.Logic.{logic_room, IsLogicBelow}
 use Rattle.scan_parts.specs.Rows.{into_from, IsApart, AreApart, AreFree, IsBoundary, IsReady, CanTakeRows}

@@ -6,8 +6,8 @@ use Rattle.register_bits.specs.Bits.{AreNetsBelow}
 use Rattle.register_gates.specs.Tdo.{AreIdentBelow}
 use Rattle.boundary_cells.specs.Cells.{AreScanNetsBelow}
 use Rattle.plan_fitting.specs.declared.fitted.Fitted.{Fitted}
-use Rattle.stitch_model.specs.declared.TapPort.{TapPort}
-use Rattle.stitch_model.specs.declared.Logic.{Logic}
+use Rattle.scan_sides.specs.stitch_model.declared.TapPort.{TapPort}
+use Rattle.scan_sides.specs.stitch_model.declared.Logic.{Logic}
 
 -- own: so many nets and cells suffice: 49 for the controller, 11 and 21 for each bit for the instruction register, 5 for the bypass
 -- register, and 99 for the identification register

@@ -4,7 +4,7 @@ use Rattle.std.specs.Prelude.{ℕ, ◌<◌, List, ◌++◌}
 use Rattle.netlist_model.specs.declared.Dir.TheVariants.{Input, Output}
 use Rattle.netlist_model.specs.Lists.{PortView, NetlistView}
 use Rattle.netlist_arena.specs.Adds.{CanBePin}
-use Rattle.stitch_model.specs.declared.TapPort.{TapPort}
+use Rattle.scan_sides.specs.stitch_model.declared.TapPort.{TapPort}
 
 -- own: the lists with these ports behind the others
 abbrev pub with_ports : List PortView → NetlistView → NetlistView

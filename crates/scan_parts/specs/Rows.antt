@@ -6,11 +6,11 @@ use Rattle.netlist_model.specs.Below.{IsFeedBelow}
 use Rattle.netlist_arena.specs.Arena.{ArenaView}
 use Rattle.netlist_arena.specs.Adds.{IsFree}
 use Rattle.plan_fitting.specs.declared.fitted.FitRow.{FitRow}
-use Rattle.stitch_model.specs.declared.Site.{Site}
-use Rattle.stitch_model.specs.declared.Site.TheVariants as site
-use Rattle.stitch_model.specs.Sites.{Boundary, site_of, row_sides, sides_of}
-use Rattle.stitch_model.specs.Sides.{core_feed, level_net}
-use Rattle.stitch_model.specs.Rows.{net_at, enable_of}
+use Rattle.scan_sides.specs.stitch_model.declared.Site.{Site}
+use Rattle.scan_sides.specs.stitch_model.declared.Site.TheVariants as site
+use Rattle.scan_sides.specs.stitch_model.Sites.{Boundary, site_of, row_sides, sides_of}
+use Rattle.scan_sides.specs.stitch_model.Sides.{core_feed, level_net}
+use Rattle.scan_sides.specs.stitch_model.Rows.{net_at, enable_of}
 use Rattle.scan_sides.specs.Pins.{ArePinsThere, AreFew}
 
 -- The nets that the cells give their values.

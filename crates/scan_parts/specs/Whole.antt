@@ -5,8 +5,8 @@ use Rattle.netlist_model.specs.Contained.{IsDense}
 use Rattle.netlist_arena.specs.Arena.{ArenaView}
 use Rattle.netlist_arena.specs.Adds.{IsFree}
 use Rattle.plan_fitting.specs.declared.fitted.Fitted.{Fitted}
-use Rattle.stitch_model.specs.declared.TapPort.{TapPort}
-use Rattle.stitch_model.specs.Sites.{Boundary, sides_of}
+use Rattle.scan_sides.specs.stitch_model.declared.TapPort.{TapPort}
+use Rattle.scan_sides.specs.stitch_model.Sites.{Boundary, sides_of}
 use Rattle.scan_parts.specs.Logic.{logic_room, IsPortBelow}
 use Rattle.scan_parts.specs.Rows.{into_from, IsApart, AreApart, AreFree, IsBoundary, IsReady}
 

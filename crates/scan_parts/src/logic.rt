@@ -9,7 +9,7 @@ ghost use Rattle.gate_parts.specs.Appended.{Appended};
 ghost use Rattle.register_bits.specs.Bits.{AreNetsBelow};
 ghost use Rattle.register_gates.specs.Registers.{ident_cells, ident_last};
 ghost use Rattle.register_gates.specs.Tdo.{AreIdentBelow};
-ghost use Rattle.stitch_model.specs.Logic.{code_size, logic_size, logic_at, logic_cells};
+ghost use Rattle.scan_sides.specs.stitch_model.Logic.{code_size, logic_size, logic_at, logic_cells};
 ghost use Rattle.scan_parts.specs.Logic.{logic_room, HasLogicRoom, IsPortBelow, IsLogicBelow};
 
 use gate_parts::{appended_count, appended_more, appended_none, free_net_stays};
@@ -18,7 +18,7 @@ use netlist_arena::Netlist;
 use netlist_model::NetId;
 use plan_fitting::Fitted;
 use register_gates::{add_bypass, add_ident, constants_are_bits};
-use stitch_model::{Logic, TapPort};
+use scan_sides::lower_stitch_model::{Logic, TapPort};
 use tap_gates::add_tap;
 use test_logic::{InstrNets, TapNets};
 

@@ -5,12 +5,12 @@ ghost use Rattle.netlist_model.specs.declared.Dir.{Dir as Direction};
 ghost use Rattle.netlist_model.specs.declared.NetId.{NetId as NetNumber};
 ghost use Rattle.netlist_arena.specs.Adds.{CanBePin, with_port};
 ghost use Rattle.gate_parts.specs.Parts.{added_nets};
-ghost use Rattle.stitch_model.specs.Stitched.{scalar, tap_port, tap_ports, tap_net_views, with_nets};
+ghost use Rattle.scan_sides.specs.stitch_model.Stitched.{scalar, tap_port, tap_ports, tap_net_views, with_nets};
 ghost use Rattle.scan_parts.specs.Ports.{with_ports, CanBePort};
 
 use netlist_arena::Netlist;
 use netlist_model::{Dir, Name, NetId};
-use stitch_model::{TapNames, TapPort};
+use scan_sides::lower_stitch_model::{TapNames, TapPort};
 
 /// Adds the nets of the test access port.
 pub fn add_port_nets(netlist: &mut Netlist, names: &TapNames) -> TapPort

@@ -6,10 +6,10 @@ ghost use Rattle.netlist_model.specs.Contained.{IsDense};
 ghost use Rattle.netlist_arena.specs.Adds.{IsFree};
 ghost use Rattle.gate_parts.specs.Appended.{Appended};
 ghost use Rattle.boundary_cells.specs.Cells.{AreScanNetsBelow, stage_count};
-ghost use Rattle.stitch_model.specs.declared.Site.TheVariants as places;
-ghost use Rattle.stitch_model.specs.Sites as sites;
-ghost use Rattle.stitch_model.specs.Sides as sides;
-ghost use Rattle.stitch_model.specs.Rows as model;
+ghost use Rattle.scan_sides.specs.stitch_model.declared.Site.TheVariants as places;
+ghost use Rattle.scan_sides.specs.stitch_model.Sites as sites;
+ghost use Rattle.scan_sides.specs.stitch_model.Sides as sides;
+ghost use Rattle.scan_sides.specs.stitch_model.Rows as model;
 ghost use Rattle.scan_sides.specs.Pins.{IsPinThere, between};
 ghost use Rattle.scan_parts.specs.Rows.{into_at, into_of, into_from, IsApart, AreApart, AreFree, IsBoundary, IsReady, CanTakeRows};
 
@@ -21,8 +21,8 @@ use gate_parts::{add_driver, appended_count, appended_more, appended_none};
 use netlist_arena::Netlist;
 use netlist_model::{Feed, NetId};
 use plan_fitting::FitRow;
+use scan_sides::lower_stitch_model::Site;
 use scan_sides::{core_feed, level_net, row_net, side_count, site_of};
-use stitch_model::Site;
 use test_logic::ScanNets;
 
 // What stands at the cell of a row: the net of its bit, the first net between the core and the cell, and the next bit towards TDI.

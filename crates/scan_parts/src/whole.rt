@@ -4,8 +4,8 @@ ghost use Rattle.std.specs.Prelude.{◌≡◌, ◌≢◌, ℕ, ◌+◌, ◌<◌,
 ghost use Rattle.netlist_model.specs.Lists.{cell_count};
 ghost use Rattle.netlist_arena.specs.Adds.{IsFree};
 ghost use Rattle.gate_parts.specs.Appended.{Appended};
-ghost use Rattle.stitch_model.specs.Sites as sites;
-ghost use Rattle.stitch_model.specs.Stitched.{test_logic_nets, test_logic_cells};
+ghost use Rattle.scan_sides.specs.stitch_model.Sites as sites;
+ghost use Rattle.scan_sides.specs.stitch_model.Stitched.{test_logic_nets, test_logic_cells};
 ghost use Rattle.scan_sides.specs.Pins.{between};
 ghost use Rattle.scan_parts.specs.Rows.{into_from, IsApart};
 ghost use Rattle.scan_parts.specs.Whole.{net_room, cell_room, CanTakeLogic};
@@ -17,7 +17,7 @@ use netlist_arena::Netlist;
 use netlist_model::NetId;
 use plan_fitting::Fitted;
 use register_gates::add_tdo;
-use stitch_model::TapPort;
+use scan_sides::lower_stitch_model::TapPort;
 
 /// Adds the controller and the registers, the boundary register, and what drives TDO, to a netlist whose core stands behind its
 /// boundary cells. The nets between run from `first` up to `end`. Other nets that were free stay so.

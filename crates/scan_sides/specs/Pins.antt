@@ -3,7 +3,7 @@
 use Rattle.std.specs.Prelude.{ℕ, ◌≤◌, List, All, length, ⊤, MatchOption, IsSome}
 use Rattle.netlist_model.specs.declared.NetId.{NetId}
 use Rattle.netlist_model.specs.Lists.{PortView}
-use Rattle.plan_fitting.specs.declared.fitted.FitRow.{FitRow}
+use Rattle.stitch_model.specs.plan_fitting.declared.fitted.FitRow.{FitRow}
 use Rattle.stitch_model.specs.Sites.{Boundary, pin_net}
 
 -- the bit of the row is one of these ports

@@ -8,8 +8,8 @@ ghost use Rattle.scan_sides.specs.Pins.{IsPinThere, ArePinsThere, AreFew, betwee
 use cell_library::{BoundaryKind, Function};
 use netlist_arena::Netlist;
 use netlist_model::{Feed, NetId};
-use plan_fitting::FitRow;
 use stitch_model::Site;
+use stitch_model::lower_plan_fitting::FitRow;
 
 /// The net of a row's bit.
 pub fn row_net(netlist: &Netlist, row: &FitRow) -> Option<NetId>

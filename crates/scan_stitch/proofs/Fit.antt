@@ -35,14 +35,14 @@ use Rattle.plan_fitting.specs.Rows.{Driver, three_state, added_driver, output_dr
 use Rattle.plan_fitting.specs.Devices.{fitted_of, cell_row, disable_by, device_of}
 use Rattle.plan_fitting.proofs.Controls.{control_cells_are_there}
 use Rattle.plan_fitting.proofs.Drivers.{gate_is}
-use Rattle.plan_devices.specs.Fitting.{IsFitting}
-use Rattle.plan_devices.proofs.Lined.{IsLined}
-use Rattle.plan_devices.proofs.Rows.{side_driver, data_function, data_core, Controlled, IsDataRow, IsControlRow}
-use Rattle.plan_devices.proofs.RowPlaces.{net_of_line}
-use Rattle.plan_devices.proofs.Facts.{Facts, facts_of}
-use Rattle.stitch_model.specs.declared.TapNames.{TapNames}
-use Rattle.stitch_model.specs.Sites.{sides_of}
-use Rattle.stitch_model.specs.Stitched.{tap_net_views}
+use Rattle.stitch_ready.specs.plan_devices.Fitting.{IsFitting}
+use Rattle.stitch_ready.proofs.plan_devices.Lined.{IsLined}
+use Rattle.stitch_ready.proofs.plan_devices.Rows.{side_driver, data_function, data_core, Controlled, IsDataRow, IsControlRow}
+use Rattle.stitch_ready.proofs.plan_devices.RowPlaces.{net_of_line}
+use Rattle.stitch_ready.proofs.plan_devices.Facts.{Facts, facts_of}
+use Rattle.scan_parts.specs.stitch_model.declared.TapNames.{TapNames}
+use Rattle.scan_parts.specs.stitch_model.Sites.{sides_of}
+use Rattle.scan_parts.specs.stitch_model.Stitched.{tap_net_views}
 use Rattle.stitch_names.specs.Prepared.{room_of}
 use Rattle.stitch_ready.specs.Laws.{FittedCanStandBehind}
 use Rattle.stitch_ready.proofs.Rows.{all_at}

@@ -14,16 +14,16 @@ use Rattle.gate_parts.specs.Appended.{Appended}
 use Rattle.gate_parts.proofs.Steps.{length-added_nets, added_nets-add}
 use Rattle.plan_fitting.specs.declared.fitted.FitRow.{FitRow}
 use Rattle.plan_fitting.specs.declared.fitted.Fitted.{Fitted}
-use Rattle.stitch_model.specs.declared.TapNames.{TapNames}
-use Rattle.stitch_model.specs.Sites.{Boundary, boundary_of, sides_of}
-use Rattle.stitch_model.specs.Sides.{core_cell}
-use Rattle.stitch_model.specs.Stitched.{tap_port, tap_ports, tap_net_views, live_cells, boundary_at, first_net, test_logic_nets, test_logic_cells, stitched, with_nets}
-use Rattle.stitch_laws.specs.Laws.{StitchedHoldsTheCore}
-use Rattle.stitch_laws.proofs.Places.{listed_at}
-use Rattle.stitch_cells.proofs.Cells.{live_length}
-use Rattle.scan_sides.specs.Pins.{between}
-use Rattle.core_moves.specs.Ready.{CanStandBehind, with_core_behind}
-use Rattle.core_moves.proofs.Behind.{mapped_at}
+use Rattle.scan_parts.specs.stitch_model.declared.TapNames.{TapNames}
+use Rattle.scan_parts.specs.stitch_model.Sites.{Boundary, boundary_of, sides_of}
+use Rattle.scan_parts.specs.stitch_model.Sides.{core_cell}
+use Rattle.scan_parts.specs.stitch_model.Stitched.{tap_port, tap_ports, tap_net_views, live_cells, boundary_at, first_net, test_logic_nets, test_logic_cells, stitched, with_nets}
+use Rattle.stitch_names.specs.stitch_laws.Laws.{StitchedHoldsTheCore}
+use Rattle.stitch_names.proofs.stitch_laws.Places.{listed_at}
+use Rattle.stitch_names.proofs.stitch_cells.Cells.{live_length}
+use Rattle.scan_parts.specs.scan_sides.Pins.{between}
+use Rattle.stitch_ready.specs.core_moves.Ready.{CanStandBehind, with_core_behind}
+use Rattle.stitch_ready.proofs.core_moves.Behind.{mapped_at}
 use Rattle.scan_parts.specs.Ports.{with_ports}
 use Rattle.stitch_names.specs.Same.{IsSameNetlist}
 use Rattle.scan_stitch.specs.Stitching.{nets_around, surrounded, CanBeStitched}

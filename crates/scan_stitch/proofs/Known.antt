@@ -16,8 +16,8 @@ use Rattle.netlist_link.specs.WellNamed.{IsWellNamed}
 use Rattle.netlist_link.proofs.Rewriting.{few_nets}
 use Rattle.plan_fitting.specs.declared.fitted.Fitted.{Fitted}
 use Rattle.plan_fitting.specs.Devices.{fitted_of}
-use Rattle.stitch_model.specs.declared.TapNames.{TapNames}
-use Rattle.stitch_model.specs.Stitched.{stitched}
+use Rattle.scan_parts.specs.stitch_model.declared.TapNames.{TapNames}
+use Rattle.scan_parts.specs.stitch_model.Stitched.{stitched}
 use Rattle.stitch_names.specs.Prepared.{room_of, ports_of, prepared, with_tap_names, AreTapNames, HasEntered}
 use Rattle.stitch_names.specs.Same.{IsSameNetlist, SameIsNamed}
 use Rattle.stitch_names.specs.Laws.{TapNamesAreEntered, StitchedIsNamed}

@@ -1,3 +1,5 @@
+pub use Rattle.stitch_names.proofs as stitch_names
+pub use Rattle.stitch_ready.proofs.plan_devices as plan_devices
 pub mod FittedBits
 pub mod Surrounded
 pub mod Joined

@@ -9,10 +9,10 @@ use Rattle.wrapped_chip.specs.Realises.{Realises, Alone}
 use Rattle.realised_copies.specs.Laws.{HasNumbers, SameRealises, SameAlone, SameFindsHome}
 use Rattle.plan_fitting.specs.declared.fitted.Fitted.{Fitted}
 use Rattle.plan_fitting.specs.Devices.{fitted_of, device_of, device_of_fitted}
-use Rattle.plan_devices.specs.Laws.{PlansSuitNetlists}
-use Rattle.stitch_model.specs.declared.TapNames.{TapNames}
-use Rattle.stitch_model.specs.Stitched.{stitched}
-use Rattle.stitch_laws.specs.Laws.{StitchedKeeps}
+use Rattle.stitch_ready.specs.plan_devices.Laws.{PlansSuitNetlists}
+use Rattle.scan_parts.specs.stitch_model.declared.TapNames.{TapNames}
+use Rattle.scan_parts.specs.stitch_model.Stitched.{stitched}
+use Rattle.stitch_names.specs.stitch_laws.Laws.{StitchedKeeps}
 use Rattle.stitch_names.specs.Same.{IsSameNetlist}
 use Rattle.stitch_runs.specs.FormedLaws.{StitchedIsFormed}
 use Rattle.stitch_runs.specs.Laws.{FittingPlansRealise, FittingPlansAreAlone, FittingPlansFindHome}

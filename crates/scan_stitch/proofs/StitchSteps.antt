@@ -10,14 +10,14 @@ use Rattle.gate_parts.specs.Appended.{Appended}
 use Rattle.gate_parts.specs.Laws.{AppendedCount}
 use Rattle.plan_fitting.specs.declared.fitted.FitRow.{FitRow}
 use Rattle.plan_fitting.specs.declared.fitted.Fitted.{Fitted}
-use Rattle.stitch_model.specs.declared.TapNames.{TapNames}
-use Rattle.stitch_model.specs.declared.TapPort.{TapPort}
-use Rattle.stitch_model.specs.Sites.{Boundary, boundary_of, sides_of}
-use Rattle.stitch_model.specs.Sides.{core_cell}
-use Rattle.stitch_model.specs.Stitched.{tap_port, tap_ports}
-use Rattle.stitch_model.proofs.Moves.{sides_few}
+use Rattle.scan_parts.specs.stitch_model.declared.TapNames.{TapNames}
+use Rattle.scan_parts.specs.stitch_model.declared.TapPort.{TapPort}
+use Rattle.scan_parts.specs.stitch_model.Sites.{Boundary, boundary_of, sides_of}
+use Rattle.scan_parts.specs.stitch_model.Sides.{core_cell}
+use Rattle.scan_parts.specs.stitch_model.Stitched.{tap_port, tap_ports}
+use Rattle.scan_parts.proofs.stitch_model.Moves.{sides_few}
 use Rattle.stitch_names.specs.Prepared.{room_of}
-use Rattle.scan_sides.specs.Pins.{between}
+use Rattle.scan_parts.specs.scan_sides.Pins.{between}
 use Rattle.scan_parts.specs.Ports.{with_ports, CanBePort}
 use Rattle.scan_parts.specs.Rows.{into_from, IsApart}
 use Rattle.scan_parts.specs.Whole.{net_room, cell_room, CanTakeLogic}

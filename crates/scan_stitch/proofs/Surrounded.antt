@@ -27,17 +27,17 @@ use Rattle.gate_parts.proofs.Steps.{length-added_nets}
 use Rattle.netlist_images.specs.Nested.{renamed_net, renamed_feed}
 use Rattle.plan_fitting.specs.declared.fitted.FitRow.{FitRow}
 use Rattle.plan_fitting.specs.declared.fitted.Fitted.{Fitted}
-use Rattle.stitch_model.specs.declared.Site.{Site}
-use Rattle.stitch_model.specs.declared.Site.TheVariants as site
-use Rattle.stitch_model.specs.declared.TapNames.{TapNames}
-use Rattle.stitch_model.specs.Sites.{Boundary, boundary_of, pin_net, row_net, is_own_net, input_site, output_site, site_by, site_of, side_count, row_sides, sides_of, side_at}
-use Rattle.stitch_model.specs.Sides.{is_moved, side_from, core_side, level_net, core_cell, core_feed}
-use Rattle.stitch_model.specs.Rows.{net_at}
-use Rattle.stitch_model.specs.Stitched.{tap_port, tap_net_views, with_nets}
-use Rattle.stitch_model.proofs.Moves.{sides_within, side_range}
-use Rattle.scan_sides.specs.Pins.{IsPinThere, ArePinsThere}
-use Rattle.core_moves.specs.Ready.{IsDrivenAt, IsControlAt, HasControl}
-use Rattle.core_moves.proofs.Behind.{mapped_at}
+use Rattle.scan_parts.specs.stitch_model.declared.Site.{Site}
+use Rattle.scan_parts.specs.stitch_model.declared.Site.TheVariants as site
+use Rattle.scan_parts.specs.stitch_model.declared.TapNames.{TapNames}
+use Rattle.scan_parts.specs.stitch_model.Sites.{Boundary, boundary_of, pin_net, row_net, is_own_net, input_site, output_site, site_by, site_of, side_count, row_sides, sides_of, side_at}
+use Rattle.scan_parts.specs.stitch_model.Sides.{is_moved, side_from, core_side, level_net, core_cell, core_feed}
+use Rattle.scan_parts.specs.stitch_model.Rows.{net_at}
+use Rattle.scan_parts.specs.stitch_model.Stitched.{tap_port, tap_net_views, with_nets}
+use Rattle.scan_parts.proofs.stitch_model.Moves.{sides_within, side_range}
+use Rattle.scan_parts.specs.scan_sides.Pins.{IsPinThere, ArePinsThere}
+use Rattle.stitch_ready.specs.core_moves.Ready.{IsDrivenAt, IsControlAt, HasControl}
+use Rattle.stitch_ready.proofs.core_moves.Behind.{mapped_at}
 use Rattle.scan_parts.specs.Rows.{into_from, IsApart, IsReady}
 use Rattle.scan_parts.specs.Whole.{net_room, cell_room, CanTakeLogic}
 use Rattle.scan_stitch.specs.Stitching.{nets_around, surrounded, IsRowFit, CanBeStitched}

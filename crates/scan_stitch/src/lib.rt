@@ -28,5 +28,6 @@ mod whole;
 pub use device::device_of_fit;
 pub use laws::{fitted_bits_are_there, fitted_can_be_stitched};
 pub use preparing::{prepare, room};
+pub use stitch_ready::lower_plan_devices;
 pub use stitching::stitch_netlist;
 pub use whole::stitch;

@@ -7,7 +7,7 @@ ghost use Rattle.stitch_names.specs.Prepared.{AreTapNames, HasEntered, IsEntered
 use netlist_link::Linked;
 use netlist_model::Name;
 use plan_fitting::Fitted;
-use stitch_model::TapNames;
+use scan_parts::lower_stitch_model::TapNames;
 use texts::Text;
 
 // The name of the table with these bytes.

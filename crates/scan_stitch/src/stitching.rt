@@ -2,21 +2,21 @@
 
 ghost use Rattle.std.specs.Prelude.{◌≡◌, ◌+◌, ◌≤◌, length};
 ghost use Rattle.netlist_model.specs.Lists.{cell_count};
-ghost use Rattle.stitch_model.specs.Sites as sites;
-ghost use Rattle.stitch_model.specs.Stitched.{tap_port, stitched};
+ghost use Rattle.scan_parts.specs.stitch_model.Sites as sites;
+ghost use Rattle.scan_parts.specs.stitch_model.Stitched.{tap_port, stitched};
 ghost use Rattle.stitch_names.specs.Prepared.{room_of};
 ghost use Rattle.stitch_names.specs.Same.{IsSameNetlist};
 ghost use Rattle.scan_stitch.specs.Stitching.{surrounded, CanBeStitched, HasStitchRoom};
 
-use core_moves::stand_behind;
 use gate_parts::appended_count;
 use netlist_arena::Netlist;
 use netlist_model::NetId;
 use plan_fitting::Fitted;
+use scan_parts::lower_scan_sides::sides_of;
+use scan_parts::lower_stitch_model::{TapNames, TapPort};
 use scan_parts::{add_port_nets, add_ports, add_sides, add_test_logic};
-use scan_sides::sides_of;
-use stitch_laws::stitched_holds_the_core;
-use stitch_model::{TapNames, TapPort};
+use stitch_names::lower_stitch_laws::stitched_holds_the_core;
+use stitch_ready::lower_core_moves::stand_behind;
 
 // What stands round the core: the nets of the test access port, and the nets between, from `first` up to `end`.
 struct Surroundings {

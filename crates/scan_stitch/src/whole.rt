@@ -9,12 +9,12 @@ use crate::names::tap_names;
 use crate::stitching::stitch_netlist;
 use draft_laws::grown_is_formed;
 use netlist_link::Linked;
-use plan_devices::plans_suit_netlists;
 use plan_fitting::Fitted;
 use realised_copies::{same_finds_home, same_is_alone, same_realises};
-use stitch_laws::stitched_keeps;
+use stitch_names::lower_stitch_laws::stitched_keeps;
 use stitch_names::{same_is_named, stitched_is_named, tap_names_are_entered};
 use stitch_ready::fitted_can_stand_behind;
+use stitch_ready::lower_plan_devices::plans_suit_netlists;
 use stitch_runs::{
     fitting_plans_are_alone, fitting_plans_find_home, fitting_plans_realise, stitched_is_formed,
 };

@@ -10,7 +10,7 @@ use Rattle.netlist_model.specs.Lists.{NetlistView, bit_net}
 use Rattle.netlist_model.specs.Formed.{IsWellFormed}
 use Rattle.netlist_model.specs.Runs.{Moment, PinEvent, IsStep}
 use Rattle.netlist_laws.specs.Runs.{SameMoment}
-use Rattle.netlist_link.specs.Linked.{LinkedView}
+use Rattle.netlist_meaning.specs.netlist_link.Linked.{LinkedView}
 use Rattle.scan_vectors.specs.declared.lines.Act.{Act}
 use Rattle.scan_vectors.specs.declared.lines.Act.TheVariants.{Start, Set, Expect}
 use Rattle.scan_vectors.specs.declared.lines.Line.{Line}

@@ -7,7 +7,7 @@ use Rattle.netlist_model.specs.declared.Dir.TheVariants.{Input, Output, Inout}
 use Rattle.netlist_model.specs.declared.NetId.{NetId}
 use Rattle.netlist_model.specs.Lists.{PortView, NetView, NetlistView}
 use Rattle.link_model.specs.Denoted.{name_bytes}
-use Rattle.netlist_link.specs.Linked.{LinkedView}
+use Rattle.netlist_meaning.specs.netlist_link.Linked.{LinkedView}
 use Rattle.output_lines.specs.Lines.{bit_text}
 
 -- own: the nets of a port whose readings are told: an input's aren't

@@ -9,7 +9,7 @@ ghost use Rattle.sim_runs.specs.Playing.{AreKnown, CanStart, HaveStarts, IsFirst
 
 use edge_io::OutOfMemory;
 use event_scripts::ScriptLine;
-use netlist_link::Linked;
+use netlist_meaning::lower_netlist_link::Linked;
 use netlist_meaning::{Pins, Sim, State};
 use scan_vectors::Act;
 use std::alloc::Global;

@@ -24,7 +24,7 @@ use edge_io::sink::Sink;
 use edge_io::whole::WriteFault;
 use event_scripts::{Script, ScriptLine, parts_of};
 use itoa::Buffer;
-use netlist_link::Linked;
+use netlist_meaning::lower_netlist_link::Linked;
 use netlist_meaning::{Event, Sim};
 use output_lines::{Field, put_line, put_pieces};
 use scan_vectors::{Act, Line, Lines};

@@ -6,13 +6,13 @@ use Rattle.std.proofs.lemmas.Option.{slice_get_within}
 use Rattle.list_laws.proofs.Options.{some_there}
 use Rattle.netlist_model.specs.Lists.{CellView, NetlistView, cell_at, cell_count}
 use Rattle.netlist_model.specs.Contained.{IsDense}
-use Rattle.plan_fitting.specs.declared.fitted.Fitted.{Fitted}
-use Rattle.stitch_model.specs.declared.TapNames.{TapNames}
-use Rattle.stitch_model.specs.Sites.{Boundary}
-use Rattle.stitch_model.specs.Sides.{core_cell}
-use Rattle.stitch_model.specs.Rows.{behind}
-use Rattle.stitch_model.specs.Logic.{controller_part, instruction_part, bypass_part, ident_part}
-use Rattle.stitch_model.specs.Stitched.{same_place, boundary_at, first_net, live_cells, rows_part, tdo_part, test_logic_cells, stitched}
+use Rattle.stitch_laws.specs.plan_fitting.declared.fitted.Fitted.{Fitted}
+use Rattle.stitch_laws.specs.stitch_model.declared.TapNames.{TapNames}
+use Rattle.stitch_laws.specs.stitch_model.Sites.{Boundary}
+use Rattle.stitch_laws.specs.stitch_model.Sides.{core_cell}
+use Rattle.stitch_laws.specs.stitch_model.Rows.{behind}
+use Rattle.stitch_laws.specs.stitch_model.Logic.{controller_part, instruction_part, bypass_part, ident_part}
+use Rattle.stitch_laws.specs.stitch_model.Stitched.{same_place, boundary_at, first_net, live_cells, rows_part, tdo_part, test_logic_cells, stitched}
 use Rattle.stitch_laws.specs.Places.{port_of, bypass_number, ident_number, register_number, tdo_number}
 use Rattle.stitch_laws.proofs.Places.{listed_at, mapped_at, counts_live, counts_empty, live_at}
 use Rattle.stitch_laws.proofs.Parts.{length_behind}

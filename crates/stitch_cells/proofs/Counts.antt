@@ -7,11 +7,11 @@ use Rattle.netlist_model.specs.Lists.{CellView, NetlistView, cell_at, cell_count
 use Rattle.netlist_model.specs.Contained.{IsDense}
 use Rattle.gate_parts.specs.Parts.{added_nets}
 use Rattle.gate_parts.proofs.Steps.{length-added_nets}
-use Rattle.plan_fitting.specs.declared.fitted.Fitted.{Fitted}
-use Rattle.stitch_model.specs.declared.TapNames.{TapNames}
-use Rattle.stitch_model.specs.Sites.{sides_of}
-use Rattle.stitch_model.specs.Sides.{core_cell}
-use Rattle.stitch_model.specs.Stitched.{boundary_at, first_net, live_cells, tap_net_views, test_logic_nets, test_logic_cells, stitched_cells, stitched}
+use Rattle.stitch_laws.specs.plan_fitting.declared.fitted.Fitted.{Fitted}
+use Rattle.stitch_laws.specs.stitch_model.declared.TapNames.{TapNames}
+use Rattle.stitch_laws.specs.stitch_model.Sites.{sides_of}
+use Rattle.stitch_laws.specs.stitch_model.Sides.{core_cell}
+use Rattle.stitch_laws.specs.stitch_model.Stitched.{boundary_at, first_net, live_cells, tap_net_views, test_logic_nets, test_logic_cells, stitched_cells, stitched}
 use Rattle.stitch_laws.specs.Places.{port_of}
 use Rattle.stitch_laws.proofs.Places.{listed_at, counts_live}
 use Rattle.stitch_laws.proofs.Parts.{length_behind}

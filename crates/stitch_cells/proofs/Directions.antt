@@ -8,9 +8,9 @@ use Rattle.netlist_model.specs.declared.Dir.TheVariants.{Input, Output}
 use Rattle.netlist_model.specs.Lists.{PortView, direction}
 use Rattle.netlist_laws.specs.Ports.{DirectionHasBit}
 use Rattle.gate_parts.proofs.Ports.{dir_stays, dir_of_more, no_port_past}
-use Rattle.stitch_model.specs.declared.TapNames.{TapNames}
-use Rattle.stitch_model.specs.declared.TapPort.{TapPort}
-use Rattle.stitch_model.specs.Stitched.{scalar, tap_ports, tap_port}
+use Rattle.stitch_laws.specs.stitch_model.declared.TapNames.{TapNames}
+use Rattle.stitch_laws.specs.stitch_model.declared.TapPort.{TapPort}
+use Rattle.stitch_laws.specs.stitch_model.Stitched.{scalar, tap_ports, tap_port}
 use Rattle.stitch_laws.specs.Places.{port_of}
 use Rattle.stitch_cells.specs.Directions.{StitchedDirections}
 

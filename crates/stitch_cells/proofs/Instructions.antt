@@ -11,18 +11,18 @@ use Rattle.gate_parts.specs.Parts.{part_cells}
 use Rattle.test_logic.specs.declared.Codes.{Codes}
 use Rattle.test_logic.specs.declared.TapNets.{TapNets}
 use Rattle.test_logic.specs.Instructions.{opcode_of}
-use Rattle.register_bits.specs.Chains.{chain_cells}
-use Rattle.register_bits.proofs.Lengths.{chain_length}
-use Rattle.register_gates.proofs.ConstantBits.{counted, constants}
-use Rattle.instruction_gates.specs.declared.selections.TheConstants.{SELECTIONS}
-use Rattle.instruction_gates.specs.declared.stages.TheConstants.{LOADS}
-use Rattle.instruction_gates.specs.Latches.{latches_cells}
-use Rattle.instruction_gates.specs.Copies.{copies_cells}
-use Rattle.instruction_gates.specs.Selections.{selections_given, selections_cells}
-use Rattle.instruction_gates.specs.Stages.{loads_given, ir_steering, ir_latching, stages_cells}
-use Rattle.instruction_register.specs.Register.{pattern_bits, stages_size, latches_from, size_with, cells_with, told_with, opcode_size, opcode_cells, opcode_told, matched_instructions, opcodes_size, opcodes_cells, opcodes_told, opcodes_from, selections_from, copies_from, instruction_size, instruction_cells}
-use Rattle.instruction_register.proofs.Added.{stages_counted}
-use Rattle.instruction_register.proofs.Sizes.{opcode_length, opcodes_length}
+use Rattle.part_levels.specs.register_bits.Chains.{chain_cells}
+use Rattle.part_levels.proofs.register_bits.Lengths.{chain_length}
+use Rattle.part_levels.proofs.register_gates.ConstantBits.{counted, constants}
+use Rattle.part_levels.specs.instruction_gates.declared.selections.TheConstants.{SELECTIONS}
+use Rattle.part_levels.specs.instruction_gates.declared.stages.TheConstants.{LOADS}
+use Rattle.part_levels.specs.instruction_gates.Latches.{latches_cells}
+use Rattle.part_levels.specs.instruction_gates.Copies.{copies_cells}
+use Rattle.part_levels.specs.instruction_gates.Selections.{selections_given, selections_cells}
+use Rattle.part_levels.specs.instruction_gates.Stages.{loads_given, ir_steering, ir_latching, stages_cells}
+use Rattle.stitch_laws.specs.instruction_register.Register.{pattern_bits, stages_size, latches_from, size_with, cells_with, told_with, opcode_size, opcode_cells, opcode_told, matched_instructions, opcodes_size, opcodes_cells, opcodes_told, opcodes_from, selections_from, copies_from, instruction_size, instruction_cells}
+use Rattle.stitch_laws.proofs.instruction_register.Added.{stages_counted}
+use Rattle.stitch_laws.proofs.instruction_register.Sizes.{opcode_length, opcodes_length}
 use Rattle.stitch_cells.specs.Gates.{EachCell, DriveInTurn, FeedsAre, IsLogicCell}
 use Rattle.stitch_cells.proofs.Tables.{each_append, turn_append, turn_moved, feed_cons, table_turn, plain_logic}
 use Rattle.stitch_cells.proofs.Registers.{Between, constant_feeds, SteeringAre, LatchingAre, chain_turn, chain_logic, latches_turn, latches_logic, matches_turn, matches_logic, before_is, copies_turn, copies_logic}

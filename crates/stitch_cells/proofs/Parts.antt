@@ -7,21 +7,21 @@ use Rattle.netlist_model.specs.declared.Feed.TheVariants.{Net, Const}
 use Rattle.gate_parts.specs.Parts.{part_cells}
 use Rattle.test_logic.specs.declared.InstrNets.{InstrNets}
 use Rattle.test_logic.specs.declared.TapNets.{TapNets}
-use Rattle.tap_gates.specs.declared.table.TheConstants.{CONTROLLER}
-use Rattle.tap_gates.specs.Controller.{tap_given}
-use Rattle.register_bits.specs.declared.TheConstants.{SHIFT_BIT}
-use Rattle.register_bits.specs.Bits.{shift_bit_given, shift_bit_cells}
-use Rattle.register_bits.specs.Chains.{chain_cells}
-use Rattle.register_gates.specs.declared.TheConstants.{SELECTED}
-use Rattle.register_gates.specs.declared.ident.TheConstants.{INVERSE}
-use Rattle.register_gates.specs.declared.tdo.TheConstants.{TDO}
-use Rattle.register_gates.specs.Registers.{selected_given, selected_cells, selected_steering, bypass_cells, data_cells, user_size, inverse_cells, captured_feeds, ident_size, ident_cells}
-use Rattle.register_gates.specs.Tdo.{tdo_given}
-use Rattle.instruction_register.specs.Register.{stages_size, opcodes_size, matched_instructions, instruction_size}
-use Rattle.plan_fitting.specs.declared.fitted.Fitted.{Fitted}
-use Rattle.stitch_model.specs.declared.TapPort.{TapPort}
-use Rattle.stitch_model.specs.Logic.{instruction_from, bypass_from, ident_from, code_size, tap_at, instruction_at, ident_part}
-use Rattle.stitch_model.proofs.Few.{inverse_counted, captured_counted}
+use Rattle.part_levels.specs.tap_gates.declared.table.TheConstants.{CONTROLLER}
+use Rattle.part_levels.specs.tap_gates.Controller.{tap_given}
+use Rattle.part_levels.specs.register_bits.declared.TheConstants.{SHIFT_BIT}
+use Rattle.part_levels.specs.register_bits.Bits.{shift_bit_given, shift_bit_cells}
+use Rattle.part_levels.specs.register_bits.Chains.{chain_cells}
+use Rattle.part_levels.specs.register_gates.declared.TheConstants.{SELECTED}
+use Rattle.part_levels.specs.register_gates.declared.ident.TheConstants.{INVERSE}
+use Rattle.part_levels.specs.register_gates.declared.tdo.TheConstants.{TDO}
+use Rattle.part_levels.specs.register_gates.Registers.{selected_given, selected_cells, selected_steering, bypass_cells, data_cells, user_size, inverse_cells, captured_feeds, ident_size, ident_cells}
+use Rattle.part_levels.specs.register_gates.Tdo.{tdo_given}
+use Rattle.stitch_laws.specs.instruction_register.Register.{stages_size, opcodes_size, matched_instructions, instruction_size}
+use Rattle.stitch_laws.specs.plan_fitting.declared.fitted.Fitted.{Fitted}
+use Rattle.stitch_laws.specs.stitch_model.declared.TapPort.{TapPort}
+use Rattle.stitch_laws.specs.stitch_model.Logic.{instruction_from, bypass_from, ident_from, code_size, tap_at, instruction_at, ident_part}
+use Rattle.stitch_laws.proofs.stitch_model.Few.{inverse_counted, captured_counted}
 use Rattle.stitch_cells.specs.Gates.{EachCell, DriveInTurn, FeedsAre, IsLogicCell}
 use Rattle.stitch_cells.specs.Logic.{LogicNets, LogicCells, LogicTurns}
 use Rattle.stitch_cells.proofs.Tables.{each_append, turn_append, turn_moved, table_turn, table_logic, plain_logic}

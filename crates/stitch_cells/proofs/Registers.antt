@@ -4,23 +4,23 @@ use Rattle.netlist_model.specs.declared.NetId.{NetId}
 use Rattle.netlist_model.specs.declared.Feed.{Feed}
 use Rattle.netlist_model.specs.declared.Feed.TheVariants.{Net, Const}
 use Rattle.gate_parts.specs.Parts.{part_cells}
-use Rattle.register_bits.specs.declared.Steering.{Steering}
-use Rattle.register_bits.specs.declared.TheConstants.{SHIFT_BIT}
-use Rattle.register_bits.specs.Bits.{shift_bit_given, shift_bit_cells, held_bit, held_bit_given, held_bit_cells}
-use Rattle.register_bits.specs.Chains.{chain_last, chain_cells}
-use Rattle.register_bits.proofs.Lengths.{chain_length}
-use Rattle.register_gates.specs.Constants.{constant_bits}
-use Rattle.register_gates.specs.Choices.{choice, choice_bits}
-use Rattle.register_gates.specs.Registers.{user_size, captured_feeds}
-use Rattle.instruction_gates.specs.declared.latches.Latching.{Latching}
-use Rattle.instruction_gates.specs.declared.latches.TheConstants.{LOADED}
-use Rattle.instruction_gates.specs.declared.matches.TheConstants.{EQUAL_BIT}
-use Rattle.instruction_gates.specs.declared.copies.TheConstants.{COPY}
-use Rattle.instruction_gates.specs.Rows.{is_one}
-use Rattle.instruction_gates.specs.Latches.{holding_of, loaded_given, latch_cells, latches_cells}
-use Rattle.instruction_gates.specs.Matches.{match_before, equal_given, matches_cells}
-use Rattle.instruction_gates.specs.Copies.{copy_given, copies_cells}
-use Rattle.instruction_register.proofs.Sizes.{latches_length, matches_length}
+use Rattle.part_levels.specs.register_bits.declared.Steering.{Steering}
+use Rattle.part_levels.specs.register_bits.declared.TheConstants.{SHIFT_BIT}
+use Rattle.part_levels.specs.register_bits.Bits.{shift_bit_given, shift_bit_cells, held_bit, held_bit_given, held_bit_cells}
+use Rattle.part_levels.specs.register_bits.Chains.{chain_last, chain_cells}
+use Rattle.part_levels.proofs.register_bits.Lengths.{chain_length}
+use Rattle.part_levels.specs.register_gates.Constants.{constant_bits}
+use Rattle.part_levels.specs.register_gates.Choices.{choice, choice_bits}
+use Rattle.part_levels.specs.register_gates.Registers.{user_size, captured_feeds}
+use Rattle.part_levels.specs.instruction_gates.declared.latches.Latching.{Latching}
+use Rattle.part_levels.specs.instruction_gates.declared.latches.TheConstants.{LOADED}
+use Rattle.part_levels.specs.instruction_gates.declared.matches.TheConstants.{EQUAL_BIT}
+use Rattle.part_levels.specs.instruction_gates.declared.copies.TheConstants.{COPY}
+use Rattle.part_levels.specs.instruction_gates.Rows.{is_one}
+use Rattle.part_levels.specs.instruction_gates.Latches.{holding_of, loaded_given, latch_cells, latches_cells}
+use Rattle.part_levels.specs.instruction_gates.Matches.{match_before, equal_given, matches_cells}
+use Rattle.part_levels.specs.instruction_gates.Copies.{copy_given, copies_cells}
+use Rattle.stitch_laws.proofs.instruction_register.Sizes.{latches_length, matches_length}
 use Rattle.stitch_cells.specs.Gates.{EachCell, DriveInTurn, FeedsAre, IsLogicCell}
 use Rattle.stitch_cells.proofs.Tables.{each_append, turn_append, turn_moved, feed_cons, feed_head, feed_tail, table_turn, table_logic, plain_logic}
 

@@ -11,28 +11,28 @@ use Rattle.gate_parts.specs.declared.Gate.{Gate}
 use Rattle.gate_parts.specs.Parts.{feed_of, part_cells}
 use Rattle.gate_parts.proofs.Steps.{length-cells_from}
 use Rattle.test_logic.specs.declared.ScanNets.{ScanNets}
-use Rattle.register_bits.specs.declared.TheConstants.{SHIFT_BIT}
-use Rattle.register_bits.specs.Bits.{shift_bit_given}
-use Rattle.boundary_cells.specs.declared.tables.Choice.{Choice}
-use Rattle.boundary_cells.specs.declared.tables.TheConstants.{BC_1, UPDATES}
-use Rattle.boundary_cells.specs.Cells.{steering_of, is_sound_choice, choice_cell, cells_onto, stage_table, cell_given}
-use Rattle.boundary_cells.specs.ThreeState.{control_table, control_choice, control_given, bidir_table, bidir_given}
-use Rattle.boundary_runs.specs.Rows.{BoundaryRow, observe_row, input_row, output_row, control_row, bidir_row, row_cells}
+use Rattle.part_levels.specs.register_bits.declared.TheConstants.{SHIFT_BIT}
+use Rattle.part_levels.specs.register_bits.Bits.{shift_bit_given}
+use Rattle.part_levels.specs.boundary_cells.declared.tables.Choice.{Choice}
+use Rattle.part_levels.specs.boundary_cells.declared.tables.TheConstants.{BC_1, UPDATES}
+use Rattle.part_levels.specs.boundary_cells.Cells.{steering_of, is_sound_choice, choice_cell, cells_onto, stage_table, cell_given}
+use Rattle.part_levels.specs.boundary_cells.ThreeState.{control_table, control_choice, control_given, bidir_table, bidir_given}
+use Rattle.part_levels.specs.boundary_runs.Rows.{BoundaryRow, observe_row, input_row, output_row, control_row, bidir_row, row_cells}
 use Rattle.part_levels.specs.Rows.{row_table, row_given}
-use Rattle.plan_fitting.specs.declared.fitted.FitRow.{FitRow}
-use Rattle.stitch_model.specs.declared.Site.{Site}
-use Rattle.stitch_model.specs.declared.Site.TheVariants as site
-use Rattle.stitch_model.specs.Sites.{Boundary, site_of}
-use Rattle.stitch_model.specs.Rows.{nets_by, net_at, enable_of, is_active_high}
-use Rattle.stitch_model.specs.Sides.{core_feed}
-use Rattle.stitch_model.specs.Stitched.{boundary_at}
+use Rattle.stitch_laws.specs.plan_fitting.declared.fitted.FitRow.{FitRow}
+use Rattle.stitch_laws.specs.stitch_model.declared.Site.{Site}
+use Rattle.stitch_laws.specs.stitch_model.declared.Site.TheVariants as site
+use Rattle.stitch_laws.specs.stitch_model.Sites.{Boundary, site_of}
+use Rattle.stitch_laws.specs.stitch_model.Rows.{nets_by, net_at, enable_of, is_active_high}
+use Rattle.stitch_laws.specs.stitch_model.Sides.{core_feed}
+use Rattle.stitch_laws.specs.stitch_model.Stitched.{boundary_at}
 use Rattle.stitch_laws.specs.Places.{scan_of, row_first, row_side, row_number, row_next, handed_at, drivers_at}
 use Rattle.stitch_cells.specs.Cells.{driver_number}
 use Rattle.stitch_cells.specs.Gates.{EachCell, FeedsAre, IsLogicCell, is_logic_table}
 use Rattle.stitch_cells.specs.Logic.{into_at, RowDrives}
 use Rattle.stitch_cells.proofs.Tables.{each_append, turn_at, feed_cons, pin_feed, table_turn, table_logic}
 use Rattle.stitch_cells.proofs.Sizes.{bidir_length}
-use Rattle.plan_fitting.specs.declared.fitted.Fitted.{Fitted}
+use Rattle.stitch_laws.specs.plan_fitting.declared.fitted.Fitted.{Fitted}
 
 -- What they drive.
 

@@ -4,12 +4,12 @@ use Rattle.std.specs.Prelude.{slice_get}
 use Rattle.netlist_model.specs.declared.NetId.{NetId}
 use Rattle.netlist_model.specs.Lists.{PortView, CellView, NetlistView}
 use Rattle.test_logic.specs.declared.ScanNets.{ScanNets}
-use Rattle.plan_fitting.specs.declared.fitted.FitRow.{FitRow}
-use Rattle.plan_fitting.specs.declared.fitted.Fitted.{Fitted}
-use Rattle.stitch_model.specs.Sites.{Boundary, site_of, row_sides, sides_of}
-use Rattle.stitch_model.specs.Rows.{rows_cells}
-use Rattle.stitch_model.specs.Stitched.{boundary_at, first_net, rows_part}
-use Rattle.stitch_model.proofs.Moves.{sides_cons}
+use Rattle.stitch_laws.specs.plan_fitting.declared.fitted.FitRow.{FitRow}
+use Rattle.stitch_laws.specs.plan_fitting.declared.fitted.Fitted.{Fitted}
+use Rattle.stitch_laws.specs.stitch_model.Sites.{Boundary, site_of, row_sides, sides_of}
+use Rattle.stitch_laws.specs.stitch_model.Rows.{rows_cells}
+use Rattle.stitch_laws.specs.stitch_model.Stitched.{boundary_at, first_net, rows_part}
+use Rattle.stitch_laws.proofs.stitch_model.Moves.{sides_cons}
 use Rattle.stitch_laws.specs.Places.{port_of, scan_of, register_number, register_net, row_first, row_side, row_number, row_next}
 use Rattle.stitch_laws.proofs.Parts.{by_kind, cells_there}
 use Rattle.stitch_cells.specs.Cells.{IsAt, gates_of_row, driver_number, drivers_of_row}

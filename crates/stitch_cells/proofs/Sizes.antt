@@ -11,33 +11,33 @@ use Rattle.gate_parts.proofs.Steps.{length-cells_from}
 use Rattle.test_logic.specs.declared.TapNets.{TapNets}
 use Rattle.test_logic.specs.declared.ScanNets.{ScanNets}
 use Rattle.test_logic.specs.declared.Codes.{Codes}
-use Rattle.register_bits.specs.Chains.{chain_cells}
-use Rattle.register_bits.proofs.Lengths.{chain_length}
-use Rattle.register_gates.specs.Registers.{selected_cells, selected_steering, data_cells, user_size, inverse_cells, captured_feeds, ident_size, ident_cells}
-use Rattle.register_gates.proofs.ConstantBits.{constants}
-use Rattle.instruction_gates.specs.Copies.{copies_cells}
-use Rattle.instruction_gates.specs.Selections.{selections_cells}
-use Rattle.instruction_gates.proofs.Copied.{copies_length}
-use Rattle.instruction_gates.specs.Stages.{stages_cells}
-use Rattle.instruction_register.specs.Register.{pattern_bits, stages_size, latches_from, matched_instructions, opcodes_size, opcodes_cells, opcodes_from, selections_from, copies_from, opcodes_told, instruction_size, instruction_cells}
-use Rattle.instruction_register.proofs.Sizes.{opcodes_length}
-use Rattle.instruction_register.proofs.Added.{stages_counted}
-use Rattle.boundary_cells.specs.declared.tables.Choice.{Choice}
-use Rattle.boundary_cells.specs.declared.tables.TheConstants.{UPDATES}
-use Rattle.boundary_cells.specs.Cells.{choice_cell, cells_onto, stage_table, cell_given}
-use Rattle.boundary_cells.specs.ThreeState.{control_table, control_choice, control_given, bidir_table, bidir_given}
-use Rattle.boundary_runs.specs.Rows.{row_cells}
-use Rattle.plan_fitting.specs.declared.fitted.FitRow.{FitRow}
-use Rattle.plan_fitting.specs.declared.fitted.Fitted.{Fitted}
-use Rattle.stitch_model.specs.declared.TapPort.{TapPort}
-use Rattle.stitch_model.specs.declared.Site.{Site}
-use Rattle.stitch_model.specs.declared.Site.TheVariants as site
-use Rattle.stitch_model.specs.Sites.{Boundary, site_of, row_sides}
-use Rattle.stitch_model.specs.Sides.{core_feed}
-use Rattle.stitch_model.specs.Rows.{nets_of_rows, nets_by, net_at, enable_of, is_active_high, site_cells, row_cells as cells_of_row, last_bit, rows_cells}
-use Rattle.stitch_model.specs.Logic.{instruction_from, bypass_from, ident_from, code_size, logic_size, tap_at, instruction_at, ident_part}
-use Rattle.stitch_model.specs.Stitched.{boundary_at, first_net}
-use Rattle.stitch_model.proofs.Few.{inverse_counted, captured_counted}
+use Rattle.part_levels.specs.register_bits.Chains.{chain_cells}
+use Rattle.part_levels.proofs.register_bits.Lengths.{chain_length}
+use Rattle.part_levels.specs.register_gates.Registers.{selected_cells, selected_steering, data_cells, user_size, inverse_cells, captured_feeds, ident_size, ident_cells}
+use Rattle.part_levels.proofs.register_gates.ConstantBits.{constants}
+use Rattle.part_levels.specs.instruction_gates.Copies.{copies_cells}
+use Rattle.part_levels.specs.instruction_gates.Selections.{selections_cells}
+use Rattle.part_levels.proofs.instruction_gates.Copied.{copies_length}
+use Rattle.part_levels.specs.instruction_gates.Stages.{stages_cells}
+use Rattle.stitch_laws.specs.instruction_register.Register.{pattern_bits, stages_size, latches_from, matched_instructions, opcodes_size, opcodes_cells, opcodes_from, selections_from, copies_from, opcodes_told, instruction_size, instruction_cells}
+use Rattle.stitch_laws.proofs.instruction_register.Sizes.{opcodes_length}
+use Rattle.stitch_laws.proofs.instruction_register.Added.{stages_counted}
+use Rattle.part_levels.specs.boundary_cells.declared.tables.Choice.{Choice}
+use Rattle.part_levels.specs.boundary_cells.declared.tables.TheConstants.{UPDATES}
+use Rattle.part_levels.specs.boundary_cells.Cells.{choice_cell, cells_onto, stage_table, cell_given}
+use Rattle.part_levels.specs.boundary_cells.ThreeState.{control_table, control_choice, control_given, bidir_table, bidir_given}
+use Rattle.part_levels.specs.boundary_runs.Rows.{row_cells}
+use Rattle.stitch_laws.specs.plan_fitting.declared.fitted.FitRow.{FitRow}
+use Rattle.stitch_laws.specs.plan_fitting.declared.fitted.Fitted.{Fitted}
+use Rattle.stitch_laws.specs.stitch_model.declared.TapPort.{TapPort}
+use Rattle.stitch_laws.specs.stitch_model.declared.Site.{Site}
+use Rattle.stitch_laws.specs.stitch_model.declared.Site.TheVariants as site
+use Rattle.stitch_laws.specs.stitch_model.Sites.{Boundary, site_of, row_sides}
+use Rattle.stitch_laws.specs.stitch_model.Sides.{core_feed}
+use Rattle.stitch_laws.specs.stitch_model.Rows.{nets_of_rows, nets_by, net_at, enable_of, is_active_high, site_cells, row_cells as cells_of_row, last_bit, rows_cells}
+use Rattle.stitch_laws.specs.stitch_model.Logic.{instruction_from, bypass_from, ident_from, code_size, logic_size, tap_at, instruction_at, ident_part}
+use Rattle.stitch_laws.specs.stitch_model.Stitched.{boundary_at, first_net}
+use Rattle.stitch_laws.proofs.stitch_model.Few.{inverse_counted, captured_counted}
 use Rattle.stitch_laws.specs.Places.{port_of, scan_of, instruction_number, bypass_number, ident_number, register_number, register_net, rows_before, row_first, row_side, row_number, row_next, handed_at, drivers_at}
 use Rattle.stitch_cells.specs.Sizes.{choice_count, driver_count, row_size, cells_of_rows, LogicLengths, RowLengths, Numbers}
 use Rattle.stitch_cells.specs.Cells.{driver_number}

@@ -2,12 +2,12 @@
 -- IEEE Std 1149.1-2001: test logic architecture; the order of cells is own.
 use Rattle.std.specs.Prelude.{◌≡◌, ℕ, ◌+◌, List, length, slice_get, Some}
 use Rattle.netlist_model.specs.Lists.{CellView, NetlistView, cell_at, cell_count}
-use Rattle.boundary_runs.specs.Rows.{row_cells}
-use Rattle.plan_fitting.specs.declared.fitted.FitRow.{FitRow}
-use Rattle.plan_fitting.specs.declared.fitted.Fitted.{Fitted}
-use Rattle.stitch_model.specs.Sides.{core_cell}
-use Rattle.stitch_model.specs.Logic.{controller_part, instruction_part, bypass_part, ident_part}
-use Rattle.stitch_model.specs.Stitched.{boundary_at, first_net, tdo_part}
+use Rattle.part_levels.specs.boundary_runs.Rows.{row_cells}
+use Rattle.stitch_laws.specs.plan_fitting.declared.fitted.FitRow.{FitRow}
+use Rattle.stitch_laws.specs.plan_fitting.declared.fitted.Fitted.{Fitted}
+use Rattle.stitch_laws.specs.stitch_model.Sides.{core_cell}
+use Rattle.stitch_laws.specs.stitch_model.Logic.{controller_part, instruction_part, bypass_part, ident_part}
+use Rattle.stitch_laws.specs.stitch_model.Stitched.{boundary_at, first_net, tdo_part}
 use Rattle.stitch_laws.specs.Places.{port_of, scan_of, instruction_number, bypass_number, ident_number, tdo_number, row_first, row_side, row_number, row_next, boundary_row, added_drivers}
 
 -- own: the cell is one of these, the first of which has this number

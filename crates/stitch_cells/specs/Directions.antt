@@ -4,9 +4,9 @@ use Rattle.std.specs.Prelude.{◌≡◌, ℕ, ◌+◌, ◌<◌, ◌≤◌, lengt
 use Rattle.netlist_model.specs.declared.Dir.TheVariants.{Input, Output}
 use Rattle.netlist_model.specs.Lists.{NetlistView, direction}
 use Rattle.netlist_model.specs.Formed.{IsLaidOut}
-use Rattle.plan_fitting.specs.declared.fitted.Fitted.{Fitted}
-use Rattle.stitch_model.specs.declared.TapNames.{TapNames}
-use Rattle.stitch_model.specs.Stitched.{stitched}
+use Rattle.stitch_laws.specs.plan_fitting.declared.fitted.Fitted.{Fitted}
+use Rattle.stitch_laws.specs.stitch_model.declared.TapNames.{TapNames}
+use Rattle.stitch_laws.specs.stitch_model.Stitched.{stitched}
 use Rattle.stitch_laws.specs.Places.{port_of}
 
 -- own: a net of the core has its direction, those of the test access port have theirs, and no other net has any

@@ -3,15 +3,15 @@
 use Rattle.std.specs.Prelude.{◌≡◌, ℕ, ◌+◌, ◌<◌, ◌≤◌, slice_get, Some}
 use Rattle.netlist_model.specs.declared.NetId.{NetId}
 use Rattle.netlist_model.specs.Lists.{CellView, NetlistView}
-use Rattle.plan_fitting.specs.declared.fitted.FitRow.{FitRow}
-use Rattle.plan_fitting.specs.declared.fitted.Fitted.{Fitted}
-use Rattle.stitch_model.specs.declared.Site.{Site}
-use Rattle.stitch_model.specs.declared.Site.TheVariants as site
-use Rattle.stitch_model.specs.declared.TapPort.{TapPort}
-use Rattle.stitch_model.specs.Sites.{Boundary, site_of}
-use Rattle.stitch_model.specs.Rows.{row_nets, net_at}
-use Rattle.stitch_model.specs.Logic.{instruction_from, bypass_from, ident_from, logic_size, controller_part, instruction_part, bypass_part, ident_part}
-use Rattle.stitch_model.specs.Stitched.{boundary_at}
+use Rattle.stitch_laws.specs.plan_fitting.declared.fitted.FitRow.{FitRow}
+use Rattle.stitch_laws.specs.plan_fitting.declared.fitted.Fitted.{Fitted}
+use Rattle.stitch_laws.specs.stitch_model.declared.Site.{Site}
+use Rattle.stitch_laws.specs.stitch_model.declared.Site.TheVariants as site
+use Rattle.stitch_laws.specs.stitch_model.declared.TapPort.{TapPort}
+use Rattle.stitch_laws.specs.stitch_model.Sites.{Boundary, site_of}
+use Rattle.stitch_laws.specs.stitch_model.Rows.{row_nets, net_at}
+use Rattle.stitch_laws.specs.stitch_model.Logic.{instruction_from, bypass_from, ident_from, logic_size, controller_part, instruction_part, bypass_part, ident_part}
+use Rattle.stitch_laws.specs.stitch_model.Stitched.{boundary_at}
 use Rattle.stitch_laws.specs.Places.{row_first, row_side}
 use Rattle.stitch_cells.specs.Cells.{gates_of_row, drivers_of_row}
 use Rattle.stitch_cells.specs.Gates.{EachCell, DriveInTurn, IsLogicCell}

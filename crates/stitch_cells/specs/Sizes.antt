@@ -3,19 +3,19 @@
 use Rattle.std.specs.Prelude.{◌≡◌, ℕ, ◌+◌, List, length, sum_by}
 use Rattle.netlist_model.specs.Lists.{PortView, NetlistView, cell_count}
 use Rattle.netlist_model.specs.Contained.{IsDense}
-use Rattle.plan_fitting.specs.declared.fitted.FitRow.{FitRow}
-use Rattle.plan_fitting.specs.declared.fitted.Fitted.{Fitted}
-use Rattle.stitch_model.specs.declared.TapNames.{TapNames}
-use Rattle.stitch_model.specs.declared.TapPort.{TapPort}
-use Rattle.stitch_model.specs.declared.Site.{Site}
-use Rattle.stitch_model.specs.declared.Site.TheVariants as site
-use Rattle.stitch_model.specs.Sites.{site_of, sides_of}
-use Rattle.stitch_model.specs.Rows.{row_nets, nets_of_rows}
-use Rattle.stitch_model.specs.Logic.{instruction_from, bypass_from, ident_from, code_size, logic_size, controller_part, instruction_part, bypass_part, ident_part}
-use Rattle.stitch_model.specs.Stitched.{boundary_at, first_net, tdo_part, stitched}
+use Rattle.stitch_laws.specs.plan_fitting.declared.fitted.FitRow.{FitRow}
+use Rattle.stitch_laws.specs.plan_fitting.declared.fitted.Fitted.{Fitted}
+use Rattle.stitch_laws.specs.stitch_model.declared.TapNames.{TapNames}
+use Rattle.stitch_laws.specs.stitch_model.declared.TapPort.{TapPort}
+use Rattle.stitch_laws.specs.stitch_model.declared.Site.{Site}
+use Rattle.stitch_laws.specs.stitch_model.declared.Site.TheVariants as site
+use Rattle.stitch_laws.specs.stitch_model.Sites.{site_of, sides_of}
+use Rattle.stitch_laws.specs.stitch_model.Rows.{row_nets, nets_of_rows}
+use Rattle.stitch_laws.specs.stitch_model.Logic.{instruction_from, bypass_from, ident_from, code_size, logic_size, controller_part, instruction_part, bypass_part, ident_part}
+use Rattle.stitch_laws.specs.stitch_model.Stitched.{boundary_at, first_net, tdo_part, stitched}
 use Rattle.stitch_laws.specs.Places.{port_of, instruction_number, bypass_number, ident_number, register_number, tdo_number, rows_before, row_number}
 use Rattle.stitch_cells.specs.Cells.{gates_of_row, drivers_of_row}
-use Rattle.instruction_register.specs.Register.{instruction_size}
+use Rattle.stitch_laws.specs.instruction_register.Register.{instruction_size}
 
 -- A row.
 

@@ -5,13 +5,13 @@ use Rattle.netlist_model.specs.Lists.{CellView, NetlistView, cell_at, cell_count
 use Rattle.netlist_model.specs.Contained.{IsDense}
 use Rattle.netlist_laws.specs.Contained.{DenseNumbers}
 use Rattle.netlist_laws.specs.Ports.{DirectionHasBit}
-use Rattle.plan_fitting.specs.declared.fitted.Fitted.{Fitted}
-use Rattle.plan_fitting.specs.Devices.{fitted_of}
-use Rattle.stitch_model.specs.Sites.{sides_of}
-use Rattle.stitch_model.specs.Rows.{nets_of_rows}
-use Rattle.stitch_model.specs.Logic.{logic_size}
-use Rattle.stitch_model.specs.Stitched.{first_net}
-use Rattle.stitch_laws.specs.Places.{register_net}
+use Rattle.stitch_rows.specs.plan_fitting.declared.fitted.Fitted.{Fitted}
+use Rattle.stitch_rows.specs.plan_fitting.Devices.{fitted_of}
+use Rattle.stitch_rows.specs.stitch_model.Sites.{sides_of}
+use Rattle.stitch_rows.specs.stitch_model.Rows.{nets_of_rows}
+use Rattle.stitch_rows.specs.stitch_model.Logic.{logic_size}
+use Rattle.stitch_rows.specs.stitch_model.Stitched.{first_net}
+use Rattle.stitch_ranks.specs.stitch_laws.Places.{register_net}
 use Rattle.stitch_rows.specs.Rows.{RowsStandSomewhere, RowsStandOnce, NetsHaveRows}
 use Rattle.stitch_formed.specs.Laws.{StitchedLogicIsAdded}
 use Rattle.stitch_formed.proofs.Context.{FitsWell, fits_well}

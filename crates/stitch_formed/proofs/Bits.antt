@@ -6,10 +6,10 @@ use Rattle.list_laws.proofs.Options.{some_same}
 use Rattle.netlist_model.specs.declared.Dir.TheVariants.{Input, Output}
 use Rattle.netlist_model.specs.declared.NetId.{NetId}
 use Rattle.netlist_model.specs.Lists.{PortView, NetlistView, bit_net}
-use Rattle.plan_fitting.specs.declared.fitted.Fitted.{Fitted}
-use Rattle.stitch_model.specs.declared.TapNames.{TapNames}
-use Rattle.stitch_model.specs.Stitched.{scalar, tap_ports, tap_port, stitched}
-use Rattle.stitch_laws.specs.Places.{port_of}
+use Rattle.stitch_rows.specs.plan_fitting.declared.fitted.Fitted.{Fitted}
+use Rattle.stitch_rows.specs.stitch_model.declared.TapNames.{TapNames}
+use Rattle.stitch_rows.specs.stitch_model.Stitched.{scalar, tap_ports, tap_port, stitched}
+use Rattle.stitch_ranks.specs.stitch_laws.Places.{port_of}
 use Rattle.stitch_formed.proofs.Context.{FitsWell}
 use Rattle.std.proofs.lemmas.Option.{slice_get_within}
 

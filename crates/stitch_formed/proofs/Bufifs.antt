@@ -7,18 +7,18 @@ use Rattle.netlist_model.specs.declared.Dir.TheVariants.{Input, Output, Inout}
 use Rattle.netlist_model.specs.declared.NetId.{NetId}
 use Rattle.netlist_model.specs.Lists.{CellView, NetlistView, cell_at, direction, Drives}
 use Rattle.netlist_laws.specs.Ports.{DirectionHasBit}
-use Rattle.plan_fitting.specs.declared.fitted.FitRow.{FitRow}
-use Rattle.plan_fitting.specs.declared.fitted.Fitted.{Fitted}
-use Rattle.stitch_model.specs.declared.TapNames.{TapNames}
-use Rattle.stitch_model.specs.declared.Site.TheVariants as site
-use Rattle.stitch_model.specs.Sites.{row_net, site_of, sides_of}
-use Rattle.stitch_model.specs.Sides.{is_moved, core_side, core_cell}
-use Rattle.stitch_model.specs.Rows.{net_at}
-use Rattle.stitch_model.specs.Stitched.{boundary_at, first_net, stitched}
-use Rattle.stitch_laws.specs.Places.{port_of}
+use Rattle.stitch_rows.specs.plan_fitting.declared.fitted.FitRow.{FitRow}
+use Rattle.stitch_rows.specs.plan_fitting.declared.fitted.Fitted.{Fitted}
+use Rattle.stitch_rows.specs.stitch_model.declared.TapNames.{TapNames}
+use Rattle.stitch_rows.specs.stitch_model.declared.Site.TheVariants as site
+use Rattle.stitch_rows.specs.stitch_model.Sites.{row_net, site_of, sides_of}
+use Rattle.stitch_rows.specs.stitch_model.Sides.{is_moved, core_side, core_cell}
+use Rattle.stitch_rows.specs.stitch_model.Rows.{net_at}
+use Rattle.stitch_rows.specs.stitch_model.Stitched.{boundary_at, first_net, stitched}
+use Rattle.stitch_ranks.specs.stitch_laws.Places.{port_of}
 use Rattle.stitch_rows.specs.Rows.{StandsAt, at_observed, at_input, at_output, at_added, at_driver, at_inout, at_control}
-use Rattle.stitch_cells.specs.Directions.{KeepsDirections}
-use Rattle.stitch_cells.proofs.Directions.{directions}
+use Rattle.stitch_ranks.specs.stitch_cells.Directions.{KeepsDirections}
+use Rattle.stitch_ranks.proofs.stitch_cells.Directions.{directions}
 use Rattle.stitch_formed.proofs.Context.{FitsWell, net_number, side_of}
 use Rattle.stitch_formed.proofs.Ranges.{side_range, row_range}
 use Rattle.stitch_formed.proofs.Outputs.{output_is, renamed}

@@ -11,18 +11,18 @@ use Rattle.netlist_model.specs.Settled.{is_output}
 use Rattle.netlist_model.specs.Contained.{IsDense}
 use Rattle.netlist_model.specs.Formed.{IsLaidOut, IsWellFormed}
 use Rattle.netlist_laws.specs.Ports.{DirectionHasBit}
-use Rattle.netlist_link.specs.Linked.{LinkedView}
+use Rattle.stitch_rows.specs.netlist_link.Linked.{LinkedView}
 use Rattle.plan_texts.specs.declared.plan.Plan.{Plan}
-use Rattle.plan_fitting.specs.declared.fitted.FitRow.{FitRow}
-use Rattle.plan_fitting.specs.declared.fitted.Fitted.{Fitted}
-use Rattle.plan_fitting.specs.Devices.{fitted_of}
-use Rattle.plan_fitting.specs.Pins.{PinSeen}
-use Rattle.plan_devices.specs.Fitting.{IsFitting}
-use Rattle.stitch_model.specs.Sites.{row_net, site_of}
-use Rattle.stitch_model.specs.Sides.{is_moved, moves, core_side}
-use Rattle.stitch_model.specs.Stitched.{boundary_at}
-use Rattle.stitch_model.proofs.Moves.{output_is}
-use Rattle.stitch_laws.specs.Places.{row_side}
+use Rattle.stitch_rows.specs.plan_fitting.declared.fitted.FitRow.{FitRow}
+use Rattle.stitch_rows.specs.plan_fitting.declared.fitted.Fitted.{Fitted}
+use Rattle.stitch_rows.specs.plan_fitting.Devices.{fitted_of}
+use Rattle.stitch_rows.specs.plan_fitting.Pins.{PinSeen}
+use Rattle.stitch_rows.specs.plan_devices.Fitting.{IsFitting}
+use Rattle.stitch_rows.specs.stitch_model.Sites.{row_net, site_of}
+use Rattle.stitch_rows.specs.stitch_model.Sides.{is_moved, moves, core_side}
+use Rattle.stitch_rows.specs.stitch_model.Stitched.{boundary_at}
+use Rattle.stitch_rows.proofs.stitch_model.Moves.{output_is}
+use Rattle.stitch_ranks.specs.stitch_laws.Places.{row_side}
 use Rattle.stitch_rows.specs.Rows.{StandsAt, HasRowAt, RowsStandSomewhere, RowsStandOnce, NetsHaveRows}
 use Rattle.stitch_ranks.proofs.Moved.{moved_or_stays}
 

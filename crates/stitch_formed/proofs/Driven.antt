@@ -12,27 +12,27 @@ use Rattle.netlist_images.specs.Nested.{renamed_net}
 use Rattle.gate_parts.specs.Parts.{part_cells}
 use Rattle.register_gates.specs.declared.tdo.TheConstants.{TDO}
 use Rattle.register_gates.specs.Tdo.{tdo_given, tdo_driver}
-use Rattle.instruction_register.specs.Register.{instruction_size}
-use Rattle.plan_fitting.specs.declared.fitted.FitRow.{FitRow}
-use Rattle.plan_fitting.specs.declared.fitted.Fitted.{Fitted}
-use Rattle.stitch_model.specs.declared.TapNames.{TapNames}
-use Rattle.stitch_model.specs.declared.Site.{Site}
-use Rattle.stitch_model.specs.declared.Site.TheVariants as site
-use Rattle.stitch_model.specs.Sites.{row_net, site_of, side_count, row_sides}
-use Rattle.stitch_model.specs.Sides.{is_moved, core_side, core_cell}
-use Rattle.stitch_model.specs.Rows.{row_nets, net_at}
-use Rattle.stitch_model.specs.Logic.{instruction_from, bypass_from, ident_from, code_size, logic_size, tap_at, instruction_at, bypass_at, ident_at, controller_part, instruction_part, bypass_part, ident_part}
-use Rattle.stitch_model.specs.Stitched.{boundary_at, first_net, boundary_last, tdo_part, stitched}
-use Rattle.stitch_laws.specs.Places.{port_of, instruction_number, bypass_number, ident_number, tdo_number, register_net, row_first, row_side, row_number}
+use Rattle.stitch_rows.specs.instruction_register.Register.{instruction_size}
+use Rattle.stitch_rows.specs.plan_fitting.declared.fitted.FitRow.{FitRow}
+use Rattle.stitch_rows.specs.plan_fitting.declared.fitted.Fitted.{Fitted}
+use Rattle.stitch_rows.specs.stitch_model.declared.TapNames.{TapNames}
+use Rattle.stitch_rows.specs.stitch_model.declared.Site.{Site}
+use Rattle.stitch_rows.specs.stitch_model.declared.Site.TheVariants as site
+use Rattle.stitch_rows.specs.stitch_model.Sites.{row_net, site_of, side_count, row_sides}
+use Rattle.stitch_rows.specs.stitch_model.Sides.{is_moved, core_side, core_cell}
+use Rattle.stitch_rows.specs.stitch_model.Rows.{row_nets, net_at}
+use Rattle.stitch_rows.specs.stitch_model.Logic.{instruction_from, bypass_from, ident_from, code_size, logic_size, tap_at, instruction_at, bypass_at, ident_at, controller_part, instruction_part, bypass_part, ident_part}
+use Rattle.stitch_rows.specs.stitch_model.Stitched.{boundary_at, first_net, boundary_last, tdo_part, stitched}
+use Rattle.stitch_ranks.specs.stitch_laws.Places.{port_of, instruction_number, bypass_number, ident_number, tdo_number, register_net, row_first, row_side, row_number}
 use Rattle.stitch_rows.specs.Rows.{StandsAt, at_observed, at_input, at_output, at_added, at_driver, at_inout, at_control}
-use Rattle.stitch_cells.specs.Cells.{gates_of_row, driver_number, drivers_of_row, CellOf, of_core, of_controller, of_instruction, of_bypass, of_ident, of_row, of_driver, of_tdo}
-use Rattle.stitch_cells.specs.Sizes.{choice_count, driver_count}
-use Rattle.stitch_cells.specs.Logic.{into_at}
-use Rattle.stitch_cells.proofs.Cells.{stands_by}
-use Rattle.stitch_cells.proofs.Sizes.{logic_lengths, row_lengths}
-use Rattle.stitch_cells.proofs.Tables.{turn_at}
-use Rattle.stitch_cells.proofs.Parts.{logic_turns, tdo_turn}
-use Rattle.stitch_cells.proofs.RowGates.{rows_drive}
+use Rattle.stitch_ranks.specs.stitch_cells.Cells.{gates_of_row, driver_number, drivers_of_row, CellOf, of_core, of_controller, of_instruction, of_bypass, of_ident, of_row, of_driver, of_tdo}
+use Rattle.stitch_ranks.specs.stitch_cells.Sizes.{choice_count, driver_count}
+use Rattle.stitch_ranks.specs.stitch_cells.Logic.{into_at}
+use Rattle.stitch_ranks.proofs.stitch_cells.Cells.{stands_by}
+use Rattle.stitch_ranks.proofs.stitch_cells.Sizes.{logic_lengths, row_lengths}
+use Rattle.stitch_ranks.proofs.stitch_cells.Tables.{turn_at}
+use Rattle.stitch_ranks.proofs.stitch_cells.Parts.{logic_turns, tdo_turn}
+use Rattle.stitch_ranks.proofs.stitch_cells.RowGates.{rows_drive}
 use Rattle.stitch_formed.proofs.Context.{FitsWell, net_number, stays_at, goes_at}
 use Rattle.stitch_formed.proofs.Ranges.{tdo_net, net_count, is_side, is_row_net}
 use Rattle.stitch_formed.proofs.Places.{net_at_is}

@@ -1,10 +1,10 @@
 -- All of it.
 use Rattle.netlist_model.specs.Lists.{NetlistView}
 use Rattle.netlist_laws.specs.Ports.{DirectionHasBit}
-use Rattle.plan_fitting.specs.declared.fitted.Fitted.{Fitted}
-use Rattle.plan_fitting.specs.Devices.{fitted_of}
-use Rattle.stitch_model.specs.declared.TapNames.{TapNames}
-use Rattle.stitch_model.specs.Stitched.{stitched}
+use Rattle.stitch_rows.specs.plan_fitting.declared.fitted.Fitted.{Fitted}
+use Rattle.stitch_rows.specs.plan_fitting.Devices.{fitted_of}
+use Rattle.stitch_rows.specs.stitch_model.declared.TapNames.{TapNames}
+use Rattle.stitch_rows.specs.stitch_model.Stitched.{stitched}
 use Rattle.stitch_ranks.specs.Laws.{StitchedIsOrdered, StitchedHasCones}
 use Rattle.stitch_rows.specs.Rows.{RowsStandSomewhere, RowsStandOnce, NetsHaveRows}
 use Rattle.stitch_formed.specs.Laws.{HasDrivers, StitchedHasDrivers, StitchedIsFormed}

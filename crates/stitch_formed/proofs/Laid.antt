@@ -11,17 +11,17 @@ use Rattle.netlist_model.specs.declared.NetId.{NetId}
 use Rattle.netlist_model.specs.declared.Feed.{Feed}
 use Rattle.netlist_model.specs.Lists.{CellView, NetlistView, cell_at, Drives, Reads}
 use Rattle.netlist_images.specs.Nested.{renamed_feed}
-use Rattle.plan_fitting.specs.declared.fitted.FitRow.{FitRow}
-use Rattle.plan_fitting.specs.declared.fitted.Fitted.{Fitted}
-use Rattle.stitch_model.specs.declared.TapNames.{TapNames}
-use Rattle.stitch_model.specs.declared.Site.{Site}
-use Rattle.stitch_model.specs.declared.Site.TheVariants as site
-use Rattle.stitch_model.specs.Sites.{row_net, site_of}
-use Rattle.stitch_model.specs.Sides.{is_driven, drives, core_side, core_cell}
-use Rattle.stitch_model.specs.Stitched.{boundary_at, stitched}
+use Rattle.stitch_rows.specs.plan_fitting.declared.fitted.FitRow.{FitRow}
+use Rattle.stitch_rows.specs.plan_fitting.declared.fitted.Fitted.{Fitted}
+use Rattle.stitch_rows.specs.stitch_model.declared.TapNames.{TapNames}
+use Rattle.stitch_rows.specs.stitch_model.declared.Site.{Site}
+use Rattle.stitch_rows.specs.stitch_model.declared.Site.TheVariants as site
+use Rattle.stitch_rows.specs.stitch_model.Sites.{row_net, site_of}
+use Rattle.stitch_rows.specs.stitch_model.Sides.{is_driven, drives, core_side, core_cell}
+use Rattle.stitch_rows.specs.stitch_model.Stitched.{boundary_at, stitched}
 use Rattle.stitch_rows.specs.Rows.{StandsAt, at_observed, at_input, at_output, at_added, at_driver, at_inout, at_control, HasGate}
-use Rattle.stitch_cells.proofs.Cells.{has_cells}
-use Rattle.stitch_cells.proofs.Tables.{feeds_at}
+use Rattle.stitch_ranks.proofs.stitch_cells.Cells.{has_cells}
+use Rattle.stitch_ranks.proofs.stitch_cells.Tables.{feeds_at}
 use Rattle.stitch_formed.proofs.Context.{FitsWell, net_number}
 use Rattle.stitch_formed.proofs.Outputs.{output_of}
 use Rattle.stitch_formed.proofs.Places.{DriverOf, driver_at}

@@ -19,30 +19,30 @@ use Rattle.register_gates.specs.declared.tdo.TheConstants.{TDO}
 use Rattle.register_gates.specs.Registers.{user_size, captured_feeds}
 use Rattle.register_gates.specs.Tdo.{ident_feed, tdo_given, tdo_driver}
 use Rattle.register_gates.proofs.ConstantBits.{counted}
-use Rattle.instruction_register.specs.Register.{pattern_bits, stages_size, opcodes_size, matched_instructions}
+use Rattle.stitch_rows.specs.instruction_register.Register.{pattern_bits, stages_size, opcodes_size, matched_instructions}
 use Rattle.boundary_cells.specs.Cells.{stage_table, cell_given}
 use Rattle.boundary_cells.specs.ThreeState.{bidir_table}
-use Rattle.part_levels.specs.Rows.{row_table, row_given}
-use Rattle.plan_fitting.specs.declared.fitted.FitRow.{FitRow}
-use Rattle.plan_fitting.specs.declared.fitted.Fitted.{Fitted}
-use Rattle.stitch_model.specs.declared.Site.{Site}
-use Rattle.stitch_model.specs.declared.Site.TheVariants as site
-use Rattle.stitch_model.specs.Sites.{Boundary, row_net, site_of, side_count, row_sides}
-use Rattle.stitch_model.specs.Sides.{core_cell, core_feed, level_net}
-use Rattle.stitch_model.specs.Rows.{row_nets, nets_by, net_at, control_row, enable_of, is_active_high, added_driver, last_bit, nets_of_rows}
-use Rattle.stitch_model.proofs.Few.{captured_counted}
-use Rattle.stitch_model.specs.Logic.{instruction_from, bypass_from, ident_from, code_size, tap_at, instruction_at, bypass_at, ident_at, controller_part, instruction_part, bypass_part, ident_part}
-use Rattle.stitch_model.specs.Stitched.{boundary_at, first_net, boundary_last, tdo_part}
-use Rattle.stitch_laws.specs.Places.{port_of, scan_of, instruction_number, bypass_number, ident_number, tdo_number, register_net, rows_before, row_first, row_side, row_number, row_next, handed_at, boundary_row, drivers_at}
+use Rattle.stitch_ranks.specs.part_levels.Rows.{row_table, row_given}
+use Rattle.stitch_rows.specs.plan_fitting.declared.fitted.FitRow.{FitRow}
+use Rattle.stitch_rows.specs.plan_fitting.declared.fitted.Fitted.{Fitted}
+use Rattle.stitch_rows.specs.stitch_model.declared.Site.{Site}
+use Rattle.stitch_rows.specs.stitch_model.declared.Site.TheVariants as site
+use Rattle.stitch_rows.specs.stitch_model.Sites.{Boundary, row_net, site_of, side_count, row_sides}
+use Rattle.stitch_rows.specs.stitch_model.Sides.{core_cell, core_feed, level_net}
+use Rattle.stitch_rows.specs.stitch_model.Rows.{row_nets, nets_by, net_at, control_row, enable_of, is_active_high, added_driver, last_bit, nets_of_rows}
+use Rattle.stitch_rows.proofs.stitch_model.Few.{captured_counted}
+use Rattle.stitch_rows.specs.stitch_model.Logic.{instruction_from, bypass_from, ident_from, code_size, tap_at, instruction_at, bypass_at, ident_at, controller_part, instruction_part, bypass_part, ident_part}
+use Rattle.stitch_rows.specs.stitch_model.Stitched.{boundary_at, first_net, boundary_last, tdo_part}
+use Rattle.stitch_ranks.specs.stitch_laws.Places.{port_of, scan_of, instruction_number, bypass_number, ident_number, tdo_number, register_net, rows_before, row_first, row_side, row_number, row_next, handed_at, boundary_row, drivers_at}
 use Rattle.stitch_rows.specs.Rows.{HasGate, HasControl, IsOperand, StandsAt, at_observed, at_input, at_output, at_added, at_driver, at_inout, at_control}
-use Rattle.stitch_cells.specs.Cells.{IsAt, gates_of_row, driver_number, drivers_of_row, CellOf, of_core, of_controller, of_instruction, of_bypass, of_ident, of_row, of_driver, of_tdo}
-use Rattle.stitch_cells.specs.Gates.{EachCell, FeedsAre, IsLogicCell}
-use Rattle.stitch_cells.specs.Logic.{LogicNets}
-use Rattle.stitch_cells.proofs.Tables.{each_at, feed_cons}
-use Rattle.stitch_cells.proofs.Registers.{last_is}
-use Rattle.stitch_cells.proofs.Parts.{logic_cells_are, tdo_logic}
-use Rattle.stitch_cells.proofs.RowGates.{row_logic}
-use Rattle.stitch_cells.proofs.Sums.{drop_whole}
+use Rattle.stitch_ranks.specs.stitch_cells.Cells.{IsAt, gates_of_row, driver_number, drivers_of_row, CellOf, of_core, of_controller, of_instruction, of_bypass, of_ident, of_row, of_driver, of_tdo}
+use Rattle.stitch_ranks.specs.stitch_cells.Gates.{EachCell, FeedsAre, IsLogicCell}
+use Rattle.stitch_ranks.specs.stitch_cells.Logic.{LogicNets}
+use Rattle.stitch_ranks.proofs.stitch_cells.Tables.{each_at, feed_cons}
+use Rattle.stitch_ranks.proofs.stitch_cells.Registers.{last_is}
+use Rattle.stitch_ranks.proofs.stitch_cells.Parts.{logic_cells_are, tdo_logic}
+use Rattle.stitch_ranks.proofs.stitch_cells.RowGates.{row_logic}
+use Rattle.stitch_ranks.proofs.stitch_cells.Sums.{drop_whole}
 use Rattle.stitch_rows.proofs.Sites.{operand_at}
 use Rattle.stitch_formed.proofs.Context.{FitsWell}
 use Rattle.stitch_formed.proofs.Ranges.{tdo_net, side_range, row_range}

@@ -5,18 +5,18 @@ use Rattle.std.proofs.lemmas.Bool.{cases_lt}
 use Rattle.list_laws.proofs.Options.{some_same}
 use Rattle.netlist_model.specs.declared.Dir.TheVariants.{Input}
 use Rattle.netlist_model.specs.Lists.{CellView, NetlistView, direction, Drives}
-use Rattle.plan_fitting.specs.declared.fitted.FitRow.{FitRow}
-use Rattle.plan_fitting.specs.declared.fitted.Fitted.{Fitted}
-use Rattle.stitch_model.specs.declared.Site.{Site}
-use Rattle.stitch_model.specs.declared.Site.TheVariants as site
-use Rattle.stitch_model.specs.Sites.{row_net, site_of, row_sides, sides_of}
-use Rattle.stitch_model.specs.Sides.{is_moved}
-use Rattle.stitch_model.specs.Rows.{row_nets, nets_of_rows}
-use Rattle.stitch_model.specs.Logic.{logic_size}
-use Rattle.stitch_model.specs.Stitched.{first_net}
-use Rattle.stitch_laws.specs.Places.{register_net, row_first, row_side, row_number}
+use Rattle.stitch_rows.specs.plan_fitting.declared.fitted.FitRow.{FitRow}
+use Rattle.stitch_rows.specs.plan_fitting.declared.fitted.Fitted.{Fitted}
+use Rattle.stitch_rows.specs.stitch_model.declared.Site.{Site}
+use Rattle.stitch_rows.specs.stitch_model.declared.Site.TheVariants as site
+use Rattle.stitch_rows.specs.stitch_model.Sites.{row_net, site_of, row_sides, sides_of}
+use Rattle.stitch_rows.specs.stitch_model.Sides.{is_moved}
+use Rattle.stitch_rows.specs.stitch_model.Rows.{row_nets, nets_of_rows}
+use Rattle.stitch_rows.specs.stitch_model.Logic.{logic_size}
+use Rattle.stitch_rows.specs.stitch_model.Stitched.{first_net}
+use Rattle.stitch_ranks.specs.stitch_laws.Places.{register_net, row_first, row_side, row_number}
 use Rattle.stitch_rows.specs.Rows.{StandsAt, at_observed, at_input, at_output, at_added, at_driver, at_inout, at_control}
-use Rattle.stitch_cells.specs.Cells.{driver_number}
+use Rattle.stitch_ranks.specs.stitch_cells.Cells.{driver_number}
 use Rattle.stitch_formed.proofs.Context.{FitsWell, net_number}
 use Rattle.stitch_formed.proofs.Ranges.{tdo_net, side_range, same_side, row_range, same_row}
 use Rattle.stitch_formed.proofs.Places.{PinDriver, own_pin, cell_pin, added_pin, given_side, SideDriver, core_side_of, cell_side_of, DriverOf, of_pin, of_tdo_pin, of_side, of_logic, of_row_net, of_tdo_net}

@@ -12,16 +12,16 @@ use Rattle.netlist_model.specs.declared.Feed.TheVariants.{Net, Const}
 use Rattle.netlist_model.specs.Lists.{PortView, CellView, NetlistView, cell_at, direction, Reads}
 use Rattle.netlist_model.specs.Settled.{is_output}
 use Rattle.netlist_images.specs.Nested.{renamed_feed}
-use Rattle.plan_fitting.specs.declared.fitted.FitRow.{FitRow}
-use Rattle.plan_fitting.specs.declared.fitted.Fitted.{Fitted}
-use Rattle.stitch_model.specs.Sites.{Boundary, row_net, site_of, side_count, row_sides, sides_of, side_at}
-use Rattle.stitch_model.specs.Sides.{core_side, is_driven, drives, level_net, driver_feeds, feeds_from, feeds_behind, core_cell}
-use Rattle.stitch_model.specs.Stitched.{boundary_at}
-use Rattle.stitch_model.proofs.Moves.{output_is}
-use Rattle.stitch_laws.specs.Places.{port_of, row_side}
+use Rattle.stitch_rows.specs.plan_fitting.declared.fitted.FitRow.{FitRow}
+use Rattle.stitch_rows.specs.plan_fitting.declared.fitted.Fitted.{Fitted}
+use Rattle.stitch_rows.specs.stitch_model.Sites.{Boundary, row_net, site_of, side_count, row_sides, sides_of, side_at}
+use Rattle.stitch_rows.specs.stitch_model.Sides.{core_side, is_driven, drives, level_net, driver_feeds, feeds_from, feeds_behind, core_cell}
+use Rattle.stitch_rows.specs.stitch_model.Stitched.{boundary_at}
+use Rattle.stitch_rows.proofs.stitch_model.Moves.{output_is}
+use Rattle.stitch_ranks.specs.stitch_laws.Places.{port_of, row_side}
 use Rattle.stitch_rows.specs.Rows.{HasControl, IsOperand, is_constant, is_read, StandsAt, at_observed, at_input, at_output, at_added, at_driver, at_inout, at_control}
-use Rattle.stitch_cells.specs.Gates.{FeedsAre}
-use Rattle.stitch_cells.specs.Sizes.{added_net_count}
+use Rattle.stitch_ranks.specs.stitch_cells.Gates.{FeedsAre}
+use Rattle.stitch_ranks.specs.stitch_cells.Sizes.{added_net_count}
 use Rattle.stitch_formed.proofs.Context.{FitsWell}
 use Rattle.stitch_formed.proofs.Ranges.{net_count, side_range}
 

@@ -11,23 +11,23 @@ use Rattle.gate_parts.specs.Parts.{part_cells}
 use Rattle.netlist_images.specs.Nested.{renamed_net}
 use Rattle.register_gates.specs.declared.tdo.TheConstants.{TDO}
 use Rattle.register_gates.specs.Tdo.{tdo_given, tdo_driver}
-use Rattle.plan_fitting.specs.declared.fitted.FitRow.{FitRow}
-use Rattle.plan_fitting.specs.declared.fitted.Fitted.{Fitted}
-use Rattle.stitch_model.specs.declared.Site.{Site}
-use Rattle.stitch_model.specs.declared.Site.TheVariants as site
-use Rattle.stitch_model.specs.Sites.{site_of}
-use Rattle.stitch_model.specs.Sides.{core_side, core_cell}
-use Rattle.stitch_model.specs.Rows.{row_nets, net_at}
-use Rattle.stitch_model.specs.Logic.{instruction_from, bypass_from, ident_from, logic_size, tap_at, instruction_at, bypass_at, ident_at, controller_part, instruction_part, bypass_part, ident_part}
-use Rattle.stitch_model.specs.Stitched.{boundary_at, first_net, boundary_last, tdo_part}
-use Rattle.stitch_laws.specs.Places.{port_of, instruction_number, bypass_number, ident_number, tdo_number, row_first, row_side, row_number}
-use Rattle.stitch_cells.specs.Cells.{IsAt, gates_of_row, driver_number, drivers_of_row, CellOf, of_core, of_controller, of_instruction, of_bypass, of_ident, of_row, of_driver, of_tdo}
-use Rattle.stitch_cells.specs.Sizes.{choice_count, driver_count}
-use Rattle.stitch_cells.specs.Logic.{into_at}
-use Rattle.stitch_cells.proofs.Sizes.{logic_lengths, row_lengths, numbers}
-use Rattle.stitch_cells.proofs.Tables.{turn_at}
-use Rattle.stitch_cells.proofs.Parts.{logic_turns, tdo_turn}
-use Rattle.stitch_cells.proofs.RowGates.{rows_drive}
+use Rattle.stitch_rows.specs.plan_fitting.declared.fitted.FitRow.{FitRow}
+use Rattle.stitch_rows.specs.plan_fitting.declared.fitted.Fitted.{Fitted}
+use Rattle.stitch_rows.specs.stitch_model.declared.Site.{Site}
+use Rattle.stitch_rows.specs.stitch_model.declared.Site.TheVariants as site
+use Rattle.stitch_rows.specs.stitch_model.Sites.{site_of}
+use Rattle.stitch_rows.specs.stitch_model.Sides.{core_side, core_cell}
+use Rattle.stitch_rows.specs.stitch_model.Rows.{row_nets, net_at}
+use Rattle.stitch_rows.specs.stitch_model.Logic.{instruction_from, bypass_from, ident_from, logic_size, tap_at, instruction_at, bypass_at, ident_at, controller_part, instruction_part, bypass_part, ident_part}
+use Rattle.stitch_rows.specs.stitch_model.Stitched.{boundary_at, first_net, boundary_last, tdo_part}
+use Rattle.stitch_ranks.specs.stitch_laws.Places.{port_of, instruction_number, bypass_number, ident_number, tdo_number, row_first, row_side, row_number}
+use Rattle.stitch_ranks.specs.stitch_cells.Cells.{IsAt, gates_of_row, driver_number, drivers_of_row, CellOf, of_core, of_controller, of_instruction, of_bypass, of_ident, of_row, of_driver, of_tdo}
+use Rattle.stitch_ranks.specs.stitch_cells.Sizes.{choice_count, driver_count}
+use Rattle.stitch_ranks.specs.stitch_cells.Logic.{into_at}
+use Rattle.stitch_ranks.proofs.stitch_cells.Sizes.{logic_lengths, row_lengths, numbers}
+use Rattle.stitch_ranks.proofs.stitch_cells.Tables.{turn_at}
+use Rattle.stitch_ranks.proofs.stitch_cells.Parts.{logic_turns, tdo_turn}
+use Rattle.stitch_ranks.proofs.stitch_cells.RowGates.{rows_drive}
 use Rattle.stitch_formed.proofs.Ranges.{tdo_net}
 use Rattle.std.proofs.lemmas.Option.{slice_get_within}
 

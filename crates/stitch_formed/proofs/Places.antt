@@ -4,21 +4,21 @@ use Rattle.std.specs.Prelude.{slice_get, unwrap_or, ◌≢◌}
 use Rattle.netlist_model.specs.declared.Dir.TheVariants.{Output}
 use Rattle.netlist_model.specs.declared.NetId.{NetId}
 use Rattle.netlist_model.specs.Lists.{CellView, NetlistView, cell_count, direction, Drives}
-use Rattle.plan_fitting.specs.declared.fitted.FitRow.{FitRow}
-use Rattle.plan_fitting.specs.declared.fitted.Fitted.{Fitted}
-use Rattle.stitch_model.specs.declared.Site.{Site}
-use Rattle.stitch_model.specs.declared.Site.TheVariants as site
-use Rattle.stitch_model.specs.Sites.{row_net, site_of, side_count, row_sides}
-use Rattle.stitch_model.specs.Sides.{is_moved, core_side, core_cell}
-use Rattle.stitch_model.specs.Rows.{row_nets, net_at}
-use Rattle.stitch_model.specs.Logic.{logic_size}
-use Rattle.stitch_model.specs.Stitched.{boundary_at, first_net}
-use Rattle.stitch_model.proofs.Moves.{moved_counts}
-use Rattle.stitch_laws.specs.Places.{tdo_number, row_first, row_side, row_number}
+use Rattle.stitch_rows.specs.plan_fitting.declared.fitted.FitRow.{FitRow}
+use Rattle.stitch_rows.specs.plan_fitting.declared.fitted.Fitted.{Fitted}
+use Rattle.stitch_rows.specs.stitch_model.declared.Site.{Site}
+use Rattle.stitch_rows.specs.stitch_model.declared.Site.TheVariants as site
+use Rattle.stitch_rows.specs.stitch_model.Sites.{row_net, site_of, side_count, row_sides}
+use Rattle.stitch_rows.specs.stitch_model.Sides.{is_moved, core_side, core_cell}
+use Rattle.stitch_rows.specs.stitch_model.Rows.{row_nets, net_at}
+use Rattle.stitch_rows.specs.stitch_model.Logic.{logic_size}
+use Rattle.stitch_rows.specs.stitch_model.Stitched.{boundary_at, first_net}
+use Rattle.stitch_rows.proofs.stitch_model.Moves.{moved_counts}
+use Rattle.stitch_ranks.specs.stitch_laws.Places.{tdo_number, row_first, row_side, row_number}
 use Rattle.stitch_rows.specs.Rows.{StandsAt, at_observed, at_input, at_output, at_added, at_driver, at_inout, at_control}
-use Rattle.stitch_cells.specs.Cells.{driver_number}
-use Rattle.stitch_cells.specs.Sizes.{choice_count, driver_count}
-use Rattle.stitch_cells.specs.Logic.{into_at}
+use Rattle.stitch_ranks.specs.stitch_cells.Cells.{driver_number}
+use Rattle.stitch_ranks.specs.stitch_cells.Sizes.{choice_count, driver_count}
+use Rattle.stitch_ranks.specs.stitch_cells.Logic.{into_at}
 use Rattle.stitch_formed.proofs.Context.{FitsWell, Stays, side_of}
 use Rattle.stitch_formed.proofs.Ranges.{tdo_net}
 use Rattle.stitch_formed.proofs.Outputs.{OutputOf, core_out, logic_out, row_out, into_out, driver_out, tdo_out, tdo_pin}

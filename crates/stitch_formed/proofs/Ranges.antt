@@ -2,14 +2,14 @@
 use Rattle.std.proofs.Common.{◌≡◌, ℕ, suc, ◌+◌, ◌-◌, ◌<◌, ◌≤◌, take, drop, length, refl, arith, Some}
 use Rattle.std.specs.Prelude.{slice_get}
 use Rattle.netlist_model.specs.Lists.{NetlistView}
-use Rattle.plan_fitting.specs.declared.fitted.FitRow.{FitRow}
-use Rattle.plan_fitting.specs.declared.fitted.Fitted.{Fitted}
-use Rattle.stitch_model.specs.Sites.{row_sides, sides_of}
-use Rattle.stitch_model.specs.Rows.{row_nets, nets_of_rows}
-use Rattle.stitch_model.specs.Stitched.{first_net}
-use Rattle.stitch_laws.specs.Places.{register_net, row_first, row_side}
-use Rattle.stitch_cells.specs.Sizes.{added_net_count}
-use Rattle.stitch_cells.proofs.Sums.{same_take, share_take, in_take, same_drop, share_drop, in_drop}
+use Rattle.stitch_rows.specs.plan_fitting.declared.fitted.FitRow.{FitRow}
+use Rattle.stitch_rows.specs.plan_fitting.declared.fitted.Fitted.{Fitted}
+use Rattle.stitch_rows.specs.stitch_model.Sites.{row_sides, sides_of}
+use Rattle.stitch_rows.specs.stitch_model.Rows.{row_nets, nets_of_rows}
+use Rattle.stitch_rows.specs.stitch_model.Stitched.{first_net}
+use Rattle.stitch_ranks.specs.stitch_laws.Places.{register_net, row_first, row_side}
+use Rattle.stitch_ranks.specs.stitch_cells.Sizes.{added_net_count}
+use Rattle.stitch_ranks.proofs.stitch_cells.Sums.{same_take, share_take, in_take, same_drop, share_drop, in_drop}
 
 -- own: the first of TDO's own nets
 abbrev pub tdo_net : NetlistView → Fitted → ℕ

@@ -8,13 +8,13 @@ use Rattle.netlist_model.specs.declared.Dir.TheVariants.{Input, Output, Inout}
 use Rattle.netlist_model.specs.Lists.{CellView, NetlistView, direction, Drives, Reads}
 use Rattle.netlist_model.specs.Formed.{IsDriven}
 use Rattle.netlist_laws.specs.Ports.{DirectionHasBit}
-use Rattle.plan_fitting.specs.declared.fitted.FitRow.{FitRow}
-use Rattle.plan_fitting.specs.declared.fitted.Fitted.{Fitted}
-use Rattle.stitch_model.specs.declared.TapNames.{TapNames}
-use Rattle.stitch_model.specs.Sites.{row_net, site_of}
-use Rattle.stitch_model.specs.Sides.{is_moved, core_side}
-use Rattle.stitch_model.specs.Stitched.{boundary_at, stitched}
-use Rattle.stitch_model.proofs.Moves.{moved_counts}
+use Rattle.stitch_rows.specs.plan_fitting.declared.fitted.FitRow.{FitRow}
+use Rattle.stitch_rows.specs.plan_fitting.declared.fitted.Fitted.{Fitted}
+use Rattle.stitch_rows.specs.stitch_model.declared.TapNames.{TapNames}
+use Rattle.stitch_rows.specs.stitch_model.Sites.{row_net, site_of}
+use Rattle.stitch_rows.specs.stitch_model.Sides.{is_moved, core_side}
+use Rattle.stitch_rows.specs.stitch_model.Stitched.{boundary_at, stitched}
+use Rattle.stitch_rows.proofs.stitch_model.Moves.{moved_counts}
 use Rattle.stitch_formed.proofs.Context.{FitsWell, Stays, side_of}
 use Rattle.stitch_formed.proofs.Ranges.{net_count, side_range}
 use Rattle.stitch_formed.proofs.Driven.{added_driven, tdo_pin_driven, core_driven, pin_driven}

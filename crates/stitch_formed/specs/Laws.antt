@@ -7,14 +7,14 @@ use Rattle.netlist_model.specs.declared.Dir.TheVariants.{Input, Output, Inout}
 use Rattle.netlist_model.specs.Lists.{CellView, NetlistView, cell_at, bit_net, direction, Drives, Reads}
 use Rattle.netlist_model.specs.Contained.{IsDense}
 use Rattle.netlist_model.specs.Formed.{IsLaidOut, IsDriven, IsWellFormed}
-use Rattle.netlist_link.specs.Linked.{LinkedView}
+use Rattle.stitch_rows.specs.netlist_link.Linked.{LinkedView}
 use Rattle.plan_texts.specs.declared.plan.Plan.{Plan}
-use Rattle.plan_fitting.specs.Devices.{fitted_of}
-use Rattle.plan_fitting.specs.Pins.{PinSeen}
-use Rattle.plan_devices.specs.Fitting.{IsFitting}
-use Rattle.stitch_model.specs.declared.TapNames.{TapNames}
-use Rattle.stitch_model.specs.Logic.{logic_size}
-use Rattle.stitch_model.specs.Stitched.{first_net, stitched}
+use Rattle.stitch_rows.specs.plan_fitting.Devices.{fitted_of}
+use Rattle.stitch_rows.specs.plan_fitting.Pins.{PinSeen}
+use Rattle.stitch_rows.specs.plan_devices.Fitting.{IsFitting}
+use Rattle.stitch_rows.specs.stitch_model.declared.TapNames.{TapNames}
+use Rattle.stitch_rows.specs.stitch_model.Logic.{logic_size}
+use Rattle.stitch_rows.specs.stitch_model.Stitched.{first_net, stitched}
 
 -- the conditions of a well-formed netlist on ports, drivers and readers: all but the order of gates and the cones
 pub record HasDrivers (N : NetlistView) : Type 0 where

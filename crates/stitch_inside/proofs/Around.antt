@@ -7,24 +7,24 @@ use Rattle.netlist_model.specs.declared.Feed.TheVariants.{Const}
 use Rattle.netlist_model.specs.declared.Dir.TheVariants as dir
 use Rattle.netlist_model.specs.declared.PinBit.{PinBit}
 use Rattle.netlist_model.specs.Settled.{feed_value}
-use Rattle.netlist_link.specs.Linked.{LinkedView}
-use Rattle.boundary_runs.specs.Rows.{BoundaryRow, observe_row, input_row, bidir_row, row_kind}
+use Rattle.plan_devices.specs.netlist_link.Linked.{LinkedView}
+use Rattle.surrounded_core.specs.boundary_runs.Rows.{BoundaryRow, observe_row, input_row, bidir_row, row_kind}
 use Rattle.wrapped_chip.specs.Cells.{net_of_bit}
 use Rattle.wrapped_chip.specs.Suits.{is_input, is_output}
 use Rattle.surrounded_core.specs.Sites.{StandsAround}
 use Rattle.plan_texts.specs.declared.plan.Plan.{Plan}
-use Rattle.plan_fitting.specs.declared.fitted.FitRow.{FitRow}
-use Rattle.plan_fitting.specs.Pins.{PinSeen}
-use Rattle.plan_fitting.specs.Rows.{rows}
-use Rattle.plan_fitting.specs.Devices.{fitted_of, dev_bit, disable_value, disable_by, cell_row, device_of}
+use Rattle.plan_devices.specs.plan_fitting.declared.fitted.FitRow.{FitRow}
+use Rattle.plan_devices.specs.plan_fitting.Pins.{PinSeen}
+use Rattle.plan_devices.specs.plan_fitting.Rows.{rows}
+use Rattle.plan_devices.specs.plan_fitting.Devices.{fitted_of, dev_bit, disable_value, disable_by, cell_row, device_of}
 use Rattle.plan_devices.specs.Fitting.{IsFitting}
-use Rattle.stitch_model.specs.declared.Site.{Site}
-use Rattle.stitch_model.specs.declared.Site.TheVariants as site
-use Rattle.stitch_model.specs.declared.TapNames.{TapNames}
-use Rattle.stitch_model.specs.Sites.{Boundary, row_net, site_of}
-use Rattle.stitch_model.specs.Sides.{is_moved, core_feed}
-use Rattle.stitch_model.specs.Rows.{net_at, control_row as row_control, enable_of, is_active_high}
-use Rattle.stitch_model.specs.Stitched.{boundary_at}
+use Rattle.stitch_laws.specs.stitch_model.declared.Site.{Site}
+use Rattle.stitch_laws.specs.stitch_model.declared.Site.TheVariants as site
+use Rattle.stitch_laws.specs.stitch_model.declared.TapNames.{TapNames}
+use Rattle.stitch_laws.specs.stitch_model.Sites.{Boundary, row_net, site_of}
+use Rattle.stitch_laws.specs.stitch_model.Sides.{is_moved, core_feed}
+use Rattle.stitch_laws.specs.stitch_model.Rows.{net_at, control_row as row_control, enable_of, is_active_high}
+use Rattle.stitch_laws.specs.stitch_model.Stitched.{boundary_at}
 use Rattle.stitch_laws.specs.Places.{row_side, handed_at}
 use Rattle.stitch_inside.specs.Places.{gates_of, places_of}
 use Rattle.stitch_inside.proofs.Cases.{AtBit, Names, RowCase, observed_case, input_case, plain_case, added_case, driver_case, inout_case, control_case, cases_of}

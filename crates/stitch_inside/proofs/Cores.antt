@@ -20,25 +20,25 @@ use Rattle.netlist_model.specs.Formed.{IsWellFormed}
 use Rattle.netlist_laws.specs.Drivers.{DriverDrives, DriverIsFound}
 use Rattle.netlist_laws.specs.Ports.{BitHasDirection, DirectionHasBit}
 use Rattle.netlist_images.specs.Nested.{renamed_feed}
-use Rattle.netlist_link.specs.Linked.{LinkedView}
+use Rattle.plan_devices.specs.netlist_link.Linked.{LinkedView}
 use Rattle.bsdl_device.specs.declared.values.CellRow.{CellRow}
 use Rattle.wrapped_chip.specs.Suits.{is_input}
 use Rattle.wrapped_chip.specs.Cells.{net_of_row, names_control, core_datum, core_control, shared_control}
 use Rattle.surrounded_core.specs.Sites.{GivesAs}
 use Rattle.plan_texts.specs.declared.plan.Plan.{Plan}
-use Rattle.plan_fitting.specs.declared.fitted.FitRow.{FitRow}
-use Rattle.plan_fitting.specs.Pins.{PinSeen}
-use Rattle.plan_fitting.specs.Rows.{rows}
-use Rattle.plan_fitting.specs.Devices.{fitted_of, disable_by, cell_row, device_of}
-use Rattle.plan_fitting.specs.Laws.{ControlCellsAreThere}
+use Rattle.plan_devices.specs.plan_fitting.declared.fitted.FitRow.{FitRow}
+use Rattle.plan_devices.specs.plan_fitting.Pins.{PinSeen}
+use Rattle.plan_devices.specs.plan_fitting.Rows.{rows}
+use Rattle.plan_devices.specs.plan_fitting.Devices.{fitted_of, disable_by, cell_row, device_of}
+use Rattle.plan_devices.specs.plan_fitting.Laws.{ControlCellsAreThere}
 use Rattle.plan_devices.specs.Fitting.{IsFitting}
 use Rattle.plan_devices.specs.Laws.{fed, RowsTakeTheCore, ControlsTakeTheCore, ControlsFollowTheirRows, RowsStandAtBits, BitsHaveRows}
 use Rattle.plan_devices.proofs.DeviceRows.{mapped_at}
-use Rattle.stitch_model.specs.declared.Site.TheVariants as site
-use Rattle.stitch_model.specs.declared.TapNames.{TapNames}
-use Rattle.stitch_model.specs.Sites.{Boundary, pin_net, row_net, site_of, side_at}
-use Rattle.stitch_model.specs.Sides.{core_side, core_feed, is_moved}
-use Rattle.stitch_model.specs.Stitched.{boundary_at, stitched}
+use Rattle.stitch_laws.specs.stitch_model.declared.Site.TheVariants as site
+use Rattle.stitch_laws.specs.stitch_model.declared.TapNames.{TapNames}
+use Rattle.stitch_laws.specs.stitch_model.Sites.{Boundary, pin_net, row_net, site_of, side_at}
+use Rattle.stitch_laws.specs.stitch_model.Sides.{core_side, core_feed, is_moved}
+use Rattle.stitch_laws.specs.stitch_model.Stitched.{boundary_at, stitched}
 use Rattle.stitch_inside.specs.Inner.{inner_net}
 use Rattle.stitch_inside.specs.Places.{places_of}
 use Rattle.stitch_inside.proofs.Cases.{AtBit, DrivenAs, RowCase, observed_case, input_case, plain_case, added_case, driver_case, inout_case, control_case, cases_of}

@@ -18,27 +18,27 @@ use Rattle.netlist_model.specs.Contained.{Has, HasCells}
 use Rattle.netlist_laws.specs.Contained.{ContainedParts}
 use Rattle.netlist_images.specs.Nested.{renamed_net, renamed_feed}
 use Rattle.gate_parts.specs.Parts.{part_cells}
-use Rattle.netlist_link.specs.Linked.{LinkedView}
+use Rattle.plan_devices.specs.netlist_link.Linked.{LinkedView}
 use Rattle.boundary_cells.specs.Cells.{stage_table, cell_given, choice_cell}
 use Rattle.boundary_cells.specs.declared.tables.TheConstants.{UPDATES}
-use Rattle.boundary_runs.specs.Rows.{BoundaryRow, row_cells}
+use Rattle.surrounded_core.specs.boundary_runs.Rows.{BoundaryRow, row_cells}
 use Rattle.wrapped_chip.specs.Cells.{net_of_bit, net_of_row, row_of}
 use Rattle.wrapped_chip.specs.Suits.{IsRead, inactive_level, Suits}
 use Rattle.surrounded_core.specs.Sites.{IsSeenOn, IsDataNet, IsPlain, IsControlled, IsDrivenBy}
 use Rattle.plan_texts.specs.declared.plan.Plan.{Plan}
-use Rattle.plan_fitting.specs.declared.fitted.FitRow.{FitRow}
-use Rattle.plan_fitting.specs.Pins.{PinSeen}
-use Rattle.plan_fitting.specs.Rows.{rows}
-use Rattle.plan_fitting.specs.Devices.{fitted_of, dev_bit, disable_by, cell_row, device_of}
+use Rattle.plan_devices.specs.plan_fitting.declared.fitted.FitRow.{FitRow}
+use Rattle.plan_devices.specs.plan_fitting.Pins.{PinSeen}
+use Rattle.plan_devices.specs.plan_fitting.Rows.{rows}
+use Rattle.plan_devices.specs.plan_fitting.Devices.{fitted_of, dev_bit, disable_by, cell_row, device_of}
 use Rattle.plan_devices.specs.Fitting.{IsFitting}
 use Rattle.plan_devices.proofs.SuitsIs.{plain_level}
-use Rattle.stitch_model.specs.declared.Site.{Site}
-use Rattle.stitch_model.specs.declared.Site.TheVariants as site
-use Rattle.stitch_model.specs.declared.TapNames.{TapNames}
-use Rattle.stitch_model.specs.Sites.{Boundary, pin_net, row_net, site_of, side_at}
-use Rattle.stitch_model.specs.Sides.{core_side, is_moved, is_driven, level_net, driver_feeds, feeds_behind, core_cell, core_feed}
-use Rattle.stitch_model.specs.Rows.{net_at, added_driver}
-use Rattle.stitch_model.specs.Stitched.{boundary_at, stitched}
+use Rattle.stitch_laws.specs.stitch_model.declared.Site.{Site}
+use Rattle.stitch_laws.specs.stitch_model.declared.Site.TheVariants as site
+use Rattle.stitch_laws.specs.stitch_model.declared.TapNames.{TapNames}
+use Rattle.stitch_laws.specs.stitch_model.Sites.{Boundary, pin_net, row_net, site_of, side_at}
+use Rattle.stitch_laws.specs.stitch_model.Sides.{core_side, is_moved, is_driven, level_net, driver_feeds, feeds_behind, core_cell, core_feed}
+use Rattle.stitch_laws.specs.stitch_model.Rows.{net_at, added_driver}
+use Rattle.stitch_laws.specs.stitch_model.Stitched.{boundary_at, stitched}
 use Rattle.stitch_laws.specs.Places.{scan_of, row_first, row_side, row_number, row_next, handed_at, boundary_row, drivers_at}
 use Rattle.stitch_laws.specs.Laws.{HoldsParts, IsInside}
 use Rattle.stitch_inside.specs.Places.{places_of}

@@ -18,18 +18,18 @@ use Rattle.netlist_laws.specs.Drivers.{IsDriverOf, DriverDrives, DriverIsFound}
 use Rattle.netlist_laws.specs.Ports.{BitHasDirection, DirectionHasBit}
 use Rattle.netlist_images.specs.Nested.{renamed_net, renamed_feed, IsNested}
 use Rattle.gate_parts.proofs.Ports.{dir_stays, dir_of_more}
-use Rattle.netlist_link.specs.Linked.{LinkedView}
+use Rattle.plan_devices.specs.netlist_link.Linked.{LinkedView}
 use Rattle.plan_texts.specs.declared.plan.Plan.{Plan}
-use Rattle.plan_fitting.specs.declared.fitted.FitRow.{FitRow}
-use Rattle.plan_fitting.specs.declared.fitted.Fitted.{Fitted}
-use Rattle.plan_fitting.specs.Pins.{PinSeen}
-use Rattle.plan_fitting.specs.Laws.{ControlCellsAreThere}
-use Rattle.plan_fitting.specs.Devices.{fitted_of}
+use Rattle.plan_devices.specs.plan_fitting.declared.fitted.FitRow.{FitRow}
+use Rattle.plan_devices.specs.plan_fitting.declared.fitted.Fitted.{Fitted}
+use Rattle.plan_devices.specs.plan_fitting.Pins.{PinSeen}
+use Rattle.plan_devices.specs.plan_fitting.Laws.{ControlCellsAreThere}
+use Rattle.plan_devices.specs.plan_fitting.Devices.{fitted_of}
 use Rattle.plan_devices.specs.Fitting.{IsFitting}
-use Rattle.stitch_model.specs.declared.TapNames.{TapNames}
-use Rattle.stitch_model.specs.Sites.{Boundary, row_net, site_of}
-use Rattle.stitch_model.specs.Sides.{side_from, core_side, is_driven, feeds_behind}
-use Rattle.stitch_model.specs.Stitched.{tap_port, tap_ports, boundary_at, stitched}
+use Rattle.stitch_laws.specs.stitch_model.declared.TapNames.{TapNames}
+use Rattle.stitch_laws.specs.stitch_model.Sites.{Boundary, row_net, site_of}
+use Rattle.stitch_laws.specs.stitch_model.Sides.{side_from, core_side, is_driven, feeds_behind}
+use Rattle.stitch_laws.specs.stitch_model.Stitched.{tap_port, tap_ports, boundary_at, stitched}
 use Rattle.stitch_laws.specs.Laws.{StitchedHoldsTheCore}
 use Rattle.stitch_laws.proofs.Core.{side_past}
 use Rattle.stitch_inside.specs.Inner.{past_nets, is_given, inner_net}

@@ -18,8 +18,8 @@ use Rattle.netlist_model.specs.Formed.{width_of, IsWellFormed}
 use Rattle.netlist_model.specs.Contained.{HasCells}
 use Rattle.netlist_laws.specs.Contained.{ContainedParts}
 use Rattle.netlist_laws.specs.Ports.{BitHasDirection}
-use Rattle.netlist_link.specs.Linked.{LinkedView}
-use Rattle.netlist_link.specs.PinWords.{pin_at}
+use Rattle.plan_devices.specs.netlist_link.Linked.{LinkedView}
+use Rattle.plan_devices.specs.netlist_link.PinWords.{pin_at}
 use Rattle.bsdl_device.specs.declared.values.CellRow.{CellRow}
 use Rattle.bsdl_device.specs.declared.entries.Register.TheVariants as register
 use Rattle.bsdl_device.specs.Instructions.{instruction_word, names_instruction, is_instruction, selected_register}
@@ -29,21 +29,21 @@ use Rattle.bsdl_device.specs.IsDevice.{opcode_entries, IsInstructionRegister}
 use Rattle.test_logic.specs.declared.TapInput.{TapInput}
 use Rattle.test_logic.specs.declared.TapInput.TheVariants.{Tck, Tms, Tdi, Trst}
 use Rattle.test_logic.specs.Instructions.{opcode_of}
-use Rattle.instruction_register.specs.Laws.{RegistersFit}
-use Rattle.boundary_runs.specs.Rows.{BoundaryRow, row_cells}
+use Rattle.surrounded_core.specs.instruction_register.Laws.{RegistersFit}
+use Rattle.surrounded_core.specs.boundary_runs.Rows.{BoundaryRow, row_cells}
 use Rattle.wrapped_chip.specs.Cells.{net_of_row, row_of}
 use Rattle.wrapped_chip.specs.Realises.{IsTapNet, tap_place}
-use Rattle.instruction_register.proofs.Rules.{last_there}
+use Rattle.surrounded_core.proofs.instruction_register.Rules.{last_there}
 use Rattle.surrounded_core.specs.Places.{Places, input_net}
 use Rattle.surrounded_core.specs.Sites.{StandsAround, HasRowAt, IsDrivenBy}
 use Rattle.surrounded_core.specs.Surrounds.{HasPorts, HasCodes, HasRows}
 use Rattle.plan_texts.specs.declared.plan.Plan.{Plan}
-use Rattle.plan_fitting.specs.declared.fitted.FitRow.{FitRow}
-use Rattle.plan_fitting.specs.declared.fitted.Fitted.{Fitted}
-use Rattle.plan_fitting.specs.Pins.{PinSeen}
-use Rattle.plan_fitting.specs.Rows.{rows}
-use Rattle.plan_fitting.specs.Laws.{CodesAreTheDevices, OpcodesKeepTheRules}
-use Rattle.plan_fitting.specs.Devices.{codes_of, fitted_of, cell_row, device_of}
+use Rattle.plan_devices.specs.plan_fitting.declared.fitted.FitRow.{FitRow}
+use Rattle.plan_devices.specs.plan_fitting.declared.fitted.Fitted.{Fitted}
+use Rattle.plan_devices.specs.plan_fitting.Pins.{PinSeen}
+use Rattle.plan_devices.specs.plan_fitting.Rows.{rows}
+use Rattle.plan_devices.specs.plan_fitting.Laws.{CodesAreTheDevices, OpcodesKeepTheRules}
+use Rattle.plan_devices.specs.plan_fitting.Devices.{codes_of, fitted_of, cell_row, device_of}
 use Rattle.plan_devices.specs.Fitting.{IsFitting}
 use Rattle.plan_devices.specs.Laws.{PlansSuitNetlists}
 use Rattle.plan_devices.proofs.DeviceRows.{mapped_at}
@@ -52,10 +52,10 @@ use Rattle.plan_devices.proofs.PlanClock.{plans_have_registers}
 use Rattle.plan_devices.proofs.PlanBits.{plans_have_bits}
 use Rattle.plan_devices.proofs.PlanCodes.{plans_have_codes}
 use Rattle.plan_devices.proofs.DeviceIs.{some_width}
-use Rattle.stitch_model.specs.declared.TapNames.{TapNames}
-use Rattle.stitch_model.specs.Sites.{pin_net, row_net}
-use Rattle.stitch_model.specs.Rows.{nets_of_rows, last_bit}
-use Rattle.stitch_model.specs.Stitched.{scalar, tap_ports, boundary_at, stitched}
+use Rattle.stitch_laws.specs.stitch_model.declared.TapNames.{TapNames}
+use Rattle.stitch_laws.specs.stitch_model.Sites.{pin_net, row_net}
+use Rattle.stitch_laws.specs.stitch_model.Rows.{nets_of_rows, last_bit}
+use Rattle.stitch_laws.specs.stitch_model.Stitched.{scalar, tap_ports, boundary_at, stitched}
 use Rattle.stitch_laws.specs.Places.{port_of, scan_of, register_net, row_first, row_side, row_number, row_next}
 use Rattle.stitch_laws.specs.Laws.{StitchedHoldsParts, StitchedHoldsTheCore}
 use Rattle.stitch_inside.specs.Places.{gates_of, places_of}

@@ -2,15 +2,15 @@
 -- IEEE Std 1149.1-2001: test logic architecture; the order is own.
 use Rattle.std.specs.Prelude.{ℕ, ◌+◌, slice_get, Option, Some, None}
 use Rattle.netlist_model.specs.Lists.{NetlistView, cell_count}
-use Rattle.boundary_runs.specs.Rows.{BoundaryRow, observe_row}
+use Rattle.surrounded_core.specs.boundary_runs.Rows.{BoundaryRow, observe_row}
 use Rattle.surrounded_core.specs.Places.{Places}
-use Rattle.plan_fitting.specs.declared.fitted.FitRow.{FitRow}
-use Rattle.plan_fitting.specs.declared.fitted.Fitted.{Fitted}
-use Rattle.stitch_model.specs.declared.TapNames.{TapNames}
-use Rattle.stitch_model.specs.Sites.{Boundary}
-use Rattle.stitch_model.specs.Rows.{nets_of_rows}
-use Rattle.stitch_model.specs.Logic.{instruction_from, bypass_from, ident_from, logic_size}
-use Rattle.stitch_model.specs.Stitched.{boundary_at, first_net, boundary_last, stitched}
+use Rattle.plan_devices.specs.plan_fitting.declared.fitted.FitRow.{FitRow}
+use Rattle.plan_devices.specs.plan_fitting.declared.fitted.Fitted.{Fitted}
+use Rattle.stitch_laws.specs.stitch_model.declared.TapNames.{TapNames}
+use Rattle.stitch_laws.specs.stitch_model.Sites.{Boundary}
+use Rattle.stitch_laws.specs.stitch_model.Rows.{nets_of_rows}
+use Rattle.stitch_laws.specs.stitch_model.Logic.{instruction_from, bypass_from, ident_from, logic_size}
+use Rattle.stitch_laws.specs.stitch_model.Stitched.{boundary_at, first_net, boundary_last, stitched}
 use Rattle.stitch_laws.specs.Places.{port_of, instruction_number, bypass_number, ident_number, tdo_number, row_first, row_side, row_number, row_next, boundary_row}
 use Rattle.stitch_inside.specs.Inner.{inner_net}
 

@@ -12,16 +12,21 @@
 
 ghost use Rattle.stitch_inside.specs.Laws.{StitchedNests, StitchedSurrounds};
 
-use instruction_register::registers_fit;
 use netlist_laws::{
     bit_of_a_direction, contained_parts, direction_of_a_bit, driver_is_found, found_driver_drives,
+};
+pub use plan_devices as lower_plan_devices;
+use plan_devices::lower_plan_fitting::{
+    codes_are_the_devices, control_cells_are_there, opcodes_keep_the_rules,
 };
 use plan_devices::{
     bits_have_rows, controls_follow_their_rows, controls_take_the_core, plans_suit_netlists,
     rows_stand_at_bits, rows_take_the_core,
 };
-use plan_fitting::{codes_are_the_devices, control_cells_are_there, opcodes_keep_the_rules};
+pub use stitch_laws as lower_stitch_laws;
 use stitch_laws::{stitched_holds_its_parts, stitched_holds_the_core};
+pub use surrounded_core as lower_surrounded_core;
+use surrounded_core::lower_instruction_register::registers_fit;
 
 /// The core nests in the stitched netlist, with its drivers behind boundary cells.
 pub fn stitched_nests()

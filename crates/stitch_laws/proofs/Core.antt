@@ -7,8 +7,8 @@ use Rattle.netlist_model.specs.declared.NetId.{NetId}
 use Rattle.netlist_model.specs.Lists.{PortView, CellView, NetlistView}
 use Rattle.netlist_model.specs.Settled.{is_output}
 use Rattle.netlist_images.specs.Nested.{renamed_cell}
-use Rattle.plan_fitting.specs.declared.fitted.FitRow.{FitRow}
-use Rattle.plan_fitting.specs.declared.fitted.Fitted.{Fitted}
+use Rattle.stitch_model.specs.plan_fitting.declared.fitted.FitRow.{FitRow}
+use Rattle.stitch_model.specs.plan_fitting.declared.fitted.Fitted.{Fitted}
 use Rattle.stitch_model.specs.Sites.{Boundary, row_net, row_sides}
 use Rattle.stitch_model.specs.Sides.{moves, side_from, core_side, feeds_behind, core_cell}
 use Rattle.stitch_model.specs.Stitched.{boundary_at}

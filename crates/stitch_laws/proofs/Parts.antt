@@ -9,8 +9,8 @@ use Rattle.netlist_laws.specs.Contained.{ContainedParts}
 use Rattle.gate_parts.proofs.LawProofs.{has_from}
 use Rattle.test_logic.specs.declared.ScanNets.{ScanNets}
 use Rattle.boundary_runs.specs.Rows.{row_cells}
-use Rattle.plan_fitting.specs.declared.fitted.FitRow.{FitRow}
-use Rattle.plan_fitting.specs.declared.fitted.Fitted.{Fitted}
+use Rattle.stitch_model.specs.plan_fitting.declared.fitted.FitRow.{FitRow}
+use Rattle.stitch_model.specs.plan_fitting.declared.fitted.Fitted.{Fitted}
 use Rattle.stitch_model.specs.declared.Site.{Site}
 use Rattle.stitch_model.specs.declared.Site.TheVariants as site
 use Rattle.stitch_model.specs.declared.TapNames.{TapNames}

@@ -4,7 +4,7 @@ use Rattle.std.specs.Prelude.{slice_get, count_by, filter_map, is_some, IsSome}
 use Rattle.std.proofs.lemmas.List.Sums.{sum_by-cons}
 use Rattle.netlist_model.specs.Lists.{CellView, NetlistView, live_cell, cell_at, cell_count}
 use Rattle.netlist_model.specs.Contained.{IsDense}
-use Rattle.plan_fitting.specs.declared.fitted.Fitted.{Fitted}
+use Rattle.stitch_model.specs.plan_fitting.declared.fitted.Fitted.{Fitted}
 use Rattle.stitch_model.specs.declared.TapNames.{TapNames}
 use Rattle.stitch_model.specs.Sides.{core_cell}
 use Rattle.stitch_model.specs.Stitched.{same_place, live_cells, boundary_at, first_net, tap_port, test_logic_cells, stitched}

@@ -5,8 +5,8 @@ use Rattle.netlist_model.specs.Lists.{CellView, NetlistView, cell_at, cell_count
 use Rattle.netlist_model.specs.Contained.{HasCells, IsDense}
 use Rattle.netlist_images.specs.Nested.{IsNested}
 use Rattle.boundary_runs.specs.Rows.{row_cells}
-use Rattle.plan_fitting.specs.declared.fitted.FitRow.{FitRow}
-use Rattle.plan_fitting.specs.declared.fitted.Fitted.{Fitted}
+use Rattle.stitch_model.specs.plan_fitting.declared.fitted.FitRow.{FitRow}
+use Rattle.stitch_model.specs.plan_fitting.declared.fitted.Fitted.{Fitted}
 use Rattle.stitch_model.specs.declared.TapNames.{TapNames}
 use Rattle.stitch_model.specs.Keeps.{Keeps}
 use Rattle.stitch_model.specs.Sides.{moves, core_side, feeds_behind, core_cell}

@@ -6,8 +6,8 @@ use Rattle.netlist_model.specs.declared.Dir.TheVariants.{Input, Output}
 use Rattle.netlist_model.specs.declared.Name.{Name}
 use Rattle.netlist_model.specs.declared.NetId.{NetId}
 use Rattle.netlist_model.specs.Lists.{PortView, NetView, CellView, NetlistView, cell_count}
-use Rattle.gate_parts.specs.Parts.{added_nets}
-use Rattle.register_gates.specs.Tdo.{tdo_cells}
+use Rattle.boundary_cells.specs.gate_parts.Parts.{added_nets}
+use Rattle.instruction_register.specs.register_gates.Tdo.{tdo_cells}
 use Rattle.plan_fitting.specs.declared.fitted.Fitted.{Fitted}
 use Rattle.stitch_model.specs.declared.TapNames.{TapNames}
 use Rattle.stitch_model.specs.declared.TapPort.{TapPort}

@@ -28,20 +28,20 @@ use Rattle.register_gates.specs.declared.ident.TheConstants.{INVERSE}
 use Rattle.register_gates.specs.declared.tdo.TheConstants.{TDO}
 use Rattle.register_gates.specs.Registers.{selected_given, selected_cells, selected_steering, bypass_cells, data_cells, user_size, inverse_cells, captured_feeds, ident_cells}
 use Rattle.register_gates.specs.Tdo.{tdo_given, tdo_driver}
-use Rattle.instruction_gates.specs.declared.latches.Latching.{Latching}
-use Rattle.instruction_gates.specs.declared.latches.TheConstants.{LOADED}
-use Rattle.instruction_gates.specs.declared.matches.TheConstants.{EQUAL_BIT}
-use Rattle.instruction_gates.specs.declared.selections.Matched.{Matched}
-use Rattle.instruction_gates.specs.declared.copies.TheConstants.{COPY}
-use Rattle.instruction_gates.specs.declared.selections.TheConstants.{SELECTIONS}
-use Rattle.instruction_gates.specs.declared.stages.TheConstants.{LOADS}
-use Rattle.instruction_gates.specs.Rows.{is_one, row_cells as bit_cells, placed}
-use Rattle.instruction_gates.specs.Latches.{loaded_given, latch_cells, latches_cells, holding_of}
-use Rattle.instruction_gates.specs.Matches.{match_before, equal_given, match_cells, matches_cells}
-use Rattle.instruction_gates.specs.Copies.{copy_given, copies_cells}
-use Rattle.instruction_gates.specs.Selections.{selections_given, selections_cells}
-use Rattle.instruction_gates.specs.Stages.{loads_given, ir_steering, ir_latching, shift_stage_cells, stages_cells}
-use Rattle.instruction_register.specs.Register.{pattern_bits, latches_from, cells_with, opcode_size, opcode_cells, matched_instructions, opcodes_cells, opcodes_told, opcodes_from, selections_from, copies_from, instruction_cells}
+use Rattle.stitch_cells.specs.instruction_gates.declared.latches.Latching.{Latching}
+use Rattle.stitch_cells.specs.instruction_gates.declared.latches.TheConstants.{LOADED}
+use Rattle.stitch_cells.specs.instruction_gates.declared.matches.TheConstants.{EQUAL_BIT}
+use Rattle.stitch_cells.specs.instruction_gates.declared.selections.Matched.{Matched}
+use Rattle.stitch_cells.specs.instruction_gates.declared.copies.TheConstants.{COPY}
+use Rattle.stitch_cells.specs.instruction_gates.declared.selections.TheConstants.{SELECTIONS}
+use Rattle.stitch_cells.specs.instruction_gates.declared.stages.TheConstants.{LOADS}
+use Rattle.stitch_cells.specs.instruction_gates.Rows.{is_one, row_cells as bit_cells, placed}
+use Rattle.stitch_cells.specs.instruction_gates.Latches.{loaded_given, latch_cells, latches_cells, holding_of}
+use Rattle.stitch_cells.specs.instruction_gates.Matches.{match_before, equal_given, match_cells, matches_cells}
+use Rattle.stitch_cells.specs.instruction_gates.Copies.{copy_given, copies_cells}
+use Rattle.stitch_cells.specs.instruction_gates.Selections.{selections_given, selections_cells}
+use Rattle.stitch_cells.specs.instruction_gates.Stages.{loads_given, ir_steering, ir_latching, shift_stage_cells, stages_cells}
+use Rattle.stitch_cells.specs.instruction_register.Register.{pattern_bits, latches_from, cells_with, opcode_size, opcode_cells, matched_instructions, opcodes_cells, opcodes_told, opcodes_from, selections_from, copies_from, instruction_cells}
 use Rattle.boundary_cells.specs.declared.tables.Choice.{Choice}
 use Rattle.boundary_cells.specs.declared.tables.TheConstants.{BC_1, BC_2, UPDATES, BC_1_CONTROL, BC_2_CONTROL, BC_7_HIGH, BC_7_LOW, BC_1_LEVEL, BC_2_LEVEL}
 use Rattle.boundary_cells.specs.Cells.{steering_of, choice_cell, cells_onto, cell_given, output_cells}
@@ -49,16 +49,16 @@ use Rattle.boundary_cells.specs.ThreeState.{control_given, control_cells, bidir_
 use Rattle.draft_laws.specs.Tables.{is_plain}
 use Rattle.draft_laws.specs.Names.{IsNamedCell}
 use Rattle.draft_laws.specs.Sources.{PartIsNamed}
-use Rattle.plan_fitting.specs.declared.fitted.FitRow.{FitRow}
-use Rattle.plan_fitting.specs.declared.fitted.Fitted.{Fitted}
-use Rattle.stitch_model.specs.declared.Site.{Site}
-use Rattle.stitch_model.specs.declared.Site.TheVariants as site
-use Rattle.stitch_model.specs.declared.TapPort.{TapPort}
-use Rattle.stitch_model.specs.Sites.{Boundary, site_of, row_sides}
-use Rattle.stitch_model.specs.Sides.{level_net, core_feed}
-use Rattle.stitch_model.specs.Rows.{behind, net_at, enable_of, is_active_high, added_driver, site_cells, row_cells, nets_of_rows, last_bit, rows_cells}
-use Rattle.stitch_model.specs.Logic.{instruction_from, bypass_from, ident_from, logic_size, tap_at, instruction_at, bypass_at, ident_at, controller_part, instruction_part, bypass_part, ident_part, logic_cells}
-use Rattle.stitch_model.specs.Stitched.{rows_part, boundary_last, tdo_part, test_logic_cells}
+use Rattle.plan_devices.specs.plan_fitting.declared.fitted.FitRow.{FitRow}
+use Rattle.plan_devices.specs.plan_fitting.declared.fitted.Fitted.{Fitted}
+use Rattle.stitch_cells.specs.stitch_model.declared.Site.{Site}
+use Rattle.stitch_cells.specs.stitch_model.declared.Site.TheVariants as site
+use Rattle.stitch_cells.specs.stitch_model.declared.TapPort.{TapPort}
+use Rattle.stitch_cells.specs.stitch_model.Sites.{Boundary, site_of, row_sides}
+use Rattle.stitch_cells.specs.stitch_model.Sides.{level_net, core_feed}
+use Rattle.stitch_cells.specs.stitch_model.Rows.{behind, net_at, enable_of, is_active_high, added_driver, site_cells, row_cells, nets_of_rows, last_bit, rows_cells}
+use Rattle.stitch_cells.specs.stitch_model.Logic.{instruction_from, bypass_from, ident_from, logic_size, tap_at, instruction_at, bypass_at, ident_at, controller_part, instruction_part, bypass_part, ident_part, logic_cells}
+use Rattle.stitch_cells.specs.stitch_model.Stitched.{rows_part, boundary_last, tdo_part, test_logic_cells}
 use Rattle.stitch_names.proofs.Table.{at_append, only_at}
 
 -- each cell of the list is named

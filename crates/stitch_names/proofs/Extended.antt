@@ -11,8 +11,8 @@ use Rattle.netlist_model.specs.declared.Name.{Name}
 use Rattle.netlist_model.specs.declared.Name.TheVariants.{Original, Added}
 use Rattle.netlist_model.specs.declared.Range.{Range}
 use Rattle.netlist_model.specs.Lists.{PortView, NetView, CellView, NetlistView, cell_at, direction}
-use Rattle.netlist_link.specs.WellNamed.{IsKnown, IsShortRange, index_from, IsWireNet, IsWireName, IsWellNamed}
-use Rattle.netlist_unlink.specs.Prefixes.{IsUsed, port as used_port, net as used_net, cell as used_cell}
+use Rattle.draft_laws.specs.netlist_link.WellNamed.{IsKnown, IsShortRange, index_from, IsWireNet, IsWireName, IsWellNamed}
+use Rattle.plan_devices.specs.netlist_unlink.Prefixes.{IsUsed, port as used_port, net as used_net, cell as used_cell}
 use Rattle.draft_laws.specs.Names.{IsNamedCell}
 use Rattle.draft_laws.proofs.Named.{is_some_of}
 use Rattle.stitch_names.proofs.TapNames.{AreNewNames, IsLongerTable}

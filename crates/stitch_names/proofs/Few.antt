@@ -4,14 +4,14 @@ use Rattle.std.proofs.lemmas.List.Sums.{sum_by-cons}
 use Rattle.cell_library.specs.declared.codes.Instr.TheVariants.{Extest, Sample, Preload, Idcode, Highz, Clamp, Usercode}
 use Rattle.netlist_model.specs.Lists.{PortView}
 use Rattle.test_logic.specs.Instructions.{opcode_of}
-use Rattle.plan_fitting.specs.declared.fitted.FitRow.{FitRow}
-use Rattle.plan_fitting.specs.declared.fitted.Fitted.{Fitted}
-use Rattle.stitch_model.specs.declared.Site.{Site}
-use Rattle.stitch_model.specs.declared.Site.TheVariants as site
-use Rattle.stitch_model.specs.Sites.{site_of, side_count, row_sides, sides_of}
-use Rattle.stitch_model.specs.Rows.{row_nets, nets_of_rows}
-use Rattle.stitch_model.specs.Logic.{logic_size}
-use Rattle.stitch_model.proofs.Few.{size_few, code_few, nets_by_few}
+use Rattle.plan_devices.specs.plan_fitting.declared.fitted.FitRow.{FitRow}
+use Rattle.plan_devices.specs.plan_fitting.declared.fitted.Fitted.{Fitted}
+use Rattle.stitch_cells.specs.stitch_model.declared.Site.{Site}
+use Rattle.stitch_cells.specs.stitch_model.declared.Site.TheVariants as site
+use Rattle.stitch_cells.specs.stitch_model.Sites.{site_of, side_count, row_sides, sides_of}
+use Rattle.stitch_cells.specs.stitch_model.Rows.{row_nets, nets_of_rows}
+use Rattle.stitch_cells.specs.stitch_model.Logic.{logic_size}
+use Rattle.stitch_cells.proofs.stitch_model.Few.{size_few, code_few, nets_by_few}
 use Rattle.stitch_cells.specs.Sizes.{choice_count, driver_count, row_size, cells_of_rows}
 use Rattle.stitch_cells.proofs.Counts.{counts}
 use Rattle.stitch_names.specs.Taken.{StitchedFitsRoom}

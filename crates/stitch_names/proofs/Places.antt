@@ -11,12 +11,12 @@ use Rattle.netlist_model.specs.Contained.{IsDense}
 use Rattle.netlist_images.specs.Nested.{renamed_net}
 use Rattle.draft_laws.specs.Names.{IsNamedCell}
 use Rattle.draft_laws.specs.Sources.{PartIsNamed}
-use Rattle.plan_fitting.specs.declared.fitted.Fitted.{Fitted}
-use Rattle.stitch_model.specs.declared.TapNames.{TapNames}
-use Rattle.stitch_model.specs.Sides.{core_side, core_cell}
-use Rattle.stitch_model.specs.Stitched.{live_cells, boundary_at, first_net, tap_port, test_logic_cells, stitched}
-use Rattle.stitch_laws.specs.Laws.{StitchedHoldsTheCore}
-use Rattle.stitch_laws.proofs.Places.{listed_at}
+use Rattle.plan_devices.specs.plan_fitting.declared.fitted.Fitted.{Fitted}
+use Rattle.stitch_cells.specs.stitch_model.declared.TapNames.{TapNames}
+use Rattle.stitch_cells.specs.stitch_model.Sides.{core_side, core_cell}
+use Rattle.stitch_cells.specs.stitch_model.Stitched.{live_cells, boundary_at, first_net, tap_port, test_logic_cells, stitched}
+use Rattle.stitch_cells.specs.stitch_laws.Laws.{StitchedHoldsTheCore}
+use Rattle.stitch_cells.proofs.stitch_laws.Places.{listed_at}
 use Rattle.stitch_cells.proofs.Cells.{core_length}
 use Rattle.stitch_names.proofs.Table.{at_append}
 use Rattle.stitch_names.proofs.Added.{logic_named}

@@ -7,21 +7,21 @@ use Rattle.list_laws.proofs.Lists.{slice_get_there, all_at}
 use Rattle.netlist_model.specs.declared.Name.TheVariants.{Original}
 use Rattle.netlist_model.specs.Formed.{IsLaidOut}
 use Rattle.netlist_model.specs.Contained.{IsDense}
-use Rattle.netlist_link.specs.Linked.{LinkedView}
-use Rattle.netlist_link.specs.WellNamed.{IsWellNamed}
-use Rattle.netlist_unlink.specs.Prefixes.{IsUsed}
+use Rattle.draft_laws.specs.netlist_link.Linked.{LinkedView}
+use Rattle.draft_laws.specs.netlist_link.WellNamed.{IsWellNamed}
+use Rattle.plan_devices.specs.netlist_unlink.Prefixes.{IsUsed}
 use Rattle.draft_laws.specs.Sources.{PartIsNamed}
 use Rattle.draft_laws.proofs.Named.{original_same}
 use Rattle.plan_texts.specs.declared.plan.Plan.{Plan}
 use Rattle.plan_texts.specs.declared.plan.TapLine.{TapLine}
-use Rattle.plan_fitting.specs.declared.fitted.Fitted.{Fitted}
-use Rattle.plan_fitting.specs.Pins.{PinSeen}
-use Rattle.plan_fitting.specs.Fits.{tap_lines}
-use Rattle.plan_fitting.specs.Devices.{fitted_of}
+use Rattle.plan_devices.specs.plan_fitting.declared.fitted.Fitted.{Fitted}
+use Rattle.plan_devices.specs.plan_fitting.Pins.{PinSeen}
+use Rattle.plan_devices.specs.plan_fitting.Fits.{tap_lines}
+use Rattle.plan_devices.specs.plan_fitting.Devices.{fitted_of}
 use Rattle.plan_devices.specs.Laws.{HasFreePrefix, PrefixesAreFree}
-use Rattle.stitch_model.specs.declared.TapNames.{TapNames}
-use Rattle.stitch_model.specs.Stitched.{stitched}
-use Rattle.stitch_laws.specs.Laws.{StitchedHoldsTheCore}
+use Rattle.stitch_cells.specs.stitch_model.declared.TapNames.{TapNames}
+use Rattle.stitch_cells.specs.stitch_model.Stitched.{stitched}
+use Rattle.stitch_cells.specs.stitch_laws.Laws.{StitchedHoldsTheCore}
 use Rattle.stitch_cells.specs.Directions.{StitchedDirections}
 use Rattle.stitch_names.specs.Prepared.{with_tap_names, AreTapNames}
 use Rattle.stitch_names.specs.Laws.{StitchedHasFreePrefix}

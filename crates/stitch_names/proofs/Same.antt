@@ -3,7 +3,7 @@ use Rattle.std.proofs.Common.{◌≡◌, List, [], refl, ap, sym, ◌∙◌, inl
 use Rattle.std.specs.Prelude.{slice_get}
 use Rattle.netlist_model.specs.declared.Name.{Name}
 use Rattle.netlist_model.specs.Lists.{PortView, NetView, NetlistView, direction}
-use Rattle.netlist_unlink.specs.Prefixes.{IsUsed, port as used_port, net as used_net, cell as used_cell}
+use Rattle.plan_devices.specs.netlist_unlink.Prefixes.{IsUsed, port as used_port, net as used_net, cell as used_cell}
 use Rattle.stitch_names.specs.Same.{IsSameNetlist, SameIsNamed}
 use Rattle.stitch_names.proofs.Extended.{core_net, Extends, extended_named}
 

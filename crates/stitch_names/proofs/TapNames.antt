@@ -10,18 +10,18 @@ use Rattle.netlist_model.specs.declared.Name.{Name}
 use Rattle.netlist_model.specs.declared.Name.TheVariants.{Original, Added}
 use Rattle.netlist_model.specs.Lists.{NetlistView}
 use Rattle.name_table.specs.Names.{IsOnce}
-use Rattle.netlist_link.specs.Linked.{LinkedView}
-use Rattle.netlist_link.specs.WellNamed.{IsKnown, IsWellNamed}
-use Rattle.netlist_unlink.specs.Prefixes.{IsUsed, port as used_port, net as used_net, cell as used_cell}
+use Rattle.draft_laws.specs.netlist_link.Linked.{LinkedView}
+use Rattle.draft_laws.specs.netlist_link.WellNamed.{IsKnown, IsWellNamed}
+use Rattle.plan_devices.specs.netlist_unlink.Prefixes.{IsUsed, port as used_port, net as used_net, cell as used_cell}
 use Rattle.draft_laws.proofs.Named.{original_same}
 use Rattle.plan_texts.specs.declared.plan.Plan.{Plan}
 use Rattle.plan_texts.specs.declared.plan.TapLine.{TapLine}
-use Rattle.plan_fitting.specs.declared.fitted.Fitted.{Fitted}
-use Rattle.plan_fitting.specs.Pins.{PinSeen}
-use Rattle.plan_fitting.specs.Fits.{tap_lines}
-use Rattle.plan_fitting.specs.Devices.{fitted_of}
+use Rattle.plan_devices.specs.plan_fitting.declared.fitted.Fitted.{Fitted}
+use Rattle.plan_devices.specs.plan_fitting.Pins.{PinSeen}
+use Rattle.plan_devices.specs.plan_fitting.Fits.{tap_lines}
+use Rattle.plan_devices.specs.plan_fitting.Devices.{fitted_of}
 use Rattle.plan_devices.specs.Laws.{HasNewTapNames}
-use Rattle.stitch_model.specs.declared.TapNames.{TapNames}
+use Rattle.stitch_cells.specs.stitch_model.declared.TapNames.{TapNames}
 use Rattle.stitch_names.specs.Prepared.{with_tap_names, AreTapNames, IsEntered}
 use Rattle.stitch_names.specs.Laws.{TapNamesAreEntered}
 use Rattle.stitch_names.proofs.Table.{all_kept, all_once, all_entered, all_either, no_shorter}

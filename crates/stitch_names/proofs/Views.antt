@@ -13,13 +13,13 @@ use Rattle.netlist_model.specs.Formed.{IsLaidOut}
 use Rattle.netlist_model.specs.Contained.{IsDense}
 use Rattle.gate_parts.specs.Parts.{added_nets}
 use Rattle.draft_laws.specs.Sources.{PartIsNamed}
-use Rattle.plan_fitting.specs.declared.fitted.Fitted.{Fitted}
-use Rattle.plan_fitting.specs.Devices.{fitted_of}
+use Rattle.plan_devices.specs.plan_fitting.declared.fitted.Fitted.{Fitted}
+use Rattle.plan_devices.specs.plan_fitting.Devices.{fitted_of}
 use Rattle.plan_devices.specs.Laws.{TapNamesAreNew}
-use Rattle.stitch_model.specs.declared.TapNames.{TapNames}
-use Rattle.stitch_model.specs.Sites.{sides_of}
-use Rattle.stitch_model.specs.Stitched.{tap_port, scalar, tap_ports, named_net, tap_net_views, boundary_at, test_logic_nets, stitched}
-use Rattle.stitch_laws.specs.Laws.{StitchedHoldsTheCore}
+use Rattle.stitch_cells.specs.stitch_model.declared.TapNames.{TapNames}
+use Rattle.stitch_cells.specs.stitch_model.Sites.{sides_of}
+use Rattle.stitch_cells.specs.stitch_model.Stitched.{tap_port, scalar, tap_ports, named_net, tap_net_views, boundary_at, test_logic_nets, stitched}
+use Rattle.stitch_cells.specs.stitch_laws.Laws.{StitchedHoldsTheCore}
 use Rattle.stitch_cells.specs.Directions.{KeepsDirections, StitchedDirections}
 use Rattle.stitch_names.specs.Prepared.{with_tap_names}
 use Rattle.stitch_names.specs.Laws.{StitchedIsNamed}

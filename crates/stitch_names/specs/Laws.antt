@@ -4,16 +4,16 @@ use Rattle.std.specs.Prelude.{◌≡◌, ℕ, List, slice_get, Some}
 use Rattle.netlist_model.specs.Formed.{IsLaidOut}
 use Rattle.netlist_model.specs.Contained.{IsDense}
 use Rattle.name_table.specs.Names.{IsOnce}
-use Rattle.netlist_link.specs.Linked.{LinkedView}
-use Rattle.netlist_link.specs.WellNamed.{IsWellNamed}
-use Rattle.netlist_unlink.specs.Prefixes.{IsFreePrefix}
+use Rattle.draft_laws.specs.netlist_link.Linked.{LinkedView}
+use Rattle.draft_laws.specs.netlist_link.WellNamed.{IsWellNamed}
+use Rattle.plan_devices.specs.netlist_unlink.Prefixes.{IsFreePrefix}
 use Rattle.plan_texts.specs.declared.plan.Plan.{Plan}
-use Rattle.plan_fitting.specs.declared.fitted.Fitted.{Fitted}
-use Rattle.plan_fitting.specs.Pins.{PinSeen}
-use Rattle.plan_fitting.specs.Devices.{fitted_of}
+use Rattle.plan_devices.specs.plan_fitting.declared.fitted.Fitted.{Fitted}
+use Rattle.plan_devices.specs.plan_fitting.Pins.{PinSeen}
+use Rattle.plan_devices.specs.plan_fitting.Devices.{fitted_of}
 use Rattle.plan_devices.specs.Fitting.{IsFitting}
-use Rattle.stitch_model.specs.declared.TapNames.{TapNames}
-use Rattle.stitch_model.specs.Stitched.{stitched}
+use Rattle.stitch_cells.specs.stitch_model.declared.TapNames.{TapNames}
+use Rattle.stitch_cells.specs.stitch_model.Stitched.{stitched}
 use Rattle.stitch_names.specs.Same.{IsSameNetlist}
 use Rattle.stitch_names.specs.Prepared.{with_tap_names, AreTapNames, HasEntered}
 

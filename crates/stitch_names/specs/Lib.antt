@@ -1,3 +1,7 @@
+pub use Rattle.stitch_cells.specs.stitch_model as stitch_model
+pub use Rattle.stitch_cells.specs.stitch_laws as stitch_laws
+pub use Rattle.stitch_cells.specs as stitch_cells
+pub use Rattle.plan_devices.specs as plan_devices
 pub mod Prepared
 pub mod Same
 pub mod Laws

@@ -4,10 +4,10 @@ use Rattle.std.specs.Prelude.{◌≡◌, ℕ, ◌+◌, ◌*◌, List, length, So
 use Rattle.name_table.specs.Names.{with_name}
 use Rattle.link_model.specs.Denoted.{name_bytes}
 use Rattle.netlist_model.specs.declared.Name.{Name}
-use Rattle.netlist_link.specs.Linked.{LinkedView}
-use Rattle.netlist_link.specs.Drafts.{reserved}
-use Rattle.plan_fitting.specs.declared.fitted.Fitted.{Fitted}
-use Rattle.stitch_model.specs.declared.TapNames.{TapNames}
+use Rattle.draft_laws.specs.netlist_link.Linked.{LinkedView}
+use Rattle.draft_laws.specs.netlist_link.Drafts.{reserved}
+use Rattle.plan_devices.specs.plan_fitting.declared.fitted.Fitted.{Fitted}
+use Rattle.stitch_cells.specs.stitch_model.declared.TapNames.{TapNames}
 
 -- own: the cells, and the nets
 abbrev pub room_of : Fitted → ℕ

@@ -2,7 +2,7 @@
 -- Own.
 use Rattle.std.specs.Prelude.{◌≡◌, ℕ, List}
 use Rattle.netlist_model.specs.Lists.{NetlistView, cell_at}
-use Rattle.netlist_link.specs.WellNamed.{IsWellNamed}
+use Rattle.draft_laws.specs.netlist_link.WellNamed.{IsWellNamed}
 
 -- own: the same library, ports and nets, and the same live cell under each number
 pub record IsSameNetlist (one other : NetlistView) : Type 0 where

@@ -2,9 +2,9 @@
 -- Own.
 use Rattle.std.specs.Prelude.{◌+◌, ◌≤◌, length}
 use Rattle.netlist_model.specs.Lists.{NetlistView, cell_count}
-use Rattle.plan_fitting.specs.declared.fitted.Fitted.{Fitted}
-use Rattle.stitch_model.specs.declared.TapNames.{TapNames}
-use Rattle.stitch_model.specs.Stitched.{stitched}
+use Rattle.plan_devices.specs.plan_fitting.declared.fitted.Fitted.{Fitted}
+use Rattle.stitch_cells.specs.stitch_model.declared.TapNames.{TapNames}
+use Rattle.stitch_cells.specs.stitch_model.Stitched.{stitched}
 use Rattle.stitch_names.specs.Prepared.{room_of}
 
 -- own: the cells and the nets that are added fit into the room that is taken for them

@@ -15,10 +15,10 @@ use Rattle.netlist_model.specs.Formed.{IsLaidOut, IsWellFormed}
 use Rattle.netlist_laws.proofs.KindLaws.{flop_no_bufif}
 use Rattle.netlist_laws.proofs.Controls.{control_read, control_closed}
 use Rattle.netlist_images.specs.Nested.{renamed_net, renamed_feed}
-use Rattle.plan_fitting.specs.declared.fitted.FitRow.{FitRow}
-use Rattle.stitch_model.specs.Sites.{Boundary}
-use Rattle.stitch_model.specs.Sides.{core_side, drives, feeds_behind, core_cell}
-use Rattle.stitch_model.specs.Stitched.{same_place}
+use Rattle.plan_devices.specs.plan_fitting.declared.fitted.FitRow.{FitRow}
+use Rattle.stitch_cells.specs.stitch_model.Sites.{Boundary}
+use Rattle.stitch_cells.specs.stitch_model.Sides.{core_side, drives, feeds_behind, core_cell}
+use Rattle.stitch_cells.specs.stitch_model.Stitched.{same_place}
 use Rattle.stitch_cells.proofs.Tables.{keeps_may}
 use Rattle.stitch_ranks.proofs.Moved.{DrivenBy, driven_or_not, moved_or_stays}
 use Rattle.stitch_ranks.proofs.Steered.{IsSteered, AreSteered, steered_at}

@@ -10,29 +10,29 @@ use Rattle.netlist_model.specs.Cones.{IsControlNet, IsControlPort}
 use Rattle.netlist_model.specs.Formed.{IsLaidOut, IsDriven, IsCombinational}
 use Rattle.netlist_laws.specs.Ports.{BitHasDirection, DirectionHasBit}
 use Rattle.netlist_laws.specs.Drivers.{DriverIsFound, DriverDrives}
-use Rattle.netlist_link.specs.Linked.{LinkedView}
+use Rattle.plan_devices.specs.netlist_link.Linked.{LinkedView}
 use Rattle.netlist_images.specs.Nested.{renamed_net}
 use Rattle.test_logic.specs.declared.TapInput.{TapInput}
 use Rattle.test_logic.specs.declared.TapInput.TheVariants.{Tck, Tms, Tdi, Trst}
 use Rattle.wrapped_chip.specs.Realises.{SameBit, tap_place, IsTapNet}
 use Rattle.wrapped_chip.specs.Legal.{IsClockOrReset, IsKeptControl, IsTapControl}
 use Rattle.plan_texts.specs.declared.plan.Plan.{Plan}
-use Rattle.plan_fitting.specs.declared.fitted.FitRow.{FitRow}
-use Rattle.plan_fitting.specs.declared.fitted.Fitted.{Fitted}
-use Rattle.plan_fitting.specs.Pins.{PinSeen}
-use Rattle.plan_fitting.specs.Devices.{fitted_of}
-use Rattle.plan_fitting.specs.Laws.{ControlCellsAreThere}
+use Rattle.plan_devices.specs.plan_fitting.declared.fitted.FitRow.{FitRow}
+use Rattle.plan_devices.specs.plan_fitting.declared.fitted.Fitted.{Fitted}
+use Rattle.plan_devices.specs.plan_fitting.Pins.{PinSeen}
+use Rattle.plan_devices.specs.plan_fitting.Devices.{fitted_of}
+use Rattle.plan_devices.specs.plan_fitting.Laws.{ControlCellsAreThere}
 use Rattle.plan_devices.specs.Fitting.{IsFitting}
 use Rattle.plan_devices.specs.Laws.{PlansSuitNetlists, RowsStandAtBits, RowsTakeTheCore}
-use Rattle.stitch_model.specs.declared.TapNames.{TapNames}
-use Rattle.stitch_model.specs.declared.Site.{Site}
-use Rattle.stitch_model.specs.declared.Site.TheVariants as site
-use Rattle.stitch_model.specs.Sites.{Boundary, row_net, site_of}
-use Rattle.stitch_model.specs.Sides.{is_moved, core_side, is_driven, core_cell}
-use Rattle.stitch_model.specs.Rows.{net_at}
-use Rattle.stitch_model.specs.Stitched.{tap_port, test_logic_cells, boundary_at, first_net, stitched_cells, stitched}
-use Rattle.stitch_laws.specs.Laws.{IsInside, StitchedHoldsParts, StitchedHoldsTheCore}
-use Rattle.stitch_laws.proofs.Places.{listed_at}
+use Rattle.stitch_cells.specs.stitch_model.declared.TapNames.{TapNames}
+use Rattle.stitch_cells.specs.stitch_model.declared.Site.{Site}
+use Rattle.stitch_cells.specs.stitch_model.declared.Site.TheVariants as site
+use Rattle.stitch_cells.specs.stitch_model.Sites.{Boundary, row_net, site_of}
+use Rattle.stitch_cells.specs.stitch_model.Sides.{is_moved, core_side, is_driven, core_cell}
+use Rattle.stitch_cells.specs.stitch_model.Rows.{net_at}
+use Rattle.stitch_cells.specs.stitch_model.Stitched.{tap_port, test_logic_cells, boundary_at, first_net, stitched_cells, stitched}
+use Rattle.stitch_cells.specs.stitch_laws.Laws.{IsInside, StitchedHoldsParts, StitchedHoldsTheCore}
+use Rattle.stitch_cells.proofs.stitch_laws.Places.{listed_at}
 use Rattle.stitch_cells.specs.Directions.{KeepsDirections, StitchedDirections}
 use Rattle.stitch_ranks.specs.Laws.{StitchedHasCones, StitchedHasControls}
 use Rattle.stitch_ranks.proofs.Moved.{net_at_is, moved_or_stays}

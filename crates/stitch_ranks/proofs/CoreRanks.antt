@@ -10,12 +10,12 @@ use Rattle.netlist_model.specs.Lists.{direction}
 use Rattle.netlist_model.specs.Settled.{is_output}
 use Rattle.gate_parts.specs.Levels.{AreFeedsUpTo}
 use Rattle.netlist_images.specs.Nested.{renamed_feed}
-use Rattle.plan_fitting.specs.declared.fitted.FitRow.{FitRow}
-use Rattle.stitch_model.specs.declared.Site.{Site}
-use Rattle.stitch_model.specs.declared.Site.TheVariants as site
-use Rattle.stitch_model.specs.Sites.{Boundary, row_net, site_of, row_sides, sides_of}
-use Rattle.stitch_model.specs.Sides.{is_moved, moves, core_side}
-use Rattle.stitch_model.specs.Rows.{net_at}
+use Rattle.plan_devices.specs.plan_fitting.declared.fitted.FitRow.{FitRow}
+use Rattle.stitch_cells.specs.stitch_model.declared.Site.{Site}
+use Rattle.stitch_cells.specs.stitch_model.declared.Site.TheVariants as site
+use Rattle.stitch_cells.specs.stitch_model.Sites.{Boundary, row_net, site_of, row_sides, sides_of}
+use Rattle.stitch_cells.specs.stitch_model.Sides.{is_moved, moves, core_side}
+use Rattle.stitch_cells.specs.stitch_model.Rows.{net_at}
 use Rattle.stitch_ranks.proofs.Places.{StandAt, moved_at, first_at}
 use Rattle.stitch_ranks.proofs.Ranks.{net_rank, feed_rank, sides_at, sides_ranks, total, pin_by, pin_rank}
 use Rattle.stitch_ranks.proofs.RowsAbove.{sides_front, sides_behind}

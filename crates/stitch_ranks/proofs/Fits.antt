@@ -15,13 +15,13 @@ use Rattle.netlist_model.specs.Settled.{is_output}
 use Rattle.netlist_model.specs.Formed.{FeedsBelow}
 use Rattle.gate_parts.specs.Levels.{AreFeedsUpTo}
 use Rattle.netlist_images.specs.Nested.{renamed_net, renamed_feed}
-use Rattle.part_levels.specs.Above.{StandsOn}
-use Rattle.plan_fitting.specs.declared.fitted.FitRow.{FitRow}
-use Rattle.stitch_model.specs.declared.Site.{Site}
-use Rattle.stitch_model.specs.declared.Site.TheVariants as site
-use Rattle.stitch_model.specs.Sites.{Boundary, row_net, site_of, sides_of, side_at}
-use Rattle.stitch_model.specs.Sides.{is_moved, core_side, is_driven, level_net, core_feed, feeds_behind, core_cell}
-use Rattle.stitch_model.specs.Rows.{net_at, enable_of}
+use Rattle.stitch_cells.specs.part_levels.Above.{StandsOn}
+use Rattle.plan_devices.specs.plan_fitting.declared.fitted.FitRow.{FitRow}
+use Rattle.stitch_cells.specs.stitch_model.declared.Site.{Site}
+use Rattle.stitch_cells.specs.stitch_model.declared.Site.TheVariants as site
+use Rattle.stitch_cells.specs.stitch_model.Sites.{Boundary, row_net, site_of, sides_of, side_at}
+use Rattle.stitch_cells.specs.stitch_model.Sides.{is_moved, core_side, is_driven, level_net, core_feed, feeds_behind, core_cell}
+use Rattle.stitch_cells.specs.stitch_model.Rows.{net_at, enable_of}
 use Rattle.stitch_ranks.proofs.Places.{StandAt, first_at}
 use Rattle.stitch_ranks.proofs.Ranks.{net_rank, feed_rank, sides_at, sides_ranks, total}
 use Rattle.stitch_ranks.proofs.RowsAbove.{RowFits, up_to_more}

@@ -13,21 +13,21 @@ use Rattle.test_logic.specs.declared.ScanNets.{ScanNets}
 use Rattle.test_logic.specs.Instructions.{opcode_of}
 use Rattle.register_bits.specs.Bits.{held_bit}
 use Rattle.register_bits.specs.Chains.{chain_last}
-use Rattle.register_gates.proofs.ConstantBits.{counted}
-use Rattle.instruction_gates.specs.declared.latches.TheConstants.{LOADED}
-use Rattle.instruction_gates.specs.declared.stages.TheConstants.{LOADS}
-use Rattle.instruction_gates.specs.declared.matches.TheConstants.{EQUAL_BIT}
-use Rattle.instruction_gates.specs.declared.copies.TheConstants.{COPY}
-use Rattle.instruction_gates.specs.declared.selections.TheConstants.{SELECTIONS}
-use Rattle.instruction_gates.specs.Matches.{match_before}
-use Rattle.instruction_gates.specs.Copies.{copies_cells}
-use Rattle.instruction_gates.specs.Selections.{selections_given, selections_cells, selection_nets}
-use Rattle.instruction_gates.specs.Stages.{stages_cells}
-use Rattle.instruction_register.specs.Register.{pattern_bits, stages_size, latches_from, size_with, cells_with, told_with, opcode_size, opcode_cells, matched_instructions, opcodes_size, opcodes_cells, opcodes_told, opcodes_from, selections_from, copies_from, instruction_size, instruction_cells, instruction_nets}
-use Rattle.part_levels.specs.Above.{AreAbove, AreRanked, PartsStandAbove}
-use Rattle.part_levels.specs.Registers.{selections_levels, SelectionsStandAbove, AreBitsRanked}
-use Rattle.part_levels.specs.Instructions.{one_level, held_levels, equal_levels, AreLatchesRanked, StagesStandAbove, MatchesStandAbove, AreCopiesRanked, CopiesStandAbove}
-use Rattle.part_levels.proofs.Feeds.{up_cons, up_constants}
+use Rattle.stitch_cells.proofs.register_gates.ConstantBits.{counted}
+use Rattle.stitch_cells.specs.instruction_gates.declared.latches.TheConstants.{LOADED}
+use Rattle.stitch_cells.specs.instruction_gates.declared.stages.TheConstants.{LOADS}
+use Rattle.stitch_cells.specs.instruction_gates.declared.matches.TheConstants.{EQUAL_BIT}
+use Rattle.stitch_cells.specs.instruction_gates.declared.copies.TheConstants.{COPY}
+use Rattle.stitch_cells.specs.instruction_gates.declared.selections.TheConstants.{SELECTIONS}
+use Rattle.stitch_cells.specs.instruction_gates.Matches.{match_before}
+use Rattle.stitch_cells.specs.instruction_gates.Copies.{copies_cells}
+use Rattle.stitch_cells.specs.instruction_gates.Selections.{selections_given, selections_cells, selection_nets}
+use Rattle.stitch_cells.specs.instruction_gates.Stages.{stages_cells}
+use Rattle.stitch_cells.specs.instruction_register.Register.{pattern_bits, stages_size, latches_from, size_with, cells_with, told_with, opcode_size, opcode_cells, matched_instructions, opcodes_size, opcodes_cells, opcodes_told, opcodes_from, selections_from, copies_from, instruction_size, instruction_cells, instruction_nets}
+use Rattle.stitch_cells.specs.part_levels.Above.{AreAbove, AreRanked, PartsStandAbove}
+use Rattle.stitch_cells.specs.part_levels.Registers.{selections_levels, SelectionsStandAbove, AreBitsRanked}
+use Rattle.stitch_cells.specs.part_levels.Instructions.{one_level, held_levels, equal_levels, AreLatchesRanked, StagesStandAbove, MatchesStandAbove, AreCopiesRanked, CopiesStandAbove}
+use Rattle.stitch_cells.proofs.part_levels.Feeds.{up_cons, up_constants}
 use Rattle.stitch_ranks.proofs.Places.{StandAt, front_at, behind_at, moved_at, first_at, levels_at, ranked, blocks, length_triples, triples_at, length_pairs, pairs_at}
 use Rattle.stitch_ranks.proofs.Ranks.{shift_block, latch_block, match_block, stages_ranks, opcode_ranks, opcodes_ranks, copies_ranks, instruction_ranks, control_top}
 use Rattle.stitch_ranks.proofs.Logic.{shift_length, bits_ranked, AreTapNetsLow}

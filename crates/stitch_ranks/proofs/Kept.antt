@@ -11,13 +11,13 @@ use Rattle.netlist_model.specs.Settled.{is_output}
 use Rattle.netlist_model.specs.Cones.{IsControlNet, IsControlPort}
 use Rattle.netlist_model.specs.Formed.{IsLaidOut}
 use Rattle.netlist_laws.proofs.Controls.{control_read}
-use Rattle.plan_fitting.specs.declared.fitted.FitRow.{FitRow}
-use Rattle.stitch_model.specs.declared.Site.{Site}
-use Rattle.stitch_model.specs.declared.Site.TheVariants as site
-use Rattle.stitch_model.specs.Sites.{Boundary, row_net, site_of, side_count, row_sides, sides_of}
-use Rattle.stitch_model.specs.Sides.{is_moved, moves, core_side}
-use Rattle.stitch_model.specs.Rows.{net_at}
-use Rattle.stitch_model.proofs.Moves.{moved_counts, sides_within}
+use Rattle.plan_devices.specs.plan_fitting.declared.fitted.FitRow.{FitRow}
+use Rattle.stitch_cells.specs.stitch_model.declared.Site.{Site}
+use Rattle.stitch_cells.specs.stitch_model.declared.Site.TheVariants as site
+use Rattle.stitch_cells.specs.stitch_model.Sites.{Boundary, row_net, site_of, side_count, row_sides, sides_of}
+use Rattle.stitch_cells.specs.stitch_model.Sides.{is_moved, moves, core_side}
+use Rattle.stitch_cells.specs.stitch_model.Rows.{net_at}
+use Rattle.stitch_cells.proofs.stitch_model.Moves.{moved_counts, sides_within}
 use Rattle.stitch_ranks.proofs.Moved.{net_at_is, sides_next, sides_zero, MovedBy, moved_or_stays}
 use Rattle.stitch_ranks.proofs.Placed.{IsPin, Placed}
 use Rattle.stitch_ranks.proofs.Steered.{IsFrom}

@@ -1,3 +1,4 @@
+pub use Rattle.stitch_cells.proofs as stitch_cells
 pub mod Places
 pub mod Ranks
 pub mod Logic

@@ -9,14 +9,14 @@ use Rattle.tap_gates.specs.declared.table.TheConstants.{CONTROLLER}
 use Rattle.tap_gates.specs.Controller.{tap_cells, tap_nets}
 use Rattle.tap_gates.specs.Laws.{tap_levels}
 use Rattle.register_bits.specs.declared.TheConstants.{SHIFT_BIT}
-use Rattle.register_gates.specs.declared.TheConstants.{SELECTED}
-use Rattle.register_gates.specs.declared.ident.TheConstants.{INVERSE}
-use Rattle.register_gates.specs.declared.tdo.TheConstants.{TDO}
-use Rattle.register_gates.specs.Registers.{bypass_cells, user_size, ident_cells}
-use Rattle.register_gates.specs.Tdo.{ident_feed, tdo_cells}
-use Rattle.part_levels.specs.Above.{AreAbove}
-use Rattle.part_levels.specs.Registers.{TapStandsAbove, shift_levels, selected_levels, AreBitsRanked, BypassStandsAbove, inverse_levels, IsInverseRanked, IdentStandsAbove, IsHandedUpTo, tdo_levels, TdoStandsAbove}
-use Rattle.part_levels.proofs.Feeds.{up_cons}
+use Rattle.stitch_cells.specs.register_gates.declared.TheConstants.{SELECTED}
+use Rattle.stitch_cells.specs.register_gates.declared.ident.TheConstants.{INVERSE}
+use Rattle.stitch_cells.specs.register_gates.declared.tdo.TheConstants.{TDO}
+use Rattle.stitch_cells.specs.register_gates.Registers.{bypass_cells, user_size, ident_cells}
+use Rattle.stitch_cells.specs.register_gates.Tdo.{ident_feed, tdo_cells}
+use Rattle.stitch_cells.specs.part_levels.Above.{AreAbove}
+use Rattle.stitch_cells.specs.part_levels.Registers.{TapStandsAbove, shift_levels, selected_levels, AreBitsRanked, BypassStandsAbove, inverse_levels, IsInverseRanked, IdentStandsAbove, IsHandedUpTo, tdo_levels, TdoStandsAbove}
+use Rattle.stitch_cells.proofs.part_levels.Feeds.{up_cons}
 use Rattle.stitch_ranks.proofs.Places.{StandAt, front_at, behind_at, first_at, levels_at, ranked, blocks, triples_at}
 use Rattle.stitch_ranks.proofs.Ranks.{shift_block, bypass_ranks, inverse_ranks, data_ranks, ident_ranks}
 

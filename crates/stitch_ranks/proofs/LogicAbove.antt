@@ -7,16 +7,16 @@ use Rattle.netlist_model.specs.Lists.{CellView}
 use Rattle.gate_parts.specs.Levels.{AreFeedsUpTo}
 use Rattle.test_logic.specs.declared.TapNets.{TapNets}
 use Rattle.tap_gates.specs.Laws.{tap_levels}
-use Rattle.register_gates.specs.Registers.{user_size, captured_feeds, ident_cells, ident_last}
-use Rattle.register_gates.specs.Tdo.{ident_feed}
-use Rattle.part_levels.specs.Above.{AreAbove, PartsStandAbove}
-use Rattle.part_levels.specs.Registers.{TapStandsAbove, selected_levels, BypassStandsAbove, IdentStandsAbove, SelectionsStandAbove}
-use Rattle.part_levels.specs.Instructions.{StagesStandAbove, MatchesStandAbove, CopiesStandAbove}
-use Rattle.plan_fitting.specs.declared.fitted.Fitted.{Fitted}
-use Rattle.stitch_model.specs.declared.TapPort.{TapPort}
-use Rattle.stitch_model.specs.Rows.{behind}
-use Rattle.stitch_model.specs.Logic.{instruction_from, bypass_from, ident_from, code_size, logic_size, tap_at, instruction_at, bypass_at, ident_at, controller_part, instruction_part, bypass_part, ident_part, logic_cells}
-use Rattle.stitch_model.proofs.Few.{captured_counted}
+use Rattle.stitch_cells.specs.register_gates.Registers.{user_size, captured_feeds, ident_cells, ident_last}
+use Rattle.stitch_cells.specs.register_gates.Tdo.{ident_feed}
+use Rattle.stitch_cells.specs.part_levels.Above.{AreAbove, PartsStandAbove}
+use Rattle.stitch_cells.specs.part_levels.Registers.{TapStandsAbove, selected_levels, BypassStandsAbove, IdentStandsAbove, SelectionsStandAbove}
+use Rattle.stitch_cells.specs.part_levels.Instructions.{StagesStandAbove, MatchesStandAbove, CopiesStandAbove}
+use Rattle.plan_devices.specs.plan_fitting.declared.fitted.Fitted.{Fitted}
+use Rattle.stitch_cells.specs.stitch_model.declared.TapPort.{TapPort}
+use Rattle.stitch_cells.specs.stitch_model.Rows.{behind}
+use Rattle.stitch_cells.specs.stitch_model.Logic.{instruction_from, bypass_from, ident_from, code_size, logic_size, tap_at, instruction_at, bypass_at, ident_at, controller_part, instruction_part, bypass_part, ident_part, logic_cells}
+use Rattle.stitch_cells.proofs.stitch_model.Few.{captured_counted}
 use Rattle.stitch_ranks.proofs.Places.{StandAt, front_at, behind_at, levels_at, blocks, length_triples}
 use Rattle.stitch_ranks.proofs.Ranks.{shift_block, instruction_ranks, control_top, bypass_ranks, inverse_ranks, data_ranks, ident_ranks, logic_ranks}
 use Rattle.stitch_ranks.proofs.Logic.{shift_length, tap_above, AreTapNetsLow, tap_nets_low, bypass_above, bypass_low, length_inverse, ident_above}

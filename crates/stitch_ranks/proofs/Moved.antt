@@ -6,11 +6,11 @@ use Rattle.list_laws.proofs.Tests.{true_or_false}
 use Rattle.netlist_model.specs.declared.NetId.{NetId}
 use Rattle.netlist_model.specs.Lists.{PortView}
 use Rattle.netlist_model.specs.Settled.{is_output}
-use Rattle.plan_fitting.specs.declared.fitted.FitRow.{FitRow}
-use Rattle.stitch_model.specs.Sites.{Boundary, row_net, row_sides, sides_of}
-use Rattle.stitch_model.specs.Sides.{moves, side_from, drives, driver_feeds, feeds_from}
-use Rattle.stitch_model.specs.Rows.{net_at}
-use Rattle.stitch_model.proofs.Moves.{moved_here, moved_on, fed_here, fed_on}
+use Rattle.plan_devices.specs.plan_fitting.declared.fitted.FitRow.{FitRow}
+use Rattle.stitch_cells.specs.stitch_model.Sites.{Boundary, row_net, row_sides, sides_of}
+use Rattle.stitch_cells.specs.stitch_model.Sides.{moves, side_from, drives, driver_feeds, feeds_from}
+use Rattle.stitch_cells.specs.stitch_model.Rows.{net_at}
+use Rattle.stitch_cells.proofs.stitch_model.Moves.{moved_here, moved_on, fed_here, fed_on}
 
 output_is : (o : Option NetId) (other : NetId) (net : ℕ) → is_output o net ≡ true → (unwrap_or o other).0 ≡ net
 output_is None other net e = absurd (cc)

@@ -12,24 +12,24 @@ use Rattle.netlist_model.specs.Lists.{CellView, NetlistView, live_cell, cell_at,
 use Rattle.netlist_model.specs.Formed.{FeedsBelow, IsLaidOut, IsNumbered, IsWellFormed}
 use Rattle.netlist_laws.specs.Ports.{BitHasDirection}
 use Rattle.netlist_laws.specs.Drivers.{DriverIsFound, DriverDrives}
-use Rattle.netlist_link.specs.Linked.{LinkedView}
-use Rattle.part_levels.specs.Above.{StandsOn, AreAbove, AreGatesAbove, StandsByPlace}
-use Rattle.part_levels.specs.Registers.{TdoStandsAbove, tdo_levels}
-use Rattle.part_levels.specs.Rows.{RowsStandAbove}
+use Rattle.plan_devices.specs.netlist_link.Linked.{LinkedView}
+use Rattle.stitch_cells.specs.part_levels.Above.{StandsOn, AreAbove, AreGatesAbove, StandsByPlace}
+use Rattle.stitch_cells.specs.part_levels.Registers.{TdoStandsAbove, tdo_levels}
+use Rattle.stitch_cells.specs.part_levels.Rows.{RowsStandAbove}
 use Rattle.plan_texts.specs.declared.plan.Plan.{Plan}
-use Rattle.plan_fitting.specs.declared.fitted.FitRow.{FitRow}
-use Rattle.plan_fitting.specs.declared.fitted.Fitted.{Fitted}
-use Rattle.plan_fitting.specs.Pins.{PinSeen}
-use Rattle.plan_fitting.specs.Devices.{fitted_of}
-use Rattle.plan_fitting.specs.Laws.{ControlCellsAreThere}
+use Rattle.plan_devices.specs.plan_fitting.declared.fitted.FitRow.{FitRow}
+use Rattle.plan_devices.specs.plan_fitting.declared.fitted.Fitted.{Fitted}
+use Rattle.plan_devices.specs.plan_fitting.Pins.{PinSeen}
+use Rattle.plan_devices.specs.plan_fitting.Devices.{fitted_of}
+use Rattle.plan_devices.specs.plan_fitting.Laws.{ControlCellsAreThere}
 use Rattle.plan_devices.specs.Fitting.{IsFitting}
-use Rattle.stitch_model.specs.declared.TapPort.{TapPort}
-use Rattle.stitch_model.specs.Sites.{Boundary, site_of, row_sides, sides_of}
-use Rattle.stitch_model.specs.Sides.{core_cell}
-use Rattle.stitch_model.specs.Rows.{nets_of_rows, behind}
-use Rattle.stitch_model.specs.Logic.{logic_size, tap_at, instruction_at, bypass_at, ident_at, logic_cells}
-use Rattle.stitch_model.specs.Stitched.{tap_port, rows_part, boundary_last, tdo_part, test_logic_cells, same_place, live_cells, boundary_at, first_net, stitched_cells}
-use Rattle.stitch_laws.proofs.Places.{listed_at}
+use Rattle.stitch_cells.specs.stitch_model.declared.TapPort.{TapPort}
+use Rattle.stitch_cells.specs.stitch_model.Sites.{Boundary, site_of, row_sides, sides_of}
+use Rattle.stitch_cells.specs.stitch_model.Sides.{core_cell}
+use Rattle.stitch_cells.specs.stitch_model.Rows.{nets_of_rows, behind}
+use Rattle.stitch_cells.specs.stitch_model.Logic.{logic_size, tap_at, instruction_at, bypass_at, ident_at, logic_cells}
+use Rattle.stitch_cells.specs.stitch_model.Stitched.{tap_port, rows_part, boundary_last, tdo_part, test_logic_cells, same_place, live_cells, boundary_at, first_net, stitched_cells}
+use Rattle.stitch_cells.proofs.stitch_laws.Places.{listed_at}
 use Rattle.stitch_ranks.specs.Laws.{StitchedIsOrdered}
 use Rattle.stitch_ranks.proofs.Places.{StandAt, front_at, behind_at, moved_at, first_at, levels_at}
 use Rattle.stitch_ranks.proofs.Ranks.{control_top, logic_ranks, core_low, sides_at, sides_ranks, rows_ranks, tap_ranks, added_ranks, pin_rank, rank_by, stitched_rank}

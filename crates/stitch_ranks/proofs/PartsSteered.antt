@@ -20,31 +20,31 @@ use Rattle.test_logic.specs.declared.ScanNets.{ScanNets}
 use Rattle.test_logic.specs.Instructions.{opcode_of}
 use Rattle.tap_gates.specs.declared.table.TheConstants.{CONTROLLER}
 use Rattle.tap_gates.specs.Controller.{tap_given}
-use Rattle.register_gates.specs.declared.TheConstants.{SELECTED}
-use Rattle.register_gates.specs.declared.ident.TheConstants.{INVERSE}
-use Rattle.register_gates.specs.declared.tdo.TheConstants.{TDO}
-use Rattle.register_gates.specs.Registers.{selected_given, selected_cells, selected_steering, bypass_cells, data_cells, user_size, inverse_cells, captured_feeds, ident_cells}
-use Rattle.register_gates.specs.Tdo.{tdo_given, tdo_driver, tdo_cells}
+use Rattle.stitch_cells.specs.register_gates.declared.TheConstants.{SELECTED}
+use Rattle.stitch_cells.specs.register_gates.declared.ident.TheConstants.{INVERSE}
+use Rattle.stitch_cells.specs.register_gates.declared.tdo.TheConstants.{TDO}
+use Rattle.stitch_cells.specs.register_gates.Registers.{selected_given, selected_cells, selected_steering, bypass_cells, data_cells, user_size, inverse_cells, captured_feeds, ident_cells}
+use Rattle.stitch_cells.specs.register_gates.Tdo.{tdo_given, tdo_driver, tdo_cells}
 use Rattle.register_bits.specs.Bits.{shift_bit_cells}
 use Rattle.register_bits.specs.Chains.{chain_cells}
-use Rattle.instruction_gates.specs.declared.stages.TheConstants.{LOADS}
-use Rattle.instruction_gates.specs.declared.selections.TheConstants.{SELECTIONS}
-use Rattle.instruction_gates.specs.Selections.{selections_given, selections_cells}
-use Rattle.instruction_gates.specs.Stages.{loads_given, ir_steering, ir_latching, shift_stage_cells, stages_cells}
-use Rattle.instruction_register.specs.Register.{pattern_bits, latches_from, cells_with, opcode_size, opcode_cells, matched_instructions, opcodes_cells, opcodes_told, opcodes_from, selections_from, copies_from, instruction_cells}
+use Rattle.stitch_cells.specs.instruction_gates.declared.stages.TheConstants.{LOADS}
+use Rattle.stitch_cells.specs.instruction_gates.declared.selections.TheConstants.{SELECTIONS}
+use Rattle.stitch_cells.specs.instruction_gates.Selections.{selections_given, selections_cells}
+use Rattle.stitch_cells.specs.instruction_gates.Stages.{loads_given, ir_steering, ir_latching, shift_stage_cells, stages_cells}
+use Rattle.stitch_cells.specs.instruction_register.Register.{pattern_bits, latches_from, cells_with, opcode_size, opcode_cells, matched_instructions, opcodes_cells, opcodes_told, opcodes_from, selections_from, copies_from, instruction_cells}
 use Rattle.boundary_cells.specs.declared.tables.TheConstants.{BC_1, UPDATES}
 use Rattle.boundary_cells.specs.Cells.{steering_of, stage_table, cell_given, output_cells}
 use Rattle.boundary_cells.specs.ThreeState.{control_table, control_choice, control_given, bidir_table, bidir_given}
-use Rattle.plan_fitting.specs.declared.fitted.FitRow.{FitRow}
-use Rattle.plan_fitting.specs.declared.fitted.Fitted.{Fitted}
-use Rattle.stitch_model.specs.declared.TapPort.{TapPort}
-use Rattle.stitch_model.specs.declared.Site.{Site}
-use Rattle.stitch_model.specs.declared.Site.TheVariants as site
-use Rattle.stitch_model.specs.Sites.{Boundary, site_of, row_sides}
-use Rattle.stitch_model.specs.Sides.{level_net, core_feed}
-use Rattle.stitch_model.specs.Rows.{nets_of_rows, net_at, enable_of, is_active_high, added_driver, site_cells, row_cells, last_bit, rows_cells, behind}
-use Rattle.stitch_model.specs.Logic.{instruction_from, bypass_from, ident_from, logic_size, tap_at, instruction_at, bypass_at, ident_at, controller_part, instruction_part, bypass_part, ident_part, logic_cells}
-use Rattle.stitch_model.specs.Stitched.{rows_part, boundary_last, tdo_part, test_logic_cells}
+use Rattle.plan_devices.specs.plan_fitting.declared.fitted.FitRow.{FitRow}
+use Rattle.plan_devices.specs.plan_fitting.declared.fitted.Fitted.{Fitted}
+use Rattle.stitch_cells.specs.stitch_model.declared.TapPort.{TapPort}
+use Rattle.stitch_cells.specs.stitch_model.declared.Site.{Site}
+use Rattle.stitch_cells.specs.stitch_model.declared.Site.TheVariants as site
+use Rattle.stitch_cells.specs.stitch_model.Sites.{Boundary, site_of, row_sides}
+use Rattle.stitch_cells.specs.stitch_model.Sides.{level_net, core_feed}
+use Rattle.stitch_cells.specs.stitch_model.Rows.{nets_of_rows, net_at, enable_of, is_active_high, added_driver, site_cells, row_cells, last_bit, rows_cells, behind}
+use Rattle.stitch_cells.specs.stitch_model.Logic.{instruction_from, bypass_from, ident_from, logic_size, tap_at, instruction_at, bypass_at, ident_at, controller_part, instruction_part, bypass_part, ident_part, logic_cells}
+use Rattle.stitch_cells.specs.stitch_model.Stitched.{rows_part, boundary_last, tdo_part, test_logic_cells}
 use Rattle.stitch_cells.specs.Gates.{is_clocked_by}
 use Rattle.stitch_ranks.proofs.Steered.{AreSteered, steered_joined, IsFrom, table_steered, gates_steered, from_more, choice_steered, shift_steered, chain_steered, latches_steered, matches_steered, copies_steered}
 

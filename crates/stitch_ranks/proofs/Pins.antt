@@ -13,9 +13,9 @@ use Rattle.test_logic.specs.declared.TapInput.{TapInput}
 use Rattle.test_logic.specs.declared.TapInput.TheVariants.{Tck, Tms, Tdi, Trst}
 use Rattle.wrapped_chip.specs.Realises.{SameBit, tap_place, IsTapNet}
 use Rattle.wrapped_chip.specs.Beside.{PinOf, of_bit, of_tap, of_none}
-use Rattle.plan_fitting.specs.declared.fitted.Fitted.{Fitted}
-use Rattle.stitch_model.specs.declared.TapNames.{TapNames}
-use Rattle.stitch_model.specs.Stitched.{tap_port, tap_ports, stitched}
+use Rattle.plan_devices.specs.plan_fitting.declared.fitted.Fitted.{Fitted}
+use Rattle.stitch_cells.specs.stitch_model.declared.TapNames.{TapNames}
+use Rattle.stitch_cells.specs.stitch_model.Stitched.{tap_port, tap_ports, stitched}
 use Rattle.stitch_ranks.specs.Laws.{StitchedHasPins}
 use Rattle.std.proofs.lemmas.Option.{slice_get_within}
 

@@ -16,15 +16,15 @@ use Rattle.netlist_model.specs.Formed.{FeedsBelow, IsLaidOut, IsNumbered}
 use Rattle.netlist_laws.specs.Drivers.{IsDriverOf}
 use Rattle.bsdl_device.specs.RowRules.{is_function}
 use Rattle.first_faults.specs.First.{or_else}
-use Rattle.plan_fitting.specs.declared.fitted.FitRow.{FitRow}
-use Rattle.plan_fitting.specs.Rows.{Driver, three_state, added_driver, same_bool, same_feed}
-use Rattle.plan_fitting.proofs.Controls.{control_is}
-use Rattle.plan_fitting.proofs.Drivers.{gate_is}
+use Rattle.plan_devices.specs.plan_fitting.declared.fitted.FitRow.{FitRow}
+use Rattle.plan_devices.specs.plan_fitting.Rows.{Driver, three_state, added_driver, same_bool, same_feed}
+use Rattle.plan_devices.proofs.plan_fitting.Controls.{control_is}
+use Rattle.plan_devices.proofs.plan_fitting.Drivers.{gate_is}
 use Rattle.plan_devices.proofs.Rows.{IsControlled}
-use Rattle.stitch_model.specs.declared.Site.{Site}
-use Rattle.stitch_model.specs.declared.Site.TheVariants as site
-use Rattle.stitch_model.specs.Sites.{Boundary, row_net, is_own_net, site_by, site_of}
-use Rattle.stitch_model.specs.Rows.{net_at}
+use Rattle.stitch_cells.specs.stitch_model.declared.Site.{Site}
+use Rattle.stitch_cells.specs.stitch_model.declared.Site.TheVariants as site
+use Rattle.stitch_cells.specs.stitch_model.Sites.{Boundary, row_net, is_own_net, site_by, site_of}
+use Rattle.stitch_cells.specs.stitch_model.Rows.{net_at}
 use Rattle.stitch_ranks.proofs.CoreRanks.{IsCoreFeed}
 
 -- An operand whose net has a smaller number.

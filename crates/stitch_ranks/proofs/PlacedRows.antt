@@ -21,18 +21,18 @@ use Rattle.netlist_model.specs.Settled.{is_output}
 use Rattle.netlist_model.specs.Formed.{IsLaidOut, IsNumbered}
 use Rattle.netlist_laws.specs.Ports.{BitHasDirection}
 use Rattle.netlist_laws.specs.Drivers.{DriverIsFound, IsDriverOf, DriverDrives}
-use Rattle.netlist_link.specs.Linked.{LinkedView}
+use Rattle.plan_devices.specs.netlist_link.Linked.{LinkedView}
 use Rattle.bsdl_device.specs.declared.values.Disable.{Disable}
 use Rattle.bsdl_device.specs.declared.values.CellRow.{CellRow}
 use Rattle.bsdl_device.specs.RowRules.{is_function}
 use Rattle.bsdl_device.specs.IsDevice.{is_disabled, is_control_at, disable_right}
 use Rattle.first_faults.specs.First.{or_else}
 use Rattle.plan_texts.specs.declared.plan.Plan.{Plan}
-use Rattle.plan_fitting.specs.declared.fitted.FitRow.{FitRow}
-use Rattle.plan_fitting.specs.Pins.{PinSeen}
-use Rattle.plan_fitting.specs.Rows.{Driver, three_state, added_driver, same_bool, same_feed, rows, has_highz}
-use Rattle.plan_fitting.specs.Devices.{fitted_of, disable_by, cell_row, device_of}
-use Rattle.plan_fitting.specs.Laws.{ControlCellsAreThere}
+use Rattle.plan_devices.specs.plan_fitting.declared.fitted.FitRow.{FitRow}
+use Rattle.plan_devices.specs.plan_fitting.Pins.{PinSeen}
+use Rattle.plan_devices.specs.plan_fitting.Rows.{Driver, three_state, added_driver, same_bool, same_feed, rows, has_highz}
+use Rattle.plan_devices.specs.plan_fitting.Devices.{fitted_of, disable_by, cell_row, device_of}
+use Rattle.plan_devices.specs.plan_fitting.Laws.{ControlCellsAreThere}
 use Rattle.plan_devices.specs.Fitting.{IsFitting}
 use Rattle.plan_devices.proofs.Rows.{side_driver, data_function, data_core, Controlled, IsDataRow}
 use Rattle.plan_devices.proofs.Lined.{IsLined}
@@ -40,9 +40,9 @@ use Rattle.plan_devices.proofs.Drivers.{seen_direction, makes_rows}
 use Rattle.plan_devices.proofs.RowCounts.{makes_row}
 use Rattle.plan_devices.proofs.RowPlaces.{net_of_line}
 use Rattle.plan_devices.proofs.Facts.{facts_of}
-use Rattle.stitch_model.specs.Sites.{Boundary, pin_net, row_net, is_own_net, input_site, output_site, site_by, site_of}
-use Rattle.stitch_model.specs.Rows.{net_at}
-use Rattle.stitch_model.specs.Stitched.{boundary_at}
+use Rattle.stitch_cells.specs.stitch_model.Sites.{Boundary, pin_net, row_net, is_own_net, input_site, output_site, site_by, site_of}
+use Rattle.stitch_cells.specs.stitch_model.Rows.{net_at}
+use Rattle.stitch_cells.specs.stitch_model.Stitched.{boundary_at}
 use Rattle.stitch_ranks.proofs.CoreRanks.{IsCoreFeed}
 use Rattle.stitch_ranks.proofs.Placed.{IsUnder, IsPin, IsDriverRow, Placed, IsDriverAt, IsThreeState, three_is, output_is, same_is, control_site, row_controls}
 

@@ -6,7 +6,7 @@ use Rattle.list_laws.proofs.Lists.{slice_get-append_left, slice_get-append_right
 use Rattle.list_laws.proofs.Tests.{both_hold, other_holds}
 use Rattle.gate_parts.specs.declared.Gate.{Gate}
 use Rattle.gate_parts.specs.Parts.{is_flop_kind}
-use Rattle.part_levels.specs.Above.{AreRanked}
+use Rattle.stitch_cells.specs.part_levels.Above.{AreRanked}
 use Rattle.std.proofs.lemmas.Option.{slice_get_within}
 
 -- these are the numbers of the nets from this one on

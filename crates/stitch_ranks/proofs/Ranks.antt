@@ -14,18 +14,18 @@ use Rattle.netlist_model.specs.Lists.{NetlistView, direction}
 use Rattle.test_logic.specs.declared.Codes.{Codes}
 use Rattle.test_logic.specs.Instructions.{opcode_of}
 use Rattle.tap_gates.specs.Laws.{tap_levels}
-use Rattle.instruction_register.specs.Register.{matched_instructions}
-use Rattle.part_levels.specs.Registers.{shift_levels, selected_levels, inverse_levels, selections_levels, tdo_levels}
-use Rattle.part_levels.specs.Instructions.{one_level, held_levels, equal_levels}
-use Rattle.part_levels.specs.Rows.{bc_1_levels, stage_levels, control_levels}
-use Rattle.plan_fitting.specs.declared.fitted.FitRow.{FitRow}
-use Rattle.plan_fitting.specs.declared.fitted.Fitted.{Fitted}
-use Rattle.stitch_model.specs.declared.Site.{Site}
-use Rattle.stitch_model.specs.declared.Site.TheVariants as site
-use Rattle.stitch_model.specs.Sites.{Boundary, site_of}
-use Rattle.stitch_model.specs.Sides.{core_side}
-use Rattle.stitch_model.specs.Rows.{net_at}
-use Rattle.stitch_model.specs.Stitched.{boundary_at}
+use Rattle.stitch_cells.specs.instruction_register.Register.{matched_instructions}
+use Rattle.stitch_cells.specs.part_levels.Registers.{shift_levels, selected_levels, inverse_levels, selections_levels, tdo_levels}
+use Rattle.stitch_cells.specs.part_levels.Instructions.{one_level, held_levels, equal_levels}
+use Rattle.stitch_cells.specs.part_levels.Rows.{bc_1_levels, stage_levels, control_levels}
+use Rattle.plan_devices.specs.plan_fitting.declared.fitted.FitRow.{FitRow}
+use Rattle.plan_devices.specs.plan_fitting.declared.fitted.Fitted.{Fitted}
+use Rattle.stitch_cells.specs.stitch_model.declared.Site.{Site}
+use Rattle.stitch_cells.specs.stitch_model.declared.Site.TheVariants as site
+use Rattle.stitch_cells.specs.stitch_model.Sites.{Boundary, site_of}
+use Rattle.stitch_cells.specs.stitch_model.Sides.{core_side}
+use Rattle.stitch_cells.specs.stitch_model.Rows.{net_at}
+use Rattle.stitch_cells.specs.stitch_model.Stitched.{boundary_at}
 use Rattle.stitch_ranks.proofs.Places.{levels_at, blocks}
 
 -- The controller and the registers beside the boundary register.

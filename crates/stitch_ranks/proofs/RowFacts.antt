@@ -18,18 +18,18 @@ use Rattle.netlist_model.specs.Lists.{PortView, CellView, NetlistView, bit_net, 
 use Rattle.netlist_model.specs.Cones.{IsControlPort}
 use Rattle.netlist_model.specs.Settled.{feed_values, is_output, driver_of}
 use Rattle.netlist_laws.specs.Drivers.{DriverIsFound}
-use Rattle.netlist_link.specs.Linked.{LinkedView}
+use Rattle.plan_devices.specs.netlist_link.Linked.{LinkedView}
 use Rattle.wrapped_chip.specs.Cells.{core_datum, row_of, Numbered}
 use Rattle.plan_texts.specs.declared.plan.Plan.{Plan}
-use Rattle.plan_fitting.specs.declared.fitted.FitRow.{FitRow}
-use Rattle.plan_fitting.specs.Pins.{PinSeen}
-use Rattle.plan_fitting.specs.Rows.{rows}
-use Rattle.plan_fitting.specs.Devices.{fitted_of, cell_row, device_of}
+use Rattle.plan_devices.specs.plan_fitting.declared.fitted.FitRow.{FitRow}
+use Rattle.plan_devices.specs.plan_fitting.Pins.{PinSeen}
+use Rattle.plan_devices.specs.plan_fitting.Rows.{rows}
+use Rattle.plan_devices.specs.plan_fitting.Devices.{fitted_of, cell_row, device_of}
 use Rattle.plan_devices.specs.Fitting.{IsFitting}
 use Rattle.plan_devices.specs.Laws.{fed, PlansSuitNetlists, RowsStandAtBits, RowsTakeTheCore}
-use Rattle.stitch_model.specs.declared.Site.TheVariants as site
-use Rattle.stitch_model.specs.Sites.{pin_net, row_net, is_own_net, input_site, output_site, site_by, site_of}
-use Rattle.stitch_model.proofs.Moves.{output_is}
+use Rattle.stitch_cells.specs.stitch_model.declared.Site.TheVariants as site
+use Rattle.stitch_cells.specs.stitch_model.Sites.{pin_net, row_net, is_own_net, input_site, output_site, site_by, site_of}
+use Rattle.stitch_cells.proofs.stitch_model.Moves.{output_is}
 
 -- The bit of a row.
 

@@ -14,17 +14,17 @@ use Rattle.register_bits.specs.declared.TheConstants.{SHIFT_BIT}
 use Rattle.boundary_cells.specs.declared.tables.TheConstants.{BC_1}
 use Rattle.boundary_cells.specs.Cells.{stage_table, cell_given, output_cells}
 use Rattle.boundary_cells.specs.ThreeState.{control_table, bidir_table}
-use Rattle.boundary_runs.specs.Rows.{observe_row, input_row, output_row, control_row, bidir_row}
-use Rattle.part_levels.specs.Above.{AreAbove, PartsStandAbove}
-use Rattle.part_levels.specs.Registers.{shift_levels}
-use Rattle.part_levels.specs.Rows.{bc_1_levels, stage_levels, control_levels, level_net as level_of, RowsStandAbove}
-use Rattle.part_levels.proofs.Feeds.{up_cons}
-use Rattle.plan_fitting.specs.declared.fitted.FitRow.{FitRow}
-use Rattle.stitch_model.specs.declared.Site.{Site}
-use Rattle.stitch_model.specs.declared.Site.TheVariants as site
-use Rattle.stitch_model.specs.Sites.{Boundary, site_of, side_count, row_sides}
-use Rattle.stitch_model.specs.Sides.{level_net, core_feed}
-use Rattle.stitch_model.specs.Rows.{nets_by, row_nets, nets_of_rows, net_at, enable_of, is_active_high, added_driver, site_cells, row_cells, last_bit, rows_cells}
+use Rattle.stitch_cells.specs.boundary_runs.Rows.{observe_row, input_row, output_row, control_row, bidir_row}
+use Rattle.stitch_cells.specs.part_levels.Above.{AreAbove, PartsStandAbove}
+use Rattle.stitch_cells.specs.part_levels.Registers.{shift_levels}
+use Rattle.stitch_cells.specs.part_levels.Rows.{bc_1_levels, stage_levels, control_levels, level_net as level_of, RowsStandAbove}
+use Rattle.stitch_cells.proofs.part_levels.Feeds.{up_cons}
+use Rattle.plan_devices.specs.plan_fitting.declared.fitted.FitRow.{FitRow}
+use Rattle.stitch_cells.specs.stitch_model.declared.Site.{Site}
+use Rattle.stitch_cells.specs.stitch_model.declared.Site.TheVariants as site
+use Rattle.stitch_cells.specs.stitch_model.Sites.{Boundary, site_of, side_count, row_sides}
+use Rattle.stitch_cells.specs.stitch_model.Sides.{level_net, core_feed}
+use Rattle.stitch_cells.specs.stitch_model.Rows.{nets_by, row_nets, nets_of_rows, net_at, enable_of, is_active_high, added_driver, site_cells, row_cells, last_bit, rows_cells}
 use Rattle.stitch_ranks.proofs.Places.{StandAt, front_at, behind_at, first_at, levels_at, length_levels, are_high, ranked}
 use Rattle.stitch_ranks.proofs.Ranks.{net_rank, feed_rank, sides_at, sides_ranks, row_base, bidir_levels, site_levels, row_ranks, rows_ranks}
 use Rattle.stitch_ranks.proofs.Instruction.{IsScanUpTo}

@@ -19,12 +19,12 @@ use Rattle.test_logic.specs.declared.TapInput.{TapInput}
 use Rattle.wrapped_chip.specs.Realises.{tap_place}
 use Rattle.wrapped_chip.specs.Legal.{IsClockOrReset}
 use Rattle.tap_gates.specs.Controller.{tap_cells}
-use Rattle.plan_fitting.specs.declared.fitted.Fitted.{Fitted}
-use Rattle.stitch_model.specs.Sites.{Boundary}
-use Rattle.stitch_model.specs.Sides.{core_side, feeds_behind, core_cell}
-use Rattle.stitch_model.specs.Stitched.{first_net}
-use Rattle.stitch_laws.specs.Laws.{HoldsParts}
-use Rattle.stitch_laws.specs.Places.{port_of}
+use Rattle.plan_devices.specs.plan_fitting.declared.fitted.Fitted.{Fitted}
+use Rattle.stitch_cells.specs.stitch_model.Sites.{Boundary}
+use Rattle.stitch_cells.specs.stitch_model.Sides.{core_side, feeds_behind, core_cell}
+use Rattle.stitch_cells.specs.stitch_model.Stitched.{first_net}
+use Rattle.stitch_cells.specs.stitch_laws.Laws.{HoldsParts}
+use Rattle.stitch_cells.specs.stitch_laws.Places.{port_of}
 use Rattle.stitch_ranks.proofs.Moved.{driven_or_not}
 use Rattle.stitch_ranks.proofs.Cones.{IsAtRow, IsCoreInside, no_flop_row, no_control_row}
 

@@ -17,14 +17,14 @@ use Rattle.register_bits.specs.declared.Steering.{Steering}
 use Rattle.register_bits.specs.declared.TheConstants.{SHIFT_BIT}
 use Rattle.register_bits.specs.Bits.{shift_bit_given, shift_bit_cells, held_bit, held_bit_given}
 use Rattle.register_bits.specs.Chains.{chain_last, chain_cells}
-use Rattle.instruction_gates.specs.declared.latches.Latching.{Latching}
-use Rattle.instruction_gates.specs.declared.latches.TheConstants.{LOADED}
-use Rattle.instruction_gates.specs.declared.matches.TheConstants.{EQUAL_BIT}
-use Rattle.instruction_gates.specs.declared.copies.TheConstants.{COPY}
-use Rattle.instruction_gates.specs.Rows.{is_one}
-use Rattle.instruction_gates.specs.Latches.{holding_of, loaded_given, latch_cells, latches_cells}
-use Rattle.instruction_gates.specs.Matches.{match_before, equal_given, matches_cells}
-use Rattle.instruction_gates.specs.Copies.{copy_given, copies_cells}
+use Rattle.stitch_cells.specs.instruction_gates.declared.latches.Latching.{Latching}
+use Rattle.stitch_cells.specs.instruction_gates.declared.latches.TheConstants.{LOADED}
+use Rattle.stitch_cells.specs.instruction_gates.declared.matches.TheConstants.{EQUAL_BIT}
+use Rattle.stitch_cells.specs.instruction_gates.declared.copies.TheConstants.{COPY}
+use Rattle.stitch_cells.specs.instruction_gates.Rows.{is_one}
+use Rattle.stitch_cells.specs.instruction_gates.Latches.{holding_of, loaded_given, latch_cells, latches_cells}
+use Rattle.stitch_cells.specs.instruction_gates.Matches.{match_before, equal_given, matches_cells}
+use Rattle.stitch_cells.specs.instruction_gates.Copies.{copy_given, copies_cells}
 use Rattle.boundary_cells.specs.declared.tables.Choice.{Choice}
 use Rattle.boundary_cells.specs.Cells.{choice_cell, cells_onto}
 use Rattle.stitch_cells.specs.Gates.{may_keep, is_given_at, is_clocked_by}

@@ -5,16 +5,16 @@ use Rattle.netlist_model.specs.Lists.{NetlistView}
 use Rattle.netlist_model.specs.Cones.{IsControlNet}
 use Rattle.netlist_model.specs.Formed.{IsLaidOut, IsNumbered, IsCombinational}
 use Rattle.netlist_model.specs.Contained.{IsDense}
-use Rattle.netlist_link.specs.Linked.{LinkedView}
+use Rattle.plan_devices.specs.netlist_link.Linked.{LinkedView}
 use Rattle.wrapped_chip.specs.Legal.{HasControls}
 use Rattle.wrapped_chip.specs.Beside.{HasPins}
 use Rattle.plan_texts.specs.declared.plan.Plan.{Plan}
-use Rattle.plan_fitting.specs.declared.fitted.Fitted.{Fitted}
-use Rattle.plan_fitting.specs.Pins.{PinSeen}
-use Rattle.plan_fitting.specs.Devices.{fitted_of}
+use Rattle.plan_devices.specs.plan_fitting.declared.fitted.Fitted.{Fitted}
+use Rattle.plan_devices.specs.plan_fitting.Pins.{PinSeen}
+use Rattle.plan_devices.specs.plan_fitting.Devices.{fitted_of}
 use Rattle.plan_devices.specs.Fitting.{IsFitting}
-use Rattle.stitch_model.specs.declared.TapNames.{TapNames}
-use Rattle.stitch_model.specs.Stitched.{stitched}
+use Rattle.stitch_cells.specs.stitch_model.declared.TapNames.{TapNames}
+use Rattle.stitch_cells.specs.stitch_model.Stitched.{stitched}
 
 -- own: the nets can be numbered
 abbrev pub StitchedIsOrdered : Type 0

@@ -12,15 +12,15 @@
 ghost use Rattle.stitch_ranks.specs.Laws.{StitchedIsOrdered, StitchedHasCones, StitchedHasControls, StitchedHasPins};
 
 use netlist_laws::{bit_of_a_direction, direction_of_a_bit, driver_is_found, found_driver_drives};
-use part_levels::{
+use plan_devices::lower_plan_fitting::control_cells_are_there;
+use plan_devices::{plans_suit_netlists, rows_stand_at_bits, rows_take_the_core};
+use stitch_cells::lower_part_levels::{
     bypass_stands_above, copies_stand_above, ident_stands_above, matches_stand_above,
     parts_stand_above, rows_stand_above, selections_stand_above, stages_stand_above,
     stands_by_place, tap_stands_above, tdo_stands_above,
 };
-use plan_devices::{plans_suit_netlists, rows_stand_at_bits, rows_take_the_core};
-use plan_fitting::control_cells_are_there;
+use stitch_cells::lower_stitch_laws::{stitched_holds_its_parts, stitched_holds_the_core};
 use stitch_cells::stitched_directions;
-use stitch_laws::{stitched_holds_its_parts, stitched_holds_the_core};
 
 /// The nets can be numbered so that what a gate reads has smaller numbers than what it drives.
 pub fn stitched_is_ordered()

@@ -18,8 +18,8 @@ use Rattle.plan_fitting.specs.Pins.{PinSeen}
 use Rattle.plan_fitting.specs.Rows.{Driver, gate_driver, three_state, added_driver, output_driver}
 use Rattle.plan_fitting.proofs.Drivers.{gate_is}
 use Rattle.plan_devices.proofs.Rows.{side_driver, data_function, data_core}
-use Rattle.stitch_model.specs.Sites.{is_own_net, output_site, site_by}
-use Rattle.stitch_model.specs.Stitched.{with_nets}
+use Rattle.core_moves.specs.stitch_model.Sites.{is_own_net, output_site, site_by}
+use Rattle.core_moves.specs.stitch_model.Stitched.{with_nets}
 use Rattle.core_moves.specs.Ready.{HasDriver, IsDrivenAt}
 
 -- A three-state gate has two operands.

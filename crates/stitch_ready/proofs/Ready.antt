@@ -20,9 +20,9 @@ use Rattle.plan_devices.proofs.Lined.{IsLined}
 use Rattle.plan_devices.proofs.Rows.{IsDataRow, side_driver, data_function}
 use Rattle.plan_devices.proofs.Drivers.{seen_direction, seen_driver}
 use Rattle.plan_devices.proofs.Facts.{Facts, facts_of}
-use Rattle.stitch_model.specs.Sites.{row_net, site_of, site_by, is_own_net}
-use Rattle.stitch_model.specs.Stitched.{with_nets}
-use Rattle.scan_sides.specs.Pins.{IsPinThere}
+use Rattle.core_moves.specs.stitch_model.Sites.{row_net, site_of, site_by, is_own_net}
+use Rattle.core_moves.specs.stitch_model.Stitched.{with_nets}
+use Rattle.core_moves.specs.scan_sides.Pins.{IsPinThere}
 use Rattle.core_moves.specs.Ready.{IsDrivenAt, HasControl}
 use Rattle.stitch_ready.specs.Laws.{FittedCanStandBehind}
 use Rattle.stitch_ready.proofs.Driven.{side_driven}

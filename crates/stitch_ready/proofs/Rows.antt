@@ -28,8 +28,8 @@ use Rattle.plan_devices.proofs.Lined.{IsLined}
 use Rattle.plan_devices.proofs.Rows.{IsDataRow}
 use Rattle.plan_devices.proofs.RowPlaces.{rows_stand_at_bits, net_of_line}
 use Rattle.plan_devices.proofs.Facts.{Facts}
-use Rattle.stitch_model.specs.Sites.{pin_net, row_net}
-use Rattle.scan_sides.specs.Pins.{IsPinThere}
+use Rattle.core_moves.specs.stitch_model.Sites.{pin_net, row_net}
+use Rattle.core_moves.specs.scan_sides.Pins.{IsPinThere}
 use Rattle.core_moves.specs.Ready.{IsControlAt, HasControl}
 
 -- The bit of a row.

@@ -9,9 +9,9 @@ use Rattle.plan_texts.specs.declared.plan.Plan.{Plan}
 use Rattle.plan_fitting.specs.Pins.{PinSeen}
 use Rattle.plan_fitting.specs.Rows.{rows}
 use Rattle.plan_devices.specs.Fitting.{IsFitting}
-use Rattle.stitch_model.specs.Sites.{sides_of}
-use Rattle.stitch_model.specs.Stitched.{with_nets}
-use Rattle.scan_sides.specs.Pins.{AreFew}
+use Rattle.core_moves.specs.stitch_model.Sites.{sides_of}
+use Rattle.core_moves.specs.stitch_model.Stitched.{with_nets}
+use Rattle.core_moves.specs.scan_sides.Pins.{AreFew}
 use Rattle.core_moves.specs.Ready.{CanStandBehind}
 
 -- a data cell for each bit at most, and a control cell for each of these

@@ -6,4 +6,6 @@
 
 mod laws;
 
+pub use core_moves as lower_core_moves;
 pub use laws::{fitted_are_few, fitted_can_stand_behind};
+pub use plan_devices as lower_plan_devices;

@@ -6,13 +6,13 @@ use Rattle.netlist_model.specs.declared.NetId.{NetId}
 use Rattle.netlist_model.specs.declared.PinBit.{PinBit}
 use Rattle.netlist_model.specs.Lists.{PortView, bit_net}
 use Rattle.netlist_laws.specs.Ports.{DirectionHasBit}
-use Rattle.netlist_link.specs.Linked.{LinkedView}
+use Rattle.plan_devices.specs.netlist_link.Linked.{LinkedView}
 use Rattle.wrapped_chip.specs.Cells.{Numbered, row_of}
 use Rattle.plan_texts.specs.declared.plan.Plan.{Plan}
-use Rattle.plan_fitting.specs.declared.fitted.FitRow.{FitRow}
-use Rattle.plan_fitting.specs.Pins.{PinSeen}
-use Rattle.plan_fitting.specs.Rows.{rows}
-use Rattle.plan_fitting.specs.Devices.{fitted_of, cell_row, device_of}
+use Rattle.plan_devices.specs.plan_fitting.declared.fitted.FitRow.{FitRow}
+use Rattle.plan_devices.specs.plan_fitting.Pins.{PinSeen}
+use Rattle.plan_devices.specs.plan_fitting.Rows.{rows}
+use Rattle.plan_devices.specs.plan_fitting.Devices.{fitted_of, cell_row, device_of}
 use Rattle.plan_devices.specs.Fitting.{IsFitting}
 use Rattle.plan_devices.specs.Laws.{RowsStandAtBits, BitsHaveRows}
 use Rattle.stitch_model.specs.Sites.{pin_net, row_net}

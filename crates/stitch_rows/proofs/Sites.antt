@@ -17,17 +17,17 @@ use Rattle.netlist_model.specs.Settled.{driver_of}
 use Rattle.netlist_model.specs.Formed.{IsDriven, IsWellFormed}
 use Rattle.netlist_laws.specs.Ports.{BitHasDirection}
 use Rattle.netlist_laws.specs.Drivers.{DriverIsFound}
-use Rattle.netlist_link.specs.Linked.{LinkedView}
+use Rattle.plan_devices.specs.netlist_link.Linked.{LinkedView}
 use Rattle.bsdl_device.specs.RowRules.{is_function}
 use Rattle.first_faults.specs.First.{or_else}
 use Rattle.plan_texts.specs.declared.plan.Plan.{Plan}
-use Rattle.plan_fitting.specs.declared.fitted.FitRow.{FitRow}
-use Rattle.plan_fitting.specs.declared.fitted.Fitted.{Fitted}
-use Rattle.plan_fitting.specs.Pins.{PinSeen}
-use Rattle.plan_fitting.specs.Rows.{Driver, gate_driver, three_state, added_driver, same_bool, same_feed, controls, rows, has_highz}
-use Rattle.plan_fitting.specs.Devices.{fitted_of}
-use Rattle.plan_fitting.proofs.Drivers.{not_three, same_bool_is, gate_is}
-use Rattle.plan_fitting.proofs.Controls.{control_is}
+use Rattle.plan_devices.specs.plan_fitting.declared.fitted.FitRow.{FitRow}
+use Rattle.plan_devices.specs.plan_fitting.declared.fitted.Fitted.{Fitted}
+use Rattle.plan_devices.specs.plan_fitting.Pins.{PinSeen}
+use Rattle.plan_devices.specs.plan_fitting.Rows.{Driver, gate_driver, three_state, added_driver, same_bool, same_feed, controls, rows, has_highz}
+use Rattle.plan_devices.specs.plan_fitting.Devices.{fitted_of}
+use Rattle.plan_devices.proofs.plan_fitting.Drivers.{not_three, same_bool_is, gate_is}
+use Rattle.plan_devices.proofs.plan_fitting.Controls.{control_is}
 use Rattle.plan_devices.specs.Fitting.{IsFitting}
 use Rattle.plan_devices.proofs.Rows.{side_driver, data_function, data_core, Controlled, IsDataRow, IsControlRow}
 use Rattle.plan_devices.proofs.Drivers.{seen_direction, gate_has_driver}

@@ -2,20 +2,20 @@
 use Rattle.std.proofs.Common.{◌≡◌, ◌+◌, ◌<◌, refl, List, arith}
 use Rattle.netlist_model.specs.Formed.{IsLaidOut}
 use Rattle.netlist_model.specs.Contained.{IsDense}
-use Rattle.netlist_link.specs.Linked.{LinkedView}
+use Rattle.stitch_inside.specs.netlist_link.Linked.{LinkedView}
 use Rattle.test_logic.specs.declared.TapState.{TapState}
 use Rattle.test_logic.specs.declared.TapState.TheVariants.{TestLogicReset, RunTestIdle, SelectDrScan, CaptureDr, ShiftDr, Exit1Dr, PauseDr, Exit2Dr, UpdateDr, SelectIrScan, CaptureIr, ShiftIr, Exit1Ir, PauseIr, Exit2Ir, UpdateIr}
 use Rattle.tap_gates.specs.Controller.{place}
 use Rattle.plan_texts.specs.declared.plan.Plan.{Plan}
-use Rattle.plan_fitting.specs.declared.fitted.Fitted.{Fitted}
-use Rattle.plan_fitting.specs.Pins.{PinSeen}
-use Rattle.plan_fitting.specs.Devices.{fitted_of}
-use Rattle.plan_devices.specs.Fitting.{IsFitting}
-use Rattle.instruction_register.specs.Register.{instruction_size}
-use Rattle.stitch_model.specs.declared.TapNames.{TapNames}
-use Rattle.stitch_model.specs.Logic.{logic_size, code_size}
-use Rattle.stitch_model.specs.Stitched.{stitched}
-use Rattle.surrounded_core.specs.Home.{IsControllerAdded}
+use Rattle.stitch_inside.specs.plan_fitting.declared.fitted.Fitted.{Fitted}
+use Rattle.stitch_inside.specs.plan_fitting.Pins.{PinSeen}
+use Rattle.stitch_inside.specs.plan_fitting.Devices.{fitted_of}
+use Rattle.stitch_inside.specs.plan_devices.Fitting.{IsFitting}
+use Rattle.stitch_inside.specs.instruction_register.Register.{instruction_size}
+use Rattle.stitch_inside.specs.stitch_model.declared.TapNames.{TapNames}
+use Rattle.stitch_inside.specs.stitch_model.Logic.{logic_size, code_size}
+use Rattle.stitch_inside.specs.stitch_model.Stitched.{stitched}
+use Rattle.stitch_inside.specs.surrounded_core.Home.{IsControllerAdded}
 use Rattle.stitch_inside.specs.Places.{places_of}
 use Rattle.stitch_runs.specs.FormedLaws.{StitchedLogicIsAdded}
 

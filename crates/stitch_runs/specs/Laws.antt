@@ -4,17 +4,17 @@
 use Rattle.std.specs.Prelude.{List}
 use Rattle.netlist_model.specs.Formed.{IsLaidOut, IsWellFormed}
 use Rattle.netlist_model.specs.Contained.{IsDense}
-use Rattle.netlist_link.specs.Linked.{LinkedView}
+use Rattle.stitch_inside.specs.netlist_link.Linked.{LinkedView}
 use Rattle.wrapped_chip.specs.Realises.{Realises, Alone}
 use Rattle.wrapped_chip.specs.Beside.{HasPins}
 use Rattle.wrapped_chip.specs.Legal.{HasControls}
 use Rattle.wrapped_chip.specs.Home.{FindsHome}
 use Rattle.plan_texts.specs.declared.plan.Plan.{Plan}
-use Rattle.plan_fitting.specs.Pins.{PinSeen}
-use Rattle.plan_fitting.specs.Devices.{fitted_of, device_of}
-use Rattle.plan_devices.specs.Fitting.{IsFitting}
-use Rattle.stitch_model.specs.declared.TapNames.{TapNames}
-use Rattle.stitch_model.specs.Stitched.{stitched}
+use Rattle.stitch_inside.specs.plan_fitting.Pins.{PinSeen}
+use Rattle.stitch_inside.specs.plan_fitting.Devices.{fitted_of, device_of}
+use Rattle.stitch_inside.specs.plan_devices.Fitting.{IsFitting}
+use Rattle.stitch_inside.specs.stitch_model.declared.TapNames.{TapNames}
+use Rattle.stitch_inside.specs.stitch_model.Stitched.{stitched}
 
 -- of each plan that fits a netlist without gaps: through any events that are legal in the chip every pin reads as the chip's, and the
 -- core's flip-flops hold what the chip's hold

@@ -16,11 +16,12 @@
 ghost use Rattle.stitch_runs.specs.Laws.{StitchedRealises, StitchedIsAlone, FittingPlansRealise, FittingPlansAreAlone};
 ghost use Rattle.stitch_runs.specs.Laws.{FittingPlansHaveControls, FittingPlansFindHome};
 
-use plan_devices::plans_suit_netlists;
 pub use stitch_formed::stitched_is_formed;
 use stitch_formed::{stitched_has_controls, stitched_has_pins, stitched_logic_is_added};
+use stitch_inside::lower_plan_devices::plans_suit_netlists;
+use stitch_inside::lower_surrounded_core::{surrounded_core_finds_home, surrounded_core_realises};
 use stitch_inside::stitched_surrounds;
-use surrounded_core::{surrounded_core_finds_home, surrounded_core_realises};
+pub use stitch_inside::{lower_plan_devices, lower_stitch_laws};
 use wrapped_chip::realising_is_being_alone;
 
 /// Every pin of the stitched netlist reads as the chip that the plan's device makes of the netlist.

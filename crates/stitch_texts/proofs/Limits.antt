@@ -10,9 +10,9 @@ use Rattle.netlist_link.specs.Linked.{LinkedView}
 use Rattle.netlist_link.proofs.Rewriting.{few_cells, few_nets}
 use Rattle.netlist_unlink.specs.Renumbered.{port_numbers, passed_limit}
 use Rattle.plan_fitting.specs.declared.fitted.Fitted.{Fitted}
-use Rattle.stitch_model.specs.declared.TapNames.{TapNames}
-use Rattle.stitch_model.specs.Stitched.{tap_port, tap_ports, stitched}
-use Rattle.stitch_cells.specs.Sizes.{StitchedHasCounts}
+use Rattle.stitch_names.specs.stitch_model.declared.TapNames.{TapNames}
+use Rattle.stitch_names.specs.stitch_model.Stitched.{tap_port, tap_ports, stitched}
+use Rattle.stitch_names.specs.stitch_cells.Sizes.{StitchedHasCounts}
 use Rattle.stitch_names.specs.Prepared.{room_of, ports_of}
 use Rattle.stitch_names.proofs.Limits.{few_bits}
 use Rattle.stitch_texts.specs.Written.{IsStitchedOf, HasStitchRoom}

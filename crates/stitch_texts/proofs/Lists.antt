@@ -7,7 +7,7 @@ use Rattle.netlist_model.specs.declared.NetId.{NetId}
 use Rattle.netlist_model.specs.Lists.{PortView, CellView, live_cell}
 use Rattle.netlist_arena.specs.Arena.{bit_count}
 use Rattle.netlist_unlink.specs.Renumbered.{port_numbers}
-use Rattle.stitch_laws.proofs.Places.{counts_live, counts_empty}
+use Rattle.stitch_names.proofs.stitch_laws.Places.{counts_live, counts_empty}
 
 -- Sums.
 

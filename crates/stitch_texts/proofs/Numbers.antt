@@ -5,8 +5,8 @@ use Rattle.netlist_model.specs.Lists.{PortView, CellView, NetlistView}
 use Rattle.netlist_images.specs.Nested.{IsNested}
 use Rattle.netlist_images.specs.Renumbering.{ArePortImages, IsRenumbering}
 use Rattle.written_images.specs.Laws.{new_number, new_place, WrittenIsRenumbered, DenseKeepsPlaces}
-use Rattle.stitch_cells.specs.Sizes.{StitchedHasCounts}
-use Rattle.stitch_model.specs.Stitched.{stitched}
+use Rattle.stitch_names.specs.stitch_cells.Sizes.{StitchedHasCounts}
+use Rattle.stitch_names.specs.stitch_model.Stitched.{stitched}
 use Rattle.stitch_names.specs.Same.{IsSameNetlist}
 use Rattle.stitch_texts.specs.Laws.{StitchedIsRenumbered}
 use Rattle.stitch_texts.proofs.Whole.{dense_after}

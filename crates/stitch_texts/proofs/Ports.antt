@@ -22,8 +22,8 @@ use Rattle.plan_texts.specs.declared.plan.Plan.{Plan}
 use Rattle.plan_fitting.specs.declared.fitted.Fitted.{Fitted}
 use Rattle.plan_fitting.specs.Pins.{PinSeen}
 use Rattle.plan_fitting.specs.Devices.{fitted_of}
-use Rattle.stitch_model.specs.declared.TapNames.{TapNames}
-use Rattle.stitch_model.specs.Stitched.{tap_port, tap_ports, stitched}
+use Rattle.stitch_names.specs.stitch_model.declared.TapNames.{TapNames}
+use Rattle.stitch_names.specs.stitch_model.Stitched.{tap_port, tap_ports, stitched}
 use Rattle.stitch_names.specs.Prepared.{AreTapNames}
 use Rattle.stitch_texts.specs.Written.{spelt, tap_of}
 use Rattle.stitch_texts.proofs.Lists.{bits_append}

@@ -8,14 +8,14 @@ use Rattle.test_logic.specs.Instructions.{opcode_of}
 use Rattle.instruction_register.specs.Register.{opcode_size, opcodes_size, matched_instructions, instruction_size}
 use Rattle.plan_fitting.specs.declared.fitted.FitRow.{FitRow}
 use Rattle.plan_fitting.specs.declared.fitted.Fitted.{Fitted}
-use Rattle.stitch_model.specs.declared.Site.{Site}
-use Rattle.stitch_model.specs.declared.Site.TheVariants as site
-use Rattle.stitch_model.specs.Sites.{site_of, row_sides, sides_of}
-use Rattle.stitch_model.specs.Rows.{row_nets, nets_of_rows}
-use Rattle.stitch_model.specs.Logic.{code_size, logic_size}
-use Rattle.stitch_model.proofs.Moves.{count_few}
-use Rattle.stitch_model.proofs.Few.{size_few, code_few, nets_by_few}
-use Rattle.stitch_cells.specs.Sizes.{choice_count, driver_count, row_size, cells_of_rows, added_cells, added_net_count}
+use Rattle.stitch_names.specs.stitch_model.declared.Site.{Site}
+use Rattle.stitch_names.specs.stitch_model.declared.Site.TheVariants as site
+use Rattle.stitch_names.specs.stitch_model.Sites.{site_of, row_sides, sides_of}
+use Rattle.stitch_names.specs.stitch_model.Rows.{row_nets, nets_of_rows}
+use Rattle.stitch_names.specs.stitch_model.Logic.{code_size, logic_size}
+use Rattle.stitch_names.proofs.stitch_model.Moves.{count_few}
+use Rattle.stitch_names.proofs.stitch_model.Few.{size_few, code_few, nets_by_few}
+use Rattle.stitch_names.specs.stitch_cells.Sizes.{choice_count, driver_count, row_size, cells_of_rows, added_cells, added_net_count}
 use Rattle.stitch_names.specs.Prepared.{room_of}
 use Rattle.stitch_texts.proofs.Lists.{sum_few}
 

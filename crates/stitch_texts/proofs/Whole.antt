@@ -27,10 +27,10 @@ use Rattle.plan_texts.specs.declared.plan.Plan.{Plan}
 use Rattle.plan_fitting.specs.declared.fitted.Fitted.{Fitted}
 use Rattle.plan_fitting.specs.Pins.{PinSeen}
 use Rattle.plan_fitting.specs.Devices.{fitted_of}
-use Rattle.plan_devices.specs.Laws.{FittedIsFitting}
-use Rattle.stitch_model.specs.Stitched.{stitched}
-use Rattle.stitch_cells.specs.Sizes.{StitchedHasCounts}
-use Rattle.stitch_laws.specs.Laws.{StitchedKeeps}
+use Rattle.stitch_names.specs.plan_devices.Laws.{FittedIsFitting}
+use Rattle.stitch_names.specs.stitch_model.Stitched.{stitched}
+use Rattle.stitch_names.specs.stitch_cells.Sizes.{StitchedHasCounts}
+use Rattle.stitch_names.specs.stitch_laws.Laws.{StitchedKeeps}
 use Rattle.stitch_names.specs.Prepared.{AreTapNames}
 use Rattle.stitch_names.specs.Laws.{TapNamesAreEntered, StitchedHasFreePrefix}
 use Rattle.stitch_texts.specs.Written.{spelt, tap_of, IsStitchedOf}

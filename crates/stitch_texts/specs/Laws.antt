@@ -13,7 +13,7 @@ use Rattle.plan_texts.specs.declared.plan.Plan.{Plan}
 use Rattle.plan_texts.specs.Canonical.{IsPlan}
 use Rattle.plan_fitting.specs.declared.fitted.Fitted.{Fitted}
 use Rattle.plan_fitting.specs.Devices.{IsFitted}
-use Rattle.stitch_model.specs.Stitched.{stitched}
+use Rattle.stitch_names.specs.stitch_model.Stitched.{stitched}
 use Rattle.stitch_texts.specs.Written.{IsStitchedOf, HasStitchRoom, WritesStitched, IsNumberedAnew}
 
 -- own: a netlist that a text tells, and a plan that some text spells, fits it and finds room, with the test logic built in

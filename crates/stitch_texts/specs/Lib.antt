@@ -1,2 +1,3 @@
+pub use Rattle.stitch_names.specs as stitch_names
 pub mod Written
 pub mod Laws

@@ -19,8 +19,8 @@ use Rattle.bsdl_device.specs.declared.written.TapNames as device
 use Rattle.wrapped_chip.specs.Realises.{Keeps}
 use Rattle.plan_texts.specs.declared.plan.Plan.{Plan}
 use Rattle.plan_fitting.specs.declared.fitted.Fitted.{Fitted}
-use Rattle.stitch_model.specs.declared.TapNames.{TapNames}
-use Rattle.stitch_model.specs.Stitched.{stitched}
+use Rattle.stitch_names.specs.stitch_model.declared.TapNames.{TapNames}
+use Rattle.stitch_names.specs.stitch_model.Stitched.{stitched}
 use Rattle.stitch_names.specs.Prepared.{room_of, ports_of, with_tap_names, AreTapNames}
 use Rattle.stitch_names.specs.Same.{IsSameNetlist}
 

@@ -15,9 +15,9 @@
 ghost use Rattle.stitch_texts.specs.Laws.{StitchedCanBeWritten, StitchedIsRenumbered, StitchedIsWritten, StitchedKeepsLimits};
 
 use netlist_link::{link_views_agree, some_link_view};
-use plan_devices::fitted_is_fitting;
-use stitch_cells::stitched_has_counts;
-use stitch_laws::stitched_keeps;
+use stitch_names::lower_plan_devices::fitted_is_fitting;
+use stitch_names::lower_stitch_cells::stitched_has_counts;
+use stitch_names::lower_stitch_laws::stitched_keeps;
 use stitch_names::{stitched_has_free_prefix, tap_names_are_entered};
 use verilog_printing::canonical_texts_spell_their_trees;
 use verilog_texts::bytes_spell_one_tree;

@@ -13,7 +13,7 @@ use Rattle.test_logic.specs.declared.Levels.{Levels}
 use Rattle.test_logic.specs.Registers.{first_bit, tdo_after}
 use Rattle.test_logic.specs.Machine.{Machine, in_effect, bit_of}
 use Rattle.register_bits.specs.Laws.{bit_after}
-use Rattle.register_gates.specs.Tdo.{data_bit, Presents, tdo_given_by}
+use Rattle.instruction_register.specs.register_gates.Tdo.{data_bit, Presents, tdo_given_by}
 use Rattle.boundary_cells.specs.MachineRows.{bit_at}
 use Rattle.wrapped_chip.specs.ChipRuns.{ChipMoment}
 use Rattle.wrapped_chip.specs.Home.{IsChipRunFrom}

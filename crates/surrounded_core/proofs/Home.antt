@@ -28,10 +28,10 @@ use Rattle.test_logic.specs.Machine.{Machine, TestLogic, reset, edge_of, clocked
 use Rattle.tap_gates.specs.Laws.{HoldsState}
 use Rattle.tap_gates.specs.Home.{IsCourse, HoldsBits, TapFindsHome}
 use Rattle.register_bits.specs.Chains.{chain_values}
-use Rattle.register_gates.specs.Constants.{ConstantsAreBits}
-use Rattle.register_gates.specs.Registers.{user_size}
-use Rattle.register_gates.specs.Laws.{IdentFollows}
-use Rattle.register_gates.specs.Tdo.{TdoLetsGo}
+use Rattle.instruction_register.specs.register_gates.Constants.{ConstantsAreBits}
+use Rattle.instruction_register.specs.register_gates.Registers.{user_size}
+use Rattle.instruction_register.specs.register_gates.Laws.{IdentFollows}
+use Rattle.instruction_register.specs.register_gates.Tdo.{TdoLetsGo}
 use Rattle.instruction_register.specs.Register.{pattern_bits, held_shift, held_opcode}
 use Rattle.instruction_register.specs.Laws.{FitTheRegister}
 use Rattle.instruction_register.specs.Steps.{HoldsStages}

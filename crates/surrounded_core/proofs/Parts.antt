@@ -29,10 +29,10 @@ use Rattle.test_logic.specs.Machine.{Machine, TestLogic, machine_step, in_effect
 use Rattle.tap_gates.specs.Laws.{Carries as TapCarries, TapFollows, HoldsState, ShowsState, StepIsTheMachines}
 use Rattle.tap_gates.specs.Home.{IsCourse}
 use Rattle.register_bits.specs.Laws.{Carries, bit_after}
-use Rattle.register_gates.specs.Laws.{captured_bits, BypassFollows, IdentFollows}
-use Rattle.register_gates.specs.Steps.{StepsByRegister}
-use Rattle.register_gates.specs.Tdo.{TdoFollows, ident_feed, tdo_given_by}
-use Rattle.instruction_gates.specs.Selections.{Selected}
+use Rattle.instruction_register.specs.register_gates.Laws.{captured_bits, BypassFollows, IdentFollows}
+use Rattle.instruction_register.specs.register_gates.Steps.{StepsByRegister}
+use Rattle.instruction_register.specs.register_gates.Tdo.{TdoFollows, ident_feed, tdo_given_by}
+use Rattle.instruction_register.specs.instruction_gates.Selections.{Selected}
 use Rattle.instruction_register.specs.Laws.{Follows}
 use Rattle.instruction_register.specs.Steps.{HoldsStages, IsLegible, InstructionLaws, InstructionSteps, InstructionsStayLegible}
 use Rattle.boundary_cells.specs.MachineRows.{RowsStep}

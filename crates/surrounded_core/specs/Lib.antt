@@ -1,3 +1,5 @@
+pub use Rattle.instruction_register.specs as instruction_register
+pub use Rattle.boundary_runs.specs as boundary_runs
 pub mod Places
 pub mod Sites
 pub mod Surrounds

@@ -12,8 +12,8 @@ use Rattle.test_logic.specs.declared.TapInput.TheVariants.{Tck, Tms, Tdi, Trst}
 use Rattle.test_logic.specs.declared.TapNets.{TapNets}
 use Rattle.test_logic.specs.declared.InstrNets.{InstrNets}
 use Rattle.tap_gates.specs.Controller.{tap_cells, tap_nets}
-use Rattle.register_gates.specs.Registers.{bypass_cells, ident_cells, ident_values, ident_last}
-use Rattle.register_gates.specs.Tdo.{tdo_cells}
+use Rattle.instruction_register.specs.register_gates.Registers.{bypass_cells, ident_cells, ident_values, ident_last}
+use Rattle.instruction_register.specs.register_gates.Tdo.{tdo_cells}
 use Rattle.instruction_register.specs.Register.{instruction_cells, instruction_nets}
 use Rattle.boundary_runs.specs.Rows.{BoundaryRow}
 

@@ -21,14 +21,15 @@ ghost use Rattle.surrounded_core.specs.Home.{SurroundedFindsHome};
 
 use boundary_cells::{bidir_cells_follow, rows_step_as_bits};
 use boundary_runs::{chip_rows, lengths_stay, rows_follow, selected_steers};
+pub use instruction_register as lower_instruction_register;
+use instruction_register::lower_register_gates::{
+    bypass_follows, constants_are_bits, ident_follows, steps_by_register, tdo_follows, tdo_lets_go,
+};
 use instruction_register::{instruction_steps, instructions_stay_legible};
 use netlist_images::{
     nested_behind_meets, nested_behind_starts, nested_behind_steps, operands_are_given,
 };
 use netlist_laws::{bit_of_a_direction, direction_of_a_bit, found_driver_drives};
-use register_gates::{
-    bypass_follows, constants_are_bits, ident_follows, steps_by_register, tdo_follows, tdo_lets_go,
-};
 use tap_gates::{step_is_the_machines, tap_finds_home, tap_follows};
 use wrapped_chip::{one_chip_run, outside_goes_on, some_run_beside};
 

@@ -5,10 +5,10 @@ use Rattle.bsdl_device.specs.Spelled.{SpellsDevice}
 use Rattle.bsdl_device.specs.declared.fault.DeviceTextFault.{DeviceTextFault}
 use Rattle.bsdl_device.specs.declared.fault.DeviceTextFault.TheVariants as device
 use Rattle.bsdl_values.specs.TextFaults.{IsDeviceTextFault}
-use Rattle.command_faults.specs.declared.fault.Fault.{Fault}
-use Rattle.command_faults.specs.declared.fault.Fault.TheVariants as fault
-use Rattle.command_faults.specs.declared.status.Status.TheVariants as status
-use Rattle.command_faults.specs.Statuses.{status_of, device_status}
+use Rattle.command_edges.specs.command_faults.declared.fault.Fault.{Fault}
+use Rattle.command_edges.specs.command_faults.declared.fault.Fault.TheVariants as fault
+use Rattle.command_edges.specs.command_faults.declared.status.Status.TheVariants as status
+use Rattle.command_edges.specs.command_faults.Statuses.{status_of, device_status}
 use Rattle.command_edges.specs.Spelled.{SpellsSomeDevice}
 use Rattle.vectors_command.specs.Tasks.{StandsInText}
 

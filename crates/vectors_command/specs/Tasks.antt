@@ -1,9 +1,9 @@
 -- What `vectors` is to do, and when each fault stands in the text that it reads. Own.
 use Rattle.std.specs.Prelude.{◌≡◌, ℕ, List, [], ◌∷◌, false}
-use Rattle.command_faults.specs.declared.fault.Fault.{Fault}
-use Rattle.command_faults.specs.declared.fault.Fault.TheVariants as fault
-use Rattle.command_faults.specs.declared.status.Status.{Status}
-use Rattle.command_faults.specs.declared.status.Status.TheVariants as status
+use Rattle.command_edges.specs.command_faults.declared.fault.Fault.{Fault}
+use Rattle.command_edges.specs.command_faults.declared.fault.Fault.TheVariants as fault
+use Rattle.command_edges.specs.command_faults.declared.status.Status.{Status}
+use Rattle.command_edges.specs.command_faults.declared.status.Status.TheVariants as status
 use Rattle.bsdl_values.specs.TextFaults.{IsDeviceTextFault}
 use Rattle.command_edges.specs.Spelled.{SpellsSomeDevice}
 use Rattle.command_edges.specs.Tasks.{Task}

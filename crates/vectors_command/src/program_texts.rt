@@ -9,7 +9,7 @@ ghost use Rattle.vectors_command.specs.Tasks.{StandsInText};
 
 use bsdl_device::Device;
 use bsdl_values::read_device;
-use command_faults::Fault;
+use command_edges::lower_command_faults::Fault;
 use edge_io::{OutOfMemory, Text};
 use scan_programs::program;
 use scan_vectors::{print_events, texts_of_events_are_spelled_or_at_fault};

@@ -1,8 +1,8 @@
 ghost use Rattle.vectors_command.specs.Tasks.{vectors_task};
 
 use crate::program_texts::program_text;
+use command_edges::lower_command_faults::{Fault, Status};
 use command_edges::{Made, TextCommand, take_one};
-use command_faults::{Fault, Status};
 use edge_io::{Row, Text};
 use std::alloc::Global;
 

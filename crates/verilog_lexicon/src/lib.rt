@@ -29,5 +29,6 @@ pub use laws::key_words_are_found_by_their_bytes;
 pub use reader::WordReader;
 pub use reserved::Reserved;
 pub use symbol::Symbol;
+pub use texts as lower_texts;
 pub use word::{Spanned, Word};
 pub use words::Words;

@@ -1,4 +1,4 @@
-use texts::{Row, Text};
+use verilog_lexicon::lower_texts::{Row, Text};
 
 /// The direction of a port.
 #[derive(Clone, Copy, Debug, Drop, PartialEq, Eq)]

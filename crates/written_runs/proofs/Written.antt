@@ -14,11 +14,11 @@ use Rattle.realised_copies.specs.Laws.{KeepsNumbers, RenumberedRealises, Renumbe
 use Rattle.plan_texts.specs.declared.plan.Plan.{Plan}
 use Rattle.plan_fitting.specs.declared.fitted.Fitted.{Fitted}
 use Rattle.plan_fitting.specs.Devices.{device_of}
-use Rattle.plan_devices.specs.Fitting.{IsFitting}
-use Rattle.plan_devices.specs.Laws.{FittedIsFitting, PlansSuitNetlists}
-use Rattle.stitch_model.specs.declared.TapNames.{TapNames}
-use Rattle.stitch_model.specs.Stitched.{stitched}
-use Rattle.stitch_laws.specs.Laws.{StitchedKeeps}
+use Rattle.stitch_runs.specs.plan_devices.Fitting.{IsFitting}
+use Rattle.stitch_runs.specs.plan_devices.Laws.{FittedIsFitting, PlansSuitNetlists}
+use Rattle.stitch_runs.specs.stitch_model.declared.TapNames.{TapNames}
+use Rattle.stitch_runs.specs.stitch_model.Stitched.{stitched}
+use Rattle.stitch_runs.specs.stitch_laws.Laws.{StitchedKeeps}
 use Rattle.stitch_texts.specs.Laws.{IsStitching, StitchedIsRenumbered}
 use Rattle.stitch_texts.specs.Written.{IsNumberedAnew}
 use Rattle.stitch_runs.specs.FormedLaws.{StitchedIsFormed}

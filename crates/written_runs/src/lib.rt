@@ -15,11 +15,12 @@
 
 ghost use Rattle.written_runs.specs.Laws.{WrittenRealises, WrittenIsAlone, WrittenHasControls, WrittenFindsHome, WrittenIsAloneFromHome};
 
-use plan_devices::{fitted_is_fitting, plans_suit_netlists};
 use realised_copies::{
     renumbered_finds_home, renumbered_has_controls, renumbered_is_alone, renumbered_realises,
 };
-use stitch_laws::stitched_keeps;
+pub use stitch_runs::lower_plan_devices;
+use stitch_runs::lower_plan_devices::{fitted_is_fitting, plans_suit_netlists};
+use stitch_runs::lower_stitch_laws::stitched_keeps;
 use stitch_runs::{
     fitting_plans_are_alone, fitting_plans_find_home, fitting_plans_have_controls,
     fitting_plans_realise, stitched_is_formed,

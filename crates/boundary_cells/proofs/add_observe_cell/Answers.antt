@@ -1,6 +1,6 @@
 use Rattle.std.proofs.Common.{length}
-use Rattle.netlist_model.specs.Lists.{cell_count}
-use Rattle.netlist_model.specs.declared.Feed.TheVariants.{Net}
+use Rattle.register_bits.specs.netlist_model.Lists.{cell_count}
+use Rattle.register_bits.specs.netlist_model.declared.Feed.TheVariants.{Net}
 use Rattle.register_bits.specs.declared.TheConstants.{SHIFT_BIT}
 use Rattle.register_bits.specs.Bits.{shift_bit_given}
 use Rattle.boundary_cells.specs.Cells.{steering_of}

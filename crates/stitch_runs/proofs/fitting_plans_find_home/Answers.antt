@@ -1,5 +1,5 @@
-use Rattle.plan_fitting.specs.Devices.{fitted_of, device_of}
-use Rattle.stitch_model.specs.Stitched.{stitched}
+use Rattle.stitch_inside.specs.plan_fitting.Devices.{fitted_of, device_of}
+use Rattle.stitch_inside.specs.stitch_model.Stitched.{stitched}
 use Rattle.stitch_inside.specs.Places.{places_of}
 use Rattle.stitch_runs.proofs.Home.{controller_added}
 use Rattle.stitch_runs.proofs.fitting_plans_find_home.Goals as goal

@@ -1,4 +1,4 @@
-use Rattle.plan_fitting.specs.Devices.{fitted_of}
+use Rattle.stitch_inside.specs.plan_fitting.Devices.{fitted_of}
 use Rattle.stitch_runs.proofs.fitting_plans_realise.Goals as goal
 
 pub returns : goal.returns

@@ -1,6 +1,6 @@
 use Rattle.std.proofs.Common.{rules, ◌+◌, ◌∙◌, ap, arith, refl}
 use Rattle.std.proofs.lemmas.Option.{slice_get-get_or}
-use Rattle.stitch_model.specs.Sites.{side_count}
+use Rattle.scan_sides.specs.stitch_model.Sites.{side_count}
 use Rattle.core_moves.proofs.Turns.{begins, stands_here, stood_here, side_here, side_fits}
 use Rattle.core_moves.proofs.Next.{control_there}
 use Rattle.core_moves.proofs.row_moves.stand_behind.Goals as goal

@@ -1,5 +1,5 @@
 use Rattle.std.proofs.Common.{◌≡◌, ◌+◌, take}
-use Rattle.stitch_model.specs.Sites.{sides_of}
+use Rattle.scan_sides.specs.stitch_model.Sites.{sides_of}
 use Rattle.scan_sides.specs.Pins.{between}
 use Rattle.core_moves.proofs.Behind.{behind_rows}
 use Rattle.core_moves.proofs.row_moves.stand_behind.Given as goal

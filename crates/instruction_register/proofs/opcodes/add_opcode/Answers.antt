@@ -1,6 +1,6 @@
 use Rattle.std.proofs.Common.{take, sym, ap, ◌∙◌, List}
 use Rattle.cell_library.specs.declared.codes.Opcode.{Opcode}
-use Rattle.test_logic.specs.Instructions.{opcode_of}
+use Rattle.instruction_gates.specs.test_logic.Instructions.{opcode_of}
 use Rattle.instruction_register.proofs.Added.{first_counted}
 use Rattle.instruction_register.proofs.OpcodeAdded.{match_room, match_below, none_added}
 use Rattle.instruction_register.proofs.opcodes.add_opcode.Goals as goal

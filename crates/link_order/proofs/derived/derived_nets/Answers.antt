@@ -1,7 +1,7 @@
 use Rattle.std.proofs.Common.{◌≡◌, ◌∙◌, sym, ap, subst, length, List}
 use Rattle.std.proofs.lemmas.List.{length-map}
 use Rattle.list_laws.proofs.Lists.{front_of}
-use Rattle.link_model.specs.Cells.{NamedCell}
+use Rattle.link_drivers.specs.link_model.Cells.{NamedCell}
 use Rattle.link_order.specs.Cones.{is_inout_net}
 use Rattle.link_order.proofs.Cells.{Keeps, kept}
 use Rattle.link_order.proofs.DerivedNets.{derived_by}

@@ -1,9 +1,9 @@
 use Rattle.std.proofs.Common.{◌∙◌, sym, ap, ℕ, length, refl, arith, length-append, ◌∷◌, ◌++◌, [], Some, None, subst, count_by}
 use Rattle.std.specs.Option.{is_some}
-use Rattle.numbered_places.specs.Places.{Puts}
+use Rattle.linked_cells.specs.numbered_places.Places.{Puts}
 use Rattle.linked_cells.specs.declared.Net.{Net}
-use Rattle.netlist_model.specs.declared.NetId.{NetId}
-use Rattle.netlist_model.specs.Lists.{NetlistView}
+use Rattle.linked_cells.specs.netlist_model.declared.NetId.{NetId}
+use Rattle.linked_cells.specs.netlist_model.Lists.{NetlistView}
 use Rattle.linked_cells.proofs.Threads.{threaded_loosely}
 use Rattle.linked_cells.specs.Cells.{cells_of, nets_of, net_view, slot_at, first_at, driver_at}
 use Rattle.netlist_arena.proofs.Growth.{undriven_past, direction_past}

@@ -1,5 +1,5 @@
 use Rattle.std.proofs.Common.{arith, refl}
-use Rattle.list_laws.proofs.Options.{some_there}
+use Rattle.linked_cells.proofs.list_laws.Options.{some_there}
 use Rattle.linked_cells.specs.Cells.{cells_of, feed_in, driver_at}
 use Rattle.netlist_arena.proofs.NetDrivers.{drivers_same, outputs_connected}
 use Rattle.linked_cells.proofs.Operands.{slot_there}

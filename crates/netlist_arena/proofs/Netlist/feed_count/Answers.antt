@@ -1,5 +1,5 @@
 use Rattle.std.proofs.Common.{ℕ, sym, ◌∙◌, ap, Some, subst}
-use Rattle.cell_library.specs.Gates.{Takes}
+use Rattle.linked_cells.specs.cell_library.Gates.{Takes}
 use Rattle.netlist_arena.proofs.Looking.{operand_count}
 use Rattle.netlist_arena.proofs.Netlist.feed_count.Goals as goal
 

@@ -1,4 +1,4 @@
-use Rattle.netlist_model.specs.Lists.{NetlistView}
+use Rattle.linked_cells.specs.netlist_model.Lists.{NetlistView}
 use Rattle.linked_cells.specs.Cells.{cells_of, nets_of, driver_at}
 use Rattle.netlist_arena.proofs.Laid.{laid_out}
 use Rattle.netlist_arena.proofs.Single.{once_driven}

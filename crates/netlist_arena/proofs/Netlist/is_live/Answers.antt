@@ -1,5 +1,5 @@
 use Rattle.std.proofs.Common.{◌≡◌, sym, Some, refl}
-use Rattle.numbered_places.specs.Places.{place_at}
+use Rattle.linked_cells.specs.numbered_places.Places.{place_at}
 use Rattle.netlist_arena.proofs.Placing.{place_view}
 use Rattle.netlist_arena.proofs.Looking.{no_cell}
 use Rattle.netlist_arena.proofs.Netlist.is_live.Goals as goal

@@ -1,8 +1,8 @@
 use Rattle.std.proofs.Common.{arith, ◌≡◌, ◌≢◌, ◌∙◌, sym, ap, ℕ, ◌<◌, length, refl, Option, Some, None}
 use Rattle.std.specs.List.{All}
-use Rattle.netlist_model.specs.declared.CellId.{CellId}
-use Rattle.netlist_model.specs.Lists.{NetlistView, IsUndriven}
-use Rattle.netlist_model.specs.Formed.{IsDriven}
+use Rattle.linked_cells.specs.netlist_model.declared.CellId.{CellId}
+use Rattle.linked_cells.specs.netlist_model.Lists.{NetlistView, IsUndriven}
+use Rattle.linked_cells.specs.netlist_model.Formed.{IsDriven}
 use Rattle.netlist_arena.specs.Arena.{IsPlaceBelow}
 use Rattle.netlist_arena.proofs.Growth.{place_at as found_below, output_below}
 use Rattle.netlist_arena.proofs.Changes.{moved_driver_below, moved_driver_counts}

@@ -1,5 +1,5 @@
 use Rattle.std.proofs.Common.{length, refl, arith}
-use Rattle.netlist_model.specs.Lists.{CellView, NetlistView}
+use Rattle.linked_cells.specs.netlist_model.Lists.{CellView, NetlistView}
 use Rattle.netlist_arena.proofs.Puts.{puts_adds, puts_below, puts_counts}
 use Rattle.linked_cells.proofs.Threads.{threaded_loosely}
 use Rattle.linked_cells.specs.Cells.{cells_of, nets_of, slot_at, first_at, driver_at}

@@ -1,6 +1,6 @@
 use Rattle.std.proofs.Common.{arith, refl, [], None}
 use Rattle.std.proofs.lemmas.List.Elements.{All-set}
-use Rattle.netlist_model.specs.Lists.{NetlistView}
+use Rattle.linked_cells.specs.netlist_model.Lists.{NetlistView}
 use Rattle.netlist_arena.specs.Arena.{HasItsOperands, IsPlaceBelow}
 use Rattle.netlist_arena.proofs.Puts.{emptied}
 use Rattle.netlist_arena.proofs.Single.{undriven_removed}

@@ -1,6 +1,6 @@
 use Rattle.std.proofs.Common.{length}
-use Rattle.link_model.specs.Faults.{cells_in}
-use Rattle.link_model.specs.Nets.{declared_nets, nets_in}
+use Rattle.link_names.specs.link_model.Faults.{cells_in}
+use Rattle.link_names.specs.link_model.Nets.{declared_nets, nets_in}
 use Rattle.link_arena.proofs.Parts.{are_below}
 use Rattle.netlist_link.proofs.Assembled.{is_formed}
 use Rattle.netlist_link.proofs.assemble.is_well_formed.Goals as goal

@@ -1,5 +1,5 @@
 use Rattle.std.proofs.Common.{subst, sym}
-use Rattle.link_model.specs.declared.fault.LinkFault.{LinkFault}
+use Rattle.link_names.specs.link_model.declared.fault.LinkFault.{LinkFault}
 use Rattle.netlist_link.specs.Links.{IsLinkFault}
 use Rattle.netlist_link.proofs.LinkFaults.{order_first}
 use Rattle.netlist_link.proofs.linking.link_built.Goals as goal

@@ -1,5 +1,5 @@
 use Rattle.std.proofs.Common.{length, arith}
-use Rattle.stitch_model.proofs.Few.{ident_few}
+use Rattle.scan_sides.proofs.stitch_model.Few.{ident_few}
 use Rattle.scan_parts.proofs.LogicAdded.{ident_below, ident_room, no_code}
 use Rattle.scan_parts.proofs.logic.add_code.Goals as goal
 

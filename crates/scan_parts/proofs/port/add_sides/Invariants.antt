@@ -1,6 +1,6 @@
 use Rattle.std.proofs.Common.{◌≡◌, ◌-◌, length}
 use Rattle.gate_parts.specs.Parts.{added_nets}
-use Rattle.stitch_model.specs.Stitched.{with_nets}
+use Rattle.scan_sides.specs.stitch_model.Stitched.{with_nets}
 use Rattle.scan_parts.proofs.port.add_sides.Given as goal
 
 abbrev pub invariant-loop : goal.invariant-loop

@@ -1,5 +1,5 @@
 use Rattle.std.proofs.Common.{◌≡◌, ◌+◌, drop}
-use Rattle.stitch_model.specs.Sites.{sides_of}
+use Rattle.scan_sides.specs.stitch_model.Sites.{sides_of}
 use Rattle.scan_sides.specs.Pins.{between}
 use Rattle.scan_parts.proofs.RowsAdded.{RowsAdded}
 use Rattle.scan_parts.proofs.rows.add_rows.Given as goal

@@ -1,5 +1,5 @@
 use Rattle.std.proofs.Common.{◌≡◌, ℕ, length, sym, ◌∙◌, ap, subst, refl, arith}
-use Rattle.stitch_model.specs.Sites.{Boundary}
+use Rattle.scan_sides.specs.stitch_model.Sites.{Boundary}
 use Rattle.scan_sides.specs.Pins.{between}
 use Rattle.scan_parts.specs.Rows.{CanTakeRows}
 use Rattle.scan_parts.proofs.WholeAdded.{RowsThere, same_between, rows_at, rows_use, tdo_use, ident_more, nearest_below, rows_can_follow, whole_added, tdo_leaves_free}

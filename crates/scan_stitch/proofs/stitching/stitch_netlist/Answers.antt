@@ -1,10 +1,10 @@
 use Rattle.std.proofs.Common.{◌≡◌, ℕ, ◌+◌, List, length, refl, sym, ◌∙◌, ap, subst, arith}
 use Rattle.netlist_model.specs.Lists.{PortView, NetlistView, cell_count}
 use Rattle.gate_parts.specs.Appended.{Appended}
-use Rattle.stitch_model.specs.declared.TapPort.{TapPort}
-use Rattle.stitch_model.specs.Sites.{Boundary, boundary_of, sides_of}
-use Rattle.stitch_model.specs.Stitched.{tap_port, tap_ports, test_logic_nets, test_logic_cells}
-use Rattle.scan_sides.specs.Pins.{between}
+use Rattle.scan_parts.specs.stitch_model.declared.TapPort.{TapPort}
+use Rattle.scan_parts.specs.stitch_model.Sites.{Boundary, boundary_of, sides_of}
+use Rattle.scan_parts.specs.stitch_model.Stitched.{tap_port, tap_ports, test_logic_nets, test_logic_cells}
+use Rattle.scan_parts.specs.scan_sides.Pins.{between}
 use Rattle.scan_parts.specs.Ports.{with_ports}
 use Rattle.scan_stitch.proofs.Joined.{same_netlist}
 use Rattle.scan_stitch.proofs.StitchSteps.{same_boundary, logic_can, LogicThere, ports_can, few_nets, few_cells}

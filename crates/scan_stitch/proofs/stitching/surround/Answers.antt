@@ -3,9 +3,9 @@ use Rattle.netlist_model.specs.declared.NetId.{NetId}
 use Rattle.netlist_model.specs.Lists.{PortView, NetlistView}
 use Rattle.netlist_arena.specs.Arena.{SpareView}
 use Rattle.plan_fitting.specs.declared.fitted.FitRow.{FitRow}
-use Rattle.stitch_model.specs.Sites.{sides_of}
-use Rattle.stitch_model.specs.Stitched.{with_nets}
-use Rattle.scan_sides.specs.Pins.{ArePinsThere, AreFew}
+use Rattle.scan_parts.specs.stitch_model.Sites.{sides_of}
+use Rattle.scan_parts.specs.stitch_model.Stitched.{with_nets}
+use Rattle.scan_parts.specs.scan_sides.Pins.{ArePinsThere, AreFew}
 use Rattle.scan_stitch.specs.Stitching.{nets_around}
 use Rattle.scan_stitch.proofs.Joined.{nets_joined, first_is, can_stand, surrounded_is}
 use Rattle.scan_stitch.proofs.stitching.surround.Goals as goal

@@ -5,7 +5,7 @@ use Rattle.wrapped_chip.specs.Home.{FindsHome, AloneFromHome}
 use Rattle.wrapped_chip.specs.Realises.{Realises, Alone}
 use Rattle.plan_fitting.specs.Devices.{device_of_fitted}
 use Rattle.netlist_arena.specs.Arena.{ArenaView}
-use Rattle.stitch_model.specs.Stitched.{stitched}
+use Rattle.scan_parts.specs.stitch_model.Stitched.{stitched}
 use Rattle.stitch_names.specs.Same.{IsSameNetlist}
 use Rattle.scan_stitch.specs.Stitching.{CanBeStitched, HasStitchRoom}
 use Rattle.scan_stitch.proofs.Known.{names_entered, can_of, room_made, fits_room_at, named_of, formed_of}

@@ -1,7 +1,7 @@
 use Rattle.std.proofs.Common.{◌≡◌, subst}
 use Rattle.list_laws.proofs.Options.{err_is}
-use Rattle.command_faults.specs.declared.status.Status.TheVariants as status
-use Rattle.command_faults.specs.Statuses.{status_of}
+use Rattle.command_edges.specs.command_faults.declared.status.Status.TheVariants as status
+use Rattle.command_edges.specs.command_faults.Statuses.{status_of}
 use Rattle.vectors_command.specs.Tasks.{AreSpelled}
 use Rattle.vectors_command.proofs.Complete.{spelled_memory}
 use Rattle.vectors_command.proofs.writing.VectorsTextCommand.make.Goals as goal

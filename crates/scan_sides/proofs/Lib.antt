@@ -1,0 +1,1 @@
+pub use Rattle.stitch_model.proofs as stitch_model
