@@ -1,9 +1,9 @@
 -- When the faults of reading, writing and putting stand, for every command. Own.
-use Rattle.std.specs.Prelude.{◌≡◌, ℕ, ◌⊎◌, List, codes}
+use Rattle.std.specs.Prelude.{◌≡◌, ℕ, List, codes}
 use Rattle.edge_io.specs.Shelf.{WhereTold}
 use Rattle.command_faults.specs.declared.fault.Fault.{Fault}
 use Rattle.command_faults.specs.declared.fault.Fault.TheVariants as fault
-use Rattle.command_edges.specs.Lengths.{IsShort, IsLong}
+use Rattle.command_edges.specs.Lengths.{IsLong}
 use Rattle.command_edges.specs.Seen.{ShelfSeen, SinkSeen, ReadRose, WriteRose, SinkRose}
 
 -- the fault stands in reading what lies under a name
@@ -12,15 +12,6 @@ StandsInReading name shelf (fault.ReadFault n) = (n.now ≡ name) × ReadRose sh
 StandsInReading name shelf (fault.TooLong n) = (n.now ≡ name) × WhereTold (shelf.held name) IsLong
 StandsInReading name shelf fault.OutOfMemory = Unit {0}
 StandsInReading name shelf f = ⊥
-
--- the fault stands in reading one text and then another, which is read only after a first that is short
-abbrev pub StandsInReadingTwo : List ℕ → List ℕ → ShelfSeen → Fault → Type 0
-StandsInReadingTwo first second shelf f = StandsInReading first shelf f
-    ⊎ (WhereTold (shelf.held first) IsShort × StandsInReading second shelf f)
-
--- two texts that were read aren't too long
-abbrev pub AreShort : List ℕ → List ℕ → ShelfSeen → Type 0
-AreShort first second shelf = WhereTold (shelf.held first) IsShort × WhereTold (shelf.held second) IsShort
 
 -- the fault stands in writing under a name
 abbrev pub StandsInWriting : List ℕ → ShelfSeen → Fault → Type 0

@@ -6,6 +6,5 @@ pub mod Ends
 pub mod Names
 pub mod Texts
 pub mod Tasks
-pub mod OneText
 pub mod Spelled
 pub mod Libraries

@@ -1,6 +1,6 @@
 -- What a command saw of its shelf and its sink, before and after. Own.
 use Rattle.std.specs.Prelude.{◌≡◌, ℕ, ◌⊎◌, List, take, Bool, Option}
-use Rattle.edge_io.specs.Shelf.{Access, Rose, RoseAt, WhereTold, told_if}
+use Rattle.edge_io.specs.Shelf.{Access, Rose, RoseAt, told_if}
 
 -- What is held under each name; what was written there, where the shelf tells it; and the counts of faults of reads and of writes.
 pub record ShelfSeen : Type 0 where
@@ -52,10 +52,6 @@ WriteRose shelf name = RoseAt shelf.faults shelf.faults_after Access.writing nam
 -- the sink's count of faults rose, or stands at its last value
 abbrev pub SinkRose : SinkSeen → Type 0
 SinkRose sink = Rose sink.faults sink.faults_after
-
--- a fact of both texts, where both are told
-abbrev pub WhereBothTold : Option (List ℕ) → Option (List ℕ) → (List ℕ → List ℕ → Type 0) → Type 0
-WhereBothTold first second P = WhereTold first (λ one. WhereTold second (P one))
 
 -- what is written under the name is as before, or a front of the text
 abbrev pub IsCutOff : List ℕ → List ℕ → ShelfSeen → Type 0

@@ -9,8 +9,6 @@ use Rattle.link_model.specs.Late.{IsLinkable}
 use Rattle.command_faults.specs.netlist_link.Links.{HasLinkFault}
 use Rattle.bsdl_device.specs.declared.values.Device.{Device}
 use Rattle.bsdl_device.specs.Spelled as bsdl
-use Rattle.scan_vectors.specs.declared.lines.Lines.{Lines}
-use Rattle.scan_vectors.specs.Grammar.{SpellsLines}
 use Rattle.command_faults.specs.declared.fault.Fault.{Fault}
 use Rattle.command_faults.specs.declared.fault.Fault.TheVariants as fault
 
@@ -29,7 +27,3 @@ pub record SpellsLinkable (library : List ListedCell) (net : List ℕ) : Type 0 
 -- own: the bytes spell a device
 abbrev pub SpellsSomeDevice : List ℕ → Type 0
 SpellsSomeDevice text = (device : Device) × bsdl.SpellsText text device
-
--- own: the bytes spell lines of events
-abbrev pub SpellsEvents : List ℕ → Type 0
-SpellsEvents events = (lines : Lines) × SpellsLines events lines
