@@ -1,0 +1,5 @@
+use Rattle.event_laws.proofs.Counting.{touched_are_gates}
+use Rattle.event_laws.proofs.touched_are_gates.Goals as goal
+
+pub returns : goal.returns
+returns c = touched_are_gates

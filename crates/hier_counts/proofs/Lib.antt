@@ -1,0 +1,12 @@
+pub mod CellTables
+pub mod EarlyLaws
+pub mod Joins
+pub mod Leading
+pub mod LevelLaws
+pub mod Loops
+pub mod Marking
+pub mod Reached
+pub mod RingLaws
+pub mod Searching
+pub mod SizeLaws
+pub mod WidthLaws

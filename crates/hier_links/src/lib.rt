@@ -1,0 +1,12 @@
+// Flat modules that link: which valuations of a netlist solve the hierarchy that it was made of.
+// The law is specs/Laws.antt, over hier_solutions' Solves.antt and netlist_link's Links.antt.
+// IEEE Std 1364-2001: hierarchical structures, ports and port connections; values are those of one flat netlist.
+//
+// - Where modules can be made flat and the flat module links with the library, the settled valuations of its nets are those that solve
+//   the hierarchy, read at (occurrence, net, bit); and each valuation can be read so.
+// By a law function.
+#![tactic(auto)]
+
+mod laws;
+
+pub use laws::settled_where_linked;

@@ -1,0 +1,14 @@
+pub mod Apart
+pub mod Blocks
+pub mod Cells
+pub mod EntryTrees
+pub mod FlatNames
+pub mod FlatTrees
+pub mod Meeting
+pub mod Outputs
+pub mod OwnBits
+pub mod OwnLinks
+pub mod Places
+pub mod ReadingLaws
+pub mod Settled
+pub mod Solving

@@ -1,0 +1,4 @@
+pub mod Solves
+pub mod Laws
+pub mod Readings
+pub mod Trees

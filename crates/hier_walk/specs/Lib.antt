@@ -1,0 +1,4 @@
+pub mod Names
+pub mod Visits
+pub mod Found
+pub mod Walks
