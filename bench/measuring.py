@@ -91,15 +91,15 @@ def make(path, lines):
     os.waitpid(child, 0)
 
 
-def run(words, runs=RUNS):
-    """The best time of so many runs, in seconds, and the peak memory of a run, in bytes."""
+def run(words, runs=RUNS, wanted=0):
+    """The best time of so many runs that end with a status, in seconds, and the peak memory of a run, in bytes."""
     best, peak = None, 0
     for _ in range(runs):
         start = time.perf_counter()
         process = subprocess.Popen(words, stdout=subprocess.DEVNULL, env=AROUND)
         _, status, usage = os.wait4(process.pid, 0)
         spent = time.perf_counter() - start
-        if status != 0:
+        if os.waitstatus_to_exitcode(status) != wanted:
             sys.exit(f"{' '.join(words)} ended with status {os.waitstatus_to_exitcode(status)}")
         best = spent if best is None else min(best, spent)
         peak = max(peak, usage.ru_maxrss * 1024)

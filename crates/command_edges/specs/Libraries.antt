@@ -27,6 +27,12 @@ abbrev pub StandsInLibrary : List (List ℕ) → Fault → Type 0
 StandsInLibrary (text ∷ more) (fault.Library f) = IsFault text f
 StandsInLibrary more f = ⊥
 
+-- a text, and behind it those of this library
+pub record IsFirst (texts : List (List ℕ)) (one : List ℕ) (library : List ListedCell) : Type 0 where
+  pub more : List (List ℕ)
+  pub are : texts ≡ one ∷ more
+  pub is : IsLibraryOf more library
+
 -- two texts, and behind them those of this library
 pub record AreTwo (texts : List (List ℕ)) (one two : List ℕ) (library : List ListedCell) : Type 0 where
   pub more : List (List ℕ)
@@ -39,7 +45,14 @@ pub record AreThree (texts : List (List ℕ)) (one two three : List ℕ) (librar
   pub are : texts ≡ one ∷ two ∷ three ∷ more
   pub is : IsLibraryOf more library
 
--- the fault stands in the text of the library behind two others
+-- the fault stands in the text of the library behind another
+pub record StandsBehindFirst (texts : List (List ℕ)) (f : Fault) : Type 0 where
+  pub one : List ℕ
+  pub more : List (List ℕ)
+  pub are : texts ≡ one ∷ more
+  pub stands : StandsInLibrary more f
+
+-- or behind two others
 pub record StandsBehindTwo (texts : List (List ℕ)) (f : Fault) : Type 0 where
   pub one : List ℕ
   pub two : List ℕ

@@ -24,6 +24,6 @@ mod writing;
 pub use command_faults as lower_command_faults;
 pub use libraries::library_of;
 pub use reading::{read_all, read_text};
-pub use taking::{take_one, take_three, take_two};
+pub use taking::{take_first, take_one, take_three, take_two};
 pub use tasks::{Made, TextCommand, run_task};
 pub use writing::{put_text, write_all, write_text};

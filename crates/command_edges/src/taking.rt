@@ -1,6 +1,6 @@
 // Taking the texts of a command apart.
 ghost use Rattle.std.specs.Prelude.{◌≡◌, ◌≤◌, [], ◌∷◌, drop, length, IfErr, IfOk};
-ghost use Rattle.command_edges.specs.Libraries.{AreThree, AreTwo, StandsBehindThree, StandsBehindTwo};
+ghost use Rattle.command_edges.specs.Libraries.{AreThree, AreTwo, IsFirst, StandsBehindFirst, StandsBehindThree, StandsBehindTwo};
 ghost use Rattle.command_edges.specs.Libraries.{IsLibraryOf, StandsInLibrary};
 
 use crate::libraries::library_of;
@@ -26,6 +26,17 @@ fn library_behind<'a>(alloc: Global, texts: &[Text], count: usize) -> Result<Lib
     ensures fault { IfErr result (StandsInLibrary (drop count texts.now)) }
 {
     library_of(alloc, &texts[count..])
+}
+
+/// Takes the first text, and the library that those behind it come to, whose text is looked at first.
+pub fn take_first<'a>(alloc: Global, texts: &mut [Text]) -> Result<(Text, Library), Fault<'a>>
+    requires { 1 ≤ length texts.old }
+    ensures taken { IfOk result (λ taken. IsFirst texts.old taken.0 taken.1) }
+    ensures fault { IfErr result (StandsBehindFirst texts.old) }
+{
+    let library = library_behind(alloc, texts, 1)?;
+    let one = replace(&mut texts[0], Text::new(alloc));
+    Ok((one, library))
 }
 
 /// Takes two texts, and the library that those behind them come to, whose text is looked at first.

@@ -4,6 +4,8 @@ use Rattle.std.specs.Fmt.{decimal}
 use Rattle.link_model.specs.declared.fault.BitName.{BitName}
 use Rattle.link_model.specs.declared.fault.LinkFault.{LinkFault}
 use Rattle.link_model.specs.declared.fault.LinkFault.TheVariants as link
+use Rattle.hier_model.specs.declared.fault.HierFault.{HierFault}
+use Rattle.hier_model.specs.declared.fault.HierFault.TheVariants as hier
 use Rattle.verilog_texts.specs.declared.fault.TextFault.{TextFault}
 use Rattle.verilog_texts.specs.declared.fault.TextFault.TheVariants as text
 use Rattle.cell_text.specs.declared.fault.LibFault.{LibFault}
@@ -21,7 +23,7 @@ use Rattle.plan_fitting.specs.declared.fault.FitFault.TheVariants as fit
 use Rattle.output_lines.specs.Lines.{bit_text, words_line}
 use Rattle.command_faults.specs.declared.fault.Fault.{Fault}
 use Rattle.command_faults.specs.declared.fault.Fault.TheVariants as fault
-use Rattle.command_faults.specs.Words.{what_word, kind_word}
+use Rattle.command_faults.specs.Words.{what_word, hier_word, kind_word}
 
 abbrev pub memory_line : List ℕ
 memory_line = words_line (codes "OutOfMemory") []
@@ -54,6 +56,15 @@ abbrev pub text_line : TextFault → List ℕ
 text_line (text.BadWord place) = place_line (codes "BadWord") place
 text_line (text.BadSyntax place word) = word_line (codes "BadSyntax") place word
 text_line text.OutOfMemory = memory_line
+
+abbrev pub hier_line : HierFault → List ℕ
+hier_line (hier.ModuleTwice name) = named_line (codes "ModuleTwice") name
+hier_line (hier.ModuleMissing name) = named_line (codes "ModuleMissing") name
+hier_line (hier.ModuleRecursive name) = named_line (codes "ModuleRecursive") name
+hier_line (hier.TooMany what count limit) = many_line (hier_word what) count limit
+hier_line (hier.ModuleLink instance port) = port_line (codes "ModuleLink") instance port
+hier_line (hier.FlatName name) = named_line (codes "FlatName") name
+hier_line hier.OutOfMemory = memory_line
 
 abbrev pub link_line : LinkFault → List ℕ
 link_line (link.NameTwice name) = named_line (codes "NameTwice") name
@@ -121,6 +132,7 @@ line_of (fault.SameName name) = named_line (codes "SameName") name.now
 line_of (fault.ReadFault name) = named_line (codes "ReadFault") name.now
 line_of (fault.TooLong name) = named_line (codes "TooLong") name.now
 line_of (fault.Netlist f) = text_line f
+line_of (fault.Hier f) = hier_line f
 line_of (fault.Link f) = link_line f
 line_of (fault.Library f) = library_line f
 line_of (fault.Events f) = event_line f

@@ -6,6 +6,8 @@ use Rattle.command_faults.specs.declared.status.Status.{Status}
 use Rattle.command_faults.specs.declared.status.Status.TheVariants as status
 use Rattle.verilog_texts.specs.declared.fault.TextFault.{TextFault}
 use Rattle.verilog_texts.specs.declared.fault.TextFault.TheVariants as text
+use Rattle.hier_model.specs.declared.fault.HierFault.{HierFault}
+use Rattle.hier_model.specs.declared.fault.HierFault.TheVariants as hier
 use Rattle.link_model.specs.declared.fault.LinkFault.{LinkFault}
 use Rattle.link_model.specs.declared.fault.LinkFault.TheVariants as link
 use Rattle.cell_text.specs.declared.fault.LibFault.{LibFault}
@@ -24,6 +26,10 @@ use Rattle.plan_fitting.specs.declared.fault.FitFault.TheVariants as fit
 abbrev pub text_status : TextFault → Status
 text_status text.OutOfMemory = status.Memory
 text_status f = status.Refused
+
+abbrev pub hier_status : HierFault → Status
+hier_status hier.OutOfMemory = status.Memory
+hier_status f = status.Refused
 
 abbrev pub link_status : LinkFault → Status
 link_status link.OutOfMemory = status.Memory
@@ -59,6 +65,7 @@ status_of (fault.SameName name) = status.Usage
 status_of (fault.ReadFault name) = status.ReadFault
 status_of (fault.TooLong name) = status.Refused
 status_of (fault.Netlist f) = text_status f
+status_of (fault.Hier f) = hier_status f
 status_of (fault.Link f) = link_status f
 status_of (fault.Library f) = library_status f
 status_of (fault.Events f) = event_status f

@@ -2,6 +2,8 @@
 use Rattle.std.specs.Prelude.{ℕ, List, codes}
 use Rattle.netlist_model.specs.declared.What.{What}
 use Rattle.netlist_model.specs.declared.What.TheVariants as what
+use Rattle.hier_model.specs.declared.fault.HierWhat.{HierWhat}
+use Rattle.hier_model.specs.declared.fault.HierWhat.TheVariants as hier_what
 use Rattle.bsdl_device.specs.declared.meaning.MeaningKind.{MeaningKind}
 use Rattle.bsdl_device.specs.declared.meaning.MeaningKind.TheVariants as kind
 
@@ -11,6 +13,11 @@ what_word what.Nets = codes "nets"
 what_word what.Ports = codes "ports"
 what_word what.Operands = codes "operands"
 what_word what.Lines = codes "lines"
+
+abbrev pub hier_word : HierWhat → List ℕ
+hier_word hier_what.Depth = codes "depth"
+hier_word hier_what.Cells = codes "cells"
+hier_word hier_what.Nets = codes "nets"
 
 abbrev pub kind_word : MeaningKind → List ℕ
 kind_word kind.Name = codes "Name"

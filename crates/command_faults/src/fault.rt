@@ -7,6 +7,7 @@ use bsdl_device::DeviceTextFault;
 use cell_text::LibFault;
 use edge_io::OutOfMemory;
 use event_scripts::ScriptFault;
+use hier_model::HierFault;
 use link_model::LinkFault;
 use netlist_model::What;
 use plan_fitting::FitFault;
@@ -29,6 +30,9 @@ pub enum Fault<'a> {
     /// A netlist's text is no module.
     #[error("{0}")]
     Netlist(TextFault),
+    /// Modules can't be made flat.
+    #[error("{0}")]
+    Hier(HierFault),
     /// A module is no netlist.
     #[error("{0}")]
     Link(LinkFault),
@@ -64,6 +68,14 @@ impl From<TextFault> for Fault<'_> {
 
     fn from(fault: TextFault) -> Self {
         Fault::Netlist(fault)
+    }
+}
+
+impl From<HierFault> for Fault<'_> {
+    ghost from_gives = { λ fault given. given ≡ made.Hier fault };
+
+    fn from(fault: HierFault) -> Self {
+        Fault::Hier(fault)
     }
 }
 
@@ -125,6 +137,7 @@ impl Fault<'_> {
             Fault::ReadFault { .. } => Status::ReadFault,
             Fault::TooLong { .. } => Status::Refused,
             Fault::Netlist(TextFault::OutOfMemory)
+            | Fault::Hier(HierFault::OutOfMemory)
             | Fault::Link(LinkFault::OutOfMemory)
             | Fault::Library(LibFault::OutOfMemory)
             | Fault::Events(EventFault::OutOfMemory)
@@ -134,6 +147,7 @@ impl Fault<'_> {
             | Fault::Fit(FitFault::OutOfMemory)
             | Fault::OutOfMemory => Status::Memory,
             Fault::Netlist(_)
+            | Fault::Hier(_)
             | Fault::Link(_)
             | Fault::Library(_)
             | Fault::Events(_)

@@ -12,6 +12,7 @@
 #![tactic(auto)]
 
 mod fault;
+mod hier_lines;
 mod library_lines;
 mod lines;
 mod link_lines;

@@ -2,6 +2,7 @@ ghost use Rattle.output_lines.specs.Puts.{Puts};
 ghost use Rattle.command_faults.specs.Lines.{line_of};
 
 use crate::fault::Fault;
+use crate::hier_lines::put_hier_fault;
 use crate::library_lines::put_library_fault;
 use crate::link_lines::{put_link_fault, put_named};
 use crate::plan_lines::{put_fit_fault, put_plan_fault};
@@ -23,6 +24,7 @@ pub fn put_fault<O: Sink>(out: &mut O, fault: &Fault) -> Result<(), WriteFault>
         Fault::ReadFault { name } => put_named(out, b"ReadFault", name.as_bytes()),
         Fault::TooLong { name } => put_named(out, b"TooLong", name.as_bytes()),
         Fault::Netlist(fault) => put_text_fault(out, fault),
+        Fault::Hier(fault) => put_hier_fault(out, fault),
         Fault::Link(fault) => put_link_fault(out, fault),
         Fault::Library(fault) => put_library_fault(out, fault),
         Fault::Events(fault) => put_event_fault(out, fault),

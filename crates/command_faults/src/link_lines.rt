@@ -27,8 +27,8 @@ fn put_bit<O: Sink>(out: &mut O, fault: &[u8], bit: &BitName) -> Result<(), Writ
     put_line(out, &Field::Word(fault), &[field])
 }
 
-// The line of a fault of an instance's port.
-fn put_port<O: Sink>(
+/// Puts the line of a fault of an instance's port.
+pub fn put_port<O: Sink>(
     out: &mut O,
     fault: &[u8],
     instance: &[u8],

@@ -45,8 +45,20 @@ pub fn put_many<O: Sink>(out: &mut O, what: What, count: u64, limit: u64) -> Res
     ensures { Puts O.given O.faults out.old out.new
         (lines.many_line (words.what_word what) count limit) result }
 {
+    put_count(out, what_word(what), count, limit)
+}
+
+/// Puts a word for what there is too many of, how many there are, and how many there may be.
+pub fn put_count<O: Sink>(
+    out: &mut O,
+    what: &[u8],
+    count: u64,
+    limit: u64,
+) -> Result<(), WriteFault>
+    ensures { Puts O.given O.faults out.old out.new (lines.many_line what.now count limit) result }
+{
     let fields = [
-        Field::Word(what_word(what)),
+        Field::Word(what),
         Field::Number(count),
         Field::Number(limit),
     ];

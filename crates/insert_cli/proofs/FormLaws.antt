@@ -20,11 +20,15 @@ from_two word a b =
 abbrev from_three : List ℕ → List ℕ → List ℕ → List ℕ → Option Form
 from_three word a b c =
     if bytes_eq word (codes "check") then Some (Form.Checks a b c None)
+    else if bytes_eq word (codes "flatten") then Some (Form.Flattens a b c None)
     else if bytes_eq word (codes "sim") then Some (Form.Simulates a b (Some c))
     else Some (Form.Demonstrates (value_after 10 0 a) b c)
 
 abbrev from_four : List ℕ → List ℕ → List ℕ → List ℕ → List ℕ → Option Form
-from_four word a b c d = if bytes_eq word (codes "check") then Some (Form.Checks a b c (Some d)) else Some (Form.Inserts a b c d None)
+from_four word a b c d =
+    if bytes_eq word (codes "check") then Some (Form.Checks a b c (Some d))
+    else if bytes_eq word (codes "flatten") then Some (Form.Flattens a b c (Some d))
+    else Some (Form.Inserts a b c d None)
 
 abbrev form_from : List (List ℕ) → Option Form
 form_from [] = None
@@ -39,6 +43,8 @@ form_from (word ∷ a ∷ b ∷ c ∷ d ∷ e ∷ f ∷ more) = None
 from_words : (words : List (List ℕ)) (form : Form) → HasWords words form → form_from words ≡ Some form
 from_words words (Form.Converts Canon input output) are = ap form_from are
 from_words words (Form.Converts ShowBsdl input output) are = ap form_from are
+from_words words (Form.Flattens input top output None) are = ap form_from are
+from_words words (Form.Flattens input top output (Some library)) are = ap form_from are
 from_words words (Form.Simulates netlist events None) are = ap form_from are
 from_words words (Form.Simulates netlist events (Some library)) are = ap form_from are
 from_words words (Form.Inserts netlist plan outnet outbsdl None) are = ap form_from are

@@ -45,6 +45,7 @@ numeral_small (a ∷ b ∷ c ∷ d ∷ e ∷ more) number n = absurd (omega (ari
 pub small_number : (words : List (List ℕ)) (c : Command) → HasForm words (form_of c) → HasSmallNumber c
 small_number words (command.Demo number outnet outbsdl) has = numeral_small has.words_are.0 number has.words_are.1.0
 small_number words (command.Convert conversion input output) has = tt
+small_number words (command.Flatten input top output library) has = tt
 small_number words (command.Sim netlist events library) has = tt
 small_number words (command.Insert netlist plan outnet outbsdl library) has = tt
 small_number words (command.Vectors bsdl output) has = tt

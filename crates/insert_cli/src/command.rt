@@ -17,6 +17,13 @@ pub enum Command<'a> {
         input: &'a str,
         output: &'a str,
     },
+    /// Writes the flat module of the module of a name, of those of a text, with the library of another if there is one.
+    Flatten {
+        input: &'a str,
+        top: &'a str,
+        output: &'a str,
+        library: Option<&'a str>,
+    },
     /// Plays the events of one text on the netlist of another, with the library of a third if there is one.
     Sim {
         netlist: &'a str,
@@ -122,6 +129,12 @@ fn of_three<'a>(word: &str, first: &'a str, second: &'a str, third: &'a str) -> 
             events: third,
             library: None,
         }),
+        "flatten" => Some(Command::Flatten {
+            input: first,
+            top: second,
+            output: third,
+            library: None,
+        }),
         "sim" => Some(Command::Sim {
             netlist: first,
             events: second,
@@ -161,6 +174,12 @@ fn of_four<'a>(
             netlist: first,
             bsdl: second,
             events: third,
+            library: Some(fourth),
+        }),
+        "flatten" => Some(Command::Flatten {
+            input: first,
+            top: second,
+            output: third,
             library: Some(fourth),
         }),
         _ => None,

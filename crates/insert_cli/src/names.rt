@@ -12,6 +12,18 @@ fn taken<'a>(output: &'a str, other: &str) -> Option<&'a str>
     if output == other { Some(output) } else { None }
 }
 
+// The output of `flatten` with a library, where its input or its library has the name too.
+fn taken_in_flatten<'a>(input: &str, library: &str, output: &'a str) -> Option<&'a str>
+    ensures same { IfSome result (λ name. IsRepeated name.now (input.now ∷ library.now ∷ [])
+        (output.now ∷ [])) }
+    ensures apart { result ≡ None → AreApart (input.now ∷ library.now ∷ []) (output.now ∷ []) }
+{
+    if output == input || output == library {
+        return Some(output);
+    }
+    None
+}
+
 // The first output of `insert` without a library that has the name of another of its files.
 fn taken_in_insert<'a>(
     netlist: &str,
@@ -64,6 +76,18 @@ pub fn same_name<'a>(command: Command<'a>) -> Option<&'a str>
 {
     match command {
         Command::Convert { input, output, .. } => taken(output, input),
+        Command::Flatten {
+            input,
+            output,
+            library: None,
+            ..
+        } => taken(output, input),
+        Command::Flatten {
+            input,
+            output,
+            library: Some(library),
+            ..
+        } => taken_in_flatten(input, library, output),
         Command::Sim { .. } => None,
         Command::Insert {
             netlist,

@@ -5,6 +5,7 @@ ghost use Rattle.command_edges.specs.Libraries.{name_of};
 ghost use Rattle.command_edges.specs.Names.{IsOneOf, StandOnce};
 ghost use Rattle.check_command.specs.Tasks.{check_task};
 ghost use Rattle.demo_command.specs.InsertTasks.{insert_task};
+ghost use Rattle.flatten_command.specs.Tasks.{flatten_task};
 ghost use Rattle.command_edges.specs.Seen.{shelf_seen, sink_seen};
 ghost use Rattle.command_edges.specs.Tasks.{Completes, Finishes, Keeps, Stands};
 ghost use Rattle.insert_cli.specs.Names.{AreApart, inputs, outputs};
@@ -19,9 +20,54 @@ use convert_command::Convert;
 use demo_command::{Demo, Insert};
 use edge_io::shelf::Shelf;
 use edge_io::sink::Sink;
+use flatten_command::Flatten;
 use sim_command::simulate;
 use std::alloc::Global;
 use vectors_command::Vectors;
+
+// Makes modules flat, with a library if there is one.
+fn run_flatten<'a, S: Shelf, O: Sink>(
+    alloc: Global,
+    shelf: &mut S,
+    out: &mut O,
+    flatten: Flatten<'a>,
+) -> Result<Status, Fault<'a>>
+    ensures done { IfOk result (Finishes (flatten_task flatten.entry.input.now flatten.entry.top.now flatten.entry.output.now (name_of flatten.entry.library))
+        (shelf_seen S.tells S.held S.written S.faults shelf.old shelf.new)
+        (sink_seen O.given O.faults out.old out.new)) }
+    ensures ended { IfOk result IsEnd }
+    ensures fault { IfErr result (λ fault. Stands (flatten_task flatten.entry.input.now flatten.entry.top.now flatten.entry.output.now (name_of flatten.entry.library))
+        (shelf_seen S.tells S.held S.written S.faults shelf.old shelf.new)
+        (sink_seen O.given O.faults out.old out.new) fault (O.given out.new)) }
+    ensures complete { IfErr result (λ fault. Completes (flatten_task flatten.entry.input.now flatten.entry.top.now flatten.entry.output.now (name_of flatten.entry.library))
+        (shelf_seen S.tells S.held S.written S.faults shelf.old shelf.new)
+        (sink_seen O.given O.faults out.old out.new) (status_of fault)) }
+    ensures keeps { Keeps (λ name. IsOneOf name (flatten_task flatten.entry.input.now flatten.entry.top.now flatten.entry.output.now (name_of flatten.entry.library)).writes)
+        (shelf_seen S.tells S.held S.written S.faults shelf.old shelf.new)
+        (sink_seen O.given O.faults out.old out.new) }
+{
+    let outputs = [flatten.output];
+    match flatten.library {
+        Some(library) => run_task(
+            alloc,
+            shelf,
+            out,
+            flatten,
+            &[flatten.input, library],
+            &outputs,
+            false,
+        ),
+        None => run_task(
+            alloc,
+            shelf,
+            out,
+            flatten,
+            &[flatten.input],
+            &outputs,
+            false,
+        ),
+    }
+}
 
 // Inserts, with a library if there is one.
 fn run_insert<'a, S: Shelf, O: Sink>(
@@ -146,6 +192,20 @@ pub fn run_command<'a, S: Shelf, O: Sink>(
                 output,
             };
             run_task(alloc, shelf, out, convert, &[input], &[output], false)
+        }
+        Command::Flatten {
+            input,
+            top,
+            output,
+            library,
+        } => {
+            let flatten = Flatten {
+                input,
+                top,
+                output,
+                library,
+            };
+            run_flatten(alloc, shelf, out, flatten)
         }
         Command::Sim {
             netlist,

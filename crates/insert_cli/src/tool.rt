@@ -58,11 +58,12 @@ pub fn run_tool<S: Shelf, O: Sink>(
     shelf: &mut S,
     out: &mut O,
 ) -> Status
-    // At status 0 a conversion's output is the canonical text of the one tree or device that the input spells, and
-    // that of `vectors` is the text of the program of the device; nothing is put. At status 0 or 6 a simulation put
-    // the text of the events' run, or a check its misses and its last line, and the status is 6 where an expectation
-    // isn't met. At status 0 an insertion wrote the netlist with the plan's test logic and the BSDL text of its device,
-    // and put its report; and a demonstration did so for the netlist of its number, and put its line.
+    // At status 0 a conversion's output is the canonical text of the one tree or device that the input spells, that of
+    // `flatten` is the canonical text of the flat module of one of those that the input spells, and that of `vectors`
+    // is the text of the program of the device; nothing is put. At status 0 or 6 a simulation put the text of the
+    // events' run, or a check its misses and its last line, and the status is 6 where an expectation isn't met. At
+    // status 0 an insertion wrote the netlist with the plan's test logic and the BSDL text of its device, and put its
+    // report; and a demonstration did so for the netlist of its number, and put its line.
     ensures done { IsEnd result → Finishes words.now
         (shelf_seen S.tells S.held S.written S.faults shelf.old shelf.new)
         (sink_seen O.given O.faults out.old out.new) result }

@@ -25,6 +25,24 @@ returns-in-Convert-clause-complete g c =
     let sink : SinkSeen = sink_seen g.O.Sink.given g.O.Sink.faults c.args.out.now c.run_task.new.out in
     subst (λ command. IfErr c.run_task.result (λ fault. Completes (task_of (form_of command)) shelf sink (status_of fault))) (sym c.in-Convert.is) c.run_task.ensures.complete
 
+pub returns-in-Flatten-clause-done : goal.returns-in-Flatten-clause-done
+returns-in-Flatten-clause-done g c =
+    let shelf : ShelfSeen = shelf_seen g.S.Shelf.tells g.S.Shelf.held g.S.Shelf.written g.S.Shelf.faults c.args.shelf.now c.run_flatten.new.shelf in
+    let sink : SinkSeen = sink_seen g.O.Sink.given g.O.Sink.faults c.args.out.now c.run_flatten.new.out in
+    subst (λ command. IfOk c.run_flatten.result (Finishes (task_of (form_of command)) shelf sink)) (sym c.in-Flatten.is) c.run_flatten.ensures.done
+
+pub returns-in-Flatten-clause-fault : goal.returns-in-Flatten-clause-fault
+returns-in-Flatten-clause-fault g c =
+    let shelf : ShelfSeen = shelf_seen g.S.Shelf.tells g.S.Shelf.held g.S.Shelf.written g.S.Shelf.faults c.args.shelf.now c.run_flatten.new.shelf in
+    let sink : SinkSeen = sink_seen g.O.Sink.given g.O.Sink.faults c.args.out.now c.run_flatten.new.out in
+    subst (λ command. IfErr c.run_flatten.result (λ fault. Stands (task_of (form_of command)) shelf sink fault sink.given_after)) (sym c.in-Flatten.is) c.run_flatten.ensures.fault
+
+pub returns-in-Flatten-clause-complete : goal.returns-in-Flatten-clause-complete
+returns-in-Flatten-clause-complete g c =
+    let shelf : ShelfSeen = shelf_seen g.S.Shelf.tells g.S.Shelf.held g.S.Shelf.written g.S.Shelf.faults c.args.shelf.now c.run_flatten.new.shelf in
+    let sink : SinkSeen = sink_seen g.O.Sink.given g.O.Sink.faults c.args.out.now c.run_flatten.new.out in
+    subst (λ command. IfErr c.run_flatten.result (λ fault. Completes (task_of (form_of command)) shelf sink (status_of fault))) (sym c.in-Flatten.is) c.run_flatten.ensures.complete
+
 pub returns-in-Sim-clause-done : goal.returns-in-Sim-clause-done
 returns-in-Sim-clause-done g c =
     let shelf : ShelfSeen = shelf_seen g.S.Shelf.tells g.S.Shelf.held g.S.Shelf.written g.S.Shelf.faults c.args.shelf.now c.simulate.new.shelf in

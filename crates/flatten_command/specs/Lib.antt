@@ -1,0 +1,2 @@
+pub mod FlatTexts
+pub mod Tasks

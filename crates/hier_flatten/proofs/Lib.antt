@@ -1,0 +1,15 @@
+pub mod Declared
+pub mod EnterLaws
+pub mod Entering
+pub mod FirstFault
+pub mod FlatLaws
+pub mod Joined
+pub mod LinkChecks
+pub mod LinkWalks
+pub mod Listed
+pub mod NameLaws
+pub mod NetLaws
+pub mod ReferLaws
+pub mod StepChecks
+pub mod Told
+pub mod Walking

@@ -1,0 +1,10 @@
+use Rattle.std.proofs.Common.{◌≡◌, ◌++◌, drop, map}
+use Rattle.hier_walk.specs.Names.{texts}
+use Rattle.hier_model.specs.Entries.{place, bits_of, spread, outwards, entry_item}
+use Rattle.hier_flatten.specs.Joins.{outward_items}
+use Rattle.hier_flatten.proofs.joins.push_outwards.Given as goal
+
+abbrev pub invariant-loop-place : goal.invariant-loop-place
+invariant-loop-place l =
+    l.items ++ map entry_item (outwards (place (texts l.sides.outer.now) l.sides.nets.now) (place (texts l.sides.inner.now) l.sides.child.now) (drop l.place (bits_of l.port.name l.port.range)) (drop l.place (spread l.sides.nets.now l.operand)))
+    ≡ l.fn.items ++ outward_items (place (texts l.sides.outer.now) l.sides.nets.now) (place (texts l.sides.inner.now) l.sides.child.now) l.port l.operand

@@ -1,0 +1,5 @@
+pub mod Nets
+pub mod NameChecks
+pub mod Visited
+pub mod Joins
+pub mod Flattened
