@@ -8,12 +8,15 @@ ghost use Rattle.conformance_report.specs.Verdicts.{IsVerdict, Judges, expectati
 
 use crate::verdict::{Missed, Verdict};
 use event_scripts::{Script, ScriptLine};
+use event_sim::{EventSim, Steps};
 use netlist_link::Linked;
-use netlist_meaning::{Event, Sim};
+use netlist_meaning::Event;
 use scan_vectors::Act;
 use signal_values::{PinSig, show};
 use sim_runs::begin;
 use std::alloc::Global;
+use std::marker::Brand;
+use std::sync::ledger::{Blank, Ledger};
 use texts::{OutOfMemory, Row};
 
 /// Plays a script on a linked netlist, in which every flip-flop begins unknown, and tells which of its expectations are met.
@@ -24,35 +27,52 @@ pub fn judge(alloc: Global, linked: &Linked, script: &Script) -> Result<Verdict,
     // (what stands of a netlist that was linked)
     let _netlist = linked.netlist();
     let mut sim = begin(alloc, linked, script.list.as_slice())?;
-    judge_lines(alloc, linked, &mut sim, script.list.as_slice())
+    // (the count of evaluations, which takes no bytes, begins here)
+    judge_lines::<Brand>(
+        alloc,
+        linked,
+        &mut sim,
+        script.list.as_slice(),
+        Blank::new(1),
+    )
 }
 
 // Plays the lines from the first moment on.
-fn judge_lines(
+fn judge_lines<L: Ledger>(
     alloc: Global,
     linked: &Linked,
-    sim: &mut Sim,
+    sim: &mut EventSim,
     script: &[ScriptLine],
+    blank: Blank,
 ) -> Result<Verdict, OutOfMemory>
+    requires name { blank.name ≡ L.name }
+    requires parts { blank.parts ≡ L.parts }
+    requires some { 0 < blank.parts }
     requires linked { sim.old.linked ≡ linked.now }
     requires started { sim.old.started ≡ true }
     requires playable { IsPlayable linked.now.arena.lists script.now }
     requires first { IsFirst linked.now.arena.lists script.now (moment_of sim.old.moment) }
     ensures { IfOk result (IsVerdict linked.now.arena.lists script.now) }
 {
+    let mut steps: Steps<L> = Steps::new(blank);
     let mut verdict = Verdict {
         sets: 0,
         met: 0,
         missed: Row::new(alloc),
     };
     for line in script {
-        take_line(&mut verdict, sim, line)?;
+        take_line(&mut verdict, sim, line, &mut steps)?;
     }
     Ok(verdict)
 }
 
 // Takes the next line: a set steps, and an expectation is met or missed.
-fn take_line(verdict: &mut Verdict, sim: &mut Sim, line: &ScriptLine) -> Result<(), OutOfMemory>
+fn take_line<L: Ledger>(
+    verdict: &mut Verdict,
+    sim: &mut EventSim,
+    line: &ScriptLine,
+    steps: &mut Steps<L>,
+) -> Result<(), OutOfMemory>
     requires started { sim.old.started ≡ true }
     requires can { CanPlay line.now.act sim.old.linked.arena.lists line.now }
     requires sets { verdict.old.sets + 1 < 2 ^ 64 }
@@ -68,10 +88,11 @@ fn take_line(verdict: &mut Verdict, sim: &mut Sim, line: &ScriptLine) -> Result<
     match line.act {
         Act::Start => Ok(()),
         Act::Set => {
-            sim.apply(Event {
+            let event = Event {
                 pin: line.pin,
                 value: line.value,
-            });
+            };
+            sim.apply(event, steps);
             verdict.sets += 1;
             Ok(())
         }

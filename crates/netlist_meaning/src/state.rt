@@ -47,6 +47,13 @@ impl State {
         Ok(State { flops, values })
     }
 
+    /// What each cell holds, by its number.
+    pub fn values(&self) -> &[Sig]
+        ensures { result.now ≡ self.now.values }
+    {
+        self.values.as_slice()
+    }
+
     /// Gives the flip-flop with this number a value. Flip-flops are numbered from 0 by rising cell.
     pub fn set(&mut self, flop: u32, value: Sig)
         requires { flop < length self.old.flops }
@@ -60,7 +67,7 @@ impl State {
 }
 
 /// One more than the greatest number of these cells.
-pub(crate) fn cell_bound(cells: &[CellId]) -> usize
+pub fn cell_bound(cells: &[CellId]) -> usize
     ensures value { result ≡ cell_bound cells.now }
     ensures small { result ≤ 2 ^ 32 }
 {

@@ -5,3 +5,4 @@ pub mod Steps
 pub mod Starts
 pub mod Labels
 pub mod Adds
+pub mod Changes

@@ -1,5 +1,5 @@
 -- The bits whose readings are told, as the program keeps them, and what was told of each.
-use Rattle.std.specs.Prelude.{◌≡◌, ℕ, List, [], map, slice_get, Option, Some, None}
+use Rattle.std.specs.Prelude.{◌≡◌, ◌≢◌, ℕ, List, [], map, slice_get, Option, Some, None}
 use Rattle.std.specs.List.{flat_map}
 use Rattle.signal_values.specs.declared.PinSig.{PinSig}
 use Rattle.netlist_model.specs.declared.NetId.{NetId}
@@ -8,7 +8,9 @@ use Rattle.netlist_model.specs.Runs.{Moment, reading_at}
 use Rattle.netlist_meaning.specs.netlist_link.Linked.{LinkedView}
 use Rattle.netlist_meaning.specs.Pins.{net_of}
 use Rattle.sim_runs.specs.declared.shown.Shown.{Shown}
-use Rattle.sim_runs.specs.Shown.{shown_of, shown_nets}
+use Rattle.sim_runs.specs.Shown.{shown_nets}
+pub use Rattle.event_sim.specs.Shown.{shown_at}
+use Rattle.event_sim.specs.Sims.{IsIn}
 use Rattle.sim_runs.specs.Outputs.{reading_line, changed_line}
 
 abbrev pub net_at : Shown → NetId
@@ -18,11 +20,6 @@ net_at bit = bit.net
 abbrev pub port_nets : Option PortView → List NetId
 port_nets None = []
 port_nets (Some port) = port.nets
-
--- own: those of them whose readings are told
-abbrev pub shown_at : Option PortView → List NetId
-shown_at None = []
-shown_at (Some port) = shown_of port.dir port.nets
 
 -- own: each bit has the net of its pin
 pub record HavePins (N : NetlistView) (bits : List Shown) : Type 0 where
@@ -57,3 +54,12 @@ bit_line L told m bit = told_line L bit.net (told bit.net.0) (reading_at L.arena
 -- own: what is put of all bits
 abbrev pub bits_text : LinkedView → (ℕ → Option PinSig) → Moment → List Shown → List ℕ
 bits_text L told m bits = flat_map (bit_line L told m) bits
+
+-- own: each bit that reads another value than before is noted by its place
+abbrev pub AreNoted : NetlistView → Moment → Moment → List Shown → List ℕ → Type 0
+AreNoted N before after bits changed = (place : ℕ) (bit : Shown) → slice_get bits place ≡ Some bit → reading_at N before bit.net.0 ≢ reading_at N after bit.net.0 → IsIn changed place
+
+-- own: of each bit its reading before was told, and each that reads another value is noted
+pub record IsToldBefore (N : NetlistView) (before after : Moment) (bits : List Shown) (told : List (Option PinSig)) (changed : List ℕ) : Type 0 where
+  pub told_is : told ≡ told_of (told_at N before) bits
+  pub noted : AreNoted N before after bits changed

@@ -9,8 +9,9 @@ ghost use Rattle.sim_runs.specs.Playing.{AreKnown, CanStart, HaveStarts, IsFirst
 
 use edge_io::OutOfMemory;
 use event_scripts::ScriptLine;
+use event_sim::EventSim;
 use netlist_meaning::lower_netlist_link::Linked;
-use netlist_meaning::{Pins, Sim, State};
+use netlist_meaning::{Pins, State};
 use scan_vectors::Act;
 use std::alloc::Global;
 
@@ -19,7 +20,7 @@ pub fn begin<'a>(
     alloc: Global,
     linked: &'a Linked,
     script: &[ScriptLine],
-) -> Result<Sim<'a>, OutOfMemory>
+) -> Result<EventSim<'a>, OutOfMemory>
     requires formed { IsWellFormed linked.now.arena.lists }
     requires playable { IsPlayable linked.now.arena.lists script.now }
     ensures linked { IfOk result (λ sim. sim.linked ≡ linked.now) }
@@ -29,7 +30,7 @@ pub fn begin<'a>(
 {
     let pins = pins_of(alloc, linked, script)?;
     let state = State::new(alloc, linked)?;
-    match Sim::new(alloc, linked) {
+    match EventSim::new(alloc, linked) {
         Ok(mut sim) => {
             sim.start(&pins, &state);
             Ok(sim)

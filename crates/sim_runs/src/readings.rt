@@ -5,14 +5,15 @@ ghost use Rattle.edge_io.specs.Shelf.{Rose, appended};
 ghost use Rattle.output_lines.specs.Puts.{Puts};
 ghost use Rattle.signal_values.specs.declared.PinSig.{PinSig};
 ghost use Rattle.netlist_meaning.specs.Sims.{moment_of};
-ghost use Rattle.sim_runs.specs.Bits.{HavePins, bits_text, told_at, told_line, told_of};
+ghost use Rattle.netlist_model.specs.Runs.{Moment};
+ghost use Rattle.sim_runs.specs.Bits.{HavePins, IsToldBefore, bits_text, told_at, told_line, told_of};
 ghost use Rattle.sim_runs.specs.Outputs.{changed_line, reading_line};
 
 use crate::label::label;
 use crate::shown::Shown;
 use edge_io::sink::Sink;
 use edge_io::whole::WriteFault;
-use netlist_meaning::Sim;
+use event_sim::EventSim;
 use netlist_meaning::lower_netlist_link::Linked;
 use netlist_model::NetId;
 use output_lines::{Field, put_line};
@@ -22,7 +23,7 @@ use signal_values::{PinSig, show};
 pub fn put_readings<O: Sink>(
     out: &mut O,
     linked: &Linked,
-    sim: &Sim,
+    sim: &EventSim,
     bits: &[Shown],
     told: &mut [Option<PinSig>],
 ) -> Result<(), WriteFault>
@@ -47,6 +48,54 @@ pub fn put_readings<O: Sink>(
         let reading = sim.reading(bit.pin);
         told[place] = Some(reading);
         let Ok(()) = put_told(out, linked, bit.net, last, reading) else {
+            return Err(WriteFault);
+        };
+    }
+    Ok(())
+}
+
+/// Puts what changed of the bits that may read anew, in their order; and notes what was told.
+pub fn put_changes<O: Sink>(
+    out: &mut O,
+    linked: &Linked,
+    sim: &mut EventSim,
+    bits: &[Shown],
+    told: &mut [Option<PinSig>],
+) -> Result<(), WriteFault>
+    requires linked { sim.old.linked ≡ linked.now }
+    requires started { sim.old.started ≡ true }
+    requires bits { HavePins linked.now.arena.lists bits.now }
+    requires room { length told.old ≡ length bits.now }
+    ensures linked { sim.new.linked ≡ linked.now }
+    ensures started { sim.new.started ≡ true }
+    ensures moment { sim.new.moment ≡ sim.old.moment }
+    ensures ok { OnOk result ((before : Moment) → IsToldBefore linked.now.arena.lists before
+        (moment_of sim.old.moment) bits.now told.old sim.old.changed
+        → O.given out.new ≡ appended (bits_text linked.now (told_at linked.now.arena.lists before)
+        (moment_of sim.old.moment) bits.now) (O.given out.old)) }
+    ensures fault { OnErr result ((before : Moment) → IsToldBefore linked.now.arena.lists before
+        (moment_of sim.old.moment) bits.now told.old sim.old.changed
+        → (k : ℕ) × (O.given out.new ≡ appended (take k (bits_text linked.now
+        (told_at linked.now.arena.lists before) (moment_of sim.old.moment) bits.now)) (O.given out.old))) }
+    ensures told { OnOk result ((before : Moment) → IsToldBefore linked.now.arena.lists before
+        (moment_of sim.old.moment) bits.now told.old sim.old.changed
+        → told.new ≡ told_of (told_at linked.now.arena.lists (moment_of sim.old.moment)) bits.now) }
+    ensures cause { OnErr result (Rose (O.faults out.old) (O.faults out.new)) }
+    ensures later { O.faults out.old ≤ O.faults out.new }
+{
+    linked.netlist().is_laid_out();
+    for _passed in 0..bits.len() {
+        let Some(place) = sim.take_changed() else {
+            return Ok(());
+        };
+        if place >= bits.len() {
+            return Ok(());
+        }
+        let bit = bits[place];
+        let last = told[place];
+        let now = sim.reading(bit.pin);
+        told[place] = Some(now);
+        let Ok(()) = put_told(out, linked, bit.net, last, now) else {
             return Err(WriteFault);
         };
     }

@@ -18,18 +18,21 @@ ghost use Rattle.sim_runs.specs.Runs.{IsRunOf, net_number};
 
 use crate::fault::PlayFault;
 use crate::moments::begin;
-use crate::readings::put_readings;
+use crate::readings::{put_changes, put_readings};
 use crate::shown::{Shown, shown_bits, untold_bits};
 use edge_io::sink::Sink;
 use edge_io::whole::WriteFault;
 use event_scripts::{Script, ScriptLine, parts_of};
+use event_sim::{EventSim, Steps};
 use itoa::Buffer;
+use netlist_meaning::Event;
 use netlist_meaning::lower_netlist_link::Linked;
-use netlist_meaning::{Event, Sim};
 use output_lines::{Field, put_line, put_pieces};
 use scan_vectors::{Act, Line, Lines};
 use signal_values::{PinSig, show};
 use std::alloc::Global;
+use std::marker::Brand;
+use std::sync::ledger::{Blank, Ledger};
 
 /// Plays the script of event lines on a linked netlist, in which every flip-flop begins unknown, and puts the text of
 /// the run as it goes. It answers how many expectations weren't met. All memory is taken before anything is put.
@@ -61,7 +64,8 @@ pub fn play<O: Sink>(
     let Ok(mut told) = untold_bits(alloc, bits.as_slice()) else {
         return Err(PlayFault::OutOfMemory);
     };
-    let played = put_run(
+    // (the count of evaluations, which takes no bytes, begins here)
+    let played = put_run::<O, Brand>(
         linked,
         lines.list.as_slice(),
         script.list.as_slice(),
@@ -69,6 +73,7 @@ pub fn play<O: Sink>(
         bits.as_slice(),
         told.as_mut_slice(),
         out,
+        Blank::new(1),
     );
     match played {
         Ok(missed) => Ok(missed),
@@ -77,15 +82,19 @@ pub fn play<O: Sink>(
 }
 
 // Puts the text of the run from its first moment on.
-fn put_run<O: Sink>(
+fn put_run<O: Sink, L: Ledger>(
     linked: &Linked,
     lines: &[Line],
     script: &[ScriptLine],
-    sim: &mut Sim,
+    sim: &mut EventSim,
     bits: &[Shown],
     told: &mut [Option<PinSig>],
     out: &mut O,
+    blank: Blank,
 ) -> Result<u64, WriteFault>
+    requires name { blank.name ≡ L.name }
+    requires parts { blank.parts ≡ L.parts }
+    requires some { 0 < blank.parts }
     requires linked { sim.old.linked ≡ linked.now }
     requires started { sim.old.started ≡ true }
     requires formed { IsWellFormed linked.now.arena.lists }
@@ -108,10 +117,20 @@ fn put_run<O: Sink>(
     let Ok(()) = put_readings(out, linked, sim, bits, told) else {
         return Err(WriteFault);
     };
+    let mut steps: Steps<L> = Steps::new(blank);
     let mut sets: u64 = 0;
     let mut missed: u64 = 0;
     for (place, line) in script.iter().enumerate() {
-        let Ok(one) = play_line(linked, &lines[place], line, sim, bits, told, out) else {
+        let Ok(one) = play_line(
+            linked,
+            &lines[place],
+            line,
+            sim,
+            bits,
+            told,
+            out,
+            &mut steps,
+        ) else {
             return Err(WriteFault);
         };
         sets = sets_with(line.act, sets);
@@ -136,14 +155,15 @@ fn sets_with(act: Act, sets: u64) -> u64
 }
 
 // Plays a line, and puts what it puts; how many expectations it misses.
-fn play_line<O: Sink>(
+fn play_line<O: Sink, L: Ledger>(
     linked: &Linked,
     written: &Line,
     line: &ScriptLine,
-    sim: &mut Sim,
+    sim: &mut EventSim,
     bits: &[Shown],
     told: &mut [Option<PinSig>],
     out: &mut O,
+    steps: &mut Steps<L>,
 ) -> Result<u64, WriteFault>
     requires linked { sim.old.linked ≡ linked.now }
     requires started { sim.old.started ≡ true }
@@ -172,7 +192,7 @@ fn play_line<O: Sink>(
     match line.act {
         Act::Start => Ok(0),
         Act::Set => {
-            let Ok(()) = play_set(linked, line, sim, bits, told, out) else {
+            let Ok(()) = play_set(linked, line, sim, bits, told, out, steps) else {
                 return Err(WriteFault);
             };
             Ok(0)
@@ -182,13 +202,14 @@ fn play_line<O: Sink>(
 }
 
 // Steps by the event of a set, and puts its line's number and the readings that changed.
-fn play_set<O: Sink>(
+fn play_set<O: Sink, L: Ledger>(
     linked: &Linked,
     line: &ScriptLine,
-    sim: &mut Sim,
+    sim: &mut EventSim,
     bits: &[Shown],
     told: &mut [Option<PinSig>],
     out: &mut O,
+    steps: &mut Steps<L>,
 ) -> Result<(), WriteFault>
     requires linked { sim.old.linked ≡ linked.now }
     requires started { sim.old.started ≡ true }
@@ -211,14 +232,15 @@ fn play_set<O: Sink>(
     ensures cause { OnErr result (Rose (O.faults out.old) (O.faults out.new)) }
     ensures later { O.faults out.old ≤ O.faults out.new }
 {
-    sim.apply(Event {
+    let event = Event {
         pin: line.pin,
         value: line.value,
-    });
+    };
+    sim.apply(event, steps);
     let Ok(()) = put_mark(out, line.number) else {
         return Err(WriteFault);
     };
-    let Ok(()) = put_readings(out, linked, sim, bits, told) else {
+    let Ok(()) = put_changes(out, linked, sim, bits, told) else {
         return Err(WriteFault);
     };
     Ok(())
@@ -237,7 +259,7 @@ fn put_expect<O: Sink>(
     out: &mut O,
     written: &Line,
     line: &ScriptLine,
-    sim: &Sim,
+    sim: &EventSim,
 ) -> Result<u64, WriteFault>
     requires started { sim.now.started ≡ true }
     requires pin { IsSome (net_of sim.now.linked.arena.lists.ports line.now.pin) }

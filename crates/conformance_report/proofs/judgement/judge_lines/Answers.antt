@@ -16,7 +16,7 @@ abbrev none : ScriptLine
 none = record { act = Start; pin = record { port = record { 0 = 0 }; bit = 0 }; value = Zero; number = 0 }
 
 pub loop-line-init : goal.loop-line-init
-loop-line-init c = record {
+loop-line-init g c = record {
   linked = c.requires.linked;
   started = c.requires.started;
   judged = none_judged c.args.linked.now.arena.lists c.args.script.now (moment_of c.args.sim.now.moment) _ c.requires.first refl refl c.new.ensures;
@@ -25,12 +25,12 @@ loop-line-init c = record {
 }
 
 pub take_line-requires-clause-can : goal.take_line-requires-clause-can
-take_line-requires-clause-can c =
+take_line-requires-clause-can g c =
     rw c.loop-line.invariant.linked (can_play c.args.linked.now.arena.lists c.args.script.now c.loop-line.line-index (slice_index_or c.args.script.now c.loop-line.line-index none) c.requires.playable
     (slice_get-get_or c.args.script.now c.loop-line.line-index none c.loop-line-test.true))
 
 pub loop-line-preserved : goal.loop-line-preserved
-loop-line-preserved c =
+loop-line-preserved g c =
     let N = c.args.linked.now.arena.lists in
     let script = c.args.script.now in
     let index = c.loop-line.line-index in
@@ -49,4 +49,4 @@ loop-line-preserved c =
     }
 
 pub returns : goal.returns
-returns c = all_judged c.args.linked.now.arena.lists c.args.script.now c.loop-line.line-index (moment_of c.loop-line.sim.moment) c.loop-line.verdict c.loop-line-test.false c.loop-line.invariant.judged
+returns g c = all_judged c.args.linked.now.arena.lists c.args.script.now c.loop-line.line-index (moment_of c.loop-line.sim.moment) c.loop-line.verdict c.loop-line-test.false c.loop-line.invariant.judged

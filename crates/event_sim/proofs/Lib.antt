@@ -1,0 +1,4 @@
+pub mod Showing
+pub mod Placing
+pub mod Emptying
+pub mod Simming

@@ -1,0 +1,12 @@
+pub mod Logging
+pub mod Gives
+pub mod Kept
+pub mod Driving
+pub mod Placing
+pub mod Classes
+pub mod Waiting
+pub mod Made
+pub mod Gathering
+pub mod Turned
+pub mod Running
+pub mod Stepping

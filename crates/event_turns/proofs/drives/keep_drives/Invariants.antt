@@ -1,0 +1,5 @@
+use Rattle.event_turns.proofs.Driving.{AreDrivenUpTo}
+use Rattle.event_turns.proofs.drives.keep_drives.Given as goal
+
+abbrev pub invariant-loop-place : goal.invariant-loop-place
+invariant-loop-place l = AreDrivenUpTo l.circuit l.values l.place l.drives

@@ -1,0 +1,4 @@
+pub mod Values
+pub mod Circuits
+pub mod Tables
+pub mod Logs
