@@ -1,0 +1,12 @@
+pub mod Finding
+pub mod Undone
+pub mod LiveRows
+pub mod Stands
+pub mod Walk
+pub mod Nets
+pub mod Items
+pub mod Cells
+pub mod Wires
+pub mod Whole
+pub mod Final
+pub mod Assembly

@@ -1,0 +1,4 @@
+pub mod Pairs
+pub mod Ready
+pub mod Chain
+pub mod Told

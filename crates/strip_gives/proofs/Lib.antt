@@ -1,0 +1,4 @@
+pub mod Fitting
+pub mod Same
+pub mod Views
+pub mod Laid

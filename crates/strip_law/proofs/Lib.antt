@@ -1,0 +1,10 @@
+pub mod Ready
+pub mod Recovered
+pub mod Law
+pub mod Heads
+pub mod Names
+pub mod Operands
+pub mod Stands
+pub mod Core
+pub mod Answer
+pub mod SeenOnce

@@ -1,0 +1,5 @@
+pub mod Law
+pub mod Same
+pub mod Tree
+pub mod Answer
+pub mod Once

@@ -1,0 +1,31 @@
+// What a netlist with test logic and its device come from: a module and a plan, as a function of both. specs/Recovered.antt has the whole.
+// IEEE Std 1149.1-2001: boundary-scan register, the annex on BSDL; the places of gates are own.
+#![tactic(auto)]
+
+use plan_texts::TapLine;
+use texts::Text;
+use verilog_tree::Operand;
+
+/// A net between the core and a boundary cell, by its name, and what the core had in its place.
+#[derive(Drop)]
+pub struct Side {
+    pub net: Text,
+    pub core: Operand,
+}
+
+/// What stands at a row: its net between, if there is one, and how many gates its cell has.
+#[derive(Drop)]
+pub struct Stand {
+    pub side: Option<Side>,
+    pub count: usize,
+}
+
+/// The lines of the test access port.
+#[derive(Drop)]
+pub struct Taps {
+    pub tck: TapLine,
+    pub tms: TapLine,
+    pub tdi: TapLine,
+    pub tdo: TapLine,
+    pub trst: TapLine,
+}

@@ -1,0 +1,4 @@
+pub mod Others
+pub mod Told
+pub mod Again
+pub mod Spell
