@@ -1,19 +1,19 @@
-ghost use Rattle.std.specs.Prelude.{◌≡◌, ◌↔◌, ℕ, ◌<◌, List, None, true, length, map, MatchOption, IfOk};
+ghost use Rattle.std.specs.Prelude.{◌≡◌, ◌↔◌, ℕ, ◌<◌, List, None, Some, true, length, map, IsSome, MatchOption, IfOk, ⊤};
+ghost use Rattle.link_drivers.specs.netlist_model.Lists.{CellView, cell_at};
 ghost use Rattle.link_drivers.specs.netlist_model.Orders.{IsCellOrder};
 ghost use Rattle.link_drivers.specs.link_model.Denoted.{AreCells};
-ghost use Rattle.link_drivers.specs.link_model.Fits.{CellsBelow, IsCellBelow};
 ghost use Rattle.link_drivers.specs.link_model.Nets.{declared_nets, declared_names, nets_in};
 ghost use Rattle.link_drivers.specs.link_model.Faults.{bit_name, cells_in, text_fault};
 ghost use Rattle.link_drivers.specs.link_model.Late.{HasNoDerived, IsDerived};
 ghost use Rattle.link_drivers.specs.link_model.Lists.{first_in};
 ghost use Rattle.link_order.specs.Cones.{is_inout_net};
 ghost use Rattle.link_order.specs.Faults.{IsDerivedFault};
-ghost use Rattle.link_order.specs.Links.{control_net, found_link, found_net, is_found_net, operand_net};
+ghost use Rattle.link_order.specs.Links.{control_net, found_link, found_net, is_found_net, operand_net, unnamed_cell};
 
 use cell_order::lower_netlist_arena::Netlist;
 use cell_order::mark_derived;
-use link_drivers::lower_cell_library::{Library, PortPlace, port_of};
-use link_drivers::lower_link_model::{ItemCell, LinkFault, NetBit, is_inout};
+use link_drivers::lower_cell_library::{PortPlace, port_of};
+use link_drivers::lower_link_model::{LinkFault, NetBit, is_inout};
 use link_drivers::lower_netlist_model::{CellId, Feed};
 use link_drivers::lower_verilog_tree::{Item, Link, Module};
 use std::alloc::Global;
@@ -25,29 +25,19 @@ pub fn find_derived(
     alloc: Global,
     tree: &Module,
     nets: &[NetBit],
-    cells: &[ItemCell],
     netlist: &Netlist,
     order: &[CellId],
 ) -> Result<Option<LinkFault>, OutOfMemory>
     requires nets { nets.now ≡ nets_in (declared_nets tree.now) }
-    requires cells { cells.now ≡ cells_in netlist.now.lists.library tree.now }
-    requires fits { CellsBelow (length nets.now) cells.now }
     requires text { text_fault netlist.now.lists.library tree.now ≡ None }
     requires count { length nets.now ≡ length netlist.now.lists.nets }
-    requires live { (table : List (List ℕ)) × AreCells table netlist.now.lists cells.now }
+    requires live { (table : List (List ℕ)) × AreCells table netlist.now.lists (cells_in netlist.now.lists.library tree.now) }
     requires order { IsCellOrder netlist.now.lists order.now }
     ensures { IfOk result (λ found. MatchOption found (HasNoDerived netlist.now.lists.library tree.now)
         (IsDerivedFault netlist.now.lists.library tree.now)) }
 {
-    let marks = derived_nets(alloc, tree, nets, cells, netlist, order)?;
-    first_derived(
-        alloc,
-        netlist.library(),
-        tree,
-        nets,
-        cells,
-        marks.as_slice(),
-    )
+    let marks = derived_nets(alloc, tree, nets, netlist, order)?;
+    first_derived(alloc, tree, nets, netlist, marks.as_slice())
 }
 
 // Of each net, whether a flip-flop or an inout is in its cone.
@@ -55,17 +45,15 @@ fn derived_nets(
     alloc: Global,
     tree: &Module,
     nets: &[NetBit],
-    cells: &[ItemCell],
     netlist: &Netlist,
     order: &[CellId],
 ) -> Result<Vec<bool>, OutOfMemory>
-    requires cells { cells.now ≡ cells_in netlist.now.lists.library tree.now }
     requires count { length nets.now ≡ length netlist.now.lists.nets }
-    requires live { (table : List (List ℕ)) × AreCells table netlist.now.lists cells.now }
+    requires live { (table : List (List ℕ)) × AreCells table netlist.now.lists (cells_in netlist.now.lists.library tree.now) }
     requires order { IsCellOrder netlist.now.lists order.now }
     ensures length { IfOk result (λ marks. length marks.items ≡ length nets.now) }
     ensures derived { IfOk result (λ marks. (net : ℕ) → (is_found_net marks.items net ≡ true)
-        ↔ IsDerived nets.now cells.now net) }
+        ↔ IsDerived nets.now (cells_in netlist.now.lists.library tree.now) net) }
 {
     let mut marks = inout_nets(alloc, nets)?;
     mark_derived(netlist, order, marks.as_mut_slice());
@@ -86,27 +74,26 @@ fn inout_nets(alloc: Global, nets: &[NetBit]) -> Result<Vec<bool>, OutOfMemory>
 // The first clock, clear or preset in the text whose net is marked.
 fn first_derived(
     alloc: Global,
-    library: &Library,
     tree: &Module,
     nets: &[NetBit],
-    cells: &[ItemCell],
+    netlist: &Netlist,
     marks: &[bool],
 ) -> Result<Option<LinkFault>, OutOfMemory>
     requires nets { nets.now ≡ nets_in (declared_nets tree.now) }
-    requires cells { cells.now ≡ cells_in library.now tree.now }
-    requires fits { CellsBelow (length nets.now) cells.now }
-    requires text { text_fault library.now tree.now ≡ None }
+    requires text { text_fault netlist.now.lists.library tree.now ≡ None }
+    requires count { length nets.now ≡ length netlist.now.lists.nets }
+    requires live { (table : List (List ℕ)) × AreCells table netlist.now.lists (cells_in netlist.now.lists.library tree.now) }
     requires marks { length marks.now ≡ length nets.now }
     requires derived { (net : ℕ) → (is_found_net marks.now net ≡ true)
-        ↔ IsDerived nets.now cells.now net }
-    ensures { IfOk result (λ fault. MatchOption fault (HasNoDerived library.now tree.now)
-        (IsDerivedFault library.now tree.now)) }
+        ↔ IsDerived nets.now (cells_in netlist.now.lists.library tree.now) net }
+    ensures { IfOk result (λ fault. MatchOption fault (HasNoDerived netlist.now.lists.library tree.now)
+        (IsDerivedFault netlist.now.lists.library tree.now)) }
 {
     for (number, item) in tree.items.as_slice().iter().enumerate() {
         match item {
             Item::Instance(instance) => {
-                let links = instance.links.as_slice();
-                match first_found(library, marks, &cells[number], links) {
+                let cell = numbered_cell(netlist, number);
+                match first_found(netlist, marks, cell, instance.links.as_slice()) {
                     Some(net) => {
                         let fault = derived_fault(alloc, &instance.name, &nets[net as usize])?;
                         return Ok(Some(fault));
@@ -121,13 +108,26 @@ fn first_derived(
     Ok(None)
 }
 
+// The cell with this number.
+fn numbered_cell(netlist: &Netlist, number: usize) -> CellId
+    requires { IsSome (cell_at netlist.now.lists number) }
+    ensures { result.0 ≡ number }
+{
+    // Asked so that the proof knows that the number is one of 32 bits.
+    let _bound = netlist.cell_bound();
+    CellId(number as u32)
+}
+
 // The net of the first link of the cell's clock, clear or preset that is marked.
-fn first_found(library: &Library, marks: &[bool], cell: &ItemCell, links: &[Link]) -> Option<u32>
-    requires fits { IsCellBelow (length marks.now) cell.now }
-    ensures { result ≡ first_in (found_link library.now marks.now cell.now) links.now }
+fn first_found(netlist: &Netlist, marks: &[bool], cell: CellId, links: &[Link]) -> Option<u32>
+    requires live { IsSome (cell_at netlist.now.lists cell.0) }
+    requires marks { length marks.now ≡ length netlist.now.lists.nets }
+    ensures found { (found : CellView) → cell_at netlist.now.lists cell.0 ≡ Some found → result ≡ first_in
+        (found_link netlist.now.lists.library marks.now (unnamed_cell netlist.now.lists.library found)) links.now }
+    ensures below { MatchOption result ⊤ (λ net. net < length netlist.now.lists.nets) }
 {
     for link in links {
-        if let Some(net) = control_net(library, cell, link) {
+        if let Some(net) = control_net(netlist, cell, link) {
             if marks[net as usize] {
                 return Some(net);
             }
@@ -137,15 +137,18 @@ fn first_found(library: &Library, marks: &[bool], cell: &ItemCell, links: &[Link
 }
 
 // The net of a link, if that is of a flip-flop's clock, clear or preset.
-fn control_net(library: &Library, cell: &ItemCell, link: &Link) -> Option<u32>
-    ensures { result ≡ control_net library.now cell.now link.now }
+fn control_net(netlist: &Netlist, cell: CellId, link: &Link) -> Option<u32>
+    requires { IsSome (cell_at netlist.now.lists cell.0) }
+    ensures net { (found : CellView) → cell_at netlist.now.lists cell.0 ≡ Some found
+        → result ≡ control_net netlist.now.lists.library (unnamed_cell netlist.now.lists.library found) link.now }
+    ensures below { MatchOption result ⊤ (λ net. net < length netlist.now.lists.nets) }
 {
-    if !cell.keeps() {
+    if netlist.flop(cell).is_none() {
         return None;
     }
-    match port_of(library, cell.kind(), link.port.as_bytes()) {
+    match port_of(netlist.library(), netlist.kind(cell), link.port.as_bytes()) {
         Some(PortPlace::Input(place)) if place == 1 || place == 2 => {
-            operand_net(cell.feeds(), place as usize)
+            operand_net(netlist, cell, place)
         }
         _ => None,
     }
@@ -161,11 +164,17 @@ fn derived_fault(alloc: Global, flop: &Text, net: &NetBit) -> Result<LinkFault, 
 }
 
 // The net at a place of the operands.
-fn operand_net(feeds: &[Feed], place: usize) -> Option<u32>
-    ensures { result ≡ operand_net feeds.now place }
+fn operand_net(netlist: &Netlist, cell: CellId, place: u32) -> Option<u32>
+    requires { IsSome (cell_at netlist.now.lists cell.0) }
+    ensures net { (found : CellView) → cell_at netlist.now.lists cell.0 ≡ Some found
+        → result ≡ operand_net found.feeds place }
+    ensures below { MatchOption result ⊤ (λ net. net < length netlist.now.lists.nets) }
 {
-    match feeds.get(place) {
-        Some(Feed::Net(net)) => Some(net.0),
-        Some(Feed::Const(_)) | None => None,
+    if place >= netlist.feed_count(cell) {
+        return None;
+    }
+    match netlist.feed(cell, place) {
+        Feed::Net(net) => Some(net.0),
+        Feed::Const(_) => None,
     }
 }

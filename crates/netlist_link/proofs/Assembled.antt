@@ -10,7 +10,7 @@ use Rattle.link_names.specs.link_model.Fits.{FitCells}
 use Rattle.link_names.specs.link_model.Faults.{driver_fault, cells_in}
 use Rattle.link_names.specs.link_model.Late.{HasNoDerived, IsLinkable}
 use Rattle.list_laws.proofs.Lists.{AreAll-length}
-use Rattle.link_names.specs.link_model.Denoted.{AreCells, IsNamed, IsNet, denoted}
+use Rattle.link_names.specs.link_model.Denoted.{IsNamed, IsNet, denoted}
 use Rattle.link_arena.specs.link_drivers.Drivers.{HasItsDrivers, HaveTheirDrivers}
 use Rattle.link_arena.proofs.Parts.{are_below}
 use Rattle.link_names.specs.netlist_model.declared.CellId.{CellId}
@@ -44,12 +44,16 @@ pub tree_drivers_of : HaveTheirDrivers → (library : List ListedCell) (m : Modu
 tree_drivers_of their library m nets cells these drivers =
     their (nets_in (declared_nets m)) (cells_in library m) (are_below library (length (nets_in (declared_nets m))) (cells_in library m) (tree_fits library m nets cells these)) (tree_clear library m nets cells these drivers)
 
--- the nets are as many as the netlist has, and the cells are its live ones
+-- the nets are as many as the netlist has
 pub nets_count : (table : List (List ℕ)) (N : NetlistView) (m : Module) (nets : List NamedNet) (cells : List NamedCell) → AreNetsAndCells N.library m nets cells → IsBuilt m N table → length nets ≡ length N.nets
 nets_count table N m nets cells these built = ap length these.nets_are ∙ sym (AreAll-length (IsNet table) N.nets (nets_in (declared_nets m)) built.named.nets)
 
-pub cells_live : (table : List (List ℕ)) (N : NetlistView) (m : Module) (nets : List NamedNet) (cells : List NamedCell) → AreNetsAndCells N.library m nets cells → IsBuilt m N table → (names : List (List ℕ)) × AreCells names N cells
-cells_live table N m nets cells these built = (table, subst (λ (cs : List NamedCell). AreCells table N cs) (sym these.cells_are) built.named.cells)
+-- what is known with the cells is known with those of the tree
+pub of_tree : (library : List ListedCell) (m : Module) (nets : List NamedNet) (cells : List NamedCell) → AreNetsAndCells library m nets cells → AreNetsAndCells library m nets (cells_in library m)
+of_tree library m nets cells these = subst (λ (cs : List NamedCell). AreNetsAndCells library m nets cs) these.cells_are these
+
+pub tree_driven : (library : List ListedCell) (m : Module) (nets : List NamedNet) (cells : List NamedCell) → AreNetsAndCells library m nets cells → driver_fault nets cells ≡ None → driver_fault nets (cells_in library m) ≡ None
+tree_driven library m nets cells these drivers = sym (ap (driver_fault nets) these.cells_are) ∙ drivers
 
 -- no fault stands in the module of these nets and cells
 pub sound : (table : List (List ℕ)) (N : NetlistView) (m : Module) (nets : List NamedNet) (cells : List NamedCell) (order : List CellId) → AreNetsAndCells N.library m nets cells → driver_fault nets cells ≡ None

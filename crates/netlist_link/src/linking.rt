@@ -1,6 +1,6 @@
 ghost use Rattle.std.specs.Prelude.{◌≡◌, None, IfErr, IfOk};
 ghost use Rattle.link_names.specs.verilog_tree.IsTree.{IsTree};
-ghost use Rattle.link_names.specs.link_model.Faults.{driver_fault};
+ghost use Rattle.link_names.specs.link_model.Faults.{cells_in, driver_fault};
 ghost use Rattle.link_names.specs.link_model.Late.{HasNoDerived};
 ghost use Rattle.link_names.specs.netlist_model.Orders.{IsCellOrder};
 ghost use Rattle.link_order.specs.cell_order.Loops.{IsOrderFault};
@@ -14,7 +14,7 @@ use link_arena::lower_link_drivers::{find_driver_fault, nets_have_their_drivers}
 use link_arena::lower_netlist_arena::Netlist;
 use link_arena::{Built, build};
 use link_names::lower_cell_library::Library;
-use link_names::lower_link_model::LinkFault;
+use link_names::lower_link_model::{LinkFault, NetBit};
 use link_names::lower_verilog_tree::Module;
 use link_names::{Resolved, resolve};
 use link_order::find_derived;
@@ -78,7 +78,7 @@ fn link_driven(
     }
 }
 
-// Goes on with the netlist.
+// Goes on with the netlist. The cells on the way are given back before the netlist's are ordered.
 fn link_built(
     alloc: Global,
     tree: &Module,
@@ -92,8 +92,10 @@ fn link_built(
     ensures library { IfOk result (λ linked. linked.arena.lists.library ≡ built.netlist.lists.library) }
     ensures fault { IfErr result (IsLinkFault built.netlist.lists.library tree.now) }
 {
+    let Resolved { nets, cells } = resolved;
+    drop(cells);
     match ordered_area(alloc, &built.netlist) {
-        Ok(area) => link_ordered(alloc, tree, resolved, built, area),
+        Ok(area) => link_ordered(alloc, tree, nets, built, area),
         Err(fault) => Err(link_fault(fault)),
     }
 }
@@ -124,12 +126,12 @@ fn ordered_area(alloc: Global, netlist: &Netlist) -> Result<WorkArea, OrderFault
 fn link_ordered(
     alloc: Global,
     tree: &Module,
-    resolved: Resolved,
+    nets: Vec<NetBit>,
     built: Built,
     area: WorkArea,
 ) -> Result<Linked, LinkFault>
-    requires these { AreNetsAndCells built.netlist.lists.library tree.now resolved.nets.items resolved.cells.items }
-    requires drivers { driver_fault resolved.nets.items resolved.cells.items ≡ None }
+    requires these { AreNetsAndCells built.netlist.lists.library tree.now nets.items (cells_in built.netlist.lists.library tree.now) }
+    requires drivers { driver_fault nets.items (cells_in built.netlist.lists.library tree.now) ≡ None }
     requires built { IsBuilt tree.now built.netlist.lists built.names }
     requires order { IsCellOrder built.netlist.lists area.order }
     requires room { FitsRoom built.netlist.lists area.room }
@@ -138,16 +140,9 @@ fn link_ordered(
     ensures fault { IfErr result (IsLinkFault built.netlist.lists.library tree.now) }
 {
     nets_have_their_drivers();
-    match find_derived(
-        alloc,
-        tree,
-        &resolved.nets,
-        &resolved.cells,
-        &built.netlist,
-        area.order(),
-    ) {
+    match find_derived(alloc, tree, &nets, &built.netlist, area.order()) {
         Ok(Some(fault)) => Err(fault),
-        Ok(None) => match link_sound(alloc, tree, resolved, built, area) {
+        Ok(None) => match link_sound(alloc, tree, nets, built, area) {
             Ok(linked) => Ok(linked),
             Err(OutOfMemory) => Err(LinkFault::OutOfMemory),
         },
@@ -155,16 +150,16 @@ fn link_ordered(
     }
 }
 
-// Makes the linked netlist where no fault stands. The nets and cells on the way are given back before that.
+// Makes the linked netlist where no fault stands. The nets on the way are given back before that.
 fn link_sound(
     alloc: Global,
     tree: &Module,
-    resolved: Resolved,
+    nets: Vec<NetBit>,
     built: Built,
     area: WorkArea,
 ) -> Result<Linked, OutOfMemory>
-    requires these { AreNetsAndCells built.netlist.lists.library tree.now resolved.nets.items resolved.cells.items }
-    requires drivers { driver_fault resolved.nets.items resolved.cells.items ≡ None }
+    requires these { AreNetsAndCells built.netlist.lists.library tree.now nets.items (cells_in built.netlist.lists.library tree.now) }
+    requires drivers { driver_fault nets.items (cells_in built.netlist.lists.library tree.now) ≡ None }
     requires built { IsBuilt tree.now built.netlist.lists built.names }
     requires order { IsCellOrder built.netlist.lists area.order }
     requires room { FitsRoom built.netlist.lists area.room }
@@ -173,6 +168,6 @@ fn link_sound(
     ensures library { IfOk result (λ linked. linked.arena.lists.library ≡ built.netlist.lists.library) }
 {
     nets_have_their_drivers();
-    drop(resolved);
+    drop(nets);
     assemble(alloc, tree, built, area)
 }

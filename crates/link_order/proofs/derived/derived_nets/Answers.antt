@@ -1,9 +1,9 @@
-use Rattle.std.proofs.Common.{◌≡◌, ◌∙◌, sym, ap, subst, length, List}
+use Rattle.std.proofs.Common.{◌≡◌, ◌∙◌, sym, ap, length}
 use Rattle.std.proofs.lemmas.List.{length-map}
 use Rattle.list_laws.proofs.Lists.{front_of}
-use Rattle.link_drivers.specs.link_model.Cells.{NamedCell}
+use Rattle.link_drivers.specs.link_model.Faults.{cells_in}
 use Rattle.link_order.specs.Cones.{is_inout_net}
-use Rattle.link_order.proofs.Cells.{Keeps, kept}
+use Rattle.link_order.proofs.Cells.{kept}
 use Rattle.link_order.proofs.DerivedNets.{derived_by}
 use Rattle.link_order.proofs.derived.derived_nets.Goals as goal
 
@@ -20,6 +20,5 @@ pub returns-clause-derived : goal.returns-clause-derived
 returns-clause-derived c =
     let N = c.args.netlist.now.lists in
     let whole : c.in_ok-marks.marks.len ≡ length c.mark_derived.new.marks = sym c.as_mut_slice.ensures.len ∙ sym c.mark_derived.ensures.long in
-    let keeps : Keeps N c.args.cells.now = subst (λ (cs : List NamedCell). Keeps N cs) (sym c.requires.cells) (kept N c.args.tree.now) in
     rw (front_of c.mark_derived.new.marks _ c.in_ok-marks.marks.len whole)
-    (derived_by c.requires.live.0 N c.args.nets.now c.args.cells.now c.as_mut_slice.result.now c.mark_derived.new.marks c.requires.live.1 keeps (c.as_mut_slice.ensures.value ∙ c.in_ok-marks.ensures) c.mark_derived.ensures.derived)
+    (derived_by c.requires.live.0 N c.args.nets.now (cells_in N.library c.args.tree.now) c.as_mut_slice.result.now c.mark_derived.new.marks c.requires.live.1 (kept N c.args.tree.now) (c.as_mut_slice.ensures.value ∙ c.in_ok-marks.ensures) c.mark_derived.ensures.derived)
