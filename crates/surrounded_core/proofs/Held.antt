@@ -92,7 +92,7 @@ modes by r t below = let s = selected by r t below in record { extest = s.extest
 pub stands_then : RunLaws → (r : Scene) (t : ℕ) → t ≤ length r.events → AreHeld r t
     → StandsAsChip r.outer r.inner r.device r.places (machine_at r t) (r.outside t).pins (r.moment t)
 stands_then by r t below held =
-    by.stands r.outer r.inner r.device r.places r.around (machine_at r t) (r.outside t).pins (r.moment t) (settled_at r t below)
+    by.stands r.outer r.inner r.device r.places r.shown r.around (machine_at r t) (r.outside t).pins (r.moment t) (settled_at r t below)
     (record { outside = λ net g. out_at by r t below net (direction r.inner.ports net) refl g; mode = modes by r t below; rows = held })
 
 -- The induction.

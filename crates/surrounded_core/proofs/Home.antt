@@ -45,7 +45,7 @@ use Rattle.surrounded_core.specs.Places.{Places, controller_nets, selection_nets
 use Rattle.surrounded_core.specs.Surrounds.{Surrounds}
 use Rattle.surrounded_core.specs.Home.{IsControllerAdded, SurroundedFindsHome}
 use Rattle.surrounded_core.proofs.Outside.{outside_always}
-use Rattle.surrounded_core.proofs.Parts.{RunLaws, HoldsMachine, Scene, Levelled, levelled_by, carried_by, moded_by}
+use Rattle.surrounded_core.proofs.Parts.{RunLaws, HoldsMachine, Scene, Levelled, levelled_by, carried_by, moded_by, bypass_held}
 use Rattle.surrounded_core.proofs.Along.{seen_at, is_chip_run, reads_then}
 
 -- the laws that it stands on
@@ -289,6 +289,7 @@ home_scene laws M N B S events outside moment t f =
       inner = N;
       device = B;
       places = S;
+      shown = bypass_bit S;
       around = f.around;
       events = drop home events;
       outside = λ u. outside (home + u);
@@ -315,5 +316,5 @@ finds_home laws = λ M N B S around added events outside moment is from t within
       run = is_chip_run laws.by r;
       levels = λ u. refl;
       pins = λ u net. refl;
-      reads = λ u h. reads_then laws.by r u h;
+      reads = λ u h. reads_then laws.by r (λ v g. bypass_held laws.by r v g) u h;
     }

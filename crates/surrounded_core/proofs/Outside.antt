@@ -3,6 +3,7 @@ use Rattle.std.proofs.Common.{◌≡◌, ℕ, zero, suc, ◌==◌, ◌≤◌, �
 use Rattle.list_laws.proofs.Lists.{slice_get_there}
 use Rattle.signal_values.specs.declared.PinSig.{PinSig}
 use Rattle.signal_values.specs.Values.{bit, pin_of, see}
+use Rattle.netlist_model.specs.declared.NetId.{NetId}
 use Rattle.netlist_model.specs.declared.Dir.TheVariants.{Input}
 use Rattle.netlist_model.specs.Lists.{NetlistView, direction}
 use Rattle.netlist_model.specs.Settled.{follows_pin, pin_rule, IsSettled}
@@ -17,7 +18,7 @@ use Rattle.wrapped_chip.specs.Home.{IsOutside}
 use Rattle.wrapped_chip.specs.Realises.{SameOutside, IsSameEvent, SameEvents}
 use Rattle.wrapped_chip.specs.Beside.{HasPins, of_bit, of_tap}
 use Rattle.surrounded_core.specs.Places.{Places, input_net}
-use Rattle.surrounded_core.specs.Surrounds.{Surrounds}
+use Rattle.surrounded_core.specs.Surrounds.{SurroundsBy}
 
 -- two tests for equal numbers
 same_numbers : (a b : ℕ) → (a ≡ b) ⊎ ((a == b) ≡ false)
@@ -152,7 +153,7 @@ seen_level : (b : Bool) → see (pin_of (bit b)) ≡ bit b
 seen_level true = refl
 seen_level false = refl
 
-pub level_carried : (M N : NetlistView) (B : Device) (S : Places) → Surrounds M N B S → (w : ChipMoment) (m : Moment) → IsSettled M m.pins m.state m.value
+pub level_carried : (M N : NetlistView) (B : Device) (S : Places) {shown : NetId} → SurroundsBy M N B S shown → (w : ChipMoment) (m : Moment) → IsSettled M m.pins m.state m.value
     → SameOutside M N w m.pins → (input : TapInput) → m.value (input_net S input).0 ≡ bit (level_of w.levels input)
 level_carried M N B S around w m settled same input =
     let net : ℕ = (input_net S input).0 in

@@ -10,6 +10,7 @@ use Rattle.signal_values.specs.Values.{bit}
 use Rattle.cell_library.specs.declared.codes.Instr.{Instr}
 use Rattle.cell_library.specs.declared.codes.Instr.TheVariants.{Bypass}
 use Rattle.cell_library.specs.declared.codes.Opcode.{Opcode}
+use Rattle.netlist_model.specs.declared.NetId.{NetId}
 use Rattle.netlist_model.specs.Lists.{NetlistView}
 use Rattle.netlist_model.specs.Settled.{feed_value, IsSettled}
 use Rattle.netlist_model.specs.Contained.{HasCells}
@@ -46,7 +47,7 @@ use Rattle.wrapped_chip.specs.ChipRuns.{ChipMoment, ChipEvent}
 use Rattle.wrapped_chip.specs.Home.{IsOutside}
 use Rattle.wrapped_chip.specs.Realises.{SameOutside, SameEvents}
 use Rattle.surrounded_core.specs.Places.{Places, controller_nets, selection_nets, bypass_bit, code_cells, code_values, code_last, ident_bit}
-use Rattle.surrounded_core.specs.Surrounds.{Surrounds}
+use Rattle.surrounded_core.specs.Surrounds.{SurroundsBy}
 use Rattle.surrounded_core.specs.Laws.{core_value, SurroundedStands}
 use Rattle.surrounded_core.proofs.Outside.{outside_always, level_carried}
 
@@ -81,13 +82,15 @@ pub record HoldsMachine (B : Device) (S : Places) (machine : Machine) (m : Momen
   pub rows : (place : ℕ) (r : CellRow) → slice_get B.cells place ≡ Some r → HoldsRow (S.gates place) (S.row place) place machine m.value
   pub long : AreLong (test_logic_of B) machine
 
--- a course of a netlist with a chip's core inside, from a moment at which its parts hold a machine, by events at the chip's pins
+-- a course of a netlist with a chip's core inside, from a moment at which its parts hold a machine, by events at the chip's pins; its TDO
+-- takes the value of the net that is shown for the bit of the bypass register
 pub record Scene : Type 0 where
   pub outer : NetlistView
   pub inner : NetlistView
   pub device : Device
   pub places : Places
-  pub around : Surrounds outer inner device places
+  pub shown : NetId
+  pub around : SurroundsBy outer inner device places shown
   pub events : List ChipEvent
   pub outside : ℕ → ChipMoment
   pub is_outside : IsOutside inner events outside
@@ -152,7 +155,7 @@ pub record Levelled (S : Places) (levels : Levels) (m : Moment) : Type 0 where
   pub tdi : m.value S.tdi.0 ≡ bit levels.tdi
   pub trst : m.value S.trst.0 ≡ bit levels.trst
 
-pub levelled_by : (M N : NetlistView) (B : Device) (S : Places) → Surrounds M N B S → (w : ChipMoment) (m : Moment) → IsSettled M m.pins m.state m.value → SameOutside M N w m.pins
+pub levelled_by : (M N : NetlistView) (B : Device) (S : Places) {shown : NetId} → SurroundsBy M N B S shown → (w : ChipMoment) (m : Moment) → IsSettled M m.pins m.state m.value → SameOutside M N w m.pins
     → Levelled S w.levels m
 levelled_by M N B S around w m settled same = record {
   tck = level_carried M N B S around w m settled same Tck;

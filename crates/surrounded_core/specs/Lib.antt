@@ -5,3 +5,4 @@ pub mod Sites
 pub mod Surrounds
 pub mod Laws
 pub mod Home
+pub mod Open

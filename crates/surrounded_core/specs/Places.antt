@@ -76,10 +76,15 @@ code_last S code = ident_last S.ident (selection_nets S).user_on S.tdi S.user co
 abbrev pub ident_bit : Places → Option NetId
 ident_bit S = option_map (code_last S) S.code
 
--- own: the cells of the controller, of the registers beside the boundary register, and of TDO are there
-pub record HasRegisters (M : NetlistView) (S : Places) : Type 0 where
+-- own: the cells of the controller, of the registers beside the boundary register, and of TDO are there; TDO's take this net for the bit
+-- of the bypass register
+pub record HasRegistersBy (M : NetlistView) (S : Places) (shown : NetId) : Type 0 where
   pub controller : HasCells M (tap_cells S.controller S.controller_number S.tck S.tms S.trst)
   pub instruction : HasCells M (instruction_cells S.instruction S.instruction_number (controller_nets S) S.tdi S.codes)
   pub bypass : HasCells M (bypass_cells S.bypass S.bypass_number (controller_nets S) (selection_nets S).bypass_on S.tdi)
   pub ident : HasCells M (option_map_or (code_cells S) S.code [])
-  pub tdo : HasCells M (tdo_cells S.driver S.driver_number (controller_nets S) (selection_nets S) (bypass_bit S) (ident_bit S) S.nearest S.tdo)
+  pub tdo : HasCells M (tdo_cells S.driver S.driver_number (controller_nets S) (selection_nets S) shown (ident_bit S) S.nearest S.tdo)
+
+-- own: they take that bit itself
+abbrev pub HasRegisters : NetlistView → Places → Type 0
+HasRegisters M S = HasRegistersBy M S (bypass_bit S)

@@ -23,7 +23,7 @@ use Rattle.wrapped_chip.specs.Realises.{IsTapNet, tap_place}
 use Rattle.wrapped_chip.specs.Beside.{HasPins}
 use Rattle.wrapped_chip.specs.Suits.{IsRead}
 use Rattle.boundary_runs.specs.Rows.{row_cells, row_kind}
-use Rattle.surrounded_core.specs.Places.{Places, input_net, selection_nets, HasRegisters}
+use Rattle.surrounded_core.specs.Places.{Places, input_net, selection_nets, HasRegistersBy, bypass_bit}
 use Rattle.surrounded_core.specs.Sites.{StandsAround, HasRowAt, IsDrivenBy, IsSeenOn}
 
 -- own: M's ports begin with N's, and the test access port is on these nets
@@ -58,13 +58,17 @@ pub record HasRows (M N : NetlistView) (B : Device) (S : Places) : Type 0 where
       → IsSeenOn (S.gates place) net.0 (S.to net.0)
   pub nearest : S.nearest ≡ record { 0 = S.row 0 }
 
--- own: M has N as its core, with the device's test logic around it
-pub record Surrounds (M N : NetlistView) (B : Device) (S : Places) : Type 0 where
+-- own: M has N as its core, with the device's test logic around it, whose TDO takes the value of this net for the bit of the bypass register
+pub record SurroundsBy (M N : NetlistView) (B : Device) (S : Places) (shown : NetId) : Type 0 where
   pub formed : IsWellFormed M
   pub core_formed : IsWellFormed N
   pub pins : HasPins M N
   pub ports : HasPorts M N S
   pub core : NestedBehind N M S.to (λ i. i)
   pub codes : HasCodes B S
-  pub registers : HasRegisters M S
+  pub registers : HasRegistersBy M S shown
   pub rows : HasRows M N B S
+
+-- own: and here that bit itself
+abbrev pub Surrounds : NetlistView → NetlistView → Device → Places → Type 0
+Surrounds M N B S = SurroundsBy M N B S (bypass_bit S)

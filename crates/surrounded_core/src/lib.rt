@@ -1,6 +1,6 @@
 // A core with a device's test logic around it: specs/Places.antt and specs/Surrounds.antt say where each part stands in the netlist,
 // specs/Sites.antt what each row of the boundary register takes and gives, specs/Laws.antt that the whole behaves as the wrapped chip,
-// and specs/Home.antt that it finds home.
+// specs/Open.antt how, where TDO takes another net's value for the bypass bit, and specs/Home.antt that it finds home.
 // IEEE Std 1149.1-2001: test logic architecture, boundary-scan register; the laws are own.
 //
 // - At a moment at which each row holds what the test logic has in its place, the core's own values are the chip's
@@ -10,14 +10,17 @@
 //   logic's, and its first flip-flops hold the core's (`surrounded_core_reads`): the controller and the registers
 //   by their whole runs, the rows in one induction together, since what they capture comes from the core and what
 //   the core has from them. The moments of the netlist are a run of the chip, and the chip has one run only.
-// - So it realises the chip (`surrounded_core_realises`).
+// - Where TDO takes the value of any other net in the place of the bypass bit, all of this holds but for TDO, which
+//   moves by that value (`surrounded_core_follows`).
+// - With the bypass bit it realises the chip (`surrounded_core_realises`).
 // - Its proofs run from any moment at which the parts hold a machine: a power-up is one such moment
-//   (`surrounded_core_reads`), and the falling edge after five ones another (`surrounded_core_finds_home`).
-// By the contract of three law functions.
+//   (`surrounded_core_follows`, `surrounded_core_reads`), and the falling edge after five ones another (`surrounded_core_finds_home`).
+// By the contracts of law functions.
 #![tactic(auto)]
 
 ghost use Rattle.surrounded_core.specs.Laws.{SurroundedStands, SurroundedReads, SurroundedRealises};
 ghost use Rattle.surrounded_core.specs.Home.{SurroundedFindsHome};
+ghost use Rattle.surrounded_core.specs.Open.{SurroundedFollows};
 
 use boundary_cells::{bidir_cells_follow, rows_step_as_bits};
 use boundary_runs::{chip_rows, lengths_stay, rows_follow, selected_steers};
@@ -47,7 +50,32 @@ pub fn surrounded_core_stands()
     direction_of_a_bit();
 }
 
-/// Beside each run of the chip, each run of the netlist reads as the chip at every moment.
+/// Beside each run of the chip, each run of the netlist reads as the chip at each output and inout bit, its nets carry the test logic and the
+/// core's values, and TDO moves by what is shown in the place of the bypass bit.
+pub fn surrounded_core_follows()
+    ensures { SurroundedFollows }
+{
+    surrounded_core_stands();
+    rows_follow();
+    rows_step_as_bits();
+    chip_rows();
+    lengths_stay();
+    selected_steers();
+    tap_follows();
+    step_is_the_machines();
+    instruction_steps();
+    instructions_stay_legible();
+    steps_by_register();
+    bypass_follows();
+    ident_follows();
+    tdo_follows();
+    nested_behind_starts();
+    nested_behind_steps();
+    bit_of_a_direction();
+    one_chip_run();
+}
+
+/// Where the bypass bit itself is shown, TDO too reads as the chip's at every moment.
 pub fn surrounded_core_reads()
     ensures { SurroundedReads }
 {
