@@ -4,16 +4,16 @@ use Rattle.std.specs.Prelude.{option_and_then}
 use Rattle.std.proofs.lemmas.Bool.{eqb-true}
 use Rattle.list_laws.proofs.Tests.{true_or_false}
 use Rattle.netlist_model.specs.declared.NetId.{NetId}
-use Rattle.netlist_model.specs.Lists.{PortView, CellView, NetlistView}
+use Rattle.netlist_model.specs.Lists.{PortView, CellView, NetlistView, cell_at}
 use Rattle.netlist_model.specs.Settled.{is_output}
 use Rattle.netlist_images.specs.Nested.{renamed_cell}
 use Rattle.stitch_model.specs.plan_fitting.declared.fitted.FitRow.{FitRow}
 use Rattle.stitch_model.specs.plan_fitting.declared.fitted.Fitted.{Fitted}
 use Rattle.stitch_model.specs.Sites.{Boundary, row_net, row_sides}
 use Rattle.stitch_model.specs.Sides.{moves, side_from, core_side, feeds_behind, core_cell}
-use Rattle.stitch_model.specs.Stitched.{boundary_at}
+use Rattle.stitch_model.specs.Stitched.{boundary_at, stitched}
 use Rattle.stitch_model.proofs.Moves.{moves_some, moved_here, moved_on, side_stays}
-use Rattle.stitch_laws.specs.Laws.{StitchedHoldsTheCore}
+use Rattle.stitch_laws.specs.Laws.{IsInside, StitchedHoldsTheCore}
 use Rattle.stitch_laws.proofs.Places.{core_stands}
 
 -- and moves one net only
@@ -64,13 +64,16 @@ by_other_nets B cell none = rw none refl
 below_first : (N : NetlistView) (f : Fitted) (net : ℕ) → net < length N.nets → net < (boundary_at N f).first
 below_first N f net low = let first : (boundary_at N f).first ≡ length N.nets + 5 = refl in omega arith
 
-pub holds_the_core : StitchedHoldsTheCore
-holds_the_core N names f dense = record {
-  stands = λ i cell e. core_stands N names f dense i cell e;
+pub is_inside : (M N : NetlistView) (f : Fitted) → ((i : ℕ) (cell : CellView) → cell_at N i ≡ Some cell → cell_at M i ≡ Some (core_cell (boundary_at N f) cell)) → IsInside M N f
+is_inside M N f stands = record {
+  stands = stands;
   nested = λ i cell e none. record {
     name = cell.name;
-    live = core_stands N names f dense i cell e ∙ ap (λ (c : CellView). Some c) (by_other_nets (boundary_at N f) cell none);
+    live = stands i cell e ∙ ap (λ (c : CellView). Some c) (by_other_nets (boundary_at N f) cell none);
   };
   once = λ a b low low' same. side_once N.ports a b (boundary_at N f).first f.rows (below_first N f a low) (below_first N f b low') same;
   stays = λ net none. side_stays N.ports net (boundary_at N f).first f.rows none;
 }
+
+pub holds_the_core : StitchedHoldsTheCore
+holds_the_core N names f dense = is_inside (stitched N names f) N f (λ i cell e. core_stands N names f dense i cell e)

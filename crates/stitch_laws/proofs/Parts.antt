@@ -3,7 +3,7 @@ use Rattle.std.proofs.Common.{◌≡◌, ℕ, zero, suc, ◌+◌, List, [], ◌�
 use Rattle.std.specs.Prelude.{slice_get}
 use Rattle.std.proofs.lemmas.List.{append-nil}
 use Rattle.netlist_model.specs.declared.NetId.{NetId}
-use Rattle.netlist_model.specs.Lists.{PortView, CellView, NetlistView, cell_count}
+use Rattle.netlist_model.specs.Lists.{PortView, CellView, NetlistView, cell_at, cell_count}
 use Rattle.netlist_model.specs.Contained.{HasCells}
 use Rattle.netlist_laws.specs.Contained.{ContainedParts}
 use Rattle.gate_parts.proofs.LawProofs.{has_from}
@@ -17,12 +17,13 @@ use Rattle.stitch_model.specs.declared.TapNames.{TapNames}
 use Rattle.stitch_model.specs.Sites.{Boundary, site_of, row_sides, sides_of}
 use Rattle.stitch_model.specs.Sides.{core_cell}
 use Rattle.stitch_model.specs.Rows.{behind, nets_of_rows, site_cells, row_cells as cells_of_row, last_bit, rows_cells}
-use Rattle.stitch_model.specs.Logic.{controller_part, instruction_part, bypass_part, ident_part}
-use Rattle.stitch_model.specs.Stitched.{boundary_at, first_net, rows_part, tdo_part, test_logic_cells, live_cells, stitched}
+use Rattle.stitch_model.specs.Logic.{bypass_at, controller_part, instruction_part, bypass_part, ident_part}
+use Rattle.stitch_model.specs.Stitched.{boundary_at, first_net, rows_part, tdo_part_by, test_logic_cells, live_cells, stitched_cells_by, stitched}
 use Rattle.stitch_model.proofs.Moves.{sides_cons}
 use Rattle.stitch_laws.specs.Places.{port_of, scan_of, bypass_number, ident_number, register_number, tdo_number, register_net, row_first, row_side, row_number, row_next, handed_at, boundary_row, drivers_at, added_drivers}
-use Rattle.stitch_laws.specs.Laws.{HoldsRow, StitchedHoldsParts}
-use Rattle.stitch_laws.proofs.Places.{listed_at}
+use Rattle.stitch_laws.specs.Laws.{HoldsRow, HoldsPartsBy, StitchedHoldsParts, StitchedHoldsTheCore, ExtensionIsBuiltIn, StitchedExtends, StitchedIsBuiltIn}
+use Rattle.stitch_laws.proofs.Places.{listed_at, core_there}
+use Rattle.stitch_laws.proofs.Core.{is_inside}
 
 -- Each cell of the list is there.
 
@@ -31,6 +32,14 @@ has_all : (N : NetlistView) (names : TapNames) (f : Fitted)
 has_all N names f =
     let cells : List CellView = map (core_cell (boundary_at N f)) (live_cells N) ++ test_logic_cells (boundary_at N f) (first_net N f) (cell_count N) (port_of N) f in
     has_from (stitched N names f) 0 cells (λ k. let e : 0 + k ≡ k = omega arith in rw e (listed_at cells k))
+
+-- so it is in every netlist that has them under their numbers
+has_listed : (M : NetlistView) (first : ℕ) (part : List CellView) → ((k : ℕ) (cell : CellView) → slice_get part k ≡ Some cell → cell_at M (first + k) ≡ Some cell) → HasCells M part
+has_listed M first [] at = tt
+has_listed M first (cell ∷ cells) at = (
+  record { number = first; name = cell.name; live = let e : first + 0 ≡ first = omega arith in rw e at (at 0 cell refl) },
+  has_listed M (suc first) cells (λ k c h. let e : first + suc k ≡ suc first + k = omega arith in rw e at (at (suc k) c h)),
+)
 
 -- Parts behind one another.
 
@@ -140,16 +149,15 @@ holds_row parts M N f h k row e =
 
 -- All parts.
 
-pub holds_parts : ContainedParts → StitchedHoldsParts
-holds_parts parts N names f =
-    let M : NetlistView = stitched N names f in
+has_parts : ContainedParts → (M N : NetlistView) (f : Fitted) (shown : NetId) → HasCells M (stitched_cells_by shown N f) → HoldsPartsBy M N f shown
+has_parts parts M N f shown whole =
     let number : ℕ = cell_count N in
     let C : List CellView = controller_part (first_net N f) (port_of N) number in
     let I : ℕ → List CellView = instruction_part (first_net N f) (port_of N) f in
     let P : ℕ → List CellView = bypass_part (first_net N f) (port_of N) f in
     let D : ℕ → List CellView = ident_part (first_net N f) (port_of N) f in
     let R : ℕ → List CellView = rows_part (boundary_at N f) (first_net N f) (port_of N) f in
-    let T : ℕ → List CellView = tdo_part (boundary_at N f) (first_net N f) (port_of N) f in
+    let T : ℕ → List CellView = tdo_part_by shown (boundary_at N f) (first_net N f) (port_of N) f in
     let CI : List CellView = behind number C I in
     let CIP : List CellView = behind number CI P in
     let CIPD : List CellView = behind number CIP D in
@@ -158,7 +166,7 @@ holds_parts parts N names f =
     let d : number + length CIP ≡ ident_number N f = length_behind number CI P ∙ ap (λ (n : ℕ). n + length (P n)) p in
     let r : number + length CIPD ≡ register_number N f = length_behind number CIP D ∙ ap (λ (n : ℕ). n + length (D n)) d in
     let t : number + length CIPDR ≡ tdo_number N f = length_behind number CIPD R ∙ ap (λ (n : ℕ). n + length (R n)) r in
-    let all : HasCells M (behind number CIPDR T) = back_has parts M (map (core_cell (boundary_at N f)) (live_cells N)) (behind number CIPDR T) (has_all N names f) in
+    let all : HasCells M (behind number CIPDR T) = back_has parts M (map (core_cell (boundary_at N f)) (live_cells N)) (behind number CIPDR T) whole in
     let to_rows : HasCells M CIPDR = front_has parts M CIPDR (T (number + length CIPDR)) all in
     let to_ident : HasCells M CIPD = front_has parts M CIPD (R (number + length CIPD)) to_rows in
     let to_bypass : HasCells M CIP = front_has parts M CIP (D (number + length CIP)) to_ident in
@@ -173,3 +181,22 @@ holds_parts parts N names f =
       next = λ k row e. next_is N.ports (register_net N f) (port_of N).tdi f.rows (suc k) row e;
       last = λ k e. last_is N.ports (register_net N f) (port_of N).tdi f.rows (suc k) e;
     }
+
+pub holds_parts : ContainedParts → StitchedHoldsParts
+holds_parts parts N names f = has_parts parts (stitched N names f) N f (bypass_at (first_net N f) f) (has_all N names f)
+
+pub is_built_in : StitchedHoldsParts → StitchedHoldsTheCore → StitchedIsBuiltIn
+is_built_in parts core N names f dense = record { library = refl; ports = refl; core = core N names f dense; parts = parts N names f }
+
+-- Netlists with further cells.
+
+pub extension_is_built_in : ContainedParts → ExtensionIsBuiltIn
+extension_is_built_in parts M N names f shown dense extends = record {
+  library = extends.library;
+  ports = extends.ports;
+  core = is_inside M N f (core_there M N f shown dense extends.cells);
+  parts = has_parts parts M N f shown (has_listed M 0 (stitched_cells_by shown N f) (λ k cell e. let z : 0 + k ≡ k = omega arith in rw z (extends.cells k cell e)));
+}
+
+pub stitched_extends : StitchedExtends
+stitched_extends N names f = record { library = refl; ports = refl; cells = λ k cell e. listed_at (stitched_cells_by (bypass_at (first_net N f) f) N f) k ∙ e }

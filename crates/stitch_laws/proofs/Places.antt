@@ -2,12 +2,13 @@
 use Rattle.std.proofs.Common.{◌≡◌, ℕ, zero, suc, ◌<◌, ◌⊎◌, inl, inr, List, [], ◌∷◌, ◌++◌, map, length, refl, sym, ◌∙◌, Option, Some, None, true, false, if◌then◌else◌, arith}
 use Rattle.std.specs.Prelude.{slice_get, count_by, filter_map, is_some, IsSome}
 use Rattle.std.proofs.lemmas.List.Sums.{sum_by-cons}
+use Rattle.netlist_model.specs.declared.NetId.{NetId}
 use Rattle.netlist_model.specs.Lists.{CellView, NetlistView, live_cell, cell_at, cell_count}
 use Rattle.netlist_model.specs.Contained.{IsDense}
 use Rattle.stitch_model.specs.plan_fitting.declared.fitted.Fitted.{Fitted}
 use Rattle.stitch_model.specs.declared.TapNames.{TapNames}
 use Rattle.stitch_model.specs.Sides.{core_cell}
-use Rattle.stitch_model.specs.Stitched.{same_place, live_cells, boundary_at, first_net, tap_port, test_logic_cells, stitched}
+use Rattle.stitch_model.specs.Stitched.{same_place, live_cells, boundary_at, first_net, tap_port, test_logic_cells_by, test_logic_cells, stitched_cells_by, stitched}
 use Rattle.stitch_laws.specs.Laws.{StitchedKeeps}
 
 -- A list of cells without gaps.
@@ -67,6 +68,15 @@ core_stands N names f dense i cell e =
     let cells : List CellView = map (core_cell (boundary_at N f)) (live_cells N) in
     let added : List CellView = test_logic_cells (boundary_at N f) (first_net N f) (cell_count N) (tap_port (length N.nets)) f in
     listed_at (cells ++ added) i ∙ front_at cells added i _ (mapped_at (core_cell (boundary_at N f)) (live_cells N) i cell (live_at N.cells dense i cell e))
+
+-- so it does in every netlist that has these cells under their numbers
+pub core_there : (M N : NetlistView) (f : Fitted) (shown : NetId) → IsDense N
+    → ((k : ℕ) (cell : CellView) → slice_get (stitched_cells_by shown N f) k ≡ Some cell → cell_at M k ≡ Some cell) → (i : ℕ) (cell : CellView) → cell_at N i ≡ Some cell
+    → cell_at M i ≡ Some (core_cell (boundary_at N f) cell)
+core_there M N f shown dense there i cell e =
+    let cells : List CellView = map (core_cell (boundary_at N f)) (live_cells N) in
+    let added : List CellView = test_logic_cells_by shown (boundary_at N f) (first_net N f) (cell_count N) (tap_port (length N.nets)) f in
+    there i (core_cell (boundary_at N f) cell) (front_at cells added i _ (mapped_at (core_cell (boundary_at N f)) (live_cells N) i cell (live_at N.cells dense i cell e)))
 
 pub keeps : StitchedKeeps
 keeps N names f dense = record {

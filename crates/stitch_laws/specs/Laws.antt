@@ -1,6 +1,7 @@
 -- What holds of the netlist with the test logic built in.
 -- IEEE Std 1149.1-2001: test logic architecture, boundary-scan register; the statements are own.
-use Rattle.std.specs.Prelude.{◌≡◌, ℕ, suc, ◌+◌, ◌<◌, false, length, slice_get, Some, None, option_and_then}
+use Rattle.std.specs.Prelude.{◌≡◌, ℕ, suc, ◌+◌, ◌<◌, false, ◌++◌, length, slice_get, Some, None, option_and_then}
+use Rattle.netlist_model.specs.declared.NetId.{NetId}
 use Rattle.netlist_model.specs.Lists.{CellView, NetlistView, cell_at, cell_count}
 use Rattle.netlist_model.specs.Contained.{HasCells, IsDense}
 use Rattle.netlist_images.specs.Nested.{IsNested}
@@ -10,8 +11,8 @@ use Rattle.stitch_model.specs.plan_fitting.declared.fitted.Fitted.{Fitted}
 use Rattle.stitch_model.specs.declared.TapNames.{TapNames}
 use Rattle.stitch_model.specs.Keeps.{Keeps}
 use Rattle.stitch_model.specs.Sides.{moves, core_side, feeds_behind, core_cell}
-use Rattle.stitch_model.specs.Logic.{controller_part, instruction_part, bypass_part, ident_part}
-use Rattle.stitch_model.specs.Stitched.{tap_ports, boundary_at, first_net, tdo_part, stitched}
+use Rattle.stitch_model.specs.Logic.{bypass_at, controller_part, instruction_part, bypass_part, ident_part}
+use Rattle.stitch_model.specs.Stitched.{tap_ports, boundary_at, first_net, tdo_part_by, stitched_cells_by, stitched}
 use Rattle.stitch_laws.specs.Places.{port_of, scan_of, instruction_number, bypass_number, ident_number, tdo_number, row_first, row_side, row_number, row_next, boundary_row, added_drivers}
 
 -- own: of a netlist without gaps it has the ports, and each cell by its number, with its kind and its name
@@ -26,17 +27,21 @@ pub record HoldsRow (M N : NetlistView) (f : Fitted) (k : ℕ) (row : FitRow) : 
       (row_number N f k + length (row_cells (boundary_row (boundary_at N f) (row_side N f k) row) (row_first N f k) (row_number N f k) (scan_of N f) (row_next N f k)))
       (row_side N f k) row)
 
--- own: the cells of each part are there, on their nets
-pub record HoldsParts (M N : NetlistView) (f : Fitted) : Type 0 where
+-- own: the cells of each part are there, on their nets; TDO's take this net for the bit of the bypass register
+pub record HoldsPartsBy (M N : NetlistView) (f : Fitted) (shown : NetId) : Type 0 where
   pub controller : HasCells M (controller_part (first_net N f) (port_of N) (cell_count N))
   pub instruction : HasCells M (instruction_part (first_net N f) (port_of N) f (instruction_number N f))
   pub bypass : HasCells M (bypass_part (first_net N f) (port_of N) f (bypass_number N f))
   pub ident : HasCells M (ident_part (first_net N f) (port_of N) f (ident_number N f))
   pub rows : (k : ℕ) (row : FitRow) → slice_get f.rows k ≡ Some row → HoldsRow M N f k row
-  pub tdo : HasCells M (tdo_part (boundary_at N f) (first_net N f) (port_of N) f (tdo_number N f))
+  pub tdo : HasCells M (tdo_part_by shown (boundary_at N f) (first_net N f) (port_of N) f (tdo_number N f))
   -- the next bit of a row is the first net of the row after it; that of the last row is TDI
   pub next : (k : ℕ) (row : FitRow) → slice_get f.rows (suc k) ≡ Some row → row_next N f k ≡ record { 0 = row_first N f (suc k) }
   pub last : (k : ℕ) → slice_get f.rows (suc k) ≡ None → row_next N f k ≡ (port_of N).tdi
+
+-- own: and here that bit itself
+abbrev pub HoldsParts : NetlistView → NetlistView → Fitted → Type 0
+HoldsParts M N f = HoldsPartsBy M N f (bypass_at (first_net N f) f)
 
 abbrev pub StitchedHoldsParts : Type 0
 StitchedHoldsParts = (N : NetlistView) (names : TapNames) (f : Fitted) → HoldsParts (stitched N names f) N f
@@ -55,3 +60,27 @@ pub record IsInside (M N : NetlistView) (f : Fitted) : Type 0 where
 -- own: so it is of a netlist without gaps
 abbrev pub StitchedHoldsTheCore : Type 0
 StitchedHoldsTheCore = (N : NetlistView) (names : TapNames) (f : Fitted) → IsDense N → IsInside (stitched N names f) N f
+
+-- own: M is a netlist into which the test logic is built: it has N's library, the ports, the core behind its boundary cells, and each part
+pub record HasBuiltIn (M N : NetlistView) (names : TapNames) (f : Fitted) (shown : NetId) : Type 0 where
+  pub library : M.library ≡ N.library
+  pub ports : M.ports ≡ N.ports ++ tap_ports names (port_of N)
+  pub core : IsInside M N f
+  pub parts : HoldsPartsBy M N f shown
+
+-- own: M has the stitched netlist's library, its ports and, under their numbers, its cells, but that TDO's take this net for the bit of the
+-- bypass register; whatever else M holds is free
+pub record ExtendsStitched (M N : NetlistView) (names : TapNames) (f : Fitted) (shown : NetId) : Type 0 where
+  pub library : M.library ≡ N.library
+  pub ports : M.ports ≡ N.ports ++ tap_ports names (port_of N)
+  pub cells : (k : ℕ) (cell : CellView) → slice_get (stitched_cells_by shown N f) k ≡ Some cell → cell_at M k ≡ Some cell
+
+abbrev pub ExtensionIsBuiltIn : Type 0
+ExtensionIsBuiltIn = (M N : NetlistView) (names : TapNames) (f : Fitted) (shown : NetId) → IsDense N → ExtendsStitched M N names f shown → HasBuiltIn M N names f shown
+
+abbrev pub StitchedExtends : Type 0
+StitchedExtends = (N : NetlistView) (names : TapNames) (f : Fitted) → ExtendsStitched (stitched N names f) N names f (bypass_at (first_net N f) f)
+
+-- own: so the stitched netlist is, of a netlist without gaps
+abbrev pub StitchedIsBuiltIn : Type 0
+StitchedIsBuiltIn = (N : NetlistView) (names : TapNames) (f : Fitted) → IsDense N → HasBuiltIn (stitched N names f) N names f (bypass_at (first_net N f) f)

@@ -11,10 +11,15 @@
 // - Each cell of the core stands under its number by the nets on the core's side of its boundary cells, but for
 //   the operands of drivers with a control cell; no two nets of the core become one, and a net that no row moves
 //   stays (`stitched_holds_the_core`).
-// By the contract of three law functions.
+// - All of this holds of every netlist with its library, its ports and its cells under their numbers, whatever else
+//   that holds, and whatever net its TDO takes for the bit of the bypass register (`extension_is_built_in`,
+//   `stitched_extends`, `stitched_is_built_in`).
+// By the contracts of law functions.
 #![tactic(auto)]
 
-ghost use Rattle.stitch_laws.specs.Laws.{StitchedHoldsParts, StitchedHoldsTheCore, StitchedKeeps};
+ghost use Rattle.stitch_laws.specs.Laws.{
+    ExtensionIsBuiltIn, StitchedExtends, StitchedHoldsParts, StitchedHoldsTheCore, StitchedIsBuiltIn, StitchedKeeps,
+};
 
 use netlist_laws::contained_parts;
 
@@ -33,4 +38,24 @@ pub fn stitched_holds_its_parts()
 /// The core stands inside, by the nets on the core's side of its boundary cells.
 pub fn stitched_holds_the_core()
     ensures { StitchedHoldsTheCore }
+{}
+
+/// So the test logic is built into it.
+pub fn stitched_is_built_in()
+    ensures { StitchedIsBuiltIn }
+{
+    stitched_holds_its_parts();
+    stitched_holds_the_core();
+}
+
+/// So it is into every netlist that has its library, its ports and its cells under their numbers, whatever else that holds.
+pub fn extension_is_built_in()
+    ensures { ExtensionIsBuiltIn }
+{
+    contained_parts();
+}
+
+/// The stitched netlist is one.
+pub fn stitched_extends()
+    ensures { StitchedExtends }
 {}

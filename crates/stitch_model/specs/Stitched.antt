@@ -56,15 +56,22 @@ rows_part B first port f number = rows_cells B (instruction_at first port f).sca
 abbrev pub boundary_last : Boundary → ℕ → TapPort → Fitted → NetId
 boundary_last B first port f = last_bit B.ports (first + logic_size f) port.tdi B.rows
 
-abbrev pub tdo_part : Boundary → ℕ → TapPort → Fitted → ℕ → List CellView
-tdo_part B first port f number =
-    tdo_cells (first + logic_size f + nets_of_rows B.ports B.rows) number (tap_at first port) (instruction_at first port f) (bypass_at first f) (ident_at first port f)
+-- own: TDO, with this net for the bit of the bypass register
+abbrev pub tdo_part_by : NetId → Boundary → ℕ → TapPort → Fitted → ℕ → List CellView
+tdo_part_by shown B first port f number =
+    tdo_cells (first + logic_size f + nets_of_rows B.ports B.rows) number (tap_at first port) (instruction_at first port f) shown (ident_at first port f)
     (boundary_last B first port f) port.tdo
 
+abbrev pub tdo_part : Boundary → ℕ → TapPort → Fitted → ℕ → List CellView
+tdo_part B first port f number = tdo_part_by (bypass_at first f) B first port f number
+
 -- all of it: the controller and the registers, the boundary register, TDO
+abbrev pub test_logic_cells_by : NetId → Boundary → ℕ → ℕ → TapPort → Fitted → List CellView
+test_logic_cells_by shown B first number port f =
+    behind number (behind number (logic_cells first number port f) (rows_part B first port f)) (tdo_part_by shown B first port f)
+
 abbrev pub test_logic_cells : Boundary → ℕ → ℕ → TapPort → Fitted → List CellView
-test_logic_cells B first number port f =
-    behind number (behind number (logic_cells first number port f) (rows_part B first port f)) (tdo_part B first port f)
+test_logic_cells B first number port f = test_logic_cells_by (bypass_at first f) B first number port f
 
 -- own: how many nets it adds: six are TDO's
 abbrev pub test_logic_nets : Boundary → Fitted → ℕ
@@ -87,10 +94,13 @@ boundary_at N f = boundary_of N f.rows
 abbrev pub first_net : NetlistView → Fitted → ℕ
 first_net N f = (boundary_at N f).first + sides_of N.ports f.rows
 
--- the cells of the core, and those of the test logic behind them
+-- the cells of the core, and those of the test logic behind them; TDO's take this net for the bit of the bypass register
+abbrev pub stitched_cells_by : NetId → NetlistView → Fitted → List CellView
+stitched_cells_by shown N f =
+    map (core_cell (boundary_at N f)) (live_cells N) ++ test_logic_cells_by shown (boundary_at N f) (first_net N f) (cell_count N) (tap_port (length N.nets)) f
+
 abbrev pub stitched_cells : NetlistView → Fitted → List CellView
-stitched_cells N f =
-    map (core_cell (boundary_at N f)) (live_cells N) ++ test_logic_cells (boundary_at N f) (first_net N f) (cell_count N) (tap_port (length N.nets)) f
+stitched_cells N f = stitched_cells_by (bypass_at (first_net N f) f) N f
 
 -- of a netlist without gaps, what fits it, and the names of the test access port
 abbrev pub stitched : NetlistView → TapNames → Fitted → NetlistView
