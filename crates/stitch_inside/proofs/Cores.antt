@@ -35,12 +35,11 @@ use Rattle.plan_devices.specs.Fitting.{IsFitting}
 use Rattle.plan_devices.specs.Laws.{fed, RowsTakeTheCore, ControlsTakeTheCore, ControlsFollowTheirRows, RowsStandAtBits, BitsHaveRows}
 use Rattle.plan_devices.proofs.DeviceRows.{mapped_at}
 use Rattle.stitch_laws.specs.stitch_model.declared.Site.TheVariants as site
-use Rattle.stitch_laws.specs.stitch_model.declared.TapNames.{TapNames}
 use Rattle.stitch_laws.specs.stitch_model.Sites.{Boundary, pin_net, row_net, site_of, side_at}
 use Rattle.stitch_laws.specs.stitch_model.Sides.{core_side, core_feed, is_moved}
-use Rattle.stitch_laws.specs.stitch_model.Stitched.{boundary_at, stitched}
+use Rattle.stitch_laws.specs.stitch_model.Stitched.{boundary_at}
 use Rattle.stitch_inside.specs.Inner.{inner_net}
-use Rattle.stitch_inside.specs.Places.{places_of}
+use Rattle.stitch_inside.specs.Places.{places_in}
 use Rattle.stitch_inside.proofs.Cases.{AtBit, DrivenAs, RowCase, observed_case, input_case, plain_case, added_case, driver_case, inout_case, control_case, cases_of}
 use Rattle.stitch_inside.proofs.Moves.{moved_to}
 use Rattle.stitch_inside.proofs.Nests.{inner_given, given_by_driver, given_read}
@@ -105,28 +104,28 @@ net_by_pin : (N : NetlistView) (row : FitRow) (bit : PinBit) (net : NetId) → r
 net_by_pin N row bit net pin here = sym (ap (option_and_then (pin_net N.ports)) pin) ∙ here
 
 -- the data of a row at a bit
-pub datum_given : FitLaws → (L : LinkedView) (p : Plan) (seen : List PinSeen) (names : TapNames) → IsFitting L p seen → (k : ℕ) (row : FitRow) (net : NetId) (core : Feed) (side : Dir)
+pub datum_given : FitLaws → (L : LinkedView) (p : Plan) (seen : List PinSeen) (M : NetlistView) → IsFitting L p seen → (k : ℕ) (row : FitRow) (net : NetId) (core : Feed) (side : Dir)
     (three : Bool) → slice_get (rows p seen) k ≡ Some row → AtBit L p seen row net side → row.core ≡ Some core → DrivenAs L.arena.lists net three
-    → GivesAs (places_of L.arena.lists names (fitted_of L p seen)) (core_feed (boundary_at L.arena.lists (fitted_of L p seen)) row)
+    → GivesAs (places_in M L.arena.lists (fitted_of L p seen)) (core_feed (boundary_at L.arena.lists (fitted_of L p seen)) row)
     (λ v. core_datum (driver_of L.arena.lists.cells net.0) v net.0)
-datum_given by L p seen names fits k row net core side three at here core_is driven value =
+datum_given by L p seen M fits k row net core side three at here core_is driven value =
     let N = L.arena.lists in
     let B : Boundary = boundary_at N (fitted_of L p seen) in
     feed_given B value row core core_is
     ∙ by.take L p seen fits k row here.bit net at here.pin (net_by_pin N row here.bit net here.pin here.here) (λ n. value (core_side B n))
-    ∙ datum_inner by.found N fits.formed (stitched N names (fitted_of L p seen)) B value net three driven
+    ∙ datum_inner by.found N fits.formed M B value net three driven
 
 -- that of an output's own net, which moves to the core's side
-pub own_given : FitLaws → (L : LinkedView) (p : Plan) (seen : List PinSeen) (names : TapNames) → IsFitting L p seen → (k : ℕ) (row : FitRow) (net : NetId) (side : Dir) (three : Bool)
+pub own_given : FitLaws → (L : LinkedView) (p : Plan) (seen : List PinSeen) (M : NetlistView) → IsFitting L p seen → (k : ℕ) (row : FitRow) (net : NetId) (side : Dir) (three : Bool)
     → slice_get (rows p seen) k ≡ Some row → AtBit L p seen row net side → row.core ≡ Some (Net net) → is_moved (site_of L.arena.lists.ports row) ≡ true → DrivenAs L.arena.lists net three
-    → GivesAs (places_of L.arena.lists names (fitted_of L p seen)) (Net (record { 0 = side_at (boundary_at L.arena.lists (fitted_of L p seen)) k }))
+    → GivesAs (places_in M L.arena.lists (fitted_of L p seen)) (Net (record { 0 = side_at (boundary_at L.arena.lists (fitted_of L p seen)) k }))
     (λ v. core_datum (driver_of L.arena.lists.cells net.0) v net.0)
-own_given by L p seen names fits k row net side three at here core_is moved driven value =
+own_given by L p seen M fits k row net side three at here core_is moved driven value =
     let N = L.arena.lists in
     let B : Boundary = boundary_at N (fitted_of L p seen) in
     ap value (sym (moved_to by.stand L p seen fits k row net at here.here moved)) ∙ sym (ap (fed (λ n. value (core_side B n))) core_is)
     ∙ by.take L p seen fits k row here.bit net at here.pin (net_by_pin N row here.bit net here.pin here.here) (λ n. value (core_side B n))
-    ∙ datum_inner by.found N fits.formed (stitched N names (fitted_of L p seen)) B value net three driven
+    ∙ datum_inner by.found N fits.formed M B value net three driven
 
 -- Control cells.
 
@@ -165,17 +164,17 @@ controlling L p seen row number (inout_case n core at does cell core_is names by
 controlling L p seen row number (control_case core pin does cell core_is none s) is = absurd (let bad : None ≡ Some number = sym none ∙ is in cc)
 
 -- the level of a control cell is the core's control of each driver whose row names it
-pub level_given : FitLaws → (L : LinkedView) (p : Plan) (seen : List PinSeen) (names : TapNames) → IsFitting L p seen → (k : ℕ) (row : FitRow) (net : NetId) (side : Dir) (three : Bool)
+pub level_given : FitLaws → (L : LinkedView) (p : Plan) (seen : List PinSeen) (M : NetlistView) → IsFitting L p seen → (k : ℕ) (row : FitRow) (net : NetId) (side : Dir) (three : Bool)
     (number : ℕ) (control : FitRow) (core : Feed) → slice_get (rows p seen) k ≡ Some row → AtBit L p seen row net side → DrivenAs L.arena.lists net three → row.control ≡ Some number
     → slice_get (rows p seen) number ≡ Some control → control.core ≡ Some core
-    → GivesAs (places_of L.arena.lists names (fitted_of L p seen)) (core_feed (boundary_at L.arena.lists (fitted_of L p seen)) control)
+    → GivesAs (places_in M L.arena.lists (fitted_of L p seen)) (core_feed (boundary_at L.arena.lists (fitted_of L p seen)) control)
     (λ v. core_control (driver_of L.arena.lists.cells net.0) v)
-level_given by L p seen names fits k row net side three number control core at here driven named there core_is value =
+level_given by L p seen M fits k row net side three number control core at here driven named there core_is value =
     let N = L.arena.lists in
     let B : Boundary = boundary_at N (fitted_of L p seen) in
     feed_given B value control core core_is
     ∙ by.levels L p seen fits k row here.bit net number control at here.pin (net_by_pin N row here.bit net here.pin here.here) named there (λ n. value (core_side B n))
-    ∙ control_inner by.found N fits.formed (stitched N names (fitted_of L p seen)) B value net three driven
+    ∙ control_inner by.found N fits.formed M B value net three driven
 
 -- the first row that names a control cell
 record FoundFirst (A : Type 0) (test : A → Bool) (xs : List A) : Type 0 where
@@ -199,16 +198,16 @@ named_by rs number None h = absurd (cc)
 named_by rs number (Some n) h = ap (λ (x : ℕ). Some x) (eqb-true n number h)
 
 -- the level of a control cell is the core's control before the first bit whose row names it
-pub shared_given : FitLaws → (L : LinkedView) (p : Plan) (seen : List PinSeen) (names : TapNames) → IsFitting L p seen → (k : ℕ) (row : FitRow) (core : Feed) → slice_get (rows p seen) k ≡ Some row
+pub shared_given : FitLaws → (L : LinkedView) (p : Plan) (seen : List PinSeen) (M : NetlistView) → IsFitting L p seen → (k : ℕ) (row : FitRow) (core : Feed) → slice_get (rows p seen) k ≡ Some row
     → row.pin ≡ None → row.core ≡ Some core
-    → GivesAs (places_of L.arena.lists names (fitted_of L p seen)) (core_feed (boundary_at L.arena.lists (fitted_of L p seen)) row)
+    → GivesAs (places_in M L.arena.lists (fitted_of L p seen)) (core_feed (boundary_at L.arena.lists (fitted_of L p seen)) row)
     (λ v. shared_control L.arena.lists v (option_and_then (net_of_row L.arena.lists) (find (λ r. names_control k r.disable) (device_of L p seen).cells)))
-shared_given by L p seen names fits k row core at pin core_is value =
+shared_given by L p seen M fits k row core at pin core_is value =
     let N = L.arena.lists in
     let f = fitted_of L p seen in
     let cells : List CellRow = (device_of L p seen).cells in
     let test : CellRow → Bool = λ r. names_control k r.disable in
-    let v : ℕ → Sig = λ n. value (inner_net N (stitched N names f) (boundary_at N f) n) in
+    let v : ℕ → Sig = λ n. value (inner_net N M (boundary_at N f) n) in
     let behind = by.follow L p seen fits k row at pin in
     let user : slice_get cells behind.before ≡ Some (cell_row f behind.data_row) = slice_get-map (cell_row f) (rows p seen) behind.before ∙ ap (option_map (cell_row f)) behind.there in
     let first = found_first test cells behind.before (cell_row f behind.data_row) user
@@ -218,5 +217,5 @@ shared_given by L p seen names fits k row core at pin core_is value =
     let c = controlling L p seen row0.0 k (cases_of by.has by.found by.there L p seen fits first.place row0.0 row0.1) named in
     let net : option_and_then (net_of_row N) (find test cells) ≡ Some c.net
     = ap (option_and_then (net_of_row N)) first.is ∙ ap (net_of_row N) (sym row0.2) ∙ c.at.at in
-    level_given by L p seen names fits first.place row0.0 c.net c.side c.three k row core row0.1 c.at c.driven named at core_is value
+    level_given by L p seen M fits first.place row0.0 c.net c.side c.three k row core row0.1 c.at c.driven named at core_is value
     ∙ sym (ap (shared_control N v) net)

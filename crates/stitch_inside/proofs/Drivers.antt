@@ -34,26 +34,26 @@ use Rattle.plan_devices.specs.Fitting.{IsFitting}
 use Rattle.plan_devices.proofs.SuitsIs.{plain_level}
 use Rattle.stitch_laws.specs.stitch_model.declared.Site.{Site}
 use Rattle.stitch_laws.specs.stitch_model.declared.Site.TheVariants as site
-use Rattle.stitch_laws.specs.stitch_model.declared.TapNames.{TapNames}
 use Rattle.stitch_laws.specs.stitch_model.Sites.{Boundary, pin_net, row_net, site_of, side_at}
 use Rattle.stitch_laws.specs.stitch_model.Sides.{core_side, is_moved, is_driven, level_net, driver_feeds, feeds_behind, core_cell, core_feed}
 use Rattle.stitch_laws.specs.stitch_model.Rows.{net_at, added_driver}
-use Rattle.stitch_laws.specs.stitch_model.Stitched.{boundary_at, stitched}
+use Rattle.stitch_laws.specs.stitch_model.Stitched.{boundary_at}
 use Rattle.stitch_laws.specs.Places.{scan_of, row_first, row_side, row_number, row_next, handed_at, boundary_row, drivers_at}
-use Rattle.stitch_laws.specs.Laws.{HoldsParts, IsInside}
-use Rattle.stitch_inside.specs.Places.{places_of}
+use Rattle.stitch_laws.specs.Laws.{HoldsPartsBy, IsInside}
+use Rattle.stitch_inside.specs.Places.{places_in}
 use Rattle.stitch_inside.proofs.Cases.{AtBit, DrivenAs, Names, RowCase, observed_case, input_case, plain_case, added_case, driver_case, inout_case, control_case, cases_of}
 use Rattle.stitch_inside.proofs.Moves.{moved_to, stays_at, feeds_at}
 use Rattle.stitch_inside.proofs.Nests.{inner_given, given_by_pin}
 use Rattle.stitch_inside.proofs.Cores.{FitLaws, control_is, level_given}
 use Rattle.stitch_inside.proofs.Around.{gates_are, net_at_is, disable_is}
 
--- the stitched netlist, with what is known of it
-pub record Stitch (L : LinkedView) (p : Plan) (seen : List PinSeen) (names : TapNames) : Type 0 where
+-- the netlist into which the test logic is built, with what is known of it
+pub record Stitch (L : LinkedView) (p : Plan) (seen : List PinSeen) (M : NetlistView) : Type 0 where
   pub fits : IsFitting L p seen
-  pub formed : IsWellFormed (stitched L.arena.lists names (fitted_of L p seen))
-  pub inside : IsInside (stitched L.arena.lists names (fitted_of L p seen)) L.arena.lists (fitted_of L p seen)
-  pub parts : HoldsParts (stitched L.arena.lists names (fitted_of L p seen)) L.arena.lists (fitted_of L p seen)
+  pub formed : IsWellFormed M
+  pub inside : IsInside M L.arena.lists (fitted_of L p seen)
+  pub shown : NetId
+  pub parts : HoldsPartsBy M L.arena.lists (fitted_of L p seen) shown
   pub suits : Suits (device_of L p seen) L.arena.lists
   pub contained : ContainedParts
 
@@ -64,17 +64,16 @@ has_drives M cell h net out = record { live = h.live; output = out }
 -- An output that is always driven: the last gate of its row drives it.
 
 -- the row's multiplexer is there
-plain_gate : {L : LinkedView} {p : Plan} {seen : List PinSeen} {names : TapNames} → Stitch L p seen names → (k : ℕ) (row : FitRow) → slice_get (rows p seen) k ≡ Some row
+plain_gate : {L : LinkedView} {p : Plan} {seen : List PinSeen} {M : NetlistView} → Stitch L p seen M → (k : ℕ) (row : FitRow) → slice_get (rows p seen) k ≡ Some row
     → site_of L.arena.lists.ports row ≡ site.Output
-    → Has (stitched L.arena.lists names (fitted_of L p seen))
+    → Has M
     (choice_cell (row_first L.arena.lists (fitted_of L p seen) k)
     (cell_given (scan_of L.arena.lists (fitted_of L p seen)) (row_next L.arena.lists (fitted_of L p seen) k) (Net (record { 0 = row_side L.arena.lists (fitted_of L p seen) k }))
     (scan_of L.arena.lists (fitted_of L p seen)).m_out)
     (row_number L.arena.lists (fitted_of L p seen) k + length (stage_table row.cell)) (net_at (boundary_at L.arena.lists (fitted_of L p seen)) row) UPDATES)
-plain_gate {L} {p} {seen} {names} known k row there s =
+plain_gate {L} {p} {seen} {M} known k row there s =
     let N = L.arena.lists in
     let f = fitted_of L p seen in
-    let M = stitched N names f in
     let B : Boundary = boundary_at N f in
     let has : HasCells M (row_cells (handed_at B (row_side N f k) row site.Output) (row_first N f k) (row_number N f k) (scan_of N f) (row_next N f k))
     = subst (λ (at : Site). HasCells M (row_cells (handed_at B (row_side N f k) row at) (row_first N f k) (row_number N f k) (scan_of N f) (row_next N f k))) s
@@ -83,19 +82,18 @@ plain_gate {L} {p} {seen} {names} known k row there s =
     (((known.contained M (part_cells (stage_table row.cell) given (row_first N f k) (row_number N f k))
     (choice_cell (row_first N f k) given (row_number N f k + length (stage_table row.cell)) (net_at B row) UPDATES ∷ [])).parts has).1).0
 
-is_plain : FitLaws → {L : LinkedView} {p : Plan} {seen : List PinSeen} {names : TapNames} → Stitch L p seen names → (k : ℕ) (row : FitRow) (net : NetId)
+is_plain : FitLaws → {L : LinkedView} {p : Plan} {seen : List PinSeen} {M : NetlistView} → Stitch L p seen M → (k : ℕ) (row : FitRow) (net : NetId)
     → slice_get (rows p seen) k ≡ Some row → AtBit L p seen row net dir.Output → row.control ≡ None → site_of L.arena.lists.ports row ≡ site.Output
-    → IsPlain (stitched L.arena.lists names (fitted_of L p seen)) (places_of L.arena.lists names (fitted_of L p seen)) net.0 k (cell_row (fitted_of L p seen) row)
-is_plain by {L} {p} {seen} {names} known k row net there at none s =
+    → IsPlain M (places_in M L.arena.lists (fitted_of L p seen)) net.0 k (cell_row (fitted_of L p seen) row)
+is_plain by {L} {p} {seen} {M} known k row net there at none s =
     let N = L.arena.lists in
     let f = fitted_of L p seen in
-    let M = stitched N names f in
     let B : Boundary = boundary_at N f in
     let gate = plain_gate known k row there s in
     let on : net_at B row ≡ net = net_at_is B row net at.here in
     let drives = has_drives M _ gate net (ap (λ (n : NetId). Some n) on) in
     record {
-      data_net = subst (λ (b : BoundaryRow). IsDataNet b net) (sym (gates_are L p seen names k row site.Output there s)) on;
+      data_net = subst (λ (b : BoundaryRow). IsDataNet b net) (sym (gates_are L p seen M k row site.Output there s)) on;
       cell = _;
       driver = by.found M known.formed.one_driver gate.number _ net.0 drives;
       plain = refl;
@@ -105,14 +103,14 @@ is_plain by {L} {p} {seen} {names} known k row net there at none s =
 -- A controlled output or inout.
 
 -- what is the same for each: the control cell, its level, and the core's control
-controlled_by : FitLaws → {L : LinkedView} {p : Plan} {seen : List PinSeen} {names : TapNames} → Stitch L p seen names → (k : ℕ) (row : FitRow) (net : NetId) (side : Dir) (three : Bool)
+controlled_by : FitLaws → {L : LinkedView} {p : Plan} {seen : List PinSeen} {M : NetlistView} → Stitch L p seen M → (k : ℕ) (row : FitRow) (net : NetId) (side : Dir) (three : Bool)
     → slice_get (rows p seen) k ≡ Some row → AtBit L p seen row net side → (n : Names (rows p seen) row) → DrivenAs L.arena.lists net three → (data_in : NetId) (cell : CellView)
-    → IsDataNet ((places_of L.arena.lists names (fitted_of L p seen)).gates k) data_in → driver_of (stitched L.arena.lists names (fitted_of L p seen)).cells net.0 ≡ Some cell
+    → IsDataNet ((places_in M L.arena.lists (fitted_of L p seen)).gates k) data_in → driver_of M.cells net.0 ≡ Some cell
     → is_three_state cell.kind ≡ true → cell.feeds ≡ Net data_in ∷ Net (level_net (boundary_at L.arena.lists (fitted_of L p seen)) row) ∷ []
     → (disable_by (rows p seen) n.number).value ≡ inactive_level cell.kind
-    → IsControlled (stitched L.arena.lists names (fitted_of L p seen)) L.arena.lists (device_of L p seen) (places_of L.arena.lists names (fitted_of L p seen)) net.0 k
+    → IsControlled M L.arena.lists (device_of L p seen) (places_in M L.arena.lists (fitted_of L p seen)) net.0 k
     (cell_row (fitted_of L p seen) row)
-controlled_by by {L} {p} {seen} {names} known k row net side three there at n driven data_in cell data_net driver is feeds polarity =
+controlled_by by {L} {p} {seen} {M} known k row net side three there at n driven data_in cell data_net driver is feeds polarity =
     let N = L.arena.lists in
     let f = fitted_of L p seen in
     let B : Boundary = boundary_at N f in
@@ -135,16 +133,16 @@ controlled_by by {L} {p} {seen} {names} known k row net side three there at n dr
       kind = n.control.cell;
       core = core_feed B n.control;
       active_high = n.control.active_high;
-      gates = gates_are L p seen names n.number n.control site.Control n.there as_control.stands;
+      gates = gates_are L p seen M n.number n.control site.Control n.there as_control.stands;
       agrees = disable_is (rows p seen) row n;
-      core_is = level_given by L p seen names known.fits k row net side three n.number n.control as_control.core there at driven n.named n.there as_control.core_is;
+      core_is = level_given by L p seen M known.fits k row net side three n.number n.control as_control.core there at driven n.named n.there as_control.core_is;
     }
 
 -- the disable value is the level at which the core's driver is off
-polarity_of : {L : LinkedView} {p : Plan} {seen : List PinSeen} {names : TapNames} → FitLaws → Stitch L p seen names → (k : ℕ) (row : FitRow) (net : NetId) (side : Dir) (three : Bool)
+polarity_of : {L : LinkedView} {p : Plan} {seen : List PinSeen} {M : NetlistView} → FitLaws → Stitch L p seen M → (k : ℕ) (row : FitRow) (net : NetId) (side : Dir) (three : Bool)
     → slice_get (rows p seen) k ≡ Some row → AtBit L p seen row net side → IsRead L.arena.lists net.0 → (n : Names (rows p seen) row) → (d : DrivenAs L.arena.lists net three)
     → (disable_by (rows p seen) n.number).value ≡ inactive_level d.cell.kind
-polarity_of {L} {p} {seen} {names} by known k row net side three there at read n d =
+polarity_of {L} {p} {seen} {M} by known k row net side three there at read n d =
     let is = by.stand L p seen known.fits k row at.bit there at.pin in
     let same : is.net ≡ net = some_same is.net net (bit_net L.arena.lists at.bit.port.0 at.bit.bit) is.at
     (sym (ap (option_and_then (pin_net L.arena.lists.ports)) at.pin) ∙ at.here) in
@@ -153,14 +151,13 @@ polarity_of {L} {p} {seen} {names} by known k row net side three there at read n
     (ap (option_map (disable_by (rows p seen))) n.named)
 
 -- an output for which a driver was added
-is_added : FitLaws → {L : LinkedView} {p : Plan} {seen : List PinSeen} {names : TapNames} → Stitch L p seen names → (k : ℕ) (row : FitRow) (net : NetId)
+is_added : FitLaws → {L : LinkedView} {p : Plan} {seen : List PinSeen} {M : NetlistView} → Stitch L p seen M → (k : ℕ) (row : FitRow) (net : NetId)
     → slice_get (rows p seen) k ≡ Some row → AtBit L p seen row net dir.Output → Names (rows p seen) row → DrivenAs L.arena.lists net false → site_of L.arena.lists.ports row ≡ site.AddedDriver
-    → IsControlled (stitched L.arena.lists names (fitted_of L p seen)) L.arena.lists (device_of L p seen) (places_of L.arena.lists names (fitted_of L p seen)) net.0 k
+    → IsControlled M L.arena.lists (device_of L p seen) (places_in M L.arena.lists (fitted_of L p seen)) net.0 k
     (cell_row (fitted_of L p seen) row)
-is_added by {L} {p} {seen} {names} known k row net there at n driven s =
+is_added by {L} {p} {seen} {M} known k row net there at n driven s =
     let N = L.arena.lists in
     let f = fitted_of L p seen in
-    let M = stitched N names f in
     let B : Boundary = boundary_at N f in
     let value : NetId = record { 0 = row_side N f k + 1 } in
     let number : ℕ = row_number N f k + length (row_cells (boundary_row B (row_side N f k) row) (row_first N f k) (row_number N f k) (scan_of N f) (row_next N f k)) in
@@ -169,21 +166,20 @@ is_added by {L} {p} {seen} {names} known k row net there at n driven s =
     let on : net_at B row ≡ net = net_at_is B row net at.here in
     let drives = has_drives M (added_driver number value (level_net B row) (net_at B row)) has.0 net (ap (λ (x : NetId). Some x) on) in
     controlled_by by known k row net dir.Output false there at n driven value (record (added_driver number value (level_net B row) (net_at B row)) { name = has.0.name })
-    (subst (λ (b : BoundaryRow). IsDataNet b value) (sym (gates_are L p seen names k row site.AddedDriver there s)) refl)
+    (subst (λ (b : BoundaryRow). IsDataNet b value) (sym (gates_are L p seen M k row site.AddedDriver there s)) refl)
     (by.found M known.formed.one_driver has.0.number _ net.0 drives) refl refl
     (polarity_of by known k row net dir.Output false there at (inl at.side) n driven ∙ plain_level driven.cell.kind driven.kind)
 
 -- a driver of the core behind its cells
-is_driver : FitLaws → {L : LinkedView} {p : Plan} {seen : List PinSeen} {names : TapNames} → Stitch L p seen names → (k : ℕ) (row : FitRow) (net : NetId) (side : Dir)
+is_driver : FitLaws → {L : LinkedView} {p : Plan} {seen : List PinSeen} {M : NetlistView} → Stitch L p seen M → (k : ℕ) (row : FitRow) (net : NetId) (side : Dir)
     → slice_get (rows p seen) k ≡ Some row → AtBit L p seen row net side → IsRead L.arena.lists net.0 → Names (rows p seen) row → DrivenAs L.arena.lists net true
     → is_moved (site_of L.arena.lists.ports row) ≡ false → is_driven (site_of L.arena.lists.ports row) ≡ true
-    → IsDataNet ((places_of L.arena.lists names (fitted_of L p seen)).gates k) (record { 0 = row_side L.arena.lists (fitted_of L p seen) k })
-    → IsControlled (stitched L.arena.lists names (fitted_of L p seen)) L.arena.lists (device_of L p seen) (places_of L.arena.lists names (fitted_of L p seen)) net.0 k
+    → IsDataNet ((places_in M L.arena.lists (fitted_of L p seen)).gates k) (record { 0 = row_side L.arena.lists (fitted_of L p seen) k })
+    → IsControlled M L.arena.lists (device_of L p seen) (places_in M L.arena.lists (fitted_of L p seen)) net.0 k
     (cell_row (fitted_of L p seen) row)
-is_driver by {L} {p} {seen} {names} known k row net side there at read n d stays driven data_net =
+is_driver by {L} {p} {seen} {M} known k row net side there at read n d stays driven data_net =
     let N = L.arena.lists in
     let f = fitted_of L p seen in
-    let M = stitched N names f in
     let B : Boundary = boundary_at N f in
     let same : core_side B net.0 ≡ net.0 = known.inside.stays net.0 (λ j other e. stays_at by.stand L p seen known.fits k row net there at.here stays j other e) in
     let output : (core_cell B d.cell).output ≡ Some net
@@ -201,86 +197,86 @@ other_side : (N : NetlistView) (net : ℕ) → direction N.ports net ≡ Some di
 other_side N net e (inl f) = let bad : Some dir.Input ≡ Some dir.Output = sym e ∙ f in cc
 other_side N net e (inr f) = let bad : Some dir.Input ≡ Some dir.Inout = sym e ∙ f in cc
 
-driven_case : FitLaws → {L : LinkedView} {p : Plan} {seen : List PinSeen} {names : TapNames} → Stitch L p seen names → (k : ℕ) (row : FitRow) (net : NetId)
+driven_case : FitLaws → {L : LinkedView} {p : Plan} {seen : List PinSeen} {M : NetlistView} → Stitch L p seen M → (k : ℕ) (row : FitRow) (net : NetId)
     → slice_get (rows p seen) k ≡ Some row → RowCase L p seen row → net_of_row L.arena.lists (cell_row (fitted_of L p seen) row) ≡ Some net → IsRead L.arena.lists net.0
-    → IsDrivenBy (stitched L.arena.lists names (fitted_of L p seen)) L.arena.lists (device_of L p seen) (places_of L.arena.lists names (fitted_of L p seen)) net.0 k
+    → IsDrivenBy M L.arena.lists (device_of L p seen) (places_in M L.arena.lists (fitted_of L p seen)) net.0 k
     (cell_row (fitted_of L p seen) row)
-driven_case by {L} {p} {seen} {names} known k row net there (observed_case n at does cell none s) here read =
+driven_case by {L} {p} {seen} {M} known k row net there (observed_case n at does cell none s) here read =
     let same : n ≡ net = some_same n net (net_of_row L.arena.lists (cell_row (fitted_of L p seen) row)) at.at here in
     absurd (other_side L.arena.lists net.0 (ap (λ (x : NetId). direction L.arena.lists.ports x.0) (sym same) ∙ at.side) read)
-driven_case by {L} {p} {seen} {names} known k row net there (input_case n at does cell none s) here read =
+driven_case by {L} {p} {seen} {M} known k row net there (input_case n at does cell none s) here read =
     let same : n ≡ net = some_same n net (net_of_row L.arena.lists (cell_row (fitted_of L p seen) row)) at.at here in
     absurd (other_side L.arena.lists net.0 (ap (λ (x : NetId). direction L.arena.lists.ports x.0) (sym same) ∙ at.side) read)
-driven_case by {L} {p} {seen} {names} known k row net there (plain_case n at does cell core none d s) here read =
+driven_case by {L} {p} {seen} {M} known k row net there (plain_case n at does cell core none d s) here read =
     let same : n ≡ net = some_same n net (net_of_row L.arena.lists (cell_row (fitted_of L p seen) row)) at.at here in
     inl (is_plain by known k row net there (subst (λ (x : NetId). AtBit L p seen row x dir.Output) same at) none s)
-driven_case by {L} {p} {seen} {names} known k row net there (added_case n at does cell core names_one d s) here read =
+driven_case by {L} {p} {seen} {M} known k row net there (added_case n at does cell core names_one d s) here read =
     let same : n ≡ net = some_same n net (net_of_row L.arena.lists (cell_row (fitted_of L p seen) row)) at.at here in
     inr (is_added by known k row net there (subst (λ (x : NetId). AtBit L p seen row x dir.Output) same at) names_one (subst (λ (x : NetId). DrivenAs L.arena.lists x false) same d) s)
-driven_case by {L} {p} {seen} {names} known k row net there (driver_case n core at does cell core_is names_one d s) here read =
+driven_case by {L} {p} {seen} {M} known k row net there (driver_case n core at does cell core_is names_one d s) here read =
     let same : n ≡ net = some_same n net (net_of_row L.arena.lists (cell_row (fitted_of L p seen) row)) at.at here in
     let side : NetId = record { 0 = row_side L.arena.lists (fitted_of L p seen) k } in
     inr (is_driver by known k row net dir.Output there (subst (λ (x : NetId). AtBit L p seen row x dir.Output) same at) read names_one
     (subst (λ (x : NetId). DrivenAs L.arena.lists x true) same d) (ap is_moved s) (ap is_driven s)
-    (subst (λ (b : BoundaryRow). IsDataNet b side) (sym (gates_are L p seen names k row site.Driver there s)) refl))
-driven_case by {L} {p} {seen} {names} known k row net there (inout_case n core at does cell core_is names_one d s) here read =
+    (subst (λ (b : BoundaryRow). IsDataNet b side) (sym (gates_are L p seen M k row site.Driver there s)) refl))
+driven_case by {L} {p} {seen} {M} known k row net there (inout_case n core at does cell core_is names_one d s) here read =
     let same : n ≡ net = some_same n net (net_of_row L.arena.lists (cell_row (fitted_of L p seen) row)) at.at here in
     let side : NetId = record { 0 = row_side L.arena.lists (fitted_of L p seen) k } in
     inr (is_driver by known k row net dir.Inout there (subst (λ (x : NetId). AtBit L p seen row x dir.Inout) same at) read names_one
     (subst (λ (x : NetId). DrivenAs L.arena.lists x true) same d) (ap is_moved s) (ap is_driven s)
-    (subst (λ (b : BoundaryRow). IsDataNet b side) (sym (gates_are L p seen names k row site.Inout there s)) refl))
-driven_case by {L} {p} {seen} {names} known k row net there (control_case core pin does cell core_is none s) here read =
+    (subst (λ (b : BoundaryRow). IsDataNet b side) (sym (gates_are L p seen M k row site.Inout there s)) refl))
+driven_case by {L} {p} {seen} {M} known k row net there (control_case core pin does cell core_is none s) here read =
     let no_net : net_of_row L.arena.lists (cell_row (fitted_of L p seen) row) ≡ None = ap (λ (o : Option PinBit). option_and_then (net_of_bit L.arena.lists) (option_map (dev_bit (fitted_of L p seen)) o)) pin in
     absurd (let bad : None ≡ Some net = sym no_net ∙ here in cc)
 
-pub driven_bits : FitLaws → {L : LinkedView} {p : Plan} {seen : List PinSeen} {names : TapNames} → Stitch L p seen names → (k : ℕ) (row : FitRow) (net : NetId)
+pub driven_bits : FitLaws → {L : LinkedView} {p : Plan} {seen : List PinSeen} {M : NetlistView} → Stitch L p seen M → (k : ℕ) (row : FitRow) (net : NetId)
     → slice_get (rows p seen) k ≡ Some row → net_of_row L.arena.lists (cell_row (fitted_of L p seen) row) ≡ Some net → IsRead L.arena.lists net.0
-    → IsDrivenBy (stitched L.arena.lists names (fitted_of L p seen)) L.arena.lists (device_of L p seen) (places_of L.arena.lists names (fitted_of L p seen)) net.0 k
+    → IsDrivenBy M L.arena.lists (device_of L p seen) (places_in M L.arena.lists (fitted_of L p seen)) net.0 k
     (cell_row (fitted_of L p seen) row)
-driven_bits by {L} {p} {seen} {names} known k row net there here read =
+driven_bits by {L} {p} {seen} {M} known k row net there here read =
     driven_case by known k row net there (cases_of by.has by.found by.there L p seen known.fits k row there) here read
 
 -- Each input and inout bit.
 
-seen_case : FitLaws → {L : LinkedView} {p : Plan} {seen : List PinSeen} {names : TapNames} → Stitch L p seen names → (k : ℕ) (row : FitRow) (net : NetId)
+seen_case : FitLaws → {L : LinkedView} {p : Plan} {seen : List PinSeen} {M : NetlistView} → Stitch L p seen M → (k : ℕ) (row : FitRow) (net : NetId)
     → slice_get (rows p seen) k ≡ Some row → RowCase L p seen row → net_of_row L.arena.lists (cell_row (fitted_of L p seen) row) ≡ Some net
-    → IsSeenOn ((places_of L.arena.lists names (fitted_of L p seen)).gates k) net.0 (core_side (boundary_at L.arena.lists (fitted_of L p seen)) net.0)
-seen_case by {L} {p} {seen} {names} known k row net there (observed_case n at does cell none s) here =
+    → IsSeenOn ((places_in M L.arena.lists (fitted_of L p seen)).gates k) net.0 (core_side (boundary_at L.arena.lists (fitted_of L p seen)) net.0)
+seen_case by {L} {p} {seen} {M} known k row net there (observed_case n at does cell none s) here =
     let same : n ≡ net = some_same n net (net_of_row L.arena.lists (cell_row (fitted_of L p seen) row)) at.at here in
     let row_here : row_net L.arena.lists.ports row ≡ Some net = at.here ∙ ap (λ (x : NetId). Some x) same in
     let side : ℕ = core_side (boundary_at L.arena.lists (fitted_of L p seen)) net.0 in
-    subst (λ (b : BoundaryRow). IsSeenOn b net.0 side) (sym (gates_are L p seen names k row site.Observed there s))
+    subst (λ (b : BoundaryRow). IsSeenOn b net.0 side) (sym (gates_are L p seen M k row site.Observed there s))
     (known.inside.stays net.0 (λ j other e. stays_at by.stand L p seen known.fits k row net there row_here (ap is_moved s) j other e))
-seen_case by {L} {p} {seen} {names} known k row net there (input_case n at does cell none s) here =
+seen_case by {L} {p} {seen} {M} known k row net there (input_case n at does cell none s) here =
     let same : n ≡ net = some_same n net (net_of_row L.arena.lists (cell_row (fitted_of L p seen) row)) at.at here in
     let row_here : row_net L.arena.lists.ports row ≡ Some net = at.here ∙ ap (λ (x : NetId). Some x) same in
     let side : ℕ = core_side (boundary_at L.arena.lists (fitted_of L p seen)) net.0 in
-    subst (λ (b : BoundaryRow). IsSeenOn b net.0 side) (sym (gates_are L p seen names k row site.Input there s))
+    subst (λ (b : BoundaryRow). IsSeenOn b net.0 side) (sym (gates_are L p seen M k row site.Input there s))
     (moved_to by.stand L p seen known.fits k row net there row_here (ap is_moved s))
-seen_case by {L} {p} {seen} {names} known k row net there (plain_case n at does cell core none d s) here =
+seen_case by {L} {p} {seen} {M} known k row net there (plain_case n at does cell core none d s) here =
     let side : ℕ = core_side (boundary_at L.arena.lists (fitted_of L p seen)) net.0 in
-    subst (λ (b : BoundaryRow). IsSeenOn b net.0 side) (sym (gates_are L p seen names k row site.Output there s)) tt
-seen_case by {L} {p} {seen} {names} known k row net there (added_case n at does cell core names_one d s) here =
+    subst (λ (b : BoundaryRow). IsSeenOn b net.0 side) (sym (gates_are L p seen M k row site.Output there s)) tt
+seen_case by {L} {p} {seen} {M} known k row net there (added_case n at does cell core names_one d s) here =
     let side : ℕ = core_side (boundary_at L.arena.lists (fitted_of L p seen)) net.0 in
-    subst (λ (b : BoundaryRow). IsSeenOn b net.0 side) (sym (gates_are L p seen names k row site.AddedDriver there s)) tt
-seen_case by {L} {p} {seen} {names} known k row net there (driver_case n core at does cell core_is names_one d s) here =
+    subst (λ (b : BoundaryRow). IsSeenOn b net.0 side) (sym (gates_are L p seen M k row site.AddedDriver there s)) tt
+seen_case by {L} {p} {seen} {M} known k row net there (driver_case n core at does cell core_is names_one d s) here =
     let side : ℕ = core_side (boundary_at L.arena.lists (fitted_of L p seen)) net.0 in
-    subst (λ (b : BoundaryRow). IsSeenOn b net.0 side) (sym (gates_are L p seen names k row site.Driver there s)) tt
-seen_case by {L} {p} {seen} {names} known k row net there (inout_case n core at does cell core_is names_one d s) here =
+    subst (λ (b : BoundaryRow). IsSeenOn b net.0 side) (sym (gates_are L p seen M k row site.Driver there s)) tt
+seen_case by {L} {p} {seen} {M} known k row net there (inout_case n core at does cell core_is names_one d s) here =
     let same : n ≡ net = some_same n net (net_of_row L.arena.lists (cell_row (fitted_of L p seen) row)) at.at here in
     let row_here : row_net L.arena.lists.ports row ≡ Some net = at.here ∙ ap (λ (x : NetId). Some x) same in
     let side : ℕ = core_side (boundary_at L.arena.lists (fitted_of L p seen)) net.0 in
-    subst (λ (b : BoundaryRow). IsSeenOn b net.0 side) (sym (gates_are L p seen names k row site.Inout there s))
+    subst (λ (b : BoundaryRow). IsSeenOn b net.0 side) (sym (gates_are L p seen M k row site.Inout there s))
     (known.inside.stays net.0 (λ j other e. stays_at by.stand L p seen known.fits k row net there row_here (ap is_moved s) j other e))
-seen_case by {L} {p} {seen} {names} known k row net there (control_case core pin does cell core_is none s) here =
+seen_case by {L} {p} {seen} {M} known k row net there (control_case core pin does cell core_is none s) here =
     let side : ℕ = core_side (boundary_at L.arena.lists (fitted_of L p seen)) net.0 in
-    subst (λ (b : BoundaryRow). IsSeenOn b net.0 side) (sym (gates_are L p seen names k row site.Control there s)) tt
+    subst (λ (b : BoundaryRow). IsSeenOn b net.0 side) (sym (gates_are L p seen M k row site.Control there s)) tt
 
-pub seen_bits : FitLaws → {L : LinkedView} {p : Plan} {seen : List PinSeen} {names : TapNames} → Stitch L p seen names → (k : ℕ) (row : FitRow) (net : NetId)
+pub seen_bits : FitLaws → {L : LinkedView} {p : Plan} {seen : List PinSeen} {M : NetlistView} → Stitch L p seen M → (k : ℕ) (row : FitRow) (net : NetId)
     → slice_get (rows p seen) k ≡ Some row → net_of_row L.arena.lists (cell_row (fitted_of L p seen) row) ≡ Some net → follows_pin (direction L.arena.lists.ports net.0) ≡ true
-    → IsSeenOn ((places_of L.arena.lists names (fitted_of L p seen)).gates k) net.0 ((places_of L.arena.lists names (fitted_of L p seen)).to net.0)
-seen_bits by {L} {p} {seen} {names} known k row net there here g =
+    → IsSeenOn ((places_in M L.arena.lists (fitted_of L p seen)).gates k) net.0 ((places_in M L.arena.lists (fitted_of L p seen)).to net.0)
+seen_bits by {L} {p} {seen} {M} known k row net there here g =
     let N = L.arena.lists in
     let f = fitted_of L p seen in
-    subst (IsSeenOn ((places_of N names f).gates k) net.0) (sym (inner_given N (stitched N names f) (boundary_at N f) net.0 (given_by_pin N net.0 g)))
+    subst (IsSeenOn ((places_in M N f).gates k) net.0) (sym (inner_given N M (boundary_at N f) net.0 (given_by_pin N net.0 g)))
     (seen_case by known k row net there (cases_of by.has by.found by.there L p seen known.fits k row there) here)

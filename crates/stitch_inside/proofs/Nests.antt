@@ -29,11 +29,12 @@ use Rattle.plan_devices.specs.Fitting.{IsFitting}
 use Rattle.stitch_laws.specs.stitch_model.declared.TapNames.{TapNames}
 use Rattle.stitch_laws.specs.stitch_model.Sites.{Boundary, row_net, site_of}
 use Rattle.stitch_laws.specs.stitch_model.Sides.{side_from, core_side, is_driven, feeds_behind}
-use Rattle.stitch_laws.specs.stitch_model.Stitched.{tap_port, tap_ports, boundary_at, stitched}
-use Rattle.stitch_laws.specs.Laws.{StitchedHoldsTheCore}
+use Rattle.stitch_laws.specs.stitch_model.Logic.{bypass_at}
+use Rattle.stitch_laws.specs.stitch_model.Stitched.{tap_port, tap_ports, boundary_at, first_net, stitched}
+use Rattle.stitch_laws.specs.Laws.{StitchedIsBuiltIn}
 use Rattle.stitch_laws.proofs.Core.{side_past}
 use Rattle.stitch_inside.specs.Inner.{past_nets, is_given, inner_net}
-use Rattle.stitch_inside.specs.Laws.{StitchedNests}
+use Rattle.stitch_inside.specs.Laws.{BuiltInNests, StitchedNests}
 use Rattle.stitch_inside.proofs.Past.{past_undriven, past_inside}
 use Rattle.stitch_inside.proofs.Cases.{DrivenAs, RowCase, observed_case, input_case, plain_case, added_case, driver_case, inout_case, control_case, cases_of}
 use Rattle.stitch_inside.proofs.Moves.{feeds_kept}
@@ -178,12 +179,11 @@ pub record NestLaws : Type 0 where
   pub found : DriverIsFound
   pub drives : DriverDrives
   pub there : ControlCellsAreThere
-  pub core : StitchedHoldsTheCore
 
-pub nests : NestLaws → StitchedNests
-nests by L p seen names fits laid dense =
-    let inside = by.core N names f dense in record {
-      library = refl;
+pub nests : NestLaws → BuiltInNests
+nests by L p seen names M shown fits laid built =
+    let inside = built.core in record {
+      library = built.library;
       cells = λ i cell live plain.
           nested_same M to (core_side B) i cell
           (λ place net at. inner_given N M B net (given_read by.found N fits.formed i cell place net live at))
@@ -201,9 +201,6 @@ nests by L p seen names fits laid dense =
 
     f : Fitted
     f = fitted_of L p seen
-
-    M : NetlistView
-    M = stitched N names f
 
     B : Boundary
     B = boundary_at N f
@@ -223,6 +220,13 @@ nests by L p seen names fits laid dense =
     by_given : (net : ℕ) → follows_pin (direction N.ports net) ≡ false → (b : Bool) → is_given N net ≡ b → follows_pin (direction M.ports (to net)) ≡ false
     by_given net e true g =
         ap (λ (n : ℕ). follows_pin (direction M.ports n)) (inner_given N M B net g)
+        ∙ ap (λ (ports : List PortView). follows_pin (direction ports (core_side B net))) built.ports
         ∙ inner_inside by.back N names f.rows laid net (low net (driver_of N.cells net) (by.drives N net) e refl g) e
     by_given net e false g =
         ap (λ (n : ℕ). follows_pin (direction M.ports n)) (inner_past N M B net g) ∙ not_followed (direction M.ports (past_nets M + net)) (past_inside M.ports (past_nets M + net) (omega arith))
+
+-- so it is in the stitched netlist
+pub stitched_nests : BuiltInNests → StitchedIsBuiltIn → StitchedNests
+stitched_nests nested built L p seen names fits laid dense =
+    nested L p seen names (stitched L.arena.lists names (fitted_of L p seen)) (bypass_at (first_net L.arena.lists (fitted_of L p seen)) (fitted_of L p seen)) fits laid
+    (built L.arena.lists names (fitted_of L p seen) dense)

@@ -1,5 +1,5 @@
 -- The stitched netlist has the device's test logic around the core.
-use Rattle.std.proofs.Common.{◌≡◌, ℕ, suc, ◌+◌, ◌<◌, ◌||◌, not, Bool, true, false, List, [], ◌∷◌, length, drop, refl, ap, sym, ◌∙◌, subst, Option, Some, None, arith}
+use Rattle.std.proofs.Common.{◌≡◌, ◌++◌, ℕ, suc, ◌+◌, ◌<◌, ◌||◌, not, Bool, true, false, List, [], ◌∷◌, length, drop, refl, ap, sym, ◌∙◌, subst, Option, Some, None, arith}
 use Rattle.std.specs.Prelude.{slice_get, option_and_then, find, is_some}
 use Rattle.std.specs.List.{list_any}
 use Rattle.std.specs.Option.{option_map}
@@ -55,11 +55,12 @@ use Rattle.plan_devices.proofs.DeviceIs.{some_width}
 use Rattle.stitch_laws.specs.stitch_model.declared.TapNames.{TapNames}
 use Rattle.stitch_laws.specs.stitch_model.Sites.{pin_net, row_net}
 use Rattle.stitch_laws.specs.stitch_model.Rows.{nets_of_rows, last_bit}
-use Rattle.stitch_laws.specs.stitch_model.Stitched.{scalar, tap_ports, boundary_at, stitched}
+use Rattle.stitch_laws.specs.stitch_model.Stitched.{scalar, tap_ports, boundary_at, first_net, stitched}
+use Rattle.stitch_laws.specs.stitch_model.Logic.{bypass_at}
 use Rattle.stitch_laws.specs.Places.{port_of, scan_of, register_net, row_first, row_side, row_number, row_next}
-use Rattle.stitch_laws.specs.Laws.{StitchedHoldsParts, StitchedHoldsTheCore}
-use Rattle.stitch_inside.specs.Places.{gates_of, places_of}
-use Rattle.stitch_inside.specs.Laws.{StitchedNests, StitchedSurrounds}
+use Rattle.stitch_laws.specs.Laws.{StitchedIsBuiltIn}
+use Rattle.stitch_inside.specs.Places.{gates_of, places_in}
+use Rattle.stitch_inside.specs.Laws.{BuiltInNests, BuiltInSurrounds, StitchedSurrounds}
 use Rattle.stitch_inside.proofs.Cases.{RowCase, observed_case, input_case, plain_case, added_case, driver_case, inout_case, control_case, cases_of}
 use Rattle.stitch_inside.proofs.Cores.{FitLaws}
 use Rattle.stitch_inside.proofs.Around.{row_is}
@@ -68,39 +69,43 @@ use Rattle.stitch_inside.proofs.Drivers.{Stitch, driven_bits, seen_bits}
 -- The test access port.
 
 -- a port behind those of the core
-tap_there : (N : NetlistView) (names : TapNames) (f : Fitted) (k : ℕ) (port : PortView) → slice_get (tap_ports names (port_of N)) k ≡ Some port
-    → slice_get (stitched N names f).ports (length N.ports + k) ≡ Some port
-tap_there N names f k port at = slice_get-append_right N.ports (tap_ports names (port_of N)) (length N.ports + k) k refl ∙ at
+tap_there : (M N : NetlistView) (names : TapNames) → M.ports ≡ N.ports ++ tap_ports names (port_of N) → (k : ℕ) (port : PortView) → slice_get (tap_ports names (port_of N)) k ≡ Some port
+    → slice_get M.ports (length N.ports + k) ≡ Some port
+tap_there M N names ports k port at =
+    ap (λ (ps : List PortView). slice_get ps (length N.ports + k)) ports
+    ∙ slice_get-append_right N.ports (tap_ports names (port_of N)) (length N.ports + k) k refl ∙ at
 
-bit_there : (N : NetlistView) (names : TapNames) (f : Fitted) (k : ℕ) (port : PortView) (net : NetId) → slice_get (tap_ports names (port_of N)) k ≡ Some port → slice_get port.nets 0 ≡ Some net
-    → bit_net (stitched N names f) (length N.ports + k) 0 ≡ Some net
-bit_there N names f k port net at first = ap (option_and_then (λ (q : PortView). slice_get q.nets 0)) (tap_there N names f k port at) ∙ first
+bit_there : (M N : NetlistView) (names : TapNames) → M.ports ≡ N.ports ++ tap_ports names (port_of N) → (k : ℕ) (port : PortView) (net : NetId)
+    → slice_get (tap_ports names (port_of N)) k ≡ Some port → slice_get port.nets 0 ≡ Some net → bit_net M (length N.ports + k) 0 ≡ Some net
+bit_there M N names ports k port net at first = ap (option_and_then (λ (q : PortView). slice_get q.nets 0)) (tap_there M N names ports k port at) ∙ first
 
-side_there : BitHasDirection → (N : NetlistView) (names : TapNames) (f : Fitted) → IsWellFormed (stitched N names f) → (k : ℕ) (port : PortView) (net : NetId) (side : Dir)
-    → slice_get (tap_ports names (port_of N)) k ≡ Some port → slice_get port.nets 0 ≡ Some net → port.dir ≡ side → direction (stitched N names f).ports net.0 ≡ Some side
-side_there has N names f formed k port net side at first is =
-    has (stitched N names f) formed side net (record { number = length N.ports + k; port = port; bit = 0; stands = tap_there N names f k port at; has = first; same = is })
+side_there : BitHasDirection → (M N : NetlistView) (names : TapNames) → M.ports ≡ N.ports ++ tap_ports names (port_of N) → IsWellFormed M → (k : ℕ) (port : PortView) (net : NetId) (side : Dir)
+    → slice_get (tap_ports names (port_of N)) k ≡ Some port → slice_get port.nets 0 ≡ Some net → port.dir ≡ side → direction M.ports net.0 ≡ Some side
+side_there has M N names ports formed k port net side at first is =
+    has M formed side net (record { number = length N.ports + k; port = port; bit = 0; stands = tap_there M N names ports k port at; has = first; same = is })
 
-has_ports : BitHasDirection → (N : NetlistView) (names : TapNames) (f : Fitted) → IsWellFormed (stitched N names f) → HasPorts (stitched N names f) N (places_of N names f)
-has_ports has N names f formed = record {
-  kept = λ p port at. slice_get-append_left N.ports (tap_ports names (port_of N)) p (slice_get_within N.ports p port at) ∙ at;
+has_ports : BitHasDirection → (M N : NetlistView) (names : TapNames) (f : Fitted) → M.ports ≡ N.ports ++ tap_ports names (port_of N) → IsWellFormed M → HasPorts M N (places_in M N f)
+has_ports has M N names f ports formed = record {
+  kept = λ p port at.
+      ap (λ (ps : List PortView). slice_get ps p) ports
+      ∙ slice_get-append_left N.ports (tap_ports names (port_of N)) p (slice_get_within N.ports p port at) ∙ at;
   inputs = λ input. taps input;
   sides = λ input. sides input;
-  tdo = bit_there N names f 3 (scalar names.tdo dir.Output (port_of N).tdo) (port_of N).tdo refl refl;
-  tdo_side = side_there has N names f formed 3 (scalar names.tdo dir.Output (port_of N).tdo) (port_of N).tdo dir.Output refl refl refl;
+  tdo = bit_there M N names ports 3 (scalar names.tdo dir.Output (port_of N).tdo) (port_of N).tdo refl refl;
+  tdo_side = side_there has M N names ports formed 3 (scalar names.tdo dir.Output (port_of N).tdo) (port_of N).tdo dir.Output refl refl refl;
 }
   where
-    taps : (input : TapInput) → IsTapNet (stitched N names f) N (tap_place input) (input_net (places_of N names f) input).0
-    taps Tck = bit_there N names f 0 (scalar names.tck dir.Input (port_of N).tck) (port_of N).tck refl refl
-    taps Tms = bit_there N names f 1 (scalar names.tms dir.Input (port_of N).tms) (port_of N).tms refl refl
-    taps Tdi = bit_there N names f 2 (scalar names.tdi dir.Input (port_of N).tdi) (port_of N).tdi refl refl
-    taps Trst = bit_there N names f 4 (scalar names.trst dir.Input (port_of N).trst) (port_of N).trst refl refl
+    taps : (input : TapInput) → IsTapNet M N (tap_place input) (input_net (places_in M N f) input).0
+    taps Tck = bit_there M N names ports 0 (scalar names.tck dir.Input (port_of N).tck) (port_of N).tck refl refl
+    taps Tms = bit_there M N names ports 1 (scalar names.tms dir.Input (port_of N).tms) (port_of N).tms refl refl
+    taps Tdi = bit_there M N names ports 2 (scalar names.tdi dir.Input (port_of N).tdi) (port_of N).tdi refl refl
+    taps Trst = bit_there M N names ports 4 (scalar names.trst dir.Input (port_of N).trst) (port_of N).trst refl refl
 
-    sides : (input : TapInput) → direction (stitched N names f).ports (input_net (places_of N names f) input).0 ≡ Some dir.Input
-    sides Tck = side_there has N names f formed 0 (scalar names.tck dir.Input (port_of N).tck) (port_of N).tck dir.Input refl refl refl
-    sides Tms = side_there has N names f formed 1 (scalar names.tms dir.Input (port_of N).tms) (port_of N).tms dir.Input refl refl refl
-    sides Tdi = side_there has N names f formed 2 (scalar names.tdi dir.Input (port_of N).tdi) (port_of N).tdi dir.Input refl refl refl
-    sides Trst = side_there has N names f formed 4 (scalar names.trst dir.Input (port_of N).trst) (port_of N).trst dir.Input refl refl refl
+    sides : (input : TapInput) → direction M.ports (input_net (places_in M N f) input).0 ≡ Some dir.Input
+    sides Tck = side_there has M N names ports formed 0 (scalar names.tck dir.Input (port_of N).tck) (port_of N).tck dir.Input refl refl refl
+    sides Tms = side_there has M N names ports formed 1 (scalar names.tms dir.Input (port_of N).tms) (port_of N).tms dir.Input refl refl refl
+    sides Tdi = side_there has M N names ports formed 2 (scalar names.tdi dir.Input (port_of N).tdi) (port_of N).tdi dir.Input refl refl refl
+    sides Trst = side_there has M N names ports formed 4 (scalar names.trst dir.Input (port_of N).trst) (port_of N).trst dir.Input refl refl refl
 
 -- The codes.
 
@@ -183,9 +188,9 @@ register_of rules L p seen fits =
       capture_end = keeps.capture_end;
     }
 
-has_codes : OpcodesKeepTheRules → CodesAreTheDevices → RegistersFit → (L : LinkedView) (p : Plan) (seen : List PinSeen) (names : TapNames) → IsFitting L p seen
-    → HasCodes (device_of L p seen) (places_of L.arena.lists names (fitted_of L p seen))
-has_codes rules same fit L p seen names fits =
+has_codes : OpcodesKeepTheRules → CodesAreTheDevices → RegistersFit → (L : LinkedView) (p : Plan) (seen : List PinSeen) (M : NetlistView) → IsFitting L p seen
+    → HasCodes (device_of L p seen) (places_in M L.arena.lists (fitted_of L p seen))
+has_codes rules same fit L p seen M fits =
     let bypass = bypass_of p.opcodes (rules L p seen fits.spelled).all in
     let has = plans_have_codes p fits.spelled in
     let codes = same L p seen bypass.0 bypass.1 in record {
@@ -259,9 +264,9 @@ row_of_bit by L p seen fits net side e =
       found = subst (λ (n : NetId). row_of (device_of L p seen) N n.0 ≡ Some (record { number = row.number; row = cell_row f row.row })) same is.found;
     }
 
-has_rows : FitLaws → (L : LinkedView) (p : Plan) (seen : List PinSeen) (names : TapNames) → Stitch L p seen names
-    → HasRows (stitched L.arena.lists names (fitted_of L p seen)) L.arena.lists (device_of L p seen) (places_of L.arena.lists names (fitted_of L p seen))
-has_rows by L p seen names known = record {
+has_rows : FitLaws → (L : LinkedView) (p : Plan) (seen : List PinSeen) (M : NetlistView) → Stitch L p seen M
+    → HasRows M L.arena.lists (device_of L p seen) (places_in M L.arena.lists (fitted_of L p seen))
+has_rows by L p seen M known = record {
   some = let at = slice_get_within (device_of L p seen).cells 0 (cell_row f first.0) (slice_get-map (cell_row f) (rows p seen) 0 ∙ ap (option_map (cell_row f)) first.1) in at;
   cells = λ place r there.
       let m = mapped_at (cell_row f) (rows p seen) place r there in
@@ -269,10 +274,10 @@ has_rows by L p seen names known = record {
       (sym (ap (gates_of (boundary_at N f) (row_side N f place)) m.1)) (known.parts.rows place m.0 m.1).gates;
   kinds = λ place r there.
       let m = mapped_at (cell_row f) (rows p seen) place r there in
-      sym (ap (λ (x : CellRow). x.cell) m.2) ∙ (row_is by L p seen names known.fits place m.0 m.1).kind;
+      sym (ap (λ (x : CellRow). x.cell) m.2) ∙ (row_is by L p seen M known.fits place m.0 m.1).kind;
   stands = λ place r there.
       let m = mapped_at (cell_row f) (rows p seen) place r there in
-      subst (λ (x : CellRow). StandsAround (device_of L p seen) N S place x (S.gates place)) m.2 (row_is by L p seen names known.fits place m.0 m.1).stands;
+      subst (λ (x : CellRow). StandsAround (device_of L p seen) N S place x (S.gates place)) m.2 (row_is by L p seen M known.fits place m.0 m.1).stands;
   inner = λ place r there.
       let m = mapped_at (cell_row f) (rows p seen) (suc place) r there in known.parts.next place m.0 m.1;
   last = λ place none. known.parts.last place (none_mapped (cell_row f) (slice_get (rows p seen) (suc place)) (sym (slice_get-map (cell_row f) (rows p seen) (suc place)) ∙ none));
@@ -291,11 +296,8 @@ has_rows by L p seen names known = record {
     f : Fitted
     f = fitted_of L p seen
 
-    M : NetlistView
-    M = stitched L.arena.lists names (fitted_of L p seen)
-
     S : Places
-    S = places_of L.arena.lists names (fitted_of L p seen)
+    S = places_in M L.arena.lists (fitted_of L p seen)
 
     first : (row : FitRow) × (slice_get (rows p seen) 0 ≡ Some row)
     first = first_row by L p seen known.fits
@@ -304,24 +306,23 @@ has_rows by L p seen names known = record {
 
 pub record WholeLaws : Type 0 where
   pub fit : FitLaws
-  pub nests : StitchedNests
-  pub core : StitchedHoldsTheCore
-  pub parts : StitchedHoldsParts
+  pub nests : BuiltInNests
   pub suits : PlansSuitNetlists
   pub contained : ContainedParts
   pub rules : OpcodesKeepTheRules
   pub codes : CodesAreTheDevices
   pub registers : RegistersFit
 
-pub surrounds : WholeLaws → StitchedSurrounds
-surrounds by L p seen names fits laid dense formed pins =
+pub surrounds : WholeLaws → BuiltInSurrounds
+surrounds by L p seen names M shown fits laid built formed pins =
     let N = L.arena.lists in
     let f = fitted_of L p seen in
-    let parts = by.parts N names f in
-    let known : Stitch L p seen names = record {
+    let parts = built.parts in
+    let known : Stitch L p seen M = record {
       fits = fits;
       formed = formed;
-      inside = by.core N names f dense;
+      inside = built.core;
+      shown = shown;
       parts = parts;
       suits = by.suits L p seen fits;
       contained = by.contained;
@@ -330,9 +331,15 @@ surrounds by L p seen names fits laid dense formed pins =
       formed = formed;
       core_formed = fits.formed;
       pins = pins;
-      ports = has_ports by.fit.has N names f formed;
-      core = by.nests L p seen names fits laid dense;
-      codes = has_codes by.rules by.codes by.registers L p seen names fits;
+      ports = has_ports by.fit.has M N names f built.ports formed;
+      core = by.nests L p seen names M shown fits laid built;
+      codes = has_codes by.rules by.codes by.registers L p seen M fits;
       registers = record { controller = parts.controller; instruction = parts.instruction; bypass = parts.bypass; ident = parts.ident; tdo = parts.tdo };
-      rows = has_rows by.fit L p seen names known;
+      rows = has_rows by.fit L p seen M known;
     }
+
+-- so it is of the stitched netlist
+pub stitched_surrounds : BuiltInSurrounds → StitchedIsBuiltIn → StitchedSurrounds
+stitched_surrounds around built L p seen names fits laid dense formed pins =
+    around L p seen names (stitched L.arena.lists names (fitted_of L p seen)) (bypass_at (first_net L.arena.lists (fitted_of L p seen)) (fitted_of L p seen)) fits laid
+    (built L.arena.lists names (fitted_of L p seen) dense) formed pins

@@ -1,20 +1,23 @@
 -- The stitched netlist has the device's test logic around the core.
 -- Own.
 use Rattle.std.specs.Prelude.{List}
+use Rattle.netlist_model.specs.declared.NetId.{NetId}
+use Rattle.netlist_model.specs.Lists.{NetlistView}
 use Rattle.netlist_model.specs.Formed.{IsLaidOut, IsWellFormed}
 use Rattle.netlist_model.specs.Contained.{IsDense}
 use Rattle.netlist_images.specs.Behind.{NestedBehind}
 use Rattle.plan_devices.specs.netlist_link.Linked.{LinkedView}
 use Rattle.wrapped_chip.specs.Beside.{HasPins}
-use Rattle.surrounded_core.specs.Surrounds.{Surrounds}
+use Rattle.surrounded_core.specs.Surrounds.{SurroundsBy, Surrounds}
 use Rattle.plan_texts.specs.declared.plan.Plan.{Plan}
 use Rattle.plan_devices.specs.plan_fitting.Pins.{PinSeen}
 use Rattle.plan_devices.specs.plan_fitting.Devices.{fitted_of, device_of}
 use Rattle.plan_devices.specs.Fitting.{IsFitting}
 use Rattle.stitch_laws.specs.stitch_model.declared.TapNames.{TapNames}
 use Rattle.stitch_laws.specs.stitch_model.Stitched.{boundary_at, stitched}
+use Rattle.stitch_laws.specs.Laws.{HasBuiltIn}
 use Rattle.stitch_inside.specs.Inner.{inner_net}
-use Rattle.stitch_inside.specs.Places.{places_of}
+use Rattle.stitch_inside.specs.Places.{places_in, places_of}
 
 -- own: the core stands inside, with its drivers behind boundary cells
 abbrev pub StitchedNests : Type 0
@@ -27,3 +30,14 @@ abbrev pub StitchedSurrounds : Type 0
 StitchedSurrounds = (L : LinkedView) (p : Plan) (seen : List PinSeen) (names : TapNames) → IsFitting L p seen → IsLaidOut L.arena.lists → IsDense L.arena.lists
     → IsWellFormed (stitched L.arena.lists names (fitted_of L p seen)) → HasPins (stitched L.arena.lists names (fitted_of L p seen)) L.arena.lists
     → Surrounds (stitched L.arena.lists names (fitted_of L p seen)) L.arena.lists (device_of L p seen) (places_of L.arena.lists names (fitted_of L p seen))
+
+-- own: so it is in every netlist into which the test logic is built, whatever its TDO takes for the bit of the bypass register
+abbrev pub BuiltInNests : Type 0
+BuiltInNests = (L : LinkedView) (p : Plan) (seen : List PinSeen) (names : TapNames) (M : NetlistView) (shown : NetId) → IsFitting L p seen → IsLaidOut L.arena.lists
+    → HasBuiltIn M L.arena.lists names (fitted_of L p seen) shown
+    → NestedBehind L.arena.lists M (inner_net L.arena.lists M (boundary_at L.arena.lists (fitted_of L p seen))) (λ i. i)
+
+abbrev pub BuiltInSurrounds : Type 0
+BuiltInSurrounds = (L : LinkedView) (p : Plan) (seen : List PinSeen) (names : TapNames) (M : NetlistView) (shown : NetId) → IsFitting L p seen → IsLaidOut L.arena.lists
+    → HasBuiltIn M L.arena.lists names (fitted_of L p seen) shown → IsWellFormed M → HasPins M L.arena.lists
+    → SurroundsBy M L.arena.lists (device_of L p seen) (places_in M L.arena.lists (fitted_of L p seen)) shown

@@ -1,4 +1,4 @@
--- Where the parts of the test logic stand in the stitched netlist.
+-- Where the parts of the test logic stand in a netlist into which it is built, and in the stitched netlist.
 -- IEEE Std 1149.1-2001: test logic architecture; the order is own.
 use Rattle.std.specs.Prelude.{ℕ, ◌+◌, slice_get, Option, Some, None}
 use Rattle.netlist_model.specs.Lists.{NetlistView, cell_count}
@@ -19,8 +19,9 @@ abbrev pub gates_of : Boundary → ℕ → Option FitRow → BoundaryRow
 gates_of B side None = observe_row (record { 0 = 0 })
 gates_of B side (Some row) = boundary_row B side row
 
-abbrev pub places_of : NetlistView → TapNames → Fitted → Places
-places_of N names f = record {
+-- own: in M, into which the test logic of what fits N is built
+abbrev pub places_in : NetlistView → NetlistView → Fitted → Places
+places_in M N f = record {
   tck = (port_of N).tck;
   tms = (port_of N).tms;
   tdi = (port_of N).tdi;
@@ -44,5 +45,9 @@ places_of N names f = record {
   row_number = row_number N f;
   next = row_next N f;
   nearest = boundary_last (boundary_at N f) (first_net N f) (port_of N) f;
-  to = inner_net N (stitched N names f) (boundary_at N f);
+  to = inner_net N M (boundary_at N f);
 }
+
+-- in the stitched netlist
+abbrev pub places_of : NetlistView → TapNames → Fitted → Places
+places_of N names f = places_in (stitched N names f) N f

@@ -1,16 +1,17 @@
-// The stitched netlist inside: the core nests in it behind its boundary cells, and the device's test logic stands around the core.
+// A netlist into which the test logic is built, inside: the core nests in it behind its boundary cells, and the device's test logic stands
+// around the core. The stitched netlist is one.
 // specs/Inner.antt says which net stands for a net of the core, specs/Places.antt where the parts stand, specs/Laws.antt that they do.
 // IEEE Std 1149.1-2001: test logic architecture, boundary-scan register; the laws are own.
 //
 // - The core nests in it with its drivers behind boundary cells; a net to which nothing gives a value, and which
-//   nothing reads, stands past all nets (`stitched_nests`).
+//   nothing reads, stands past all nets (`built_in_nests`, `stitched_nests`).
 // - The device's test logic stands around the core: ports, codes, controller, registers, and for each row of the
 //   plan what its cell takes from the core and gives to the pin or the core, whatever its kind
-//   (`stitched_surrounds`).
-// By the contract of two law functions.
+//   (`built_in_surrounds`, `stitched_surrounds`).
+// By the contracts of law functions.
 #![tactic(auto)]
 
-ghost use Rattle.stitch_inside.specs.Laws.{StitchedNests, StitchedSurrounds};
+ghost use Rattle.stitch_inside.specs.Laws.{BuiltInNests, BuiltInSurrounds, StitchedNests, StitchedSurrounds};
 
 use netlist_laws::{
     bit_of_a_direction, contained_parts, direction_of_a_bit, driver_is_found, found_driver_drives,
@@ -24,27 +25,26 @@ use plan_devices::{
     rows_stand_at_bits, rows_take_the_core,
 };
 pub use stitch_laws as lower_stitch_laws;
-use stitch_laws::{stitched_holds_its_parts, stitched_holds_the_core};
+use stitch_laws::stitched_is_built_in;
 pub use surrounded_core as lower_surrounded_core;
 use surrounded_core::lower_instruction_register::registers_fit;
 
-/// The core nests in the stitched netlist, with its drivers behind boundary cells.
-pub fn stitched_nests()
-    ensures { StitchedNests }
+/// The core nests in every netlist into which the test logic is built, with its drivers behind boundary cells.
+pub fn built_in_nests()
+    ensures { BuiltInNests }
 {
     direction_of_a_bit();
     bit_of_a_direction();
     driver_is_found();
     found_driver_drives();
     control_cells_are_there();
-    stitched_holds_the_core();
 }
 
-/// The device's test logic stands around it: the controller, the registers, and a row at each bit.
-pub fn stitched_surrounds()
-    ensures { StitchedSurrounds }
+/// And the device's test logic stands around it: the controller, the registers, and a row at each bit.
+pub fn built_in_surrounds()
+    ensures { BuiltInSurrounds }
 {
-    stitched_nests();
+    built_in_nests();
     direction_of_a_bit();
     bit_of_a_direction();
     driver_is_found();
@@ -60,6 +60,20 @@ pub fn stitched_surrounds()
     rows_stand_at_bits();
     bits_have_rows();
     plans_suit_netlists();
-    stitched_holds_the_core();
-    stitched_holds_its_parts();
+}
+
+/// So the core nests in the stitched netlist.
+pub fn stitched_nests()
+    ensures { StitchedNests }
+{
+    built_in_nests();
+    stitched_is_built_in();
+}
+
+/// And the test logic stands around it.
+pub fn stitched_surrounds()
+    ensures { StitchedSurrounds }
+{
+    built_in_surrounds();
+    stitched_is_built_in();
 }

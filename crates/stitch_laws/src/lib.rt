@@ -18,7 +18,12 @@
 #![tactic(auto)]
 
 ghost use Rattle.stitch_laws.specs.Laws.{
-    ExtensionIsBuiltIn, StitchedExtends, StitchedHoldsParts, StitchedHoldsTheCore, StitchedIsBuiltIn, StitchedKeeps,
+  ExtensionIsBuiltIn,
+  StitchedExtends,
+  StitchedHoldsParts,
+  StitchedHoldsTheCore,
+  StitchedIsBuiltIn,
+  StitchedKeeps,
 };
 
 use netlist_laws::contained_parts;

@@ -1,13 +1,5 @@
-use Rattle.stitch_inside.proofs.Nests.{nests}
+use Rattle.stitch_inside.proofs.Nests.{stitched_nests as lemma}
 use Rattle.stitch_inside.proofs.stitched_nests.Goals as goal
 
 pub returns : goal.returns
-returns c =
-    nests (record {
-      has = c.direction_of_a_bit.ensures;
-      back = c.bit_of_a_direction.ensures;
-      found = c.driver_is_found.ensures;
-      drives = c.found_driver_drives.ensures;
-      there = c.control_cells_are_there.ensures;
-      core = c.stitched_holds_the_core.ensures;
-    })
+returns c = lemma c.built_in_nests.ensures c.stitched_is_built_in.ensures

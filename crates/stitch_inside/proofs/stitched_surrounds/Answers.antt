@@ -1,27 +1,5 @@
-use Rattle.stitch_inside.proofs.Whole.{surrounds}
+use Rattle.stitch_inside.proofs.Whole.{stitched_surrounds as lemma}
 use Rattle.stitch_inside.proofs.stitched_surrounds.Goals as goal
 
 pub returns : goal.returns
-returns c =
-    surrounds (record {
-      fit = record {
-        has = c.direction_of_a_bit.ensures;
-        back = c.bit_of_a_direction.ensures;
-        found = c.driver_is_found.ensures;
-        drives = c.found_driver_drives.ensures;
-        there = c.control_cells_are_there.ensures;
-        take = c.rows_take_the_core.ensures;
-        levels = c.controls_take_the_core.ensures;
-        follow = c.controls_follow_their_rows.ensures;
-        stand = c.rows_stand_at_bits.ensures;
-        bits = c.bits_have_rows.ensures;
-      };
-      nests = c.stitched_nests.ensures;
-      core = c.stitched_holds_the_core.ensures;
-      parts = c.stitched_holds_its_parts.ensures;
-      suits = c.plans_suit_netlists.ensures;
-      contained = c.contained_parts.ensures;
-      rules = c.opcodes_keep_the_rules.ensures;
-      codes = c.codes_are_the_devices.ensures;
-      registers = c.registers_fit.ensures;
-    })
+returns c = lemma c.built_in_surrounds.ensures c.stitched_is_built_in.ensures
