@@ -141,5 +141,6 @@ line_of (fault.Device f) = device_line f
 line_of (fault.Plan f) = plan_line f
 line_of (fault.Fit f) = fit_line f
 line_of (fault.TooMany what count limit) = many_line (what_word what) count limit
+line_of fault.NotInserted = words_line (codes "NotInserted") []
 line_of fault.OutOfMemory = memory_line
 line_of (fault.WriteFault name) = named_line (codes "WriteFault") name.now

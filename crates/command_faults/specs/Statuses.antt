@@ -74,6 +74,7 @@ status_of (fault.Device f) = device_status f
 status_of (fault.Plan f) = plan_status f
 status_of (fault.Fit f) = fit_status f
 status_of (fault.TooMany what count limit) = status.Refused
+status_of fault.NotInserted = status.Refused
 status_of fault.OutOfMemory = status.Memory
 status_of (fault.WriteFault name) = status.WriteFault
 

@@ -57,6 +57,9 @@ pub enum Fault<'a> {
     /// With the test logic a netlist would have too many of something.
     #[error("{count} where {limit} is the limit")]
     TooMany { what: What, count: u64, limit: u64 },
+    /// No netlist and plan give a netlist with test logic and a device.
+    #[error("no netlist and plan give these")]
+    NotInserted,
     #[error("out of memory")]
     OutOfMemory,
     #[error("a file couldn't be written")]
@@ -155,7 +158,8 @@ impl Fault<'_> {
             | Fault::Device(_)
             | Fault::Plan(_)
             | Fault::Fit(_)
-            | Fault::TooMany { .. } => Status::Refused,
+            | Fault::TooMany { .. }
+            | Fault::NotInserted => Status::Refused,
             Fault::WriteFault { .. } => Status::WriteFault,
         }
     }

@@ -33,6 +33,7 @@ pub fn put_fault<O: Sink>(out: &mut O, fault: &Fault) -> Result<(), WriteFault>
         Fault::Plan(fault) => put_plan_fault(out, fault),
         Fault::Fit(fault) => put_fit_fault(out, fault),
         Fault::TooMany { what, count, limit } => put_many(out, *what, *count, *limit),
+        Fault::NotInserted => put_line(out, &Field::Word(b"NotInserted"), &[]),
         Fault::OutOfMemory => put_memory(out),
         Fault::WriteFault { name } => put_named(out, b"WriteFault", name.as_bytes()),
     }

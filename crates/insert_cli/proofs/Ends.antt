@@ -95,5 +95,6 @@ fault_apart (fault.Device f) end = device_apart f end
 fault_apart (fault.Plan f) end = plan_apart f end
 fault_apart (fault.Fit f) end = fit_apart f end
 fault_apart (fault.TooMany what count limit) end = refused_apart end
+fault_apart fault.NotInserted end = refused_apart end
 fault_apart fault.OutOfMemory end = memory_apart end
 fault_apart (fault.WriteFault name) end = write_apart end

@@ -9,7 +9,7 @@ use Rattle.insert_cli.specs.declared.command.Command.{Command}
 use Rattle.insert_cli.specs.Forms.{Form, HasWords, HasForm, begins_with_dash}
 use Rattle.insert_cli.specs.Parsed.{IsPlainOf, IsCommandOf}
 
--- the command of two names, three or four, with this word
+-- the command of two names, three, four or five, with this word
 abbrev from_two : List ℕ → List ℕ → List ℕ → Option Form
 from_two word a b =
     if bytes_eq word (codes "canon") then Some (Form.Converts Canon a b)
@@ -28,7 +28,11 @@ abbrev from_four : List ℕ → List ℕ → List ℕ → List ℕ → List ℕ 
 from_four word a b c d =
     if bytes_eq word (codes "check") then Some (Form.Checks a b c (Some d))
     else if bytes_eq word (codes "flatten") then Some (Form.Flattens a b c (Some d))
+    else if bytes_eq word (codes "strip") then Some (Form.Strips a b c d None)
     else Some (Form.Inserts a b c d None)
+
+abbrev from_five : List ℕ → List ℕ → List ℕ → List ℕ → List ℕ → List ℕ → Option Form
+from_five word a b c d e = if bytes_eq word (codes "strip") then Some (Form.Strips a b c d (Some e)) else Some (Form.Inserts a b c d (Some e))
 
 abbrev form_from : List (List ℕ) → Option Form
 form_from [] = None
@@ -37,7 +41,7 @@ form_from (word ∷ a ∷ []) = None
 form_from (word ∷ a ∷ b ∷ []) = from_two word a b
 form_from (word ∷ a ∷ b ∷ c ∷ []) = from_three word a b c
 form_from (word ∷ a ∷ b ∷ c ∷ d ∷ []) = from_four word a b c d
-form_from (word ∷ a ∷ b ∷ c ∷ d ∷ e ∷ []) = Some (Form.Inserts a b c d (Some e))
+form_from (word ∷ a ∷ b ∷ c ∷ d ∷ e ∷ []) = from_five word a b c d e
 form_from (word ∷ a ∷ b ∷ c ∷ d ∷ e ∷ f ∷ more) = None
 
 from_words : (words : List (List ℕ)) (form : Form) → HasWords words form → form_from words ≡ Some form
@@ -49,6 +53,8 @@ from_words words (Form.Simulates netlist events None) are = ap form_from are
 from_words words (Form.Simulates netlist events (Some library)) are = ap form_from are
 from_words words (Form.Inserts netlist plan outnet outbsdl None) are = ap form_from are
 from_words words (Form.Inserts netlist plan outnet outbsdl (Some library)) are = ap form_from are
+from_words words (Form.Strips netlist bsdl outnet outplan None) are = ap form_from are
+from_words words (Form.Strips netlist bsdl outnet outplan (Some library)) are = ap form_from are
 from_words words (Form.MakesVectors bsdl output) are = ap form_from are
 from_words words (Form.Checks netlist bsdl events None) are = ap form_from are
 from_words words (Form.Checks netlist bsdl events (Some library)) are = ap form_from are

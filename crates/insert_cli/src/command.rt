@@ -38,6 +38,15 @@ pub enum Command<'a> {
         outbsdl: &'a str,
         library: Option<&'a str>,
     },
+    /// Writes the netlist and a plan that a netlist with test logic and its BSDL text were made from, with the library of a third text if
+    /// there is one.
+    Strip {
+        netlist: &'a str,
+        bsdl: &'a str,
+        outnet: &'a str,
+        outplan: &'a str,
+        library: Option<&'a str>,
+    },
     /// Writes the program of a device.
     Vectors {
         bsdl: &'a str,
@@ -170,6 +179,13 @@ fn of_four<'a>(
             outbsdl: fourth,
             library: None,
         }),
+        "strip" => Some(Command::Strip {
+            netlist: first,
+            bsdl: second,
+            outnet: third,
+            outplan: fourth,
+            library: None,
+        }),
         "check" => Some(Command::Check {
             netlist: first,
             bsdl: second,
@@ -197,16 +213,24 @@ fn of_five<'a>(
 ) -> Option<Command<'a>>
     ensures { IsPlainOf (word.now ∷ first.now ∷ second.now ∷ third.now ∷ fourth.now ∷ fifth.now ∷ []) result }
 {
-    if word == "insert" {
-        return Some(Command::Insert {
+    let library = Some(fifth);
+    match word {
+        "insert" => Some(Command::Insert {
             netlist: first,
             plan: second,
             outnet: third,
             outbsdl: fourth,
-            library: Some(fifth),
-        });
+            library,
+        }),
+        "strip" => Some(Command::Strip {
+            netlist: first,
+            bsdl: second,
+            outnet: third,
+            outplan: fourth,
+            library,
+        }),
+        _ => None,
     }
-    None
 }
 
 // The command that words are of which none begins with `-`.

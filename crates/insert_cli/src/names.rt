@@ -24,13 +24,8 @@ fn taken_in_flatten<'a>(input: &str, library: &str, output: &'a str) -> Option<&
     None
 }
 
-// The first output of `insert` without a library that has the name of another of its files.
-fn taken_in_insert<'a>(
-    netlist: &str,
-    plan: &str,
-    outnet: &'a str,
-    outbsdl: &'a str,
-) -> Option<&'a str>
+// The first output of `insert` or `strip` without a library that has the name of another of its files.
+fn taken_of_two<'a>(netlist: &str, plan: &str, outnet: &'a str, outbsdl: &'a str) -> Option<&'a str>
     ensures same { IfSome result (λ name. IsRepeated name.now (netlist.now ∷ plan.now ∷ [])
         (outnet.now ∷ outbsdl.now ∷ [])) }
     ensures apart { result ≡ None → AreApart (netlist.now ∷ plan.now ∷ [])
@@ -45,7 +40,7 @@ fn taken_in_insert<'a>(
     None
 }
 
-// The first output of `insert` with a library that has the name of another of its files.
+// The first output of either with a library that has the name of another of its files.
 fn taken_beside_library<'a>(
     netlist: &str,
     plan: &str,
@@ -95,7 +90,7 @@ pub fn same_name<'a>(command: Command<'a>) -> Option<&'a str>
             outnet,
             outbsdl,
             library: None,
-        } => taken_in_insert(netlist, plan, outnet, outbsdl),
+        } => taken_of_two(netlist, plan, outnet, outbsdl),
         Command::Insert {
             netlist,
             plan,
@@ -103,6 +98,20 @@ pub fn same_name<'a>(command: Command<'a>) -> Option<&'a str>
             outbsdl,
             library: Some(library),
         } => taken_beside_library(netlist, plan, library, outnet, outbsdl),
+        Command::Strip {
+            netlist,
+            bsdl,
+            outnet,
+            outplan,
+            library: None,
+        } => taken_of_two(netlist, bsdl, outnet, outplan),
+        Command::Strip {
+            netlist,
+            bsdl,
+            outnet,
+            outplan,
+            library: Some(library),
+        } => taken_beside_library(netlist, bsdl, library, outnet, outplan),
         Command::Vectors { bsdl, output } => taken(output, bsdl),
         Command::Check { .. } => None,
         Command::Demo {

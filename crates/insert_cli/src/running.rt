@@ -6,6 +6,7 @@ ghost use Rattle.command_edges.specs.Names.{IsOneOf, StandOnce};
 ghost use Rattle.check_command.specs.Tasks.{check_task};
 ghost use Rattle.demo_command.specs.InsertTasks.{insert_task};
 ghost use Rattle.flatten_command.specs.Tasks.{flatten_task};
+ghost use Rattle.strip_command.specs.Tasks.{strip_task};
 ghost use Rattle.command_edges.specs.Seen.{shelf_seen, sink_seen};
 ghost use Rattle.command_edges.specs.Tasks.{Completes, Finishes, Keeps, Stands};
 ghost use Rattle.insert_cli.specs.Names.{AreApart, inputs, outputs};
@@ -23,6 +24,7 @@ use edge_io::sink::Sink;
 use flatten_command::Flatten;
 use sim_command::simulate;
 use std::alloc::Global;
+use strip_command::Strip;
 use vectors_command::Vectors;
 
 // Makes modules flat, with a library if there is one.
@@ -110,6 +112,51 @@ fn run_insert<'a, S: Shelf, O: Sink>(
             &[insert.netlist, insert.plan],
             &outputs,
             true,
+        ),
+    }
+}
+
+// Strips, with a library if there is one.
+fn run_strip<'a, S: Shelf, O: Sink>(
+    alloc: Global,
+    shelf: &mut S,
+    out: &mut O,
+    strip: Strip<'a>,
+) -> Result<Status, Fault<'a>>
+    requires { StandOnce (strip.outnet.now ∷ strip.outplan.now ∷ []) }
+    ensures done { IfOk result (Finishes (strip_task strip.entry.netlist.now strip.entry.bsdl.now strip.entry.outnet.now strip.entry.outplan.now (name_of strip.entry.library))
+        (shelf_seen S.tells S.held S.written S.faults shelf.old shelf.new)
+        (sink_seen O.given O.faults out.old out.new)) }
+    ensures ended { IfOk result IsEnd }
+    ensures fault { IfErr result (λ fault. Stands (strip_task strip.entry.netlist.now strip.entry.bsdl.now strip.entry.outnet.now strip.entry.outplan.now (name_of strip.entry.library))
+        (shelf_seen S.tells S.held S.written S.faults shelf.old shelf.new)
+        (sink_seen O.given O.faults out.old out.new) fault (O.given out.new)) }
+    ensures complete { IfErr result (λ fault. Completes (strip_task strip.entry.netlist.now strip.entry.bsdl.now strip.entry.outnet.now strip.entry.outplan.now (name_of strip.entry.library))
+        (shelf_seen S.tells S.held S.written S.faults shelf.old shelf.new)
+        (sink_seen O.given O.faults out.old out.new) (status_of fault)) }
+    ensures keeps { Keeps (λ name. IsOneOf name (strip_task strip.entry.netlist.now strip.entry.bsdl.now strip.entry.outnet.now strip.entry.outplan.now (name_of strip.entry.library)).writes)
+        (shelf_seen S.tells S.held S.written S.faults shelf.old shelf.new)
+        (sink_seen O.given O.faults out.old out.new) }
+{
+    let outputs = [strip.outnet, strip.outplan];
+    match strip.library {
+        Some(library) => run_task(
+            alloc,
+            shelf,
+            out,
+            strip,
+            &[strip.netlist, strip.bsdl, library],
+            &outputs,
+            false,
+        ),
+        None => run_task(
+            alloc,
+            shelf,
+            out,
+            strip,
+            &[strip.netlist, strip.bsdl],
+            &outputs,
+            false,
         ),
     }
 }
@@ -227,6 +274,22 @@ pub fn run_command<'a, S: Shelf, O: Sink>(
                 library,
             };
             run_insert(alloc, shelf, out, insert)
+        }
+        Command::Strip {
+            netlist,
+            bsdl,
+            outnet,
+            outplan,
+            library,
+        } => {
+            let strip = Strip {
+                netlist,
+                bsdl,
+                outnet,
+                outplan,
+                library,
+            };
+            run_strip(alloc, shelf, out, strip)
         }
         Command::Vectors { bsdl, output } => {
             let vectors = Vectors { bsdl, output };

@@ -1,5 +1,5 @@
 -- What is written of a netlist with its test logic is what inserting comes to.
-use Rattle.std.proofs.Common.{◌≡◌, ℕ, ◌+◌, List, [], ◌∷◌, ◌++◌, length, Result, Ok, Err, IfOk, refl, sym, ap, subst, ◌∙◌}
+use Rattle.std.proofs.Common.{◌≡◌, ℕ, ◌+◌, List, [], ◌∷◌, ◌++◌, length, None, Result, Ok, Err, IfOk, refl, sym, ap, subst, ◌∙◌}
 use Rattle.std.proofs.lemmas.List.Sums.{sum_by-append}
 use Rattle.verilog_tree.specs.declared.tree.Module.{Module}
 use Rattle.verilog_tree.specs.Texts.{SpellsText}
@@ -14,6 +14,7 @@ use Rattle.cell_library.specs.Sound.{IsLibrary}
 use Rattle.netlist_model.specs.Lists.{PortView, cell_count}
 use Rattle.netlist_model.specs.Formed.{IsLaidOut}
 use Rattle.netlist_arena.specs.Arena.{bit_count}
+use Rattle.netlist_arena.specs.Room.{too_many}
 use Rattle.netlist_link.specs.Linked.{LinkedView}
 use Rattle.netlist_link.specs.Links.{IsLinkOf}
 use Rattle.netlist_unlink.specs.Prefixes.{IsFreePrefix}
@@ -32,13 +33,14 @@ use Rattle.insertion_inputs.specs.declared.fault.InsertFault.TheVariants as faul
 use Rattle.insertion_inputs.specs.Inputs.{IsNetlistOf, IsLinkedTree, IsFittingAs}
 use Rattle.insertion_inputs.specs.Faults.{StandsInNetlist, StandsInPlan, StandsInTexts}
 use Rattle.written_runs.specs.plan_devices.Laws.{FittedIsFitting}
-use Rattle.written_runs.specs.stitch_names.Prepared.{prepared, with_tap_names, AreTapNames}
+use Rattle.written_runs.specs.stitch_names.Prepared.{room_of, ports_of, prepared, with_tap_names, AreTapNames}
 use Rattle.insertion_inputs.specs.Stitch.{CanStitch, IsStitched}
 use Rattle.written_runs.specs.Written.{IsStitchedOf, WritesStitched}
 use Rattle.written_runs.specs.TextLaws.{IsStitching, StitchedCanBeWritten, StitchedIsWritten}
 use Rattle.written_runs.specs.Laws.{WrittenRealises, WrittenIsAlone, WrittenHasControls, WrittenFindsHome, WrittenIsAloneFromHome}
 use Rattle.insertions.specs.declared.written_texts.Inserted.{Inserted}
-use Rattle.insertions.specs.Insertions.{IsNetlistText, IsDeviceText, IsInsertion, IsInsertionText, with_test_logic}
+use Rattle.insertions.specs.Insertions.{IsNetlistText, IsDeviceText, IsInsertion, IsInsertionText}
+use Rattle.inserted_netlists.specs.Inserted.{with_test_logic}
 use Rattle.insertions.proofs.Trees.{tree_is}
 
 -- Faults.
@@ -184,6 +186,7 @@ pub insertion_made : SpelledOnce → StitchedIsWritten → WrittenRealises → W
 unfolding insertion_does
 insertion_made once law realise single steer find stay library net text verilog bsdl report before after p f d is s title laid_after spelled device_is out device told = record {
   is = insertion_does once law realise single steer find stay library net text verilog bsdl report before after p f d is s laid_after spelled device_is out device told;
+  room = subst (λ (g : Fitted). too_many before.arena.lists (room_of g) (room_of g) (ports_of g) ≡ None) s.fits.is s.room;
   names = s.is.names;
   names_are = subst (λ (g : Fitted). AreTapNames (with_tap_names g before.names) g s.is.names) s.fits.is s.is.are;
   written_is = written_tree is.tree before after p f s title out.tree out.tree_is;

@@ -12,7 +12,7 @@ use Rattle.written_runs.specs.stitch_model.declared.TapNames.{TapNames}
 use Rattle.written_runs.specs.stitch_model.Stitched.{stitched}
 use Rattle.written_runs.specs.stitch_names.Prepared.{with_tap_names}
 use Rattle.written_runs.specs.stitch_names.Same.{IsSameNetlist}
-use Rattle.insertions.specs.Insertions.{with_test_logic}
+use Rattle.inserted_netlists.specs.Inserted.{with_test_logic}
 
 same_cell : (a b : CellView) → Some a ≡ Some b → a ≡ b
 same_cell a b e = cc

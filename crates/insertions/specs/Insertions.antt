@@ -1,6 +1,6 @@
 -- What inserting makes of the bytes of a netlist and of a plan.
 -- IEEE Std 1149.1-2001: test logic architecture, the annex on BSDL; IEEE Std 1364-2001 for the netlists; plans and reports are own.
-use Rattle.std.specs.Prelude.{◌≡◌, ℕ, List}
+use Rattle.std.specs.Prelude.{◌≡◌, ℕ, List, None}
 use Rattle.verilog_tree.specs.declared.tree.Module.{Module}
 use Rattle.verilog_tree.specs.Texts.{SpellsText}
 use Rattle.verilog_tree.specs.IsTree.{IsTree}
@@ -13,6 +13,7 @@ use Rattle.bsdl_device.specs.Canonical.{canonical_device}
 use Rattle.netlist_model.specs.Lists.{cell_count}
 use Rattle.netlist_model.specs.Formed.{IsLaidOut}
 use Rattle.netlist_arena.specs.Arena.{bit_count}
+use Rattle.netlist_arena.specs.Room.{too_many}
 use Rattle.netlist_link.specs.Linked.{LinkedView}
 use Rattle.netlist_link.specs.Links.{IsLinkOf}
 use Rattle.netlist_link.specs.ViewLaws.{IsSameView}
@@ -29,8 +30,8 @@ use Rattle.wrapped_chip.specs.Home.{FindsHome, AloneFromHome}
 use Rattle.insertion_report.specs.Reports.{report_of}
 use Rattle.insertion_inputs.specs.Inputs.{IsNetlistOf, IsFittingAs}
 use Rattle.written_runs.specs.stitch_model.declared.TapNames.{TapNames}
-use Rattle.written_runs.specs.stitch_model.Stitched.{stitched}
-use Rattle.written_runs.specs.stitch_names.Prepared.{with_tap_names, AreTapNames}
+use Rattle.written_runs.specs.stitch_names.Prepared.{room_of, ports_of, with_tap_names, AreTapNames}
+use Rattle.inserted_netlists.specs.Inserted.{with_test_logic}
 use Rattle.written_runs.specs.Written.{spelt, tap_of}
 
 -- Texts that are written.
@@ -100,14 +101,12 @@ pub record IsInsertion (library : List ListedCell) (net plan verilog bsdl report
 abbrev pub fitted_in : {library : List ListedCell} {net plan verilog bsdl report : List ℕ} → IsInsertion library net plan verilog bsdl report → Fitted
 fitted_in i = fitted_of i.linked i.wanted i.fits.seen
 
--- own: a linked netlist with the test logic of what was fitted built in, by these names of the test access port; the module's name stays
-abbrev pub with_test_logic : LinkedView → TapNames → Fitted → LinkedView
-with_test_logic L names f = record L { arena = record L.arena { lists = stitched L.arena.lists names f }; names = with_tap_names f L.names }
-
 -- The insertion, of which the written text tells the gates of the test logic one by one: it is the canonical text of the tree of the
--- netlist with the test logic built in, under the module's own name, where added nets and cells have the plan's prefix.
+-- netlist with the test logic built in, under the module's own name, where added nets and cells have the plan's prefix. There was room for
+-- the test logic.
 pub record IsInsertionText (library : List ListedCell) (net plan verilog bsdl report : List ℕ) : Type 0 where
   pub is : IsInsertion library net plan verilog bsdl report
+  pub room : too_many is.linked.arena.lists (room_of (fitted_in is)) (room_of (fitted_in is)) (ports_of (fitted_in is)) ≡ None
   pub names : TapNames
   pub names_are : AreTapNames (with_tap_names (fitted_in is) is.linked.names) (fitted_in is) names
   pub written_is : is.written_tree ≡ tree_of (with_test_logic is.linked names (fitted_in is)) is.wanted.prefix

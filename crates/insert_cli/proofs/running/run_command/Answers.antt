@@ -79,6 +79,24 @@ returns-in-Insert-clause-complete g c =
     let sink : SinkSeen = sink_seen g.O.Sink.given g.O.Sink.faults c.args.out.now c.run_insert.new.out in
     subst (λ command. IfErr c.run_insert.result (λ fault. Completes (task_of (form_of command)) shelf sink (status_of fault))) (sym c.in-Insert.is) c.run_insert.ensures.complete
 
+pub returns-in-Strip-clause-done : goal.returns-in-Strip-clause-done
+returns-in-Strip-clause-done g c =
+    let shelf : ShelfSeen = shelf_seen g.S.Shelf.tells g.S.Shelf.held g.S.Shelf.written g.S.Shelf.faults c.args.shelf.now c.run_strip.new.shelf in
+    let sink : SinkSeen = sink_seen g.O.Sink.given g.O.Sink.faults c.args.out.now c.run_strip.new.out in
+    subst (λ command. IfOk c.run_strip.result (Finishes (task_of (form_of command)) shelf sink)) (sym c.in-Strip.is) c.run_strip.ensures.done
+
+pub returns-in-Strip-clause-fault : goal.returns-in-Strip-clause-fault
+returns-in-Strip-clause-fault g c =
+    let shelf : ShelfSeen = shelf_seen g.S.Shelf.tells g.S.Shelf.held g.S.Shelf.written g.S.Shelf.faults c.args.shelf.now c.run_strip.new.shelf in
+    let sink : SinkSeen = sink_seen g.O.Sink.given g.O.Sink.faults c.args.out.now c.run_strip.new.out in
+    subst (λ command. IfErr c.run_strip.result (λ fault. Stands (task_of (form_of command)) shelf sink fault sink.given_after)) (sym c.in-Strip.is) c.run_strip.ensures.fault
+
+pub returns-in-Strip-clause-complete : goal.returns-in-Strip-clause-complete
+returns-in-Strip-clause-complete g c =
+    let shelf : ShelfSeen = shelf_seen g.S.Shelf.tells g.S.Shelf.held g.S.Shelf.written g.S.Shelf.faults c.args.shelf.now c.run_strip.new.shelf in
+    let sink : SinkSeen = sink_seen g.O.Sink.given g.O.Sink.faults c.args.out.now c.run_strip.new.out in
+    subst (λ command. IfErr c.run_strip.result (λ fault. Completes (task_of (form_of command)) shelf sink (status_of fault))) (sym c.in-Strip.is) c.run_strip.ensures.complete
+
 pub returns-in-Vectors-clause-done : goal.returns-in-Vectors-clause-done
 returns-in-Vectors-clause-done g c =
     let shelf : ShelfSeen = shelf_seen g.S.Shelf.tells g.S.Shelf.held g.S.Shelf.written g.S.Shelf.faults c.args.shelf.now c.run_task-in-Vectors.new.shelf in

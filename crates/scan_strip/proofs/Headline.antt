@@ -1,0 +1,26 @@
+-- What an insertion wrote is stripped.
+use Rattle.std.proofs.Common.{refl, sym, subst}
+use Rattle.cell_library.specs.Sound.{IsLibrary}
+use Rattle.plan_fitting.specs.Devices.{device_of}
+use Rattle.strip_law.specs.Answer.{RecoveredGives}
+use Rattle.scan_strip.specs.Headline.{InsertionGives, InsertionIsStripped}
+
+insertion : InsertionGives
+insertion library net plan verilog bsdl report i = record {
+  is = i.is.is;
+  listed = subst IsLibrary (sym i.is.library_is) i.is.listed;
+  links = i.is.links;
+  plan = (plan, i.is.spells_plan);
+  at = record {
+    fits = i.is.fits;
+    room = i.room;
+    names = i.names;
+    names_are = i.names_are;
+    inserted_is = i.written_is;
+    device_is = refl;
+  };
+}
+
+pub stripped : RecoveredGives → InsertionIsStripped
+stripped answers library net plan verilog bsdl report i tree =
+    answers i.is.tree i.is.linked i.is.wanted i.is.written_tree (device_of i.is.linked i.is.wanted i.is.fits.seen) tree (insertion library net plan verilog bsdl report i)

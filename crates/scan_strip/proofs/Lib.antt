@@ -1,0 +1,5 @@
+mod Trees
+pub mod MadeAgain
+pub mod Refused
+pub mod Whole
+pub mod Headline

@@ -1,0 +1,123 @@
+-- What is answered, and what is refused.
+use Rattle.std.proofs.Common.{◌≡◌, List, sym, ◌∙◌, ap, subst, Option, Some, None, Result, Ok, Err, IfOk, IfErr, OnOk, option_map}
+use Rattle.cell_library.specs.declared.listed.ListedCell.{ListedCell}
+use Rattle.cell_library.specs.Sound.{IsLibrary}
+use Rattle.verilog_tree.specs.declared.tree.Module.{Module}
+use Rattle.verilog_tree.specs.IsTree.{IsTree}
+use Rattle.bsdl_device.specs.declared.values.Device.{Device}
+use Rattle.link_model.specs.Late.{IsLinkable}
+use Rattle.netlist_link.specs.Linked.{LinkedView}
+use Rattle.netlist_link.specs.Links.{IsLinkOf}
+use Rattle.netlist_link.specs.ViewLaws.{IsSameView, LinkViewsAgree}
+use Rattle.plan_texts.specs.declared.plan.Plan.{Plan}
+use Rattle.strip_model.specs.Recovered.{recovered}
+use Rattle.strip_gives.specs.Gives.{Gives, GivesByTheView}
+use Rattle.strip_law.specs.Answer.{IsNotInserted, RefusedByAll}
+use Rattle.netlist_recovery.specs.declared.recovery.Recovered.{Recovered}
+use Rattle.netlist_recovery.specs.Pairs.{pair_of}
+use Rattle.strip_law.specs.Tree.{CoreIsTree}
+use Rattle.scan_strip.specs.declared.fault.StripFault.{StripFault}
+use Rattle.scan_strip.specs.declared.fault.StripFault.TheVariants.{NotInserted}
+use Rattle.scan_strip.specs.Stripped.{GivesBy, IsFound, IsGivenBy, IsStripped}
+
+inside : (x y : Module × Plan) → ◌≡◌ {A = Option (Module × Plan)} (Some x) (Some y) → x ≡ y
+inside x y e = cc
+
+none_some : (x : Module × Plan) → None ≡ Some x → ⊥
+none_some x e = cc
+
+-- nothing is recovered
+pub not_found : RefusedByAll → (library : List ListedCell) (inserted : Module) (d : Device) → IsTree inserted → None ≡ recovered inserted d → IsNotInserted library inserted d
+not_found refused library inserted d is none = refused library inserted d is (λ found L same rec gives. none_some found (none ∙ rec))
+
+-- what is recovered is this alone
+recovered_gives : (core : Module) (q : Plan) (inserted : Module) (d : Device) → Some (core, q) ≡ recovered inserted d → (found : Module × Plan) (L : LinkedView) → recovered inserted d ≡ Some found
+    → Gives found.0 L found.1 inserted d → Gives core L q inserted d
+recovered_gives core q inserted d is found L rec gives =
+    subst (λ (pair : Module × Plan). Gives pair.0 L pair.1 inserted d) (inside found (core, q) (sym rec ∙ sym is)) gives
+
+-- it can't be linked
+pub not_linked : RefusedByAll → (library : List ListedCell) (core : Module) (q : Plan) (inserted : Module) (d : Device) → IsTree inserted → Some (core, q) ≡ recovered inserted d
+    → (IsLinkable library core → ⊥) → IsNotInserted library inserted d
+not_linked refused library core q inserted d is found cannot = refused library inserted d is (λ pair L same rec gives.
+    let g : Gives core L q inserted d = recovered_gives core q inserted d found pair L rec gives in
+    cannot (subst (λ (l : List ListedCell). IsLinkable l core) same g.links.linkable))
+
+-- it doesn't give the two
+pub not_given : RefusedByAll → LinkViewsAgree → GivesByTheView → (library : List ListedCell) (core : Module) (q : Plan) (linked : LinkedView) (inserted : Module) (d : Device) → IsTree inserted
+    → Some (core, q) ≡ recovered inserted d → IsLinkOf core linked → linked.arena.lists.library ≡ library → (GivesBy linked q inserted d → ⊥) → IsNotInserted library inserted d
+not_given refused agree view library core q linked inserted d is found links library_is cannot = refused library inserted d is (λ pair L same rec gives.
+    let g : Gives core L q inserted d = recovered_gives core q inserted d found pair L rec gives in
+    let one : IsSameView L linked = agree core L linked (same ∙ sym library_is) g.links links in
+    cannot (record { plan = g.plan; at = view L linked q inserted d one g.at }))
+
+-- it does
+pub given : LinkViewsAgree → GivesByTheView → (library : List ListedCell) (core : Module) (q : Plan) (linked answer : LinkedView) (inserted : Module) (d : Device) → IsTree core → IsLibrary library
+    → Some (core, q) ≡ recovered inserted d → IsLinkOf core linked → linked.arena.lists.library ≡ library → GivesBy linked q inserted d → IsLinkOf core answer → answer.arena.lists.library ≡ library
+    → IsStripped library inserted d answer q
+given agree view library core q linked answer inserted d is listed found links library_is by answers answer_is = record {
+  tree = core;
+  found = sym found;
+  library_is = answer_is;
+  gives = record {
+    is = is;
+    listed = subst IsLibrary (sym answer_is) listed;
+    links = answers;
+    plan = by.plan;
+    at = view linked answer q inserted d (agree core linked answer (library_is ∙ sym answer_is) links answers) by.at;
+  };
+}
+
+pub ok_with : {T E : Type 0} (r : Result T E) (P Q : T → Type 0) → ((x : T) → P x → Q x) → IfOk r P → IfOk r Q
+ok_with (Ok x) P Q law is = law x is
+ok_with (Err e) P Q law is = tt
+
+-- Of a module and a plan that were recovered.
+
+-- its netlist is one that a plan is to fit
+pub is_found : (library : List ListedCell) (core : Module) (q : Plan) (linked : LinkedView) (inserted : Module) (d : Device) → IsTree core → IsLibrary library → IsLinkOf core linked
+    → linked.arena.lists.library ≡ library → recovered inserted d ≡ Some (core, q) → IsFound linked q inserted d
+is_found library core q linked inserted d is listed links library_is found = record {
+  tree = record { tree = core; is = is; listed = subst IsLibrary (sym library_is) listed; links = links };
+  found = found;
+}
+
+-- what is told where it can't be linked
+pub link_told : RefusedByAll → (library : List ListedCell) (core : Module) (q : Plan) (inserted : Module) (d : Device) (f : StripFault) → IsTree inserted → recovered inserted d ≡ Some (core, q)
+    → (f ≡ NotInserted → IsLinkable library core → ⊥) → f ≡ NotInserted → IsNotInserted library inserted d
+link_told refused library core q inserted d f is found cannot told = not_linked refused library core q inserted d is (sym found) (cannot told)
+
+-- and where it gives another module, or another device
+pub give_told : RefusedByAll → LinkViewsAgree → GivesByTheView → (library : List ListedCell) (core : Module) (q : Plan) (linked : LinkedView) (inserted : Module) (d : Device) (f : StripFault) → IsTree inserted
+    → recovered inserted d ≡ Some (core, q) → IsLinkOf core linked → linked.arena.lists.library ≡ library → (f ≡ NotInserted → GivesBy linked q inserted d → ⊥) → f ≡ NotInserted
+    → IsNotInserted library inserted d
+give_told refused agree view library core q linked inserted d f is found links library_is cannot told =
+    not_given refused agree view library core q linked inserted d is (sym found) links library_is (cannot told)
+
+pub given_by : (r : Result (Unit {0}) StripFault) (library : List ListedCell) (core : Module) (q : Plan) (linked : LinkedView) (inserted : Module) (d : Device) → IsLinkOf core linked
+    → linked.arena.lists.library ≡ library → OnOk r (GivesBy linked q inserted d) → OnOk r (IsGivenBy library core q inserted d)
+given_by (Ok done) library core q linked inserted d links library_is by = record { linked = linked; links = links; library_is = library_is; by = by }
+given_by (Err f) library core q linked inserted d links library_is by = tt
+
+pub told_by : (r : Result (Unit {0}) StripFault) (P Q : StripFault → Type 0) → ((f : StripFault) → P f → Q f) → IfErr r P → IfErr r Q
+told_by (Ok done) P Q law is = tt
+told_by (Err f) P Q law is = law f is
+
+-- what is linked anew gives the two as well
+pub stripped : LinkViewsAgree → GivesByTheView → (library : List ListedCell) (core : Module) (q : Plan) (answer : LinkedView) (inserted : Module) (d : Device) → IsTree core → IsLibrary library
+    → recovered inserted d ≡ Some (core, q) → IsGivenBy library core q inserted d → IsLinkOf core answer → answer.arena.lists.library ≡ library → IsStripped library inserted d answer q
+stripped agree view library core q answer inserted d is listed found g answers answer_is =
+    given agree view library core q g.linked answer inserted d is listed (sym found) g.links g.library_is g.by answers answer_is
+
+-- What `recover` answers.
+
+pub pair_found : (o : Option Recovered) (found : Recovered) (inserted : Module) (d : Device) → option_map pair_of o ≡ recovered inserted d → o ≡ Some found
+    → recovered inserted d ≡ Some (found.module, found.plan)
+pair_found o found inserted d told is = sym told ∙ ap (option_map pair_of) is
+
+pub core_found : CoreIsTree → (o : Option Recovered) (found : Recovered) (inserted : Module) (d : Device) → IsTree inserted → option_map pair_of o ≡ recovered inserted d → o ≡ Some found → IsTree found.module
+core_found law o found inserted d is told same = law inserted found.module d found.plan is (pair_found o found inserted d told same)
+
+pub none_found : RefusedByAll → (o : Option Recovered) (library : List ListedCell) (inserted : Module) (d : Device) → IsTree inserted → option_map pair_of o ≡ recovered inserted d → o ≡ None
+    → IsNotInserted library inserted d
+none_found refused o library inserted d is told same = not_found refused library inserted d is (sym (ap (option_map pair_of) same) ∙ told)

@@ -1,0 +1,90 @@
+-- What is known of `strip` from its parts.
+use Rattle.std.proofs.Common.{◌≡◌, ℕ, List, [], ◌∷◌, refl, sym, subst}
+use Rattle.verilog_texts.specs.Reading.{IsReadAs}
+use Rattle.verilog_tree.specs.declared.tree.Module.{Module}
+use Rattle.verilog_tree.specs.Canonical.{canonical}
+use Rattle.cell_library.specs.declared.listed.ListedCell.{ListedCell}
+use Rattle.link_model.specs.Late.{IsLinkable}
+use Rattle.netlist_link.specs.Linked.{LinkedView}
+use Rattle.netlist_link.specs.Links.{IsLinkOf}
+use Rattle.netlist_unlink.specs.Prefixes.{IsFreePrefix}
+use Rattle.netlist_unlink.specs.Trees.{tree_of}
+use Rattle.bsdl_device.specs.declared.fault.DeviceTextFault.{DeviceTextFault}
+use Rattle.bsdl_device.specs.declared.values.Device.{Device}
+use Rattle.bsdl_values.specs.Reading.{IsDeviceReadAs}
+use Rattle.bsdl_values.specs.TextFaults.{IsDeviceTextFault}
+use Rattle.plan_texts.specs.declared.plan.Plan.{Plan}
+use Rattle.plan_texts.specs.Canonical.{canonical_plan}
+use Rattle.plan_devices.specs.plan_fitting.Devices.{IsFitted, fitted_of}
+use Rattle.plan_devices.specs.plan_fitting.Fits.{Fits}
+use Rattle.plan_devices.specs.Laws.{FittedIsFitting, PrefixesAreFree}
+use Rattle.strip_gives.specs.Gives.{IsGiven}
+use Rattle.strip_law.specs.Answer.{IsNotInserted}
+use Rattle.scan_strip.specs.Stripped.{IsStripped}
+use Rattle.command_faults.specs.declared.fault.Fault.{Fault}
+use Rattle.command_faults.specs.declared.fault.Fault.TheVariants as fault
+use Rattle.command_faults.specs.declared.status.Status.{Status}
+use Rattle.command_faults.specs.declared.status.Status.TheVariants.{Done}
+use Rattle.strip_command.specs.Strippings.{Tells, IsStripping}
+use Rattle.strip_command.specs.Faults.{HasDeviceFault, StandsInBoth, StandsInTree, StandsInInputs}
+use Rattle.strip_command.specs.Tasks.{IsStrippedTexts}
+
+pub told : (library : List ListedCell) (net text : List ℕ) (tree : Module) (d : Device) → IsReadAs net tree → IsLinkable library tree → IsDeviceReadAs text d → Tells library net text
+told library net text tree d read can device = record {
+  tree = tree;
+  spells = read.spells;
+  only = read.only;
+  linkable = can;
+  device = d;
+  spells_device = device.spells;
+  only_device = device.only;
+}
+
+-- a fault of linking is one of the bytes
+pub tree_stands : (library : List ListedCell) (net text : List ℕ) (tree : Module) (f : Fault) → IsReadAs net tree → StandsInTree library tree f → StandsInInputs library net text f
+tree_stands library net text tree (fault.Link f) read bad = record { tree = tree; spells = read.spells; only = read.only; fault = bad }
+tree_stands library net text tree fault.OutOfMemory read bad = tt
+tree_stands library net text tree f read bad = absurd bad
+
+-- a fault of the device stands behind a netlist that can be linked
+pub device_stands : (library : List ListedCell) (net text : List ℕ) (tree : Module) (f : DeviceTextFault) → IsReadAs net tree → IsLinkable library tree → IsDeviceTextFault text f → HasDeviceFault library net text f
+device_stands library net text tree f read can bad = record { tree = tree; spells = read.spells; linkable = can; fault = bad }
+
+-- what can be linked
+pub can_link : (library : List ListedCell) (tree : Module) (linked : LinkedView) → IsLinkOf tree linked → linked.arena.lists.library ≡ library → IsLinkable library tree
+can_link library tree linked links same = subst (λ (l : List ListedCell). IsLinkable l tree) same links.linkable
+
+-- a fault of stripping
+pub both_stands : (other library : List ListedCell) (net text : List ℕ) (tree : Module) (d : Device) (f : Fault) → other ≡ library → IsReadAs net tree → IsLinkable library tree → IsDeviceReadAs text d
+    → StandsInBoth other tree d f → StandsInInputs library net text f
+unfolding told
+both_stands other library net text tree d fault.NotInserted same read can device none =
+    record { tells = told library net text tree d read can device; none = subst (λ (l : List ListedCell). IsNotInserted l tree d) same none }
+both_stands other library net text tree d fault.OutOfMemory same read can device none = tt
+both_stands other library net text tree d f same read can device none = absurd none
+
+-- The texts of an answer.
+
+pub is_given : (library : List ListedCell) (tree : Module) (d : Device) (linked : LinkedView) (p : Plan) → IsStripped library tree d linked p → IsGiven linked p
+is_given library tree d linked p s = record { tree = s.tree; inserted = tree; device = d; gives = s.gives }
+
+pub prefix_is_free : FittedIsFitting → PrefixesAreFree → (linked : LinkedView) (p : Plan) → IsGiven linked p → IsFreePrefix linked p.prefix
+prefix_is_free fitting free linked p g =
+    let fits : Fits linked p = g.gives.at.fits in
+    let is : IsFitted linked p (fitted_of linked p fits.seen) = record { seen = fits.seen; are_seen = fits.are_seen; faultless = fits.faultless; is = refl } in
+    (free linked p fits.seen (fitting g.tree linked p (fitted_of linked p fits.seen) g.gives.is g.gives.listed g.gives.links g.gives.plan is)).netlist
+
+pub texts_made : (other library : List ListedCell) (net text : List ℕ) (tree : Module) (d : Device) (linked : LinkedView) (p : Plan) (outputs : List (List ℕ)) (put : List ℕ) (end : Status) → other ≡ library
+    → IsReadAs net tree → IsLinkable library tree → IsDeviceReadAs text d → IsStripped other tree d linked p → outputs ≡ canonical (tree_of linked p.prefix) ∷ canonical_plan p ∷ [] → end ≡ Done
+    → IsStrippedTexts library net text outputs put end
+unfolding told
+texts_made other library net text tree d linked p outputs put end same read can device s are done =
+    let is : IsStripping library net text (canonical (tree_of linked p.prefix)) (canonical_plan p) = record {
+      tells = told library net text tree d read can device;
+      linked = linked;
+      plan = p;
+      stripped = subst (λ (l : List ListedCell). IsStripped l tree d linked p) same s;
+      net_is = refl;
+      plan_is = refl;
+    } in
+    subst (λ (texts : List (List ℕ)). IsStrippedTexts library net text texts put end) (sym are) (is, done)

@@ -1,0 +1,3 @@
+pub mod Strippings
+pub mod Faults
+pub mod Tasks
