@@ -1,8 +1,7 @@
 -- A fault that stands where both texts are free of faults, and some netlist and plan give them, is want of memory.
-use Rattle.std.proofs.Common.{◌≡◌, ℕ, List, [], ◌∷◌, Result, Ok, Err, IfOk, inl, inr, sym, subst, ap, ◌∙◌, refl}
+use Rattle.std.proofs.Common.{◌≡◌, ℕ, List, [], ◌∷◌, Result, Ok, Err, IfOk, inl, inr, subst, refl}
 use Rattle.command_edges.proofs.Memory.{text_memory, has_link_memory, library_memory, one_library}
 use Rattle.cell_text.specs.Laws as libraries
-use Rattle.command_edges.specs.Libraries.{IsLibraryOf, StandsInLibrary}
 use Rattle.cell_library.specs.declared.listed.ListedCell.{ListedCell}
 use Rattle.netlist_link.specs.Laws.{FaultsForbidLinks}
 use Rattle.bsdl_lexicon.specs.declared.token.BsdlSpanned.{BsdlSpanned}
@@ -17,7 +16,7 @@ use Rattle.command_faults.specs.declared.fault.Fault.TheVariants as fault
 use Rattle.command_faults.specs.declared.status.Status.TheVariants as status
 use Rattle.command_faults.specs.Statuses.{status_of, device_status}
 use Rattle.strip_law.specs.Answer.{IsNotInserted}
-use Rattle.strip_command.specs.Strippings.{Tells, IsOther, IsStrippable}
+use Rattle.strip_command.specs.Strippings.{IsOther, IsStrippable}
 use Rattle.strip_command.specs.Faults.{StandsInInputs}
 use Rattle.strip_command.specs.Tasks.{HaveFault, AreStrippable}
 

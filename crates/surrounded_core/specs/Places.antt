@@ -84,7 +84,3 @@ pub record HasRegistersBy (M : NetlistView) (S : Places) (shown : NetId) : Type 
   pub bypass : HasCells M (bypass_cells S.bypass S.bypass_number (controller_nets S) (selection_nets S).bypass_on S.tdi)
   pub ident : HasCells M (option_map_or (code_cells S) S.code [])
   pub tdo : HasCells M (tdo_cells S.driver S.driver_number (controller_nets S) (selection_nets S) shown (ident_bit S) S.nearest S.tdo)
-
--- own: they take that bit itself
-abbrev pub HasRegisters : NetlistView → Places → Type 0
-HasRegisters M S = HasRegistersBy M S (bypass_bit S)
