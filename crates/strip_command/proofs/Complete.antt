@@ -51,10 +51,10 @@ inputs_memory laws library net text f ok bad = absurd bad
 
 -- with the library behind both
 pub all_memory : Laws → (f : Fault) (texts : List (List ℕ)) → AreStrippable texts → HaveFault texts f → status_of f ≡ status.Memory
-all_memory laws f (net ∷ text ∷ more) ok (inl bad) = library_memory laws.no_library_fault more ok.0 f ok.1 bad
+all_memory laws f (net ∷ text ∷ more) ok (inl bad) = library_memory laws.no_library_fault more ok.0 f ok.1.0 bad
 all_memory laws f (net ∷ text ∷ more) ok (inr (library, (is, stands))) =
-    let same : library ≡ ok.0 = one_library laws.one_library more library ok.0 is ok.1 in
-    inputs_memory laws ok.0 net text f ok.2 (subst (λ (l : List ListedCell). StandsInInputs l net text f) same stands)
+    let same : library ≡ ok.0 = one_library laws.one_library more library ok.0 is ok.1.0 in
+    inputs_memory laws ok.0 net text f ok.1.1 (subst (λ (l : List ListedCell). StandsInInputs l net text f) same stands)
 all_memory laws f [] ok stands = absurd stands
 all_memory laws f (net ∷ []) ok stands = absurd stands
 
