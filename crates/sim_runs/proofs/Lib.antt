@@ -6,3 +6,4 @@ pub mod Starts
 pub mod Labels
 pub mod Adds
 pub mod Changes
+pub mod Gathers

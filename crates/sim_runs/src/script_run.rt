@@ -1,6 +1,6 @@
 // Plays a script, line after line.
 
-ghost use Rattle.std.specs.Prelude.{◌≡◌, ◌≤◌, ◌+◌, ◌<◌, ◌^◌, ℕ, List, true, length, take, IfOk, IsErrOf, IsSome, OnErr, OnOk};
+ghost use Rattle.std.specs.Prelude.{◌≡◌, ◌≤◌, ◌+◌, ◌<◌, ◌^◌, ℕ, List, [], true, length, take, IfOk, IsErrOf, IsSome, OnErr, OnOk};
 ghost use Rattle.edge_io.specs.Shelf.{Rose, appended};
 ghost use Rattle.output_lines.specs.Puts.{Puts};
 ghost use Rattle.netlist_model.specs.Formed.{IsWellFormed};
@@ -24,6 +24,7 @@ use edge_io::sink::Sink;
 use edge_io::whole::WriteFault;
 use event_scripts::{Script, ScriptLine, parts_of};
 use event_sim::{EventSim, Steps};
+use gathered_puts::{Gathered, Lent, Named, Origin, Page};
 use itoa::Buffer;
 use netlist_meaning::Event;
 use netlist_meaning::lower_netlist_link::Linked;
@@ -31,7 +32,7 @@ use output_lines::{Field, put_line, put_pieces};
 use scan_vectors::{Act, Line, Lines};
 use signal_values::{PinSig, show};
 use std::alloc::Global;
-use std::marker::Brand;
+use std::marker::{Brand, PhantomData};
 use std::sync::ledger::{Blank, Ledger};
 
 /// Plays the script of event lines on a linked netlist, in which every flip-flop begins unknown, and puts the text of
@@ -64,8 +65,10 @@ pub fn play<O: Sink>(
     let Ok(mut told) = untold_bits(alloc, bits.as_slice()) else {
         return Err(PlayFault::OutOfMemory);
     };
-    // (the count of evaluations, which takes no bytes, begins here)
-    let played = put_run::<O, Brand>(
+    let Ok(page) = Page::new(alloc) else {
+        return Err(PlayFault::OutOfMemory);
+    };
+    let played = put_gathered(
         linked,
         lines.list.as_slice(),
         script.list.as_slice(),
@@ -73,12 +76,120 @@ pub fn play<O: Sink>(
         bits.as_slice(),
         told.as_mut_slice(),
         out,
-        Blank::new(1),
+        page,
     );
     match played {
         Ok(missed) => Ok(missed),
         Err(WriteFault) => Err(PlayFault::WriteFault),
     }
+}
+
+// Puts the text of the run from its first moment on, in large pieces.
+fn put_gathered<O: Sink>(
+    linked: &Linked,
+    lines: &[Line],
+    script: &[ScriptLine],
+    sim: &mut EventSim,
+    bits: &[Shown],
+    told: &mut [Option<PinSig>],
+    out: &mut O,
+    page: Page,
+) -> Result<u64, WriteFault>
+    requires page { page ≡ [] }
+    requires linked { sim.old.linked ≡ linked.now }
+    requires started { sim.old.started ≡ true }
+    requires formed { IsWellFormed linked.now.arena.lists }
+    requires playable { IsPlayable linked.now.arena.lists script.now }
+    requires count { length script.now ≡ length lines.now }
+    requires bits { AreBits linked.now.arena.lists bits.now }
+    requires untold { told.old ≡ told_of untold bits.now }
+    ensures ok { (moment : ℕ → Moment) → IsRunOf linked.now.arena.lists script.now moment
+        → SameMoment linked.now.arena.lists (moment_of sim.old.moment) (moment 0)
+        → IfOk result (λ missed. (missed ≡ misses linked.now moment 0 script.now)
+        × (O.given out.new ≡ appended (run_text linked.now lines.now script.now moment)
+        (O.given out.old))) }
+    ensures fault { (moment : ℕ → Moment) → IsRunOf linked.now.arena.lists script.now moment
+        → SameMoment linked.now.arena.lists (moment_of sim.old.moment) (moment 0)
+        → OnErr result ((k : ℕ) × (O.given out.new
+        ≡ appended (take k (run_text linked.now lines.now script.now moment)) (O.given out.old))) }
+    ensures cause { OnErr result (Rose (O.faults out.old) (O.faults out.new)) }
+    ensures later { O.faults out.old ≤ O.faults out.new }
+{
+    // (what the sink was given before, which takes no bytes, is noted here)
+    let (lent, played) = put_lent::<Lent<O>, Brand>(
+        linked,
+        lines,
+        script,
+        sim,
+        bits,
+        told,
+        Lent { out },
+        page,
+    );
+    let Lent { out: given } = lent;
+    // (this does nothing; the proof reads from it what the sink was given)
+    let _ = &*given;
+    played
+}
+
+// Puts it on a sink that is lent, and gives that back.
+fn put_lent<S: Named, F: Origin>(
+    linked: &Linked,
+    lines: &[Line],
+    script: &[ScriptLine],
+    sim: &mut EventSim,
+    bits: &[Shown],
+    told: &mut [Option<PinSig>],
+    lent: S,
+    page: Page,
+) -> (S, Result<u64, WriteFault>)
+    requires name { S.name lent ≡ F.name }
+    requires first { S.given lent ≡ F.first }
+    requires page { page ≡ [] }
+    requires linked { sim.old.linked ≡ linked.now }
+    requires started { sim.old.started ≡ true }
+    requires formed { IsWellFormed linked.now.arena.lists }
+    requires playable { IsPlayable linked.now.arena.lists script.now }
+    requires count { length script.now ≡ length lines.now }
+    requires bits { AreBits linked.now.arena.lists bits.now }
+    requires untold { told.old ≡ told_of untold bits.now }
+    ensures same { S.name result.0 ≡ S.name lent }
+    ensures ok { (moment : ℕ → Moment) → IsRunOf linked.now.arena.lists script.now moment
+        → SameMoment linked.now.arena.lists (moment_of sim.old.moment) (moment 0)
+        → IfOk result.1 (λ missed. (missed ≡ misses linked.now moment 0 script.now)
+        × (S.given result.0 ≡ appended (run_text linked.now lines.now script.now moment)
+        (S.given lent))) }
+    ensures fault { (moment : ℕ → Moment) → IsRunOf linked.now.arena.lists script.now moment
+        → SameMoment linked.now.arena.lists (moment_of sim.old.moment) (moment 0)
+        → OnErr result.1 ((k : ℕ) × (S.given result.0
+        ≡ appended (take k (run_text linked.now lines.now script.now moment))
+        (S.given lent))) }
+    ensures cause { OnErr result.1 (Rose (S.faults lent) (S.faults result.0)) }
+    ensures later { S.faults lent ≤ S.faults result.0 }
+{
+    let mut gathered: Gathered<S, F> = Gathered {
+        lent,
+        page,
+        of: PhantomData,
+    };
+    // (the count of evaluations, which takes no bytes, begins here)
+    let played = put_run::<Gathered<S, F>, Brand>(
+        linked,
+        lines,
+        script,
+        sim,
+        bits,
+        told,
+        &mut gathered,
+        Blank::new(1),
+    );
+    let Ok(missed) = played else {
+        return (gathered.lent, Err(WriteFault));
+    };
+    let Ok(()) = gathered.hand_on() else {
+        return (gathered.lent, Err(WriteFault));
+    };
+    (gathered.lent, Ok(missed))
 }
 
 // Puts the text of the run from its first moment on.
