@@ -79,7 +79,7 @@ status_sound (row ∷ rows) plan left e = by (is_first row.1) refl e
 
 -- Where reading stops.
 
-example : RegisterWords
+abbrev example : RegisterWords
 example = record { name = codes "a"; instr = codes "a"; bits = codes "1"; words = codes "a" ∷ [] }
 
 one_register : AreRegisters (example ∷ [])

@@ -1,11 +1,12 @@
 -- Registers one behind the other, of which so many are read at most.
-use Rattle.std.proofs.Common.{◌≡◌, ℕ, zero, suc, ◌-◌, ◌≤◌, ◌<◌, List, [], ◌∷◌, ◌++◌, length, map, drop, Option, Some, None, refl, sym, ap, ◌∙◌, arith, append_assoc, append-nil, length-append}
-use Rattle.std.specs.Prelude.{All}
+use Rattle.std.proofs.Common.{◌≡◌, ℕ, zero, suc, ◌-◌, ◌≤◌, ◌<◌, Bool, true, false, cond, List, [], ◌∷◌, ◌++◌, length, map, drop, Option, Some, None, refl, sym, ap, ◌∙◌, arith, append_assoc, append-nil, length-append}
+use Rattle.std.specs.Prelude.{All, IsTrue, ◌↔◌}
 use Rattle.std.proofs.lemmas.List.Elements.{All-nil, All-cons, All-head, All-tail}
+use Rattle.status_texts.specs.declared.plan.StatusPlan.{StatusPlan}
 use Rattle.status_texts.specs.declared.plan.StatusRow.{StatusRow}
 use Rattle.status_texts.specs.Grammar.{RegisterWords, register_words, IsRegister, register_of}
-use Rattle.status_texts.specs.Lines.{register_line}
-use Rattle.status_texts.specs.Reading.{Rows, front, rest_if, put_first, few_at, put_before}
+use Rattle.status_texts.specs.Lines.{is_first, register_line}
+use Rattle.status_texts.specs.Reading.{Rows, front, rest_if, put_first, few_at, put_before, plan_at, status_at}
 use Rattle.status_texts.proofs.Words.{Words, register_seen, register_sees}
 
 -- lines by their words
@@ -34,6 +35,9 @@ no_more room (row ∷ rows) xs e =
 abbrev pub Left : List StatusRow → Rows → Rows → Type 0
 Left list rows all = put_before list (few_at (16 - length list) rows) ≡ few_at 16 all
 
+pub few_begins : (list : List StatusRow) (rows : Rows) → list ≡ [] → Left list rows rows
+few_begins list rows none = ap (λ (l : List StatusRow). put_before l (few_at (16 - length l) rows)) none
+
 pub few_goes_on : (list new : List StatusRow) (x : StatusRow) (rows left all : Rows) → length list < 16 → new ≡ list ++ x ∷ [] → Some x ≡ front rows → left ≡ rest_if (Some x) rows
     → Left list rows all → Left new left all
 few_goes_on list new x rows left all low grown e f so_far =
@@ -54,6 +58,42 @@ pub few_fill : (list : List StatusRow) (rows all : Rows) → 16 ≤ length list 
 few_fill list rows all many so_far =
     let room : 16 - length list ≡ 0 = omega arith in
     sym so_far ∙ ap (λ (n : ℕ). put_before list (few_at n rows)) room ∙ ap (λ (l : List StatusRow). (l, rows)) (append-nil list)
+
+-- What they are read as.
+
+pub no_plan : (m : List StatusRow × Rows) (list : List StatusRow) (rows : Rows) → m ≡ (list, rows) → list ≡ [] → plan_at m ≡ (None, rows)
+no_plan m list rows e none = ap plan_at e ∙ ap (λ (l : List StatusRow). plan_at (l, rows)) none
+
+pub plan_and_more : (m : List StatusRow × Rows) (list : List StatusRow) (rows rest : Rows) (row : ℕ × Words) → m ≡ (list, rows) → rows ≡ row ∷ rest → plan_at m ≡ (None, rows)
+plan_and_more m list rows rest row e more = ap plan_at e ∙ ap (λ (l : Rows). plan_at (list, l)) more ∙ by list ∙ ap (λ (l : Rows). (None, l)) (sym more)
+  where
+    by : (l : List StatusRow) → plan_at (l, row ∷ rest) ≡ (None, row ∷ rest)
+    by [] = refl
+    by (x ∷ xs) = refl
+
+pub not_so : {P : Type 0} (b : Bool) → (IsTrue b ↔ P) → b ≡ false → P → ⊥
+not_so b iff fails p = absurd (let clash : true ≡ false = sym (iff.1 p) ∙ fails in cc)
+
+pub plan_alone : (m : List StatusRow × Rows) (list : List StatusRow) (rows : Rows) → m ≡ (list, rows) → (list ≡ [] → ⊥) → rows ≡ []
+    → plan_at m ≡ (Some (record { registers = list }), rows)
+plan_alone m list rows e some none =
+    ap plan_at e ∙ ap (λ (l : Rows). plan_at (list, l)) none ∙ by list some ∙ ap (λ (l : Rows). (Some (let p : StatusPlan = record { registers = list } in p), l)) (sym none)
+  where
+    by : (l : List StatusRow) → (l ≡ [] → ⊥) → plan_at (l, []) ≡ (Some (let p : StatusPlan = record { registers = l } in p), [])
+    by [] some = absurd (some refl)
+    by (x ∷ xs) some = refl
+
+pub none_read : (rows : Rows) → rows ≡ [] → status_at rows ≡ (None, rows)
+none_read rows none = ap status_at none ∙ ap (λ (l : Rows). (None, l)) (sym none)
+
+at_test : (rows rest : Rows) (n : ℕ) (first : Words) (t : Bool) → rows ≡ (n, first) ∷ rest → is_first first ≡ t → status_at rows ≡ cond t (plan_at (few_at 16 rest)) (None, (n, first) ∷ rest)
+at_test rows rest n first t e is = ap status_at e ∙ ap (λ (b : Bool). cond b (plan_at (few_at 16 rest)) (None, (n, first) ∷ rest)) is
+
+pub other_first : (rows rest : Rows) (n : ℕ) (first : Words) → rows ≡ (n, first) ∷ rest → is_first first ≡ false → status_at rows ≡ (None, rows)
+other_first rows rest n first e is = at_test rows rest n first false e is ∙ ap (λ (l : Rows). (None, l)) (sym e)
+
+pub goes_on_behind : (rows rest : Rows) (n : ℕ) (first : Words) → rows ≡ (n, first) ∷ rest → is_first first ≡ true → status_at rows ≡ plan_at (few_at 16 rest)
+goes_on_behind rows rest n first e is = at_test rows rest n first true e is
 
 -- What is read is written so, and what follows is no register, or one too many.
 pub record Split (room : ℕ) (rows : Rows) (m : List StatusRow × Rows) : Type 0 where

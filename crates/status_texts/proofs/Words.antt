@@ -1,11 +1,12 @@
 -- What the words of a line are seen as, both ways.
-use Rattle.std.proofs.Common.{◌≡◌, ℕ, ◌≤◌, ◌<◌, Bool, true, false, cond, ◌&&◌, not, List, [], ◌∷◌, length, take, Option, Some, None, codes, refl, sym, ap, ◌∙◌, inl, inr, arith, leb-true, le-leb}
+use Rattle.std.proofs.Common.{◌≡◌, ◌≢◌, ℕ, suc, ◌≤◌, ◌<◌, ◌==◌, Bool, true, false, cond, ◌&&◌, not, List, [], ◌∷◌, ◌++◌, length, take, Option, Some, None, codes, refl, sym, ap, ◌∙◌, inl, inr, arith, append_assoc, append-nil, eqb-true, leb-true, le-leb}
+use Rattle.std.proofs.lemmas.Bool.{lt-leb}
 use Rattle.std.specs.Prelude.{nat_le, option_and_then}
 use Rattle.std.specs.Str.{bytes_eq}
 use Rattle.std.specs.Cmp.Lexicographic.{bytes_decides}
 use Rattle.std.proofs.lemmas.Bool.Decides.{leb_tells}
 use Rattle.std.proofs.lemmas.List.{length-take-le}
-use Rattle.list_laws.proofs.Lists.{front_all}
+use Rattle.list_laws.proofs.Lists.{front_all, front_of}
 use Rattle.list_laws.proofs.Tests.{both_true, and_true}
 use Rattle.bsdl_runs.specs.cell_library.declared.codes.Bits.{Bits}
 use Rattle.bsdl_runs.specs.bsdl_device.Runs.{is_pattern}
@@ -51,36 +52,64 @@ count_holds words some few =
     (and_true (nat_le 1 (length words)) (nat_le (length words) 256) (le-leb 1 (length words) some) (le-leb (length words) 256 few))
 
 -- the first 257 words tell
-pub front_kept : (words front : Words) → front ≡ take 257 words → 1 ≤ length front → length front ≤ 256 → Some front ≡ words_if words
-front_kept words front is some few = elim (leb_tells (length words) 256) [
-  | inl h ↦
-      let low = h.1 in
-      let same : front ≡ words = is ∙ front_all words 257 (omega arith) in
-      let count : length front ≡ length words = ap length same in
-      ap (λ (l : Words). Some l) same ∙ sym (count_holds words (omega arith) (omega arith))
+front_suffices : (words : Words) → words_if (take 257 words) ≡ words_if words
+front_suffices words = elim (leb_tells (length words) 257) [
+  | inl h ↦ let low = h.1 in ap words_if (front_all words 257 low)
   | inr h ↦
       let high = h.1 in
-      let count : length front ≡ length (take 257 words) = ap length is in
       let full : length (take 257 words) ≡ 257 = length-take-le 257 words (omega arith) in
-      absurd (omega arith)
-]
-
-pub front_none : (words front : Words) → front ≡ take 257 words → front ≡ [] → None ≡ words_if words
-front_none [] front is none = refl
-front_none (word ∷ words) front is none = absurd (let both : [] ≡ word ∷ take 256 words = sym none ∙ is in cc)
-
-pub front_many : (words front : Words) → front ≡ take 257 words → 256 < length front → None ≡ words_if words
-front_many words front is many = elim (leb_tells (length words) 256) [
-  | inl h ↦
-      let low = h.1 in
-      let count : length front ≡ length words = ap length (is ∙ front_all words 257 (omega arith)) in
-      absurd (omega arith)
-  | inr h ↦ sym (by (nat_le 1 (length words)) (nat_le (length words) 256) h.0)
+      many (take 257 words) (omega arith) ∙ sym (many words (omega arith))
 ]
   where
-    by : (s t : Bool) → t ≡ false → cond (s && t) (Some words) None ≡ None
-    by true t no = ap (λ (b : Bool). cond b (Some words) None) no
-    by false t no = refl
+    by : (l : Words) (s t : Bool) → t ≡ false → cond (s && t) (Some l) None ≡ None
+    by l true t fails = ap (λ (b : Bool). cond b (Some l) None) fails
+    by l false t fails = refl
+
+    many : (l : Words) → 256 < length l → words_if l ≡ None
+    many l high = by l (nat_le 1 (length l)) (nat_le (length l) 256) (lt-leb (length l) 256 high)
+
+of_count : (words : Words) (n : ℕ) (b : Bool) → n ≡ length words → b ≡ (nat_le 1 n && nat_le n 256) → cond b (Some words) None ≡ words_if words
+of_count words n b count is =
+    ap (λ (t : Bool). cond t (Some words) None) is ∙ ap (λ (k : ℕ). cond (nat_le 1 k && nat_le k 256) (Some words) None) count
+
+pub front_some : (words front : Words) (n : ℕ) (b : Bool) → front ≡ take 257 words → n ≡ length front → b ≡ (nat_le 1 n && nat_le n 256) → b ≡ true → Some front ≡ words_if words
+front_some words front n b is count test holds =
+    sym (ap (λ (t : Bool). cond t (Some front) None) holds) ∙ of_count front n b count test ∙ ap words_if is ∙ front_suffices words
+
+pub front_none : (words front : Words) (n : ℕ) (b : Bool) → front ≡ take 257 words → n ≡ length front → b ≡ (nat_le 1 n && nat_le n 256) → b ≡ false → None ≡ words_if words
+front_none words front n b is count test fails =
+    sym (ap (λ (t : Bool). cond t (Some front) None) fails) ∙ of_count front n b count test ∙ ap words_if is ∙ front_suffices words
+
+-- The words of a line, gathered one by one.
+
+pub is_word : (w : List ℕ) (b : Bool) → b ≡ (length w == 0) → b ≡ false → w ≢ []
+is_word [] b is fails = λ e. absurd (let clash : false ≡ true = sym fails ∙ is in cc)
+is_word (x ∷ w) b is fails = λ e. absurd (cc)
+
+pub is_none : (w : List ℕ) (b : Bool) → b ≡ (length w == 0) → b ≡ true → w ≡ []
+is_none [] b is holds = refl
+is_none (x ∷ w) b is holds = absurd (let clash : suc (length w) ≡ 0 = eqb-true (suc (length w)) 0 (sym is ∙ holds) in omega arith)
+
+after_some : (w : List ℕ) (rest : Words) → w ≢ [] → after_word w rest ≡ w ∷ rest
+after_some [] rest some = absurd (some refl)
+after_some (b ∷ bytes) rest some = refl
+
+-- these words were gathered, and the others are left
+pub gathered : (done new left rest all : Words) (w : List ℕ) → new ≡ done ++ w ∷ [] → left ≡ after_word w rest → w ≢ [] → done ++ left ≡ all → new ++ rest ≡ all
+gathered done new left rest all w grown words some so_far =
+    ap (λ (l : Words). l ++ rest) grown
+    ∙ append_assoc done (w ∷ []) rest
+    ∙ ap (λ (l : Words). done ++ l) (sym (words ∙ after_some w rest some))
+    ∙ so_far
+
+pub gathered_all : (done left rest all : Words) (w : List ℕ) → length done ≤ 257 → left ≡ after_word w rest → w ≡ [] → (w ≡ [] → rest ≡ []) → done ++ left ≡ all → done ≡ take 257 all
+gathered_all done left rest all w few words none ends so_far =
+    let empty : left ≡ [] = words ∙ ap (λ (x : List ℕ). after_word x rest) none ∙ ends none in
+    let same : done ≡ all = sym (append-nil done) ∙ ap (λ (l : Words). done ++ l) (sym empty) ∙ so_far in
+    sym (ap (take 257) (sym same) ∙ front_all done 257 few)
+
+pub gathered_most : (done left all : Words) → 257 ≡ length done → done ++ left ≡ all → done ≡ take 257 all
+gathered_most done left all most so_far = sym (ap (take 257) (sym so_far) ∙ front_of done left 257 most)
 
 -- The words of a line, cut off one by one.
 

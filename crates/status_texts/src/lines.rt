@@ -1,5 +1,5 @@
 // What a line of a text of registers is seen as.
-ghost use Rattle.std.specs.Prelude.{◌≡◌, IfOk, length, nat_le, take};
+ghost use Rattle.std.specs.Prelude.{◌≡◌, ◌&&◌, IfOk, length, nat_le, take};
 ghost use Rattle.line_texts.specs.Words.{words_of};
 ghost use Rattle.status_texts.specs.Lines as lines;
 
@@ -61,16 +61,22 @@ fn gather_words(alloc: Global, line: &[u8]) -> Result<Row<Text>, OutOfMemory>
     Ok(words)
 }
 
+fn is_word_count(count: usize) -> bool
+    ensures { result ≡ (nat_le 1 count && nat_le count 256) }
+{
+    1 <= count && count <= MOST_WORDS
+}
+
 // The words of a line of 1 to 256.
-#[tactic(auto, using(crate::proofs::Words::front_suffices))]
 fn words_in(alloc: Global, line: &[u8]) -> Result<Option<Row<Text>>, OutOfMemory>
     ensures { IfOk result (λ found. found ≡ lines.words_if (words_of line.now)) }
 {
     let words = gather_words(alloc, line)?;
-    if words.is_empty() || words.len() > MOST_WORDS {
-        return Ok(None);
+    if is_word_count(words.len()) {
+        Ok(Some(words))
+    } else {
+        Ok(None)
     }
-    Ok(Some(words))
 }
 
 fn row_of(
@@ -94,18 +100,30 @@ fn row_of(
     }
 }
 
+fn row_in(
+    alloc: Global,
+    name: &[u8],
+    instr: &[u8],
+    bits: &[u8],
+    line: &[u8],
+) -> Result<Option<StatusRow>, OutOfMemory>
+    ensures { IfOk result (λ found. found
+        ≡ lines.row_if name.now instr.now bits.now (words_of line.now)) }
+{
+    match bits_of(bits) {
+        Some(bits) if is_name(name) => row_of(alloc, name, instr, bits, line),
+        _ => Ok(None),
+    }
+}
+
 // What stands behind the key `register`.
-#[tactic(auto, using(crate::proofs::Words::three_first))]
 fn register_in(alloc: Global, line: &[u8]) -> Result<Option<StatusRow>, OutOfMemory>
     ensures { IfOk result (λ found. found ≡ lines.register_in (words_of line.now)) }
 {
     let (name, rest) = next_word(line);
     let (instr, rest) = next_word(rest);
     let (bits, rest) = next_word(rest);
-    match bits_of(bits) {
-        Some(bits) if is_name(name) => row_of(alloc, name, instr, bits, rest),
-        _ => Ok(None),
-    }
+    row_in(alloc, name, instr, bits, rest)
 }
 
 /// `register NAME INSTR BITS WORD {WORD}`

@@ -41,7 +41,7 @@ fn take_registers(alloc: Global, reader: &mut LineReader<'_>) -> Result<Row<Stat
     let mut list = Row::new(alloc);
     while list.len() < MOST_REGISTERS {
         let Some(register) = take_register(alloc, reader)? else {
-            break;
+            return Ok(list);
         };
         list.push(register)?;
     }
@@ -54,13 +54,17 @@ fn read_registers(alloc: Global, reader: &mut LineReader<'_>) -> Result<StatusPl
     ensures end { reader.new.end ≡ reader.old.end }
 {
     let registers = take_registers(alloc, reader)?;
-    if registers.is_empty() || reader.line().is_some() {
+    if registers.is_empty() {
         return Err(LineFault::Line);
     }
-    Ok(StatusPlan { registers })
+    match reader.line() {
+        Some(_) => Err(LineFault::Line),
+        None => Ok(StatusPlan { registers }),
+    }
 }
 
 // All lines; at a fault the reader stands at it.
+#[tactic(auto, using(crate::proofs::Few::none_read, crate::proofs::Few::other_first, crate::proofs::Few::goes_on_behind))]
 fn read_lines(alloc: Global, reader: &mut LineReader<'_>) -> Result<StatusPlan, LineFault>
     ensures gives { Gives result reader.new.rows (status_at reader.old.rows) }
     ensures end { reader.new.end ≡ reader.old.end }
