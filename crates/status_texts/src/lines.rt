@@ -53,7 +53,7 @@ fn gather_words(alloc: Global, line: &[u8]) -> Result<Row<Text>, OutOfMemory>
     while words.len() <= MOST_WORDS {
         let (word, rest) = next_word(line);
         if word.is_empty() {
-            break;
+            return Ok(words);
         }
         words.push(Text::from_bytes(alloc, word)?)?;
         line = rest;

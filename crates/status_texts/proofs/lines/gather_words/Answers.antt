@@ -17,8 +17,8 @@ loop-line-preserved c =
       few = omega arith;
     }
 
-pub returns-after-loop-line : goal.returns-after-loop-line
-returns-after-loop-line c =
+pub returns : goal.returns
+returns c =
     let out = c.loop-line-test.false in
     let count = c.len.ensures in
     let few = c.loop-line.invariant.few in

@@ -1,4 +1,4 @@
-use Rattle.std.proofs.Common.{◌≡◌, ◌<◌, ◌≤◌, length, Option, sym, ap, refl, ◌∙◌, arith}
+use Rattle.std.proofs.Common.{Option, sym, ap, refl, ◌∙◌, arith}
 use Rattle.status_texts.specs.declared.plan.StatusRow.{StatusRow}
 use Rattle.status_texts.specs.Reading.{Rows, rest_if}
 use Rattle.status_texts.proofs.Few.{few_begins, few_goes_on, few_stops, few_fill}
@@ -18,8 +18,8 @@ loop-alloc-preserved c =
       end = c.in_ok-register.ensures.end ∙ c.loop-alloc.invariant.end;
     }
 
-pub returns-after-loop-alloc-clause-few : goal.returns-after-loop-alloc-clause-few
-returns-after-loop-alloc-clause-few c =
+pub returns-clause-few : goal.returns-clause-few
+returns-clause-few c =
     let test = c.loop-alloc-test.false in
     let count = c.len.ensures in
     few_fill c.loop-alloc.list c.loop-alloc.reader.rows c.args.reader.now.rows (omega arith) c.loop-alloc.invariant.few
