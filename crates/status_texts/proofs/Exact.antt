@@ -1,5 +1,5 @@
 -- A text is read exactly where it spells registers, and stops at the first line that can't stand there.
-use Rattle.std.proofs.Common.{◌≡◌, ℕ, zero, suc, ◌≤◌, ◌<◌, Bool, true, false, cond, List, [], ◌∷◌, ◌++◌, length, map, take, drop, Option, Some, None, Err, codes, refl, sym, ap, ◌∙◌, subst, arith, append_assoc, append-nil, length-append}
+use Rattle.std.proofs.Common.{◌≡◌, ℕ, zero, suc, ◌≤◌, ◌<◌, Bool, true, false, cond, List, [], ◌∷◌, ◌++◌, length, map, take, drop, Some, None, Err, codes, refl, sym, ap, ◌∙◌, subst, arith, append_assoc, append-nil, length-append}
 use Rattle.std.specs.Prelude.{All}
 use Rattle.std.proofs.lemmas.List.{length-map}
 use Rattle.std.proofs.lemmas.List.Elements.{All-nil, All-cons, All-head, All-tail}
@@ -11,7 +11,7 @@ use Rattle.status_texts.specs.declared.fault.StatusFault.{StatusFault}
 use Rattle.status_texts.specs.declared.fault.StatusFault.TheVariants as fault
 use Rattle.status_texts.specs.declared.plan.StatusRow.{StatusRow}
 use Rattle.status_texts.specs.declared.plan.StatusPlan.{StatusPlan}
-use Rattle.status_texts.specs.Grammar.{RegisterWords, first_words, register_words, status_rows, IsRegister, AreRegisters, register_of, plan_of, kept_words, SpellsStatus}
+use Rattle.status_texts.specs.Grammar.{RegisterWords, first_words, register_words, status_rows, IsRegister, AreRegisters, register_of, plan_of, SpellsStatus}
 use Rattle.status_texts.specs.Faults.{end_of, Begun, IsLineFault, HasFault, in_line, HasNoFault}
 use Rattle.status_texts.specs.Lines.{is_first, register_line}
 use Rattle.status_texts.specs.Reading.{Rows, Read, few_at, plan_at, status_at, Gives}
