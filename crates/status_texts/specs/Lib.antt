@@ -1,0 +1,5 @@
+pub mod Grammar
+pub mod Faults
+pub mod Exactly
+pub mod Lines
+pub mod Reading
