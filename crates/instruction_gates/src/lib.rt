@@ -19,6 +19,7 @@ ghost use Rattle.instruction_gates.specs.Rows.{is_one};
 mod copies;
 mod latches;
 mod laws;
+pub mod lower_register_gates;
 mod matches;
 mod selections;
 mod stages;
@@ -30,7 +31,6 @@ pub use laws::{
 };
 pub use matches::{EQUAL_BIT, add_match};
 use netlist_model::Feed;
-pub use register_gates as lower_register_gates;
 pub use register_gates::{
     lower_gate_parts, lower_netlist_arena, lower_tap_gates, lower_test_logic,
 };

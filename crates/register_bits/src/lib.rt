@@ -19,16 +19,18 @@ ghost use Rattle.register_bits.specs.Bits.{shift_bit_cells, held_bit_cells, AreN
 
 mod chain;
 mod laws;
+pub mod lower_cell_library;
+pub mod lower_gate_parts;
+pub mod lower_netlist_arena;
+pub mod lower_netlist_laws;
+pub mod lower_netlist_model;
+pub mod lower_test_logic;
 
 pub use chain::add_shift_chain;
-pub use gate_parts as lower_gate_parts;
-pub use gate_parts::{lower_netlist_arena, lower_netlist_laws};
 use gate_parts::{Gate, Netlist, Pin, Pins, add_part};
 pub use laws::{chains_follow, held_bits_follow, shift_bits_follow};
-pub use test_logic as lower_test_logic;
 use test_logic::lower_cell_library::{Edge, FlopKind, Kind, ResetTo};
 use test_logic::lower_netlist_model::{Feed, NetId};
-pub use test_logic::{lower_cell_library, lower_netlist_model};
 
 /// What steers the bits of a shift stage: TCK, TRST, and nets that are 1 exactly where the register captures, and where it shifts, on
 /// the next rising edge of TCK.

@@ -25,6 +25,8 @@ ghost use Rattle.register_gates.specs.Registers.{selected_cells, selected_steeri
 mod constants;
 mod ident;
 mod laws;
+pub mod lower_register_bits;
+pub mod lower_tap_gates;
 mod tdo;
 
 pub use constants::constants_of;
@@ -33,7 +35,6 @@ pub use laws::{
     added_in_turn, bypass_follows, choices_are_bits, constants_are_bits, data_registers_follow,
     ident_follows, steps_by_register, tdo_follows, tdo_lets_go,
 };
-pub use register_bits as lower_register_bits;
 use register_bits::lower_cell_library::Kind;
 use register_bits::lower_gate_parts::{Gate, Pin, Pins, add_part, appended_count, appended_more};
 use register_bits::lower_netlist_arena::Netlist;
@@ -43,7 +44,6 @@ pub use register_bits::{
     lower_gate_parts, lower_netlist_arena, lower_netlist_laws, lower_test_logic,
 };
 use register_bits::{Steering, add_shift_bit, add_shift_chain};
-pub use tap_gates as lower_tap_gates;
 pub use tdo::{TDO, add_tdo};
 
 /// What steers a test data register. Handed in are Capture-DR, Shift-DR, and whether the register is selected.

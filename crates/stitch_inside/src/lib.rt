@@ -13,6 +13,8 @@
 
 ghost use Rattle.stitch_inside.specs.Laws.{BuiltInNests, BuiltInSurrounds, StitchedNests, StitchedSurrounds};
 
+pub mod lower_surrounded_core;
+
 use netlist_laws::{
     bit_of_a_direction, contained_parts, direction_of_a_bit, driver_is_found, found_driver_drives,
 };
@@ -26,7 +28,6 @@ use plan_devices::{
 };
 pub use stitch_laws as lower_stitch_laws;
 use stitch_laws::stitched_is_built_in;
-pub use surrounded_core as lower_surrounded_core;
 use surrounded_core::lower_instruction_register::registers_fit;
 
 /// The core nests in every netlist into which the test logic is built, with its drivers behind boundary cells.

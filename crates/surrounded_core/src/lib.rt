@@ -22,9 +22,10 @@ ghost use Rattle.surrounded_core.specs.Laws.{SurroundedStands, SurroundedReads, 
 ghost use Rattle.surrounded_core.specs.Home.{SurroundedFindsHome};
 ghost use Rattle.surrounded_core.specs.Open.{SurroundedFollows};
 
+pub mod lower_instruction_register;
+
 use boundary_cells::{bidir_cells_follow, rows_step_as_bits};
 use boundary_runs::{chip_rows, lengths_stay, rows_follow, selected_steers};
-pub use instruction_register as lower_instruction_register;
 use instruction_register::lower_register_gates::{
     bypass_follows, constants_are_bits, ident_follows, steps_by_register, tdo_follows, tdo_lets_go,
 };

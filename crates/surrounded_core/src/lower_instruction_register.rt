@@ -1,0 +1,2 @@
+// What crates above name of instruction_register.
+pub use instruction_register::registers_fit;
