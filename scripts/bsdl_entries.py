@@ -73,6 +73,10 @@ class Strings:
     def take(self, word):
         return self.one(lambda text: text.upper() == word, f"`{word}`")
 
+    def behind(self):
+        """The word behind the next one."""
+        return self.runs[self.at + 1].text if self.at + 1 < len(self.runs) else ""
+
     def took(self, word):
         is_it = self.next().text.upper() == word
         self.at += is_it
@@ -141,6 +145,29 @@ def access_entry(strings):
     return register, names
 
 
+def own_entry(strings):
+    """A register of the design's own, how many bits it has, and its instruction."""
+    name = strings.name("a register's name")
+    strings.take("[")
+    length = strings.integer("the count of a register's bits")
+    strings.take("]")
+    strings.take("(")
+    instruction = strings.one(is_identifier, "an instruction's name")
+    strings.take(")")
+    return name, length, instruction
+
+
+def access_entries(strings):
+    """The entries of the three registers, and those of the design's own behind them."""
+    entries, own = [access_entry(strings)], []
+    while strings.took(","):
+        if own or strings.behind() == "[":
+            own.append(own_entry(strings))
+        else:
+            entries.append(access_entry(strings))
+    return entries, own
+
+
 class Row:
     """A row of the boundary register, by its words."""
 
@@ -184,7 +211,7 @@ READERS = {
     "INSTRUCTION_CAPTURE": Strings.bits,
     "IDCODE_REGISTER": Strings.code,
     "USERCODE_REGISTER": Strings.code,
-    "REGISTER_ACCESS": lambda strings: strings.listed(access_entry),
+    "REGISTER_ACCESS": access_entries,
     "BOUNDARY_REGISTER": lambda strings: strings.listed(Row),
 }
 
@@ -236,6 +263,12 @@ class Sections:
     def entries(self, name):
         """What a section's strings hold; Broken at the first word that they can't."""
         return self.strings(name).whole(READERS[name])
+
+    def opcodes(self):
+        """The opcodes without those of the design's own registers, and these."""
+        own = {instruction.text.upper() for _, _, instruction in self.entries("REGISTER_ACCESS")[1]}
+        entries = self.entries("INSTRUCTION_OPCODE")
+        return [it for it in entries if it[0].text.upper() not in own], [it for it in entries if it[0].text.upper() in own]
 
     def number(self, name):
         word = self.taken[self.value(name)][0] if name in self.starts else ""
@@ -294,7 +327,7 @@ def check_pin_map(sections):
 
 
 def check_opcodes(sections):
-    length, entries = sections.number("INSTRUCTION_LENGTH"), sections.entries("INSTRUCTION_OPCODE")
+    length, (entries, _) = sections.number("INSTRUCTION_LENGTH"), sections.opcodes()
     place = sections.first("INSTRUCTION_OPCODE")
     for name, _ in entries:
         if name.text.upper() not in REGISTERS:
@@ -340,8 +373,8 @@ def check_usercode(sections, there, place):
 
 
 def check_access(sections):
-    opcodes = {name.text.upper() for name, _ in sections.entries("INSTRUCTION_OPCODE")}
-    entries = sections.entries("REGISTER_ACCESS")
+    opcodes = {name.text.upper() for name, _ in sections.opcodes()[0]}
+    entries, own = sections.entries("REGISTER_ACCESS")
     for register, names in entries:
         for name in names:
             if name.text.upper() not in opcodes:
@@ -349,6 +382,36 @@ def check_access(sections):
             if REGISTERS[name.text.upper()] != register.text.upper():
                 raise Broken(name.place, f"{name.text} stands at {register.text}; its register is {REGISTERS[name.text.upper()]}")
     twice([name for _, names in entries for name in names], "the instruction")
+    for entry in own:
+        check_own(sections, *entry)
+    check_own_opcodes(sections)
+    twice([name for name, _, _ in own], "the register")
+    twice([instruction for _, _, instruction in own], "the instruction")
+    if len(own) > 16:
+        raise Broken(own[16][0].place, f"{own[16][0].text} is the seventeenth register of the design's own")
+
+
+def check_own(sections, name, length, instruction):
+    if name.text.upper() in REGISTERS.values():
+        raise Broken(name.place, f"a register of the design's own has another name than {name.text.upper()}")
+    if not 1 <= int(length.text) <= 256:
+        raise Broken(length.place, f"{name.text} has {int(length.text)} bits; it may have 1 to 256")
+    if instruction.text.upper() in REGISTERS:
+        raise Broken(instruction.place, f"{instruction.text} selects a register of the standard's")
+    count = sum(instruction.is_key(it.text) for it, _ in sections.opcodes()[1])
+    if count != 1:
+        raise Broken(instruction.place, f"{instruction.text} has {'two opcodes' if count else 'no opcode'}")
+
+
+def check_own_opcodes(sections):
+    length, (base, own) = sections.number("INSTRUCTION_LENGTH"), sections.opcodes()
+    before = {bits.text: name.text for name, bits in base}
+    for name, bits in own:
+        if len(bits.text) != length:
+            raise Broken(bits.place, f"the opcode of {name.text} has {len(bits.text)} bits, and the instruction register {length}")
+        other = before.setdefault(bits.text, name.text)
+        if other != name.text:
+            raise Broken(bits.place, f"{name.text} has the opcode of {other}")
 
 
 def check_numbers(sections):
@@ -385,7 +448,7 @@ class Rows:
             self.check_disable(row)
         self.check_bits()
         self.check_values()
-        opcodes = {name.text.upper() for name, _ in self.sections.entries("INSTRUCTION_OPCODE")}
+        opcodes = {name.text.upper() for name, _ in self.sections.opcodes()[0]}
         for row in self.rows:
             if "HIGHZ" in opcodes and row.role() == "output2":
                 self.refuse(row, row.function, "is an output2, which nothing turns off, and HIGHZ has an opcode")
@@ -528,7 +591,9 @@ def broken_at(text, place):
         sections = Sections(text)
         name, is_string = sections.at_place(place)
         if is_string and name in READERS:
-            sections.entries(name)
+            entries = sections.entries(name)
+            if name == "REGISTER_ACCESS" and entries[1]:
+                return Broken(entries[1][0][0].place, f"{entries[1][0][0].text} is a register of the design's own, which `statusbsdl` alone takes")
         elif is_string and name == "COMPONENT_CONFORMANCE":
             return Broken(place, 'the standard that is taken is "STD_1149_1_2001"')
         elif name in RULES and not is_string:

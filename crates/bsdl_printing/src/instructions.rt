@@ -30,8 +30,9 @@ fn put_more_opcodes(text: &mut Text, opcodes: &[Opcode]) -> Result<(), OutOfMemo
     Ok(())
 }
 
+/// Adds the opcodes.
 #[tactic(auto, unfolding(bsdl_device::specs::Canonical::opcodes_text))]
-fn put_opcodes(text: &mut Text, opcodes: &[Opcode]) -> Result<(), OutOfMemory>
+pub fn put_opcodes(text: &mut Text, opcodes: &[Opcode]) -> Result<(), OutOfMemory>
     ensures { OnOk result (text.new ≡ text.old ++ text_of.opcodes_text opcodes.now) }
 {
     let [first, more @ ..] = opcodes else {
@@ -54,8 +55,9 @@ fn put_code(text: &mut Text, code: u32) -> Result<(), OutOfMemory>
     put_bits(text, 1, code)
 }
 
+/// Adds the code, where there is one.
 #[tactic(auto, unfolding(bsdl_device::specs::Canonical::idcode_text))]
-fn put_idcode(text: &mut Text, entity: &[u8], idcode: Option<u32>) -> Result<(), OutOfMemory>
+pub fn put_idcode(text: &mut Text, entity: &[u8], idcode: Option<u32>) -> Result<(), OutOfMemory>
     ensures { OnOk result (text.new ≡ text.old ++ text_of.idcode_text entity.now idcode) }
 {
     let Some(code) = idcode else {
@@ -65,8 +67,13 @@ fn put_idcode(text: &mut Text, entity: &[u8], idcode: Option<u32>) -> Result<(),
     put_code(text, code)
 }
 
+/// Adds the usercode, where there is one.
 #[tactic(auto, unfolding(bsdl_device::specs::Canonical::usercode_text))]
-fn put_usercode(text: &mut Text, entity: &[u8], usercode: Option<u32>) -> Result<(), OutOfMemory>
+pub fn put_usercode(
+    text: &mut Text,
+    entity: &[u8],
+    usercode: Option<u32>,
+) -> Result<(), OutOfMemory>
     ensures { OnOk result (text.new ≡ text.old ++ text_of.usercode_text entity.now usercode) }
 {
     let Some(code) = usercode else {
@@ -156,8 +163,9 @@ fn put_bypass_access(text: &mut Text) -> Result<(), OutOfMemory>
     text.append(b"),\" &\n    \"BYPASS (")
 }
 
+/// Adds the registers with their instructions.
 #[tactic(auto, unfolding(bsdl_device::specs::Canonical::access_text))]
-fn put_access(text: &mut Text, opcodes: &[Opcode]) -> Result<(), OutOfMemory>
+pub fn put_access(text: &mut Text, opcodes: &[Opcode]) -> Result<(), OutOfMemory>
     ensures { OnOk result (text.new ≡ text.old ++ text_of.access_text opcodes.now) }
 {
     put_boundary_access(text)?;

@@ -5,13 +5,15 @@
 // - `print_device` gives exactly the canonical text of the device, for every value of the type `Device`, or
 //   answers want of memory. Where the device keeps `IsDevice`, the text spells it; just those devices are spelled
 //   by some text.
+// - Its parts stand open to a text that has more between them: the head, the instructions, the identification
+//   register, register access and the boundary register, each of which adds exactly the part of that name.
 // By the contract of `print_device`.
 #![tactic(auto)]
 
-mod boundary;
-mod head;
-mod instructions;
+pub mod boundary;
+pub mod head;
+pub mod instructions;
 mod print;
-mod text;
+pub mod text;
 
 pub use print::print_device;

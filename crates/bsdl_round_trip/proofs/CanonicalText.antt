@@ -23,8 +23,8 @@ use Rattle.bsdl_round_trip.proofs.EntryAtoms.{comma_strings, pin_entry_bytes, op
 use Rattle.bsdl_round_trip.proofs.ContentTexts as contents
 use Rattle.bsdl_round_trip.proofs.ContentTexts.{IsPort}
 use Rattle.bsdl_round_trip.proofs.Held.{GoodDevice, opcodes_filled}
-use Rattle.bsdl_round_trip.proofs.Rebuilt.{entry_of, opcode_entry, row_entry, row_entries, access_entries, device_id_entries, present, user_strings, rebuilt_file}
-use Rattle.bsdl_round_trip.proofs.FileTexts.{section_atoms, attribute_atoms, tap_atoms, strings_atoms, line_end, listed_atoms, integer_atoms, type_atoms, port_atoms, port_end, port_close, ports_atoms, entity_atoms, generic_atoms, port_open, use_atoms, conformance_atoms, pin_map_atoms, constant_open, clock_atoms, capture_atoms, idcode_atoms, usercode_atoms, ident_atoms, end_atoms}
+use Rattle.bsdl_round_trip.proofs.Rebuilt.{entry_of, opcode_entry, row_entry, row_entries, access_entries, device_id_entries, present, user_strings, opcode_strings, access_strings, rebuilt_file}
+use Rattle.bsdl_round_trip.proofs.FileTexts.{section_atoms_by, section_atoms, attribute_atoms, tap_atoms, strings_atoms, line_end, listed_atoms, integer_atoms, type_atoms, port_atoms, port_end, port_close, ports_atoms, entity_atoms, generic_atoms, port_open, use_atoms, conformance_atoms, pin_map_atoms, constant_open, clock_atoms, capture_atoms, idcode_atoms, usercode_atoms, ident_atoms, end_atoms}
 
 -- Sections, one behind the other.
 
@@ -43,7 +43,7 @@ strings_next : {A : Type 0} (s : List ℕ) (text : A → List ℕ) (y : A) (ys :
 strings_next s text y [] rest = refl
 strings_next s text y (z ∷ zs) rest = refl
 
-strings_text : {A : Type 0} (text : A → List ℕ) (x : A) (xs : List A) (rest : List ℕ) → 34 ∷ (separated_text next_string text (x ∷ xs) ++ (34 ∷ rest)) ≡ text_then (strings_atoms (comma_strings text (x ∷ xs))) rest
+pub strings_text : {A : Type 0} (text : A → List ℕ) (x : A) (xs : List A) (rest : List ℕ) → 34 ∷ (separated_text next_string text (x ∷ xs) ++ (34 ∷ rest)) ≡ text_then (strings_atoms (comma_strings text (x ∷ xs))) rest
 unfolding pieces
 strings_text text x [] rest = ap (λ (t : List ℕ). 34 ∷ (t ++ (34 ∷ rest))) (append-nil (text x))
 strings_text text x (y ∷ ys) rest =
@@ -62,7 +62,7 @@ comma_same : {A B : Type 0} (text : A → List ℕ) (other : B → List ℕ) (xs
 comma_same text other xs ys same = comma_map text xs ∙ ap (λ (l : List (List ℕ)). comma_strings (λ (s : List ℕ). s) l) same ∙ sym (comma_map other ys)
 
 -- texts that are entries' strings
-strings_of_entries : {A B : Type 0} (text : A → List ℕ) (other : B → List ℕ) (xs : List A) (ys : List B) (rest : List ℕ) → is_filled xs ≡ true → map text xs ≡ map other ys → 34 ∷ (separated_text next_string text xs ++ (34 ∷ rest)) ≡ text_then (strings_atoms (comma_strings other ys)) rest
+pub strings_of_entries : {A B : Type 0} (text : A → List ℕ) (other : B → List ℕ) (xs : List A) (ys : List B) (rest : List ℕ) → is_filled xs ≡ true → map text xs ≡ map other ys → 34 ∷ (separated_text next_string text xs ++ (34 ∷ rest)) ≡ text_then (strings_atoms (comma_strings other ys)) rest
 strings_of_entries text other [] ys rest some same = absurd (cc)
 strings_of_entries text other (x ∷ xs) ys rest some same = strings_text text x xs rest ∙ ap (λ (l : List (List ℕ)). text_then (strings_atoms l) rest) (comma_same text other (x ∷ xs) ys same)
 
@@ -70,7 +70,7 @@ pins_same : (ports : List DevPort) → AllByRecursion IsPort ports → map pin_e
 pins_same [] all = refl
 pins_same (p ∷ ps) all = ap (λ (t : List ℕ). t ∷ map pin_entry_text ps) (contents.pin_entry_bytes p all.0) ∙ ap (λ (l : List (List ℕ)). pin_entry_bytes (entry_of p) ∷ l) (pins_same ps all.1)
 
-opcodes_same : (opcodes : List Opcode) → map opcode_text opcodes ≡ map opcode_bytes (map opcode_entry opcodes)
+pub opcodes_same : (opcodes : List Opcode) → map opcode_text opcodes ≡ map opcode_bytes (map opcode_entry opcodes)
 opcodes_same [] = refl
 opcodes_same (o ∷ os) = ap (λ (t : List ℕ). t ∷ map opcode_text os) (contents.opcode_bytes o) ∙ ap (λ (l : List (List ℕ)). opcode_bytes (opcode_entry o) ∷ l) (opcodes_same os)
 
@@ -179,7 +179,7 @@ access_by a b false user rest = ap (λ (t : List ℕ). codes "BOUNDARY (" ++ t) 
     ap (λ (t : List ℕ). bytes_of a ++ (41 ∷ 44 ∷ 34 ∷ 32 ∷ 38 ∷ 10 ∷ 32 ∷ 32 ∷ 32 ∷ 32 ∷ 34 ∷ (codes "BYPASS (" ++ t))) (sym (closed b (34 ∷ rest)))
     ∙ sym (closed_comma a (34 ∷ 32 ∷ 38 ∷ 10 ∷ 32 ∷ 32 ∷ 32 ∷ 32 ∷ 34 ∷ (codes "BYPASS (" ++ (bytes_of (b ++ (Mark 41 ∷ [])) ++ (34 ∷ rest))))))
 
-access_then : (opcodes : List Opcode) (rest : List ℕ) → 34 ∷ (access_text opcodes ++ (41 ∷ 34 ∷ rest)) ≡ text_then (strings_atoms (comma_strings access_bytes (access_entries opcodes))) rest
+pub access_then : (opcodes : List Opcode) (rest : List ℕ) → 34 ∷ (access_text opcodes ++ (41 ∷ 34 ∷ rest)) ≡ text_then (strings_atoms (comma_strings access_bytes (access_entries opcodes))) rest
 unfolding access_text boundary_access_text bypass_access_text device_id_text user_access_text between
 access_then opcodes rest = ap (λ (t : List ℕ). 34 ∷ t) (
     five (codes "BOUNDARY (") (instructions_text opcodes boundary_list) (codes "),\" &\n    \"BYPASS (") (instructions_text opcodes bypass_list) (device_id_text opcodes) (41 ∷ 34 ∷ rest)
@@ -257,40 +257,42 @@ some_cells ports [] h = absurd (cc)
 some_cells ports (c ∷ cs) h = refl
 
 -- what stands behind each section
-abbrev behind16 : Device → List ℕ
+abbrev pub behind16 : Device → List ℕ
 behind16 d = text_then (end_atoms d.entity) []
 
-abbrev behind15 : Device → List ℕ
+abbrev pub behind15 : Device → List ℕ
 behind15 d = text_then (listed_atoms (codes "BOUNDARY_REGISTER") d.entity (rebuilt_file d).boundary.strings) (behind16 d)
 
-abbrev behind14 : Device → List ℕ
+abbrev pub behind14 : Device → List ℕ
 behind14 d = text_then (integer_atoms (codes "BOUNDARY_LENGTH") d.entity (length d.cells)) (behind15 d)
 
-abbrev behind13 : Device → List ℕ
-behind13 d = text_then (listed_atoms (codes "REGISTER_ACCESS") d.entity (rebuilt_file d).access.strings) (behind14 d)
+-- with these strings of access
+abbrev pub behind13 : Device → List (List ℕ) → List ℕ
+behind13 d access = text_then (listed_atoms (codes "REGISTER_ACCESS") d.entity access) (behind14 d)
 
-abbrev behind12 : Device → List ℕ
-behind12 d = text_then (ident_atoms d.entity d.idcode d.usercode) (behind13 d)
+abbrev pub behind12 : Device → List (List ℕ) → List ℕ
+behind12 d access = text_then (ident_atoms d.entity d.idcode d.usercode) (behind13 d access)
 
-abbrev behind11 : Device → List ℕ
-behind11 d = text_then (capture_atoms d.entity (pattern_text d.capture)) (behind12 d)
+abbrev pub behind11 : Device → List (List ℕ) → List ℕ
+behind11 d access = text_then (capture_atoms d.entity (pattern_text d.capture)) (behind12 d access)
 
-abbrev behind10 : Device → List ℕ
-behind10 d = text_then (listed_atoms (codes "INSTRUCTION_OPCODE") d.entity (rebuilt_file d).opcodes.strings) (behind11 d)
+-- and these of opcodes
+abbrev pub behind10 : Device → List (List ℕ) → List (List ℕ) → List ℕ
+behind10 d opcodes access = text_then (listed_atoms (codes "INSTRUCTION_OPCODE") d.entity opcodes) (behind11 d access)
 
-abbrev behind9 : Device → List ℕ
-behind9 d = text_then (integer_atoms (codes "INSTRUCTION_LENGTH") d.entity d.length) (behind10 d)
+abbrev pub behind9 : Device → List (List ℕ) → List (List ℕ) → List ℕ
+behind9 d opcodes access = text_then (integer_atoms (codes "INSTRUCTION_LENGTH") d.entity d.length) (behind10 d opcodes access)
 
-abbrev behind8 : Device → List ℕ
-behind8 d = text_then (clock_atoms (rebuilt_file d).tap.tck d.clock d.stop) (behind9 d)
+abbrev pub behind8 : Device → List (List ℕ) → List (List ℕ) → List ℕ
+behind8 d opcodes access = text_then (clock_atoms (rebuilt_file d).tap.tck d.clock d.stop) (behind9 d opcodes access)
 
-abbrev behind7 : Device → List ℕ
-behind7 d = text_then (tap_atoms (codes "TAP_SCAN_IN") (rebuilt_file d).tap.tdi) (text_then (tap_atoms (codes "TAP_SCAN_MODE") (rebuilt_file d).tap.tms) (text_then (tap_atoms (codes "TAP_SCAN_OUT") (rebuilt_file d).tap.tdo) (text_then (tap_atoms (codes "TAP_SCAN_RESET") (rebuilt_file d).tap.trst) (behind8 d))))
+abbrev pub behind7 : Device → List (List ℕ) → List (List ℕ) → List ℕ
+behind7 d opcodes access = text_then (tap_atoms (codes "TAP_SCAN_IN") (rebuilt_file d).tap.tdi) (text_then (tap_atoms (codes "TAP_SCAN_MODE") (rebuilt_file d).tap.tms) (text_then (tap_atoms (codes "TAP_SCAN_OUT") (rebuilt_file d).tap.tdo) (text_then (tap_atoms (codes "TAP_SCAN_RESET") (rebuilt_file d).tap.trst) (behind8 d opcodes access))))
 
-abbrev end_text : Device → List ℕ
+abbrev pub end_text : Device → List ℕ
 end_text d = pieces (codes "\";\nend " ∷ d.entity ∷ codes ";\n" ∷ [])
 
-boundary_then : (d : Device) → GoodDevice d → boundary_text d ++ end_text d ≡ 41 ∷ 34 ∷ text_then line_end (behind14 d)
+pub boundary_then : (d : Device) → GoodDevice d → boundary_text d ++ end_text d ≡ 41 ∷ 34 ∷ text_then line_end (behind14 d)
 unfolding boundary_text boundary_length_text boundary_rows_text rows_text
 boundary_then d g =
     let rows : attribute_text (codes ";\n") (codes "BOUNDARY_REGISTER") d.entity (codes "\n    \"") ++ (separated_text next_string (numbered_text d.ports) (enumerate_from 0 d.cells) ++ end_text d) ≡ text_then line_end (behind15 d) =
@@ -304,44 +306,56 @@ boundary_then d g =
     four : (a b c e r : List ℕ) → ((a ++ b) ++ (c ++ e)) ++ r ≡ a ++ (b ++ (c ++ (e ++ r)))
     four a b c e r = simp append_assoc
 
-registers_then : (d : Device) → GoodDevice d → registers_text d ++ (41 ∷ 34 ∷ text_then line_end (behind14 d)) ≡ behind9 d
+-- from the length of instructions to behind the registers, by what stands between the quotes
+abbrev pub registers_by : Device → List ℕ → List ℕ → List ℕ → List ℕ
+registers_by d opcodes access rest =
+    attribute_text [] (codes "INSTRUCTION_LENGTH") d.entity (codes " ") ++ (decimal d.length ++ (attribute_text (codes ";\n") (codes "INSTRUCTION_OPCODE") d.entity (codes "\n    \"") ++ (opcodes
+    ++ (attribute_text (codes "\";\n") (codes "INSTRUCTION_CAPTURE") d.entity (codes " \"") ++ (pattern_text d.capture ++ (idcode_text d.entity d.idcode ++ (usercode_text d.entity d.usercode
+    ++ (attribute_text (codes "\";\n") (codes "REGISTER_ACCESS") d.entity (codes "\n    \"") ++ (access ++ rest)))))))))
+
+pub registers_by_then : (d : Device) (opcodes access : List (List ℕ)) (codes_text access_body : List ℕ) → ((rest : List ℕ) → 34 ∷ (codes_text ++ (34 ∷ rest)) ≡ text_then (strings_atoms opcodes) rest)
+    → ((rest : List ℕ) → 34 ∷ (access_body ++ (41 ∷ 34 ∷ rest)) ≡ text_then (strings_atoms access) rest) → registers_by d codes_text access_body (41 ∷ 34 ∷ text_then line_end (behind14 d)) ≡ behind9 d opcodes access
+registers_by_then d opcodes access codes_text access_body codes_are access_is =
+    let entries : attribute_text (codes "\";\n") (codes "REGISTER_ACCESS") d.entity (codes "\n    \"") ++ (access_body ++ (41 ∷ 34 ∷ text_then line_end (behind14 d))) ≡ 34 ∷ text_then line_end (behind13 d access) =
+    attribute_then (codes "\";\n") (codes "REGISTER_ACCESS") d.entity 10 (32 ∷ 32 ∷ 32 ∷ 32 ∷ 34 ∷ []) (access_body ++ (41 ∷ 34 ∷ text_then line_end (behind14 d)))
+    ∙ ap (λ (t : List ℕ). 34 ∷ 59 ∷ 10 ∷ text_then (attribute_atoms (codes "REGISTER_ACCESS") d.entity 10) (32 ∷ 32 ∷ 32 ∷ 32 ∷ t)) (access_is (text_then line_end (behind14 d)) ∙ sym (text_then-append (strings_atoms access) line_end (behind14 d))) in
+    let user = user_then d.entity d.usercode _ (behind13 d access) entries in
+    let code = code_then d.entity d.idcode _ (text_then (usercode_atoms d.entity d.usercode) (behind13 d access)) user
+    ∙ ap (λ (t : List ℕ). 34 ∷ text_then line_end t) (sym (text_then-append (idcode_atoms d.entity d.idcode) (usercode_atoms d.entity d.usercode) (behind13 d access))) in
+    let capture : attribute_text (codes "\";\n") (codes "INSTRUCTION_CAPTURE") d.entity (codes " \"") ++ (pattern_text d.capture ++ (34 ∷ text_then line_end (behind12 d access))) ≡ 34 ∷ text_then line_end (behind11 d access) =
+    attribute_then (codes "\";\n") (codes "INSTRUCTION_CAPTURE") d.entity 32 (34 ∷ []) (pattern_text d.capture ++ (34 ∷ text_then line_end (behind12 d access))) in
+    let list : attribute_text (codes ";\n") (codes "INSTRUCTION_OPCODE") d.entity (codes "\n    \"") ++ (codes_text ++ (34 ∷ text_then line_end (behind11 d access))) ≡ text_then line_end (behind10 d opcodes access) =
+    listed_then (codes ";\n") (codes "INSTRUCTION_OPCODE") d.entity codes_text opcodes (behind11 d access) (codes_are (text_then line_end (behind11 d access))) in
+    ap (λ (t : List ℕ). attribute_text [] (codes "INSTRUCTION_LENGTH") d.entity (codes " ") ++ (decimal d.length ++ (attribute_text (codes ";\n") (codes "INSTRUCTION_OPCODE") d.entity (codes "\n    \"") ++ (codes_text ++ (attribute_text (codes "\";\n") (codes "INSTRUCTION_CAPTURE") d.entity (codes " \"") ++ (pattern_text d.capture ++ t)))))) code
+    ∙ ap (λ (t : List ℕ). attribute_text [] (codes "INSTRUCTION_LENGTH") d.entity (codes " ") ++ (decimal d.length ++ (attribute_text (codes ";\n") (codes "INSTRUCTION_OPCODE") d.entity (codes "\n    \"") ++ (codes_text ++ t)))) capture
+    ∙ ap (λ (t : List ℕ). attribute_text [] (codes "INSTRUCTION_LENGTH") d.entity (codes " ") ++ (decimal d.length ++ t)) list
+    ∙ integer_then [] (codes "INSTRUCTION_LENGTH") d.entity d.length (behind10 d opcodes access)
+
+registers_then : (d : Device) → GoodDevice d → registers_text d ++ (41 ∷ 34 ∷ text_then line_end (behind14 d)) ≡ behind9 d (opcode_strings d) (access_strings d)
 unfolding registers_text opcodes_text
 registers_then d g =
-    let access : attribute_text (codes "\";\n") (codes "REGISTER_ACCESS") d.entity (codes "\n    \"") ++ (access_text d.opcodes ++ (41 ∷ 34 ∷ text_then line_end (behind14 d))) ≡ 34 ∷ text_then line_end (behind13 d) =
-    attribute_then (codes "\";\n") (codes "REGISTER_ACCESS") d.entity 10 (32 ∷ 32 ∷ 32 ∷ 32 ∷ 34 ∷ []) (access_text d.opcodes ++ (41 ∷ 34 ∷ text_then line_end (behind14 d)))
-    ∙ ap (λ (t : List ℕ). 34 ∷ 59 ∷ 10 ∷ text_then (attribute_atoms (codes "REGISTER_ACCESS") d.entity 10) (32 ∷ 32 ∷ 32 ∷ 32 ∷ t)) (access_then d.opcodes (text_then line_end (behind14 d)) ∙ sym (text_then-append (strings_atoms (rebuilt_file d).access.strings) line_end (behind14 d))) in
-    let user = user_then d.entity d.usercode _ (behind13 d) access in
-    let code = code_then d.entity d.idcode _ (text_then (usercode_atoms d.entity d.usercode) (behind13 d)) user
-    ∙ ap (λ (t : List ℕ). 34 ∷ text_then line_end t) (sym (text_then-append (idcode_atoms d.entity d.idcode) (usercode_atoms d.entity d.usercode) (behind13 d))) in
-    let capture : attribute_text (codes "\";\n") (codes "INSTRUCTION_CAPTURE") d.entity (codes " \"") ++ (pattern_text d.capture ++ (34 ∷ text_then line_end (behind12 d))) ≡ 34 ∷ text_then line_end (behind11 d) =
-    attribute_then (codes "\";\n") (codes "INSTRUCTION_CAPTURE") d.entity 32 (34 ∷ []) (pattern_text d.capture ++ (34 ∷ text_then line_end (behind12 d))) in
-    let opcodes : attribute_text (codes ";\n") (codes "INSTRUCTION_OPCODE") d.entity (codes "\n    \"") ++ (separated_text next_string opcode_text d.opcodes ++ (34 ∷ text_then line_end (behind11 d))) ≡ text_then line_end (behind10 d) =
-    listed_then (codes ";\n") (codes "INSTRUCTION_OPCODE") d.entity (separated_text next_string opcode_text d.opcodes) (rebuilt_file d).opcodes.strings (behind11 d)
-    (strings_of_entries opcode_text opcode_bytes d.opcodes (map opcode_entry d.opcodes) (text_then line_end (behind11 d)) (opcodes_filled d.opcodes g.all) (opcodes_same d.opcodes)) in
     ten (attribute_text [] (codes "INSTRUCTION_LENGTH") d.entity (codes " ")) (decimal d.length) (attribute_text (codes ";\n") (codes "INSTRUCTION_OPCODE") d.entity (codes "\n    \"")) (separated_text next_string opcode_text d.opcodes)
     (attribute_text (codes "\";\n") (codes "INSTRUCTION_CAPTURE") d.entity (codes " \"")) (pattern_text d.capture) (idcode_text d.entity d.idcode) (usercode_text d.entity d.usercode) (attribute_text (codes "\";\n") (codes "REGISTER_ACCESS") d.entity (codes "\n    \"")) (access_text d.opcodes) (41 ∷ 34 ∷ text_then line_end (behind14 d))
-    ∙ ap (λ (t : List ℕ). attribute_text [] (codes "INSTRUCTION_LENGTH") d.entity (codes " ") ++ (decimal d.length ++ (attribute_text (codes ";\n") (codes "INSTRUCTION_OPCODE") d.entity (codes "\n    \"") ++ (separated_text next_string opcode_text d.opcodes ++ (attribute_text (codes "\";\n") (codes "INSTRUCTION_CAPTURE") d.entity (codes " \"") ++ (pattern_text d.capture ++ t)))))) code
-    ∙ ap (λ (t : List ℕ). attribute_text [] (codes "INSTRUCTION_LENGTH") d.entity (codes " ") ++ (decimal d.length ++ (attribute_text (codes ";\n") (codes "INSTRUCTION_OPCODE") d.entity (codes "\n    \"") ++ (separated_text next_string opcode_text d.opcodes ++ t)))) capture
-    ∙ ap (λ (t : List ℕ). attribute_text [] (codes "INSTRUCTION_LENGTH") d.entity (codes " ") ++ (decimal d.length ++ t)) opcodes
-    ∙ integer_then [] (codes "INSTRUCTION_LENGTH") d.entity d.length (behind10 d)
+    ∙ registers_by_then d (opcode_strings d) (access_strings d) (separated_text next_string opcode_text d.opcodes) (access_text d.opcodes)
+    (λ rest. strings_of_entries opcode_text opcode_bytes d.opcodes (map opcode_entry d.opcodes) rest (opcodes_filled d.opcodes g.all) (opcodes_same d.opcodes)) (access_then d.opcodes)
 
-tap_then : (d : Device) → tap_text d ++ behind9 d ≡ 34 ∷ text_then line_end (behind7 d)
+pub tap_then : (d : Device) (opcodes access : List (List ℕ)) → tap_text d ++ behind9 d opcodes access ≡ 34 ∷ text_then line_end (behind7 d opcodes access)
 unfolding tap_text
-tap_then d =
-    five (scan_in_text (port_name d.ports d.tdi)) (scan_mode_text (port_name d.ports d.tms)) (scan_out_text (port_name d.ports d.tdo)) (scan_reset_text (port_name d.ports d.trst)) (scan_clock_text (port_name d.ports d.tck) d.clock (stop_word d.stop)) (behind9 d)
-    ∙ ap (λ (t : List ℕ). scan_in_text (port_name d.ports d.tdi) ++ (scan_mode_text (port_name d.ports d.tms) ++ (scan_out_text (port_name d.ports d.tdo) ++ (scan_reset_text (port_name d.ports d.trst) ++ t)))) (clock_then (port_name d.ports d.tck) d.clock d.stop (behind9 d))
-    ∙ scans_then (port_name d.ports d.tdi) (port_name d.ports d.tms) (port_name d.ports d.tdo) (port_name d.ports d.trst) (behind8 d)
+tap_then d opcodes access =
+    five (scan_in_text (port_name d.ports d.tdi)) (scan_mode_text (port_name d.ports d.tms)) (scan_out_text (port_name d.ports d.tdo)) (scan_reset_text (port_name d.ports d.trst)) (scan_clock_text (port_name d.ports d.tck) d.clock (stop_word d.stop)) (behind9 d opcodes access)
+    ∙ ap (λ (t : List ℕ). scan_in_text (port_name d.ports d.tdi) ++ (scan_mode_text (port_name d.ports d.tms) ++ (scan_out_text (port_name d.ports d.tdo) ++ (scan_reset_text (port_name d.ports d.trst) ++ t)))) (clock_then (port_name d.ports d.tck) d.clock d.stop (behind9 d opcodes access))
+    ∙ scans_then (port_name d.ports d.tdi) (port_name d.ports d.tms) (port_name d.ports d.tdo) (port_name d.ports d.trst) (behind8 d opcodes access)
 
-head_then : (d : Device) → GoodDevice d → head_text d ++ (34 ∷ text_then line_end (behind7 d)) ≡ chain (section_atoms d)
+pub head_then : (d : Device) (opcodes access : List (List ℕ)) → GoodDevice d → head_text d ++ (34 ∷ text_then line_end (behind7 d opcodes access)) ≡ chain (section_atoms_by d opcodes access)
 unfolding head_text ports_text pin_map_text
-head_then d g =
+head_then d opcodes access g =
     let open_constant = λ (t : List ℕ). text_then use_atoms (text_then (conformance_atoms d.entity) (text_then (pin_map_atoms d.entity) (text_then (constant_open d.«package») (32 ∷ 32 ∷ 32 ∷ 32 ∷ t)))) in
-    let pins : 34 ∷ (separated_text next_string pin_entry_text d.ports ++ (34 ∷ text_then line_end (behind7 d))) ≡ text_then (strings_atoms (rebuilt_file d).pin_map ++ line_end) (behind7 d) =
-    strings_of_entries pin_entry_text pin_entry_bytes d.ports (map entry_of d.ports) (text_then line_end (behind7 d)) g.some_port (pins_same d.ports g.ports) ∙ sym (text_then-append (strings_atoms (rebuilt_file d).pin_map) line_end (behind7 d)) in
-    four (entity_text d.entity d.«package») (separated_text (codes ";\n") port_text d.ports) (conformance_text d.entity d.«package») (separated_text next_string pin_entry_text d.ports) (34 ∷ text_then line_end (behind7 d))
-    ∙ ap (λ (t : List ℕ). entity_text d.entity d.«package» ++ (separated_text (codes ";\n") port_text d.ports ++ t)) (conformance_then d.entity d.«package» (separated_text next_string pin_entry_text d.ports ++ (34 ∷ text_then line_end (behind7 d))) ∙ ap (λ (t : List ℕ). text_then port_close (open_constant t)) pins)
-    ∙ ap (λ (t : List ℕ). entity_text d.entity d.«package» ++ t) (ports_then d.ports (open_constant (text_then (strings_atoms (rebuilt_file d).pin_map ++ line_end) (behind7 d))) g.some_port)
-    ∙ entity_then d.entity d.«package» (text_then (ports_atoms d.ports) (open_constant (text_then (strings_atoms (rebuilt_file d).pin_map ++ line_end) (behind7 d))))
+    let pins : 34 ∷ (separated_text next_string pin_entry_text d.ports ++ (34 ∷ text_then line_end (behind7 d opcodes access))) ≡ text_then (strings_atoms (rebuilt_file d).pin_map ++ line_end) (behind7 d opcodes access) =
+    strings_of_entries pin_entry_text pin_entry_bytes d.ports (map entry_of d.ports) (text_then line_end (behind7 d opcodes access)) g.some_port (pins_same d.ports g.ports) ∙ sym (text_then-append (strings_atoms (rebuilt_file d).pin_map) line_end (behind7 d opcodes access)) in
+    four (entity_text d.entity d.«package») (separated_text (codes ";\n") port_text d.ports) (conformance_text d.entity d.«package») (separated_text next_string pin_entry_text d.ports) (34 ∷ text_then line_end (behind7 d opcodes access))
+    ∙ ap (λ (t : List ℕ). entity_text d.entity d.«package» ++ (separated_text (codes ";\n") port_text d.ports ++ t)) (conformance_then d.entity d.«package» (separated_text next_string pin_entry_text d.ports ++ (34 ∷ text_then line_end (behind7 d opcodes access))) ∙ ap (λ (t : List ℕ). text_then port_close (open_constant t)) pins)
+    ∙ ap (λ (t : List ℕ). entity_text d.entity d.«package» ++ t) (ports_then d.ports (open_constant (text_then (strings_atoms (rebuilt_file d).pin_map ++ line_end) (behind7 d opcodes access))) g.some_port)
+    ∙ entity_then d.entity d.«package» (text_then (ports_atoms d.ports) (open_constant (text_then (strings_atoms (rebuilt_file d).pin_map ++ line_end) (behind7 d opcodes access))))
   where
     four : (a b c e r : List ℕ) → (((a ++ b) ++ c) ++ e) ++ r ≡ a ++ (b ++ (c ++ (e ++ r)))
     four a b c e r = simp append_assoc
@@ -353,8 +367,8 @@ canonical_text d g =
     four (head_text d) (tap_text d) (registers_text d) (boundary_text d) (end_text d)
     ∙ ap (λ (t : List ℕ). head_text d ++ (tap_text d ++ (registers_text d ++ t))) (boundary_then d g)
     ∙ ap (λ (t : List ℕ). head_text d ++ (tap_text d ++ t)) (registers_then d g)
-    ∙ ap (λ (t : List ℕ). head_text d ++ t) (tap_then d)
-    ∙ head_then d g
+    ∙ ap (λ (t : List ℕ). head_text d ++ t) (tap_then d (opcode_strings d) (access_strings d))
+    ∙ head_then d (opcode_strings d) (access_strings d) g
   where
     four : (a b c e r : List ℕ) → (((a ++ b) ++ c) ++ e) ++ r ≡ a ++ (b ++ (c ++ (e ++ r)))
     four a b c e r = simp append_assoc

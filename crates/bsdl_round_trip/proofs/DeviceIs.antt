@@ -173,10 +173,9 @@ rows_are d s n =
       highz = sym (highz_same d) ∙ or_second ((a || b) || c) (highz_fails (rebuilt_contents d)) rules;
     }
 
--- A device that some text spells keeps the conditions.
-pub spelled_device : (bytes : List ℕ) (d : Device) → SpellsText bytes d → IsDevice d
-spelled_device bytes d spells =
-    let s = stands bytes d spells in
+-- A device whose canonical file can be written, breaks no rule and describes it keeps the conditions.
+pub standing_device : (d : Device) → Stands d → IsDevice d
+standing_device d s =
     let n = named_from d s in
     let code = code_from d.idcode (has_instruction (map opcode_entry d.opcodes) instr.Idcode) s.good.idcode s.keeps.idcode in
     let user = user_from d.idcode d.usercode (has_instruction (map opcode_entry d.opcodes) instr.Usercode) (has_instruction (map opcode_entry d.opcodes) instr.Idcode) s.good.usercode code.1 s.keeps.usercode in
@@ -193,3 +192,7 @@ spelled_device bytes d spells =
       user_beside = user.beside;
       rows = rows_are d s n.names;
     }
+
+-- So does a device that some text spells.
+pub spelled_device : (bytes : List ℕ) (d : Device) → SpellsText bytes d → IsDevice d
+spelled_device bytes d spells = standing_device d (stands bytes d spells)

@@ -41,7 +41,7 @@ use Rattle.bsdl_round_trip.proofs.Means.{Keeps}
 use Rattle.bsdl_round_trip.proofs.Again.{entity_named, with_parts, same_parts}
 use Rattle.bsdl_round_trip.proofs.ContentTexts.{IsRow, IsRowPort}
 use Rattle.bsdl_round_trip.proofs.Held.{GoodDevice, IsFileName, IsCode}
-use Rattle.bsdl_round_trip.proofs.ReadBack.{spells}
+use Rattle.bsdl_round_trip.proofs.ReadBack.{Stands, spells}
 use Rattle.bsdl_round_trip.proofs.Places.{AreNamed, place_at, scalar_at, scalar_within, tap_repeats_at}
 use Rattle.bsdl_round_trip.proofs.DeviceRows.{agree_rows, outputs_rows, PinThere, pin_there, rows_keep, not_once, bits_at, cells_at, rows_numbered, rows_many}
 use Rattle.bsdl_round_trip.proofs.DevicePorts.{name_good, bits_good, declared_good, ports_good, ports_named, names_same, widths_same, ports_filled, pins_same, mapped_once, entries_fit, own_ports_again, are_wide}
@@ -333,6 +333,10 @@ good d is =
       some_row = rows_filled d.ports d.cells is.rows.some;
     }
 
--- A device that keeps the conditions is spelled by its canonical text.
+-- A device that keeps the conditions has such a file.
+pub device_stands : (d : Device) → IsDevice d → Stands d
+device_stands d is = record { good = good d is; keeps = keeps_all d is; again = again d is }
+
+-- So its canonical text spells it.
 pub device_spelled : (d : Device) → IsDevice d → SpellsText (canonical_device d) d
-device_spelled d is = spells d (record { good = good d is; keeps = keeps_all d is; again = again d is })
+device_spelled d is = spells d (device_stands d is)

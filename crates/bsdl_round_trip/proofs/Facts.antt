@@ -32,7 +32,7 @@ use Rattle.bsdl_device.specs.Instructions.{instruction_named}
 use Rattle.bsdl_device.specs.Ports.{declared_ports, port_declared, range_of}
 use Rattle.bsdl_device.specs.Checks.{entry_pins}
 use Rattle.bsdl_device.specs.Denoted.{opcode_of}
-use Rattle.bsdl_device.specs.Spelled.{HasContents, HoldIdcode}
+use Rattle.bsdl_device.specs.Spelled.{HasContents, HoldPinMap, HoldOpcodes, HoldCapture, HoldIdcode, HoldRows}
 use Rattle.bsdl_round_trip.proofs.Good.{GoodToken, GoodPattern, GoodContent, GoodBits, GoodPin, good_tokens, good_words, all_contents, all_separated}
 use Rattle.bsdl_round_trip.proofs.Names.{all_to}
 use Rattle.bsdl_round_trip.proofs.Held.{IsFileName, IsSmallRange, IsCode}
@@ -155,15 +155,18 @@ code_good None (Some code) h = absurd h
 code_good (Some a) None h = absurd h
 code_good (Some a) (Some code) h = (all_contents (runs.BitsRun (record { len = 32; value = code }) ∷ []) (content_words (joined a.strings)) h (good_words (joined a.strings))).0
 
-pub contents_good : (f : File) (c : Contents) → HasContents f c → GoodContents c
-contents_good f c h = record {
-  pins = all_to c.pin_map entry_good (all_separated GoodContent comma pin_entry_words c.pin_map (all_contents (separated_by comma pin_entry_words c.pin_map) (content_words (joined f.pin_map)) h.pin_map.hold (good_words (joined f.pin_map))));
-  opcodes = all_to c.opcodes (λ o (k : AllByRecursion GoodContent (opcode_words o)). k.1.1.0) (all_separated GoodContent comma opcode_words c.opcodes (all_contents (separated_by comma opcode_words c.opcodes) (content_words (joined f.opcodes.strings)) h.opcodes.hold (good_words (joined f.opcodes.strings))));
-  capture = (all_contents (runs.BitsRun c.capture ∷ []) (content_words (joined f.capture.strings)) h.capture (good_words (joined f.capture.strings))).0;
-  idcode = code_good f.idcode c.idcode h.idcode;
-  usercode = code_good f.usercode c.usercode h.usercode;
-  rows = all_to c.rows row_good (all_separated GoodContent comma row_words c.rows (all_contents (separated_by comma row_words c.rows) (content_words (joined f.boundary.strings)) h.rows.hold (good_words (joined f.boundary.strings))));
+pub held_good : (f : File) (c : Contents) → HoldPinMap f.pin_map c.pin_map → HoldOpcodes f.opcodes.strings c.opcodes → HoldCapture f.capture.strings c.capture → HoldIdcode f.idcode c.idcode → HoldIdcode f.usercode c.usercode → HoldRows f.boundary.strings c.rows → GoodContents c
+held_good f c pin_map opcodes capture idcode usercode rows = record {
+  pins = all_to c.pin_map entry_good (all_separated GoodContent comma pin_entry_words c.pin_map (all_contents (separated_by comma pin_entry_words c.pin_map) (content_words (joined f.pin_map)) pin_map.hold (good_words (joined f.pin_map))));
+  opcodes = all_to c.opcodes (λ o (k : AllByRecursion GoodContent (opcode_words o)). k.1.1.0) (all_separated GoodContent comma opcode_words c.opcodes (all_contents (separated_by comma opcode_words c.opcodes) (content_words (joined f.opcodes.strings)) opcodes.hold (good_words (joined f.opcodes.strings))));
+  capture = (all_contents (runs.BitsRun c.capture ∷ []) (content_words (joined f.capture.strings)) capture (good_words (joined f.capture.strings))).0;
+  idcode = code_good f.idcode c.idcode idcode;
+  usercode = code_good f.usercode c.usercode usercode;
+  rows = all_to c.rows row_good (all_separated GoodContent comma row_words c.rows (all_contents (separated_by comma row_words c.rows) (content_words (joined f.boundary.strings)) rows.hold (good_words (joined f.boundary.strings))));
 }
+
+pub contents_good : (f : File) (c : Contents) → HasContents f c → GoodContents c
+contents_good f c h = held_good f c h.pin_map h.opcodes h.capture h.idcode h.usercode h.rows
 
 -- Lists of what is good.
 

@@ -24,7 +24,7 @@ use Rattle.bsdl_device.specs.Grammar.{pin_entry_words, opcode_words, access_word
 use Rattle.bsdl_device.specs.Canonical.{pattern_text}
 use Rattle.bsdl_device.specs.Runs.{is_identifier}
 use Rattle.bsdl_round_trip.proofs.Held.{IsFileName, IsSmallRange, IsDeclared, AreStrings, GoodDevice, entry_strings, code_are_strings, user_are_strings, bits_are_strings, pin_entries_are, opcodes_are, access_are, rows_are}
-use Rattle.bsdl_round_trip.proofs.Rebuilt.{direction_of, code_strings, user_strings, rebuilt_file, entry_of, opcode_entry, access_entries, row_entries}
+use Rattle.bsdl_round_trip.proofs.Rebuilt.{direction_of, code_strings, user_strings, opcode_strings, access_strings, rebuilt_file, entry_of, opcode_entry, access_entries, row_entries}
 
 -- Parts.
 
@@ -127,14 +127,18 @@ ident_atoms entity code user = idcode_atoms entity code ++ usercode_atoms entity
 abbrev pub end_atoms : List ℕ → List FileAtom
 end_atoms entity = Key (codes "end") ∷ Blank 32 ∷ Name entity ∷ line_end
 
-abbrev pub section_atoms : Device → List (List FileAtom)
-section_atoms d =
+-- with these strings of opcodes and of access
+abbrev pub section_atoms_by : Device → List (List ℕ) → List (List ℕ) → List (List FileAtom)
+section_atoms_by d opcodes access =
     entity_atoms d.entity ∷ generic_atoms d.«package» ∷ (port_open ++ ports_atoms d.ports) ∷ use_atoms ∷ conformance_atoms d.entity ∷ pin_map_atoms d.entity
     ∷ (constant_open d.«package» ++ (margin ++ (strings_atoms (rebuilt_file d).pin_map ++ line_end)))
     ∷ (tap_atoms (codes "TAP_SCAN_IN") (rebuilt_file d).tap.tdi ++ (tap_atoms (codes "TAP_SCAN_MODE") (rebuilt_file d).tap.tms ++ (tap_atoms (codes "TAP_SCAN_OUT") (rebuilt_file d).tap.tdo ++ tap_atoms (codes "TAP_SCAN_RESET") (rebuilt_file d).tap.trst)))
-    ∷ clock_atoms (rebuilt_file d).tap.tck d.clock d.stop ∷ integer_atoms (codes "INSTRUCTION_LENGTH") d.entity d.length ∷ listed_atoms (codes "INSTRUCTION_OPCODE") d.entity (rebuilt_file d).opcodes.strings
-    ∷ capture_atoms d.entity (pattern_text d.capture) ∷ ident_atoms d.entity d.idcode d.usercode ∷ listed_atoms (codes "REGISTER_ACCESS") d.entity (rebuilt_file d).access.strings
+    ∷ clock_atoms (rebuilt_file d).tap.tck d.clock d.stop ∷ integer_atoms (codes "INSTRUCTION_LENGTH") d.entity d.length ∷ listed_atoms (codes "INSTRUCTION_OPCODE") d.entity opcodes
+    ∷ capture_atoms d.entity (pattern_text d.capture) ∷ ident_atoms d.entity d.idcode d.usercode ∷ listed_atoms (codes "REGISTER_ACCESS") d.entity access
     ∷ integer_atoms (codes "BOUNDARY_LENGTH") d.entity (length d.cells) ∷ listed_atoms (codes "BOUNDARY_REGISTER") d.entity (rebuilt_file d).boundary.strings ∷ end_atoms d.entity ∷ []
+
+abbrev pub section_atoms : Device → List (List FileAtom)
+section_atoms d = section_atoms_by d (opcode_strings d) (access_strings d)
 
 -- Atoms that follow each other, from a free place to a free place.
 
@@ -269,8 +273,8 @@ user_is entity (Some code) name = listed_is (codes "USERCODE_REGISTER") entity (
 name_string : (name : List ℕ) → IsFileName name → list_all is_quotable name ≡ true
 name_string name is = ap (list_all is_quotable) (sym (append-nil name)) ∙ atoms_quotable (ContentName name ∷ []) (name_test name is, tt)
 
-pub sections_are : (d : Device) → GoodDevice d → AllByRecursion Section (section_atoms d)
-sections_are d g = (
+pub sections_are_by : (d : Device) → GoodDevice d → (opcodes access : List (List ℕ)) → AreStrings opcodes → AreStrings access → AllByRecursion Section (section_atoms_by d opcodes access)
+sections_are_by d g opcodes access os bs = (
   record { all = (refl, (refl, (g.entity, (refl, (refl, (refl, tt)))))); fits = refl; ends = refl },
   (
     record { all = (refl, (refl, (refl, (refl, (tt, (refl, (refl, (tt, (refl, (refl, (refl, (tt, (refl, (name_string d.«package» g.«package», (tt, (tt, (refl, tt))))))))))))))))); fits = refl; ends = refl },
@@ -293,13 +297,13 @@ sections_are d g = (
                   (
                     integer_is (codes "INSTRUCTION_LENGTH") d.entity d.length refl g.entity g.length,
                     (
-                      listed_is (codes "INSTRUCTION_OPCODE") d.entity (rebuilt_file d).opcodes.strings refl g.entity (entry_strings opcode_atoms opcode_words (map opcode_entry d.opcodes) (opcodes_are d.opcodes g.opcodes)),
+                      listed_is (codes "INSTRUCTION_OPCODE") d.entity opcodes refl g.entity os,
                       (
                         both (attribute_atoms (codes "INSTRUCTION_CAPTURE") d.entity 32) (String (pattern_text d.capture) ∷ line_end) (attribute_is (codes "INSTRUCTION_CAPTURE") d.entity 32 refl g.entity refl) (record { all = ((bits_are_strings d.capture).0, (tt, (refl, tt))); fits = refl; ends = refl }),
                         (
                           both (idcode_atoms d.entity d.idcode) (usercode_atoms d.entity d.usercode) (code_is d.entity d.idcode g.entity) (user_is d.entity d.usercode g.entity),
                           (
-                            listed_is (codes "REGISTER_ACCESS") d.entity (rebuilt_file d).access.strings refl g.entity (entry_strings access_atoms access_words (access_entries d.opcodes) (access_are d.opcodes)),
+                            listed_is (codes "REGISTER_ACCESS") d.entity access refl g.entity bs,
                             (
                               integer_is (codes "BOUNDARY_LENGTH") d.entity (length d.cells) refl g.entity g.count,
                               (
@@ -321,3 +325,12 @@ sections_are d g = (
     ),
   ),
 )
+
+pub opcode_strings_are : (d : Device) → GoodDevice d → AreStrings (opcode_strings d)
+opcode_strings_are d g = entry_strings opcode_atoms opcode_words (map opcode_entry d.opcodes) (opcodes_are d.opcodes g.opcodes)
+
+pub access_strings_are : (d : Device) → AreStrings (access_strings d)
+access_strings_are d = entry_strings access_atoms access_words (access_entries d.opcodes) (access_are d.opcodes)
+
+pub sections_are : (d : Device) → GoodDevice d → AllByRecursion Section (section_atoms d)
+sections_are d g = sections_are_by d g (opcode_strings d) (access_strings d) (opcode_strings_are d g) (access_strings_are d)

@@ -18,10 +18,10 @@ use Rattle.bsdl_device.specs.Shape as shape
 use Rattle.bsdl_device.specs.Shape.{Pattern, KeyWord, NameOf, StringOf, Mark, declaration_words, strings_words, joined, sections, file_words, IsFile, is_declaration}
 use Rattle.bsdl_device.specs.Spelled.{SpellsFile}
 use Rattle.bsdl_round_trip.proofs.FileAtoms.{FileAtom, file_patterns, patterns_of, pieces_of, atoms_match}
-use Rattle.bsdl_round_trip.proofs.Held.{GoodDevice, opcodes_filled, filled_map}
+use Rattle.bsdl_round_trip.proofs.Held.{GoodDevice, AreStrings, opcodes_filled, filled_map}
 use Rattle.bsdl_round_trip.proofs.EntryAtoms.{comma_strings, pin_entry_bytes, opcode_bytes, access_bytes, row_bytes}
-use Rattle.bsdl_round_trip.proofs.Rebuilt.{declaration_of, of_entity, code_strings, user_strings, rebuilt_file, entry_of, opcode_entry, access_entries, row_entries, written_range}
-use Rattle.bsdl_round_trip.proofs.FileTexts.{all_joined, sections_are, section_atoms, strings_atoms, line_end, margin, listed_atoms, port_atoms, port_end, port_close, ports_atoms, port_open, constant_open, idcode_atoms, usercode_atoms, ident_atoms}
+use Rattle.bsdl_round_trip.proofs.Rebuilt.{declaration_of, of_entity, code_strings, user_strings, opcode_strings, access_strings, rebuilt_by, rebuilt_file, entry_of, opcode_entry, access_entries, row_entries, written_range}
+use Rattle.bsdl_round_trip.proofs.FileTexts.{all_joined, sections_are_by, opcode_strings_are, access_strings_are, section_atoms_by, section_atoms, strings_atoms, line_end, margin, listed_atoms, port_atoms, port_end, port_close, ports_atoms, port_open, constant_open, idcode_atoms, usercode_atoms, ident_atoms}
 
 patterns_of-append : (xs ys : List FileAtom) → patterns_of (xs ++ ys) ≡ patterns_of xs ++ patterns_of ys
 patterns_of-append [] ys = refl
@@ -69,11 +69,11 @@ user_patterns : (entity : List ℕ) (code : Option ℕ) → patterns_of (usercod
 user_patterns entity None = refl
 user_patterns entity (Some code) = refl
 
-ident_patterns : (d : Device) → patterns_of (ident_atoms d.entity d.idcode d.usercode) ≡ shape.idcode_section (rebuilt_file d)
-ident_patterns d =
+ident_patterns : (d : Device) (opcodes access : List (List ℕ)) → patterns_of (ident_atoms d.entity d.idcode d.usercode) ≡ shape.idcode_section (rebuilt_by d opcodes access)
+ident_patterns d opcodes access =
     patterns_of-append (idcode_atoms d.entity d.idcode) (usercode_atoms d.entity d.usercode)
     ∙ ap (λ (l : List Pattern). l ++ patterns_of (usercode_atoms d.entity d.usercode)) (code_patterns d.entity d.idcode)
-    ∙ ap (λ (l : List Pattern). shape.code_words (rebuilt_file d) ++ l) (user_patterns d.entity d.usercode)
+    ∙ ap (λ (l : List Pattern). shape.code_words (rebuilt_by d opcodes access) ++ l) (user_patterns d.entity d.usercode)
 
 constant_patterns : (f : File) → patterns_of (constant_open f.«package» ++ (margin ++ (strings_atoms f.pin_map ++ line_end))) ≡ shape.constant_section f
 constant_patterns f = ap (λ (l : List Pattern). shape.constant_words f ++ l) (strings_patterns f.pin_map) ∙ sym (append_assoc (shape.constant_words f) (strings_words f.pin_map) (Mark Semicolon ∷ []))
@@ -90,8 +90,8 @@ joined_same [] (y ∷ ys) s = absurd s
 joined_same (x ∷ xs) [] s = absurd s
 joined_same (x ∷ xs) (y ∷ ys) s = ap (λ (l : List Pattern). l ++ joined xs) s.0 ∙ ap (λ (l : List Pattern). y ++ l) (joined_same xs ys s.1)
 
-sections_same : (d : Device) → Same (map patterns_of (section_atoms d)) (sections (rebuilt_file d))
-sections_same d = (
+sections_same : (d : Device) (opcodes access : List (List ℕ)) → Same (map patterns_of (section_atoms_by d opcodes access)) (sections (rebuilt_by d opcodes access))
+sections_same d opcodes access = (
   refl,
   (
     refl,
@@ -104,7 +104,7 @@ sections_same d = (
           (
             refl,
             (
-              constant_patterns (rebuilt_file d),
+              constant_patterns (rebuilt_by d opcodes access),
               (
                 refl,
                 (
@@ -112,12 +112,12 @@ sections_same d = (
                   (
                     refl,
                     (
-                      listed_patterns (codes "INSTRUCTION_OPCODE") (rebuilt_file d).opcodes,
+                      listed_patterns (codes "INSTRUCTION_OPCODE") (rebuilt_by d opcodes access).opcodes,
                       (
                         refl,
                         (
-                          ident_patterns d,
-                          (listed_patterns (codes "REGISTER_ACCESS") (rebuilt_file d).access, (refl, (listed_patterns (codes "BOUNDARY_REGISTER") (rebuilt_file d).boundary, (refl, tt)))),
+                          ident_patterns d opcodes access,
+                          (listed_patterns (codes "REGISTER_ACCESS") (rebuilt_by d opcodes access).access, (refl, (listed_patterns (codes "BOUNDARY_REGISTER") (rebuilt_by d opcodes access).boundary, (refl, tt)))),
                         ),
                       ),
                     ),
@@ -132,12 +132,13 @@ sections_same d = (
   ),
 )
 
-pub patterns_are : (d : Device) → patterns_of (joined (section_atoms d)) ≡ file_words (rebuilt_file d)
-patterns_are d = patterns_of-joined (section_atoms d) ∙ joined_same (map patterns_of (section_atoms d)) (sections (rebuilt_file d)) (sections_same d)
+pub patterns_are : (d : Device) (opcodes access : List (List ℕ)) → patterns_of (joined (section_atoms_by d opcodes access)) ≡ file_words (rebuilt_by d opcodes access)
+patterns_are d opcodes access =
+    patterns_of-joined (section_atoms_by d opcodes access) ∙ joined_same (map patterns_of (section_atoms_by d opcodes access)) (sections (rebuilt_by d opcodes access)) (sections_same d opcodes access)
 
 -- The file.
 
-strings_filled : {A : Type 0} (text : A → List ℕ) (xs : List A) → is_filled xs ≡ true → is_filled (comma_strings text xs) ≡ true
+pub strings_filled : {A : Type 0} (text : A → List ℕ) (xs : List A) → is_filled xs ≡ true → is_filled (comma_strings text xs) ≡ true
 strings_filled text [] h = absurd (cc)
 strings_filled text (x ∷ []) h = refl
 strings_filled text (x ∷ y ∷ xs) h = refl
@@ -169,23 +170,29 @@ user_filled : (entity : List ℕ) (code : Option ℕ) → option_map_or (λ (a :
 user_filled entity None = refl
 user_filled entity (Some code) = refl
 
-pub is_file : (d : Device) → GoodDevice d → is_filled d.opcodes ≡ true → IsFile (rebuilt_file d)
-is_file d g some = record {
+pub is_file : (d : Device) (opcodes access : List (List ℕ)) → GoodDevice d → is_filled opcodes ≡ true → is_filled access ≡ true → IsFile (rebuilt_by d opcodes access)
+is_file d opcodes access g some more = record {
   ports = declared_filled d.ports g.some_port;
   declarations = declared_all d.ports;
   pin_map = strings_filled pin_entry_bytes (map entry_of d.ports) (filled_map entry_of d.ports g.some_port);
-  opcodes = strings_filled opcode_bytes (map opcode_entry d.opcodes) (filled_map opcode_entry d.opcodes some);
+  opcodes = some;
   capture = refl;
   idcode = code_filled d.entity d.idcode;
   usercode = user_filled d.entity d.usercode;
-  access = strings_filled access_bytes (access_entries d.opcodes) refl;
+  access = more;
   boundary = strings_filled row_bytes (row_entries d.ports 0 d.cells) g.some_row;
 }
 
 -- The words of the atoms spell the file.
+pub spells_file_by : (d : Device) (opcodes access : List (List ℕ)) → GoodDevice d → AreStrings opcodes → AreStrings access → is_filled opcodes ≡ true → is_filled access ≡ true
+    → SpellsFile (plain (words_from 0 (pieces_of (joined (section_atoms_by d opcodes access))))) (rebuilt_by d opcodes access)
+spells_file_by d opcodes access g os bs some more =
+    let whole = all_joined (section_atoms_by d opcodes access) (sections_are_by d g opcodes access os bs) in record {
+      is = is_file d opcodes access g some more;
+      matches = subst (λ (ps : List Pattern). shape.Matches ps (plain (words_from 0 (pieces_of (joined (section_atoms_by d opcodes access)))))) (patterns_are d opcodes access) (atoms_match 0 (joined (section_atoms_by d opcodes access)) whole.all);
+    }
+
 pub spells_file : (d : Device) → GoodDevice d → SpellsFile (plain (words_from 0 (pieces_of (joined (section_atoms d))))) (rebuilt_file d)
 spells_file d g =
-    let whole = all_joined (section_atoms d) (sections_are d g) in record {
-      is = is_file d g (opcodes_filled d.opcodes g.all);
-      matches = subst (λ (ps : List Pattern). shape.Matches ps (plain (words_from 0 (pieces_of (joined (section_atoms d)))))) (patterns_are d) (atoms_match 0 (joined (section_atoms d)) whole.all);
-    }
+    spells_file_by d (opcode_strings d) (access_strings d) g (opcode_strings_are d g) (access_strings_are d) (strings_filled opcode_bytes (map opcode_entry d.opcodes) (filled_map opcode_entry d.opcodes (opcodes_filled d.opcodes g.all)))
+    (strings_filled access_bytes (access_entries d.opcodes) refl)

@@ -148,7 +148,7 @@ is_name name = is_identifier name && not (is_reserved name)
 
 abbrev pub GoodContent : runs.ContentPattern → Type 0
 GoodContent (runs.KeyRun w) = Unit {0}
-GoodContent (runs.IdentifierRun name) = Unit {0}
+GoodContent (runs.IdentifierRun name) = is_identifier name ≡ true
 GoodContent (runs.NameRun name) = is_name name ≡ true
 GoodContent (runs.PinRun pin) = GoodPin pin
 GoodContent (runs.IntegerRun value) = value < 10 ^ 9
@@ -182,7 +182,8 @@ bits_good run bits false is h = absurd (cc)
 
 content_good : (p : runs.ContentPattern) (w : ContentWord) → GoodWord w → runs.Fits p w → GoodContent p
 content_good (runs.KeyRun k) w good fits = tt
-content_good (runs.IdentifierRun k) w good fits = tt
+content_good (runs.IdentifierRun name) (Run run) good fits = (run_good is_identifier run name (is_identifier run) refl fits).0
+content_good (runs.IdentifierRun name) (Other b) good fits = absurd (cc)
 content_good (runs.NameRun name) (Run run) good fits = (run_good is_name run name (is_name run) refl fits).0
 content_good (runs.NameRun name) (Other b) good fits = absurd (cc)
 content_good (runs.PinRun pin) (Run run) good fits = let r = run_good is_pin run pin (is_pin run) refl fits in record { short = r.0; bytes = subst (λ (l : List ℕ). list_all is_name_byte l ≡ true) r.1 good }

@@ -6,7 +6,8 @@ use Rattle.std.specs.Option.{option_map, option_map_or}
 use Rattle.list_laws.proofs.Tests.{or_first, or_second}
 use Rattle.bsdl_lexicon.specs.Names.{is_same_name}
 use Rattle.bsdl_lexicon.specs.Words.{plain}
-use Rattle.bsdl_lexicon.specs.Pieces.{words_from}
+use Rattle.bsdl_lexicon.specs.declared.token.BsdlSpanned.{BsdlSpanned}
+use Rattle.bsdl_lexicon.specs.Pieces.{words_of, words_from}
 use Rattle.bsdl_device.specs.declared.values.PortRange.{PortRange}
 use Rattle.bsdl_device.specs.declared.values.PortMode.{PortMode}
 use Rattle.bsdl_device.specs.declared.values.PortMode.TheVariants as mode
@@ -25,7 +26,7 @@ use Rattle.bsdl_device.specs.Grammar.{has_pins}
 use Rattle.bsdl_device.specs.Ports.{declared_ports, port_named, is_mode}
 use Rattle.bsdl_device.specs.Checks.{has_pins_for, entry_pins, is_scalar_port, tap_port_misfits, tap_names, is_repeated, is_numbered, numbers_misfit}
 use Rattle.bsdl_device.specs.Denoted.{device_of, port_of, place_of, ordered_rows}
-use Rattle.bsdl_device.specs.Spelled.{SpellsText}
+use Rattle.bsdl_device.specs.Spelled.{SpellsFile, SpellsText}
 use Rattle.bsdl_device.specs.Canonical.{port_name, canonical_device}
 use Rattle.bsdl_round_trip.specs.Laws.{CanonicalReadsBack}
 use Rattle.bsdl_round_trip.proofs.Good.{GoodPin, all_patterns}
@@ -173,16 +174,23 @@ spells d s =
       };
     }
 
+-- that of a file whose parts are good and that breaks no rule is one
+pub stands_by : (f : File) (c : Contents) → GoodFile f → GoodContents c → is_filled (declared_ports f) ≡ true → Keeps f c → Stands (device_of f c)
+stands_by f c gf gc some k =
+    let p : Parts f c = parts f c k in
+    record { good = good f c gf gc some k p; keeps = keeps_again f c k p; again = device_again f c p }
+
+-- the parts of a file whose words a text has are good
+pub spelled_file_good : (bytes : List ℕ) (words : List BsdlSpanned) (f : File) → words_of bytes words → SpellsFile (plain words) f → GoodFile f
+spelled_file_good bytes words f cut spells = file_good f (all_patterns (file_words f) (plain words) spells.matches (tokens_good bytes words cut))
+
 -- a device that a text spells is one
 pub stands : (bytes : List ℕ) (d : Device) → SpellsText bytes d → Stands d
 stands bytes d s =
     let f = s.spells.file in
     let c = s.spells.contents in
-    let k : Keeps f c = keeps f c s.spells.means in
-    let p : Parts f c = parts f c k in
-    let gf : GoodFile f = file_good f (all_patterns (file_words f) (plain s.words) s.spells.spells.matches (tokens_good bytes s.words s.cut)) in
-    let g : GoodDevice (device_of f c) = good f c gf (contents_good f c s.spells.holds) (some_port f s.spells.spells.is) k p in
-    subst (λ (e : Device). Stands e) (sym s.spells.device_is) (record { good = g; keeps = keeps_again f c k p; again = device_again f c p })
+    let here : Stands (device_of f c) = stands_by f c (spelled_file_good bytes s.words f s.cut s.spells.spells) (contents_good f c s.spells.holds) (some_port f s.spells.spells.is) (keeps f c s.spells.means) in
+    subst (λ (e : Device). Stands e) (sym s.spells.device_is) here
 
 pub canonical_reads_back : CanonicalReadsBack
 canonical_reads_back bytes d s = spells d (stands bytes d s)

@@ -108,8 +108,9 @@ tap_of d = record { tdi = port_name d.ports d.tdi; tms = port_name d.ports d.tms
 abbrev pub of_entity : List ℕ → List (List ℕ) → StringAttribute
 of_entity entity strings = record { entity = entity; strings = strings }
 
-abbrev pub rebuilt_file : Device → File
-rebuilt_file d = record {
+-- the file with these strings of opcodes and of access
+abbrev pub rebuilt_by : Device → List (List ℕ) → List (List ℕ) → File
+rebuilt_by d opcodes access = record {
   entity = d.entity;
   default_package = d.«package»;
   declarations = map declaration_of d.ports;
@@ -121,15 +122,24 @@ rebuilt_file d = record {
   clock = d.clock;
   stop = d.stop;
   length = record { entity = d.entity; value = d.length };
-  opcodes = of_entity d.entity (comma_strings opcode_bytes (map opcode_entry d.opcodes));
+  opcodes = of_entity d.entity opcodes;
   capture = of_entity d.entity (pattern_text d.capture ∷ []);
   idcode = option_map (λ code. of_entity d.entity (code_strings code)) d.idcode;
   usercode = option_map (λ code. of_entity d.entity (user_strings code)) d.usercode;
-  access = of_entity d.entity (comma_strings access_bytes (access_entries d.opcodes));
+  access = of_entity d.entity access;
   boundary_length = record { entity = d.entity; value = length d.cells };
   boundary = of_entity d.entity (comma_strings row_bytes (row_entries d.ports 0 d.cells));
   end = d.entity;
 }
+
+abbrev pub opcode_strings : Device → List (List ℕ)
+opcode_strings d = comma_strings opcode_bytes (map opcode_entry d.opcodes)
+
+abbrev pub access_strings : Device → List (List ℕ)
+access_strings d = comma_strings access_bytes (access_entries d.opcodes)
+
+abbrev pub rebuilt_file : Device → File
+rebuilt_file d = rebuilt_by d (opcode_strings d) (access_strings d)
 
 -- Ports.
 

@@ -6,6 +6,6 @@
 #![tactic(auto)]
 
 mod check_texts;
-mod checking;
+mod command;
 
-pub use checking::Check;
+pub use command::Check;

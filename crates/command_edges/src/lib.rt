@@ -15,15 +15,15 @@
 // By the contract of these calls.
 #![tactic(auto)]
 
+mod inputs;
 mod libraries;
-mod reading;
-mod taking;
+mod reads;
 mod tasks;
-mod writing;
+mod writes;
 
 pub use command_faults as lower_command_faults;
+pub use inputs::{take_first, take_one, take_three, take_two};
 pub use libraries::library_of;
-pub use reading::{read_all, read_text};
-pub use taking::{take_first, take_one, take_three, take_two};
+pub use reads::{read_all, read_text};
 pub use tasks::{Made, TextCommand, run_task};
-pub use writing::{put_text, write_all, write_text};
+pub use writes::{put_text, write_all, write_text};

@@ -8,8 +8,8 @@ ghost use Rattle.command_edges.specs.Seen.{shelf_seen, sink_seen};
 ghost use Rattle.command_edges.specs.Texts.{AreWritten};
 ghost use Rattle.command_edges.specs.Tasks.{Completes, Finishes, IsPut, Keeps, Stands, StandsInGiving, Task};
 
-use crate::reading::read_all;
-use crate::writing::{put_text, write_all};
+use crate::reads::read_all;
+use crate::writes::{put_text, write_all};
 use command_faults::{Fault, Status};
 use edge_io::shelf::Shelf;
 use edge_io::sink::Sink;

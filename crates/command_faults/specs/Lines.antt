@@ -16,6 +16,8 @@ use Rattle.event_scripts.specs.declared.fault.ScriptFault.{ScriptFault}
 use Rattle.event_scripts.specs.declared.fault.ScriptFault.TheVariants as script
 use Rattle.bsdl_device.specs.declared.fault.DeviceTextFault.{DeviceTextFault}
 use Rattle.bsdl_device.specs.declared.fault.DeviceTextFault.TheVariants as device
+use Rattle.extended_texts.specs.declared.fault.ExtendedTextFault.{ExtendedTextFault}
+use Rattle.extended_texts.specs.declared.fault.ExtendedTextFault.TheVariants as extended
 use Rattle.plan_texts.specs.declared.fault.PlanFault.{PlanFault}
 use Rattle.plan_texts.specs.declared.fault.PlanFault.TheVariants as plan
 use Rattle.plan_fitting.specs.declared.fault.FitFault.{FitFault}
@@ -108,6 +110,13 @@ device_line (device.BsdlSyntax place word) = word_line (codes "BsdlSyntax") plac
 device_line (device.BsdlMeaning kind place) = words_line (codes "BsdlMeaning") (kind_word kind ∷ decimal place ∷ [])
 device_line device.OutOfMemory = memory_line
 
+abbrev pub extended_line : ExtendedTextFault → List ℕ
+extended_line (extended.BsdlWord place) = place_line (codes "BsdlWord") place
+extended_line (extended.BsdlSyntax place word) = word_line (codes "BsdlSyntax") place word
+extended_line (extended.BsdlMeaning kind place) = words_line (codes "BsdlMeaning") (kind_word kind ∷ decimal place ∷ [])
+extended_line (extended.BsdlExtra place) = place_line (codes "BsdlExtra") place
+extended_line extended.OutOfMemory = memory_line
+
 abbrev pub plan_line : PlanFault → List ℕ
 plan_line (plan.PlanLine line) = place_line (codes "PlanLine") line
 plan_line (plan.PlanTwice word) = named_line (codes "PlanTwice") word
@@ -138,6 +147,7 @@ line_of (fault.Library f) = library_line f
 line_of (fault.Events f) = event_line f
 line_of (fault.Script f) = script_line f
 line_of (fault.Device f) = device_line f
+line_of (fault.Extended f) = extended_line f
 line_of (fault.Plan f) = plan_line f
 line_of (fault.Fit f) = fit_line f
 line_of (fault.TooMany what count limit) = many_line (what_word what) count limit

@@ -18,6 +18,8 @@ use Rattle.event_scripts.specs.declared.fault.ScriptFault.{ScriptFault}
 use Rattle.event_scripts.specs.declared.fault.ScriptFault.TheVariants as script
 use Rattle.bsdl_device.specs.declared.fault.DeviceTextFault.{DeviceTextFault}
 use Rattle.bsdl_device.specs.declared.fault.DeviceTextFault.TheVariants as device
+use Rattle.extended_texts.specs.declared.fault.ExtendedTextFault.{ExtendedTextFault}
+use Rattle.extended_texts.specs.declared.fault.ExtendedTextFault.TheVariants as extended
 use Rattle.plan_texts.specs.declared.fault.PlanFault.{PlanFault}
 use Rattle.plan_texts.specs.declared.fault.PlanFault.TheVariants as plan
 use Rattle.plan_fitting.specs.declared.fault.FitFault.{FitFault}
@@ -51,6 +53,10 @@ abbrev pub device_status : DeviceTextFault → Status
 device_status device.OutOfMemory = status.Memory
 device_status f = status.Refused
 
+abbrev pub extended_status : ExtendedTextFault → Status
+extended_status extended.OutOfMemory = status.Memory
+extended_status f = status.Refused
+
 abbrev pub plan_status : PlanFault → Status
 plan_status plan.OutOfMemory = status.Memory
 plan_status f = status.Refused
@@ -71,6 +77,7 @@ status_of (fault.Library f) = library_status f
 status_of (fault.Events f) = event_status f
 status_of (fault.Script f) = script_status f
 status_of (fault.Device f) = device_status f
+status_of (fault.Extended f) = extended_status f
 status_of (fault.Plan f) = plan_status f
 status_of (fault.Fit f) = fit_status f
 status_of (fault.TooMany what count limit) = status.Refused

@@ -7,6 +7,7 @@ use bsdl_device::DeviceTextFault;
 use cell_text::LibFault;
 use edge_io::OutOfMemory;
 use event_scripts::ScriptFault;
+use extended_texts::ExtendedTextFault;
 use hier_model::HierFault;
 use link_model::LinkFault;
 use netlist_model::What;
@@ -48,6 +49,9 @@ pub enum Fault<'a> {
     /// A BSDL text is no device.
     #[error("{0}")]
     Device(DeviceTextFault),
+    /// A BSDL text is no device, nor one with registers of its own.
+    #[error("{0}")]
+    Extended(ExtendedTextFault),
     /// A text is no plan.
     #[error("{0}")]
     Plan(PlanFault),
@@ -122,6 +126,14 @@ impl From<DeviceTextFault> for Fault<'_> {
     }
 }
 
+impl From<ExtendedTextFault> for Fault<'_> {
+    ghost from_gives = { λ fault given. given ≡ made.Extended fault };
+
+    fn from(fault: ExtendedTextFault) -> Self {
+        Fault::Extended(fault)
+    }
+}
+
 impl From<OutOfMemory> for Fault<'_> {
     ghost from_gives = { λ _ given. given ≡ made.OutOfMemory };
 
@@ -146,6 +158,7 @@ impl Fault<'_> {
             | Fault::Events(EventFault::OutOfMemory)
             | Fault::Script(ScriptFault::OutOfMemory)
             | Fault::Device(DeviceTextFault::OutOfMemory)
+            | Fault::Extended(ExtendedTextFault::OutOfMemory)
             | Fault::Plan(PlanFault::OutOfMemory)
             | Fault::Fit(FitFault::OutOfMemory)
             | Fault::OutOfMemory => Status::Memory,
@@ -156,6 +169,7 @@ impl Fault<'_> {
             | Fault::Events(_)
             | Fault::Script(_)
             | Fault::Device(_)
+            | Fault::Extended(_)
             | Fault::Plan(_)
             | Fault::Fit(_)
             | Fault::TooMany { .. }

@@ -7,7 +7,8 @@ use crate::library_lines::put_library_fault;
 use crate::link_lines::{put_link_fault, put_named};
 use crate::plan_lines::{put_fit_fault, put_plan_fault};
 use crate::text_lines::{
-    put_device_fault, put_event_fault, put_many, put_memory, put_script_fault, put_text_fault,
+    put_device_fault, put_event_fault, put_extended_fault, put_many, put_memory, put_script_fault,
+    put_text_fault,
 };
 use edge_io::sink::Sink;
 use edge_io::whole::WriteFault;
@@ -30,6 +31,7 @@ pub fn put_fault<O: Sink>(out: &mut O, fault: &Fault) -> Result<(), WriteFault>
         Fault::Events(fault) => put_event_fault(out, fault),
         Fault::Script(fault) => put_script_fault(out, fault),
         Fault::Device(fault) => put_device_fault(out, fault),
+        Fault::Extended(fault) => put_extended_fault(out, fault),
         Fault::Plan(fault) => put_plan_fault(out, fault),
         Fault::Fit(fault) => put_fit_fault(out, fault),
         Fault::TooMany { what, count, limit } => put_many(out, *what, *count, *limit),

@@ -10,6 +10,7 @@ use bsdl_device::{DeviceTextFault, MeaningKind};
 use edge_io::sink::Sink;
 use edge_io::whole::WriteFault;
 use event_scripts::ScriptFault;
+use extended_texts::ExtendedTextFault;
 use netlist_model::What;
 use output_lines::{Field, put_line};
 use scan_vectors::EventFault;
@@ -146,5 +147,20 @@ pub fn put_device_fault<O: Sink>(out: &mut O, fault: &DeviceTextFault) -> Result
         DeviceTextFault::BsdlSyntax { place, word } => put_word(out, b"BsdlSyntax", *place, *word),
         DeviceTextFault::BsdlMeaning { kind, place } => put_meaning(out, *kind, *place),
         DeviceTextFault::OutOfMemory => put_memory(out),
+    }
+}
+
+/// Puts the line of a text that is no device with registers of its own.
+pub fn put_extended_fault<O: Sink>(out: &mut O, fault: &ExtendedTextFault) -> Result<(), WriteFault>
+    ensures { Puts O.given O.faults out.old out.new (lines.extended_line fault.now) result }
+{
+    match fault {
+        ExtendedTextFault::BsdlWord { place } => put_place(out, b"BsdlWord", *place),
+        ExtendedTextFault::BsdlSyntax { place, word } => {
+            put_word(out, b"BsdlSyntax", *place, *word)
+        }
+        ExtendedTextFault::BsdlMeaning { kind, place } => put_meaning(out, *kind, *place),
+        ExtendedTextFault::BsdlExtra { place } => put_place(out, b"BsdlExtra", *place),
+        ExtendedTextFault::OutOfMemory => put_memory(out),
     }
 }

@@ -7,8 +7,8 @@
 #![tactic(auto)]
 
 mod canonical_texts;
+mod command;
 mod conversion;
-mod converting;
 
+pub use command::Convert;
 pub use conversion::Conversion;
-pub use converting::Convert;

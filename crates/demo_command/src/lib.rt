@@ -6,9 +6,9 @@
 // By the contract of `make`.
 #![tactic(auto)]
 
+mod command;
 mod demo_texts;
-mod demonstrating;
 mod laws;
 
-pub use demonstrating::Demo;
+pub use command::Demo;
 pub use insert_command::Insert;

@@ -9,7 +9,7 @@
 // By the contract of `make`.
 #![tactic(auto)]
 
+mod command;
 mod flat_texts;
-mod flattening;
 
-pub use flattening::Flatten;
+pub use command::Flatten;

@@ -3,7 +3,7 @@ use Rattle.std.proofs.Common.{inl, inr}
 use Rattle.command_faults.specs.declared.fault.Fault.{Fault}
 use Rattle.command_faults.specs.declared.fault.Fault.TheVariants as fault
 use Rattle.command_faults.specs.declared.status.Status.TheVariants as status
-use Rattle.command_faults.specs.Statuses.{status_of, text_status, hier_status, link_status, library_status, event_status, script_status, device_status, plan_status, fit_status}
+use Rattle.command_faults.specs.Statuses.{status_of, text_status, hier_status, link_status, library_status, event_status, script_status, device_status, extended_status, plan_status, fit_status}
 use Rattle.verilog_texts.specs.declared.fault.TextFault.{TextFault}
 use Rattle.verilog_texts.specs.declared.fault.TextFault.TheVariants as text
 use Rattle.hier_model.specs.declared.fault.HierFault.{HierFault}
@@ -18,6 +18,8 @@ use Rattle.event_scripts.specs.declared.fault.ScriptFault.{ScriptFault}
 use Rattle.event_scripts.specs.declared.fault.ScriptFault.TheVariants as script
 use Rattle.bsdl_device.specs.declared.fault.DeviceTextFault.{DeviceTextFault}
 use Rattle.bsdl_device.specs.declared.fault.DeviceTextFault.TheVariants as device
+use Rattle.extended_texts.specs.declared.fault.ExtendedTextFault.{ExtendedTextFault}
+use Rattle.extended_texts.specs.declared.fault.ExtendedTextFault.TheVariants as extended
 use Rattle.plan_texts.specs.declared.fault.PlanFault.{PlanFault}
 use Rattle.plan_texts.specs.declared.fault.PlanFault.TheVariants as plan
 use Rattle.plan_fitting.specs.declared.fault.FitFault.{FitFault}
@@ -72,6 +74,10 @@ device_apart : (f : DeviceTextFault) → IsEnd (device_status f) → ⊥
 device_apart device.OutOfMemory end = memory_apart end
 device_apart f end = refused_apart end
 
+extended_apart : (f : ExtendedTextFault) → IsEnd (extended_status f) → ⊥
+extended_apart extended.OutOfMemory end = memory_apart end
+extended_apart f end = refused_apart end
+
 plan_apart : (f : PlanFault) → IsEnd (plan_status f) → ⊥
 plan_apart plan.OutOfMemory end = memory_apart end
 plan_apart f end = refused_apart end
@@ -92,6 +98,7 @@ fault_apart (fault.Library f) end = library_apart f end
 fault_apart (fault.Events f) end = event_apart f end
 fault_apart (fault.Script f) end = script_apart f end
 fault_apart (fault.Device f) end = device_apart f end
+fault_apart (fault.Extended f) end = extended_apart f end
 fault_apart (fault.Plan f) end = plan_apart f end
 fault_apart (fault.Fit f) end = fit_apart f end
 fault_apart (fault.TooMany what count limit) end = refused_apart end

@@ -14,6 +14,7 @@ abbrev from_two : List ℕ → List ℕ → List ℕ → Option Form
 from_two word a b =
     if bytes_eq word (codes "canon") then Some (Form.Converts Canon a b)
     else if bytes_eq word (codes "showbsdl") then Some (Form.Converts ShowBsdl a b)
+    else if bytes_eq word (codes "statusbsdl") then Some (Form.ShowsStatus a b)
     else if bytes_eq word (codes "sim") then Some (Form.Simulates a b None)
     else Some (Form.MakesVectors a b)
 
@@ -47,6 +48,7 @@ form_from (word ∷ a ∷ b ∷ c ∷ d ∷ e ∷ f ∷ more) = None
 from_words : (words : List (List ℕ)) (form : Form) → HasWords words form → form_from words ≡ Some form
 from_words words (Form.Converts Canon input output) are = ap form_from are
 from_words words (Form.Converts ShowBsdl input output) are = ap form_from are
+from_words words (Form.ShowsStatus input output) are = ap form_from are
 from_words words (Form.Flattens input top output None) are = ap form_from are
 from_words words (Form.Flattens input top output (Some library)) are = ap form_from are
 from_words words (Form.Simulates netlist events None) are = ap form_from are

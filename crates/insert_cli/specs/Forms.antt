@@ -11,6 +11,7 @@ use Rattle.convert_command.specs.declared.conversion.Conversion.TheVariants as c
 -- a command with the names of its files
 pub data Form : Type 0 where
   Converts : (c : Conversion) (input output : List ℕ) → Form
+  ShowsStatus : (input output : List ℕ) → Form
   Flattens : (input top output : List ℕ) (library : Option (List ℕ)) → Form
   Simulates : (netlist events : List ℕ) (library : Option (List ℕ)) → Form
   Inserts : (netlist plan outnet outbsdl : List ℕ) (library : Option (List ℕ)) → Form
@@ -31,11 +32,12 @@ pub record IsNumeral (digits : List ℕ) (number : ℕ) : Type 0 where
   pub are_digits : IsTrue (list_all is_digit digits)
   pub value : number ≡ value_after 10 0 digits
 
--- `canon IN OUT`, `showbsdl IN OUT`, `sim NET EVENTS`, `insert NET PLAN OUTNET OUTBSDL`, `strip NET BSDL OUTNET OUTPLAN`,
+-- `canon IN OUT`, `showbsdl IN OUT`, `statusbsdl IN OUT`, `sim NET EVENTS`, `insert NET PLAN OUTNET OUTBSDL`, `strip NET BSDL OUTNET OUTPLAN`,
 -- `vectors BSDL OUT`, `check NET BSDL EVENTS`, `flatten IN TOP OUT`, where TOP is a module's name and no file, and
 -- `demo NUMBER OUTNET OUTBSDL`; behind those of `flatten`, `sim`, `insert`, `strip` and `check` the word LIB may stand
 abbrev pub HasWords : List (List ℕ) → Form → Type 0
 HasWords words (Form.Converts c input output) = words ≡ conversion_word c ∷ input ∷ output ∷ []
+HasWords words (Form.ShowsStatus input output) = words ≡ codes "statusbsdl" ∷ input ∷ output ∷ []
 HasWords words (Form.Flattens input top output library) = words ≡ codes "flatten" ∷ input ∷ top ∷ output ∷ names_if library
 HasWords words (Form.Simulates netlist events library) = words ≡ codes "sim" ∷ netlist ∷ events ∷ names_if library
 HasWords words (Form.Inserts netlist plan outnet outbsdl library) = words ≡ codes "insert" ∷ netlist ∷ plan ∷ outnet ∷ outbsdl ∷ names_if library

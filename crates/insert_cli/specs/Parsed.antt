@@ -7,6 +7,7 @@ use Rattle.insert_cli.specs.Forms.{Form, HasWords, HasForm, IsNoCommand, IsNumer
 
 abbrev pub form_of : Command → Form
 form_of (command.Convert conversion input output) = Form.Converts conversion input.now output.now
+form_of (command.StatusBsdl input output) = Form.ShowsStatus input.now output.now
 form_of (command.Flatten input top output library) = Form.Flattens input.now top.now output.now (name_of library)
 form_of (command.Sim netlist events library) = Form.Simulates netlist.now events.now (name_of library)
 form_of (command.Insert netlist plan outnet outbsdl library) = Form.Inserts netlist.now plan.now outnet.now outbsdl.now (name_of library)

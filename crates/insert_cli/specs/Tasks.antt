@@ -2,6 +2,7 @@
 use Rattle.std.specs.Prelude.{ℕ, List}
 use Rattle.command_edges.specs.Tasks.{Task}
 use Rattle.convert_command.specs.Tasks.{convert_task}
+use Rattle.extended_command.specs.Tasks.{statusbsdl_task}
 use Rattle.flatten_command.specs.Tasks.{flatten_task}
 use Rattle.sim_command.specs.Tasks.{sim_task}
 use Rattle.demo_command.specs.InsertTasks.{insert_task}
@@ -13,6 +14,7 @@ use Rattle.insert_cli.specs.Forms.{Form}
 
 abbrev pub task_of : Form → Task
 task_of (Form.Converts c input output) = convert_task c input output
+task_of (Form.ShowsStatus input output) = statusbsdl_task input output
 task_of (Form.Flattens input top output library) = flatten_task input top output library
 task_of (Form.Simulates netlist events library) = sim_task netlist events library
 task_of (Form.Inserts netlist plan outnet outbsdl library) = insert_task netlist plan outnet outbsdl library

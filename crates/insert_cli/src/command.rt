@@ -17,6 +17,11 @@ pub enum Command<'a> {
         input: &'a str,
         output: &'a str,
     },
+    /// Writes the canonical text of a device that may have registers of its own.
+    StatusBsdl {
+        input: &'a str,
+        output: &'a str,
+    },
     /// Writes the flat module of the module of a name, of those of a text, with the library of another if there is one.
     Flatten {
         input: &'a str,
@@ -99,6 +104,10 @@ fn of_two<'a>(word: &str, first: &'a str, second: &'a str) -> Option<Command<'a>
         }),
         "showbsdl" => Some(Command::Convert {
             conversion: Conversion::ShowBsdl,
+            input: first,
+            output: second,
+        }),
+        "statusbsdl" => Some(Command::StatusBsdl {
             input: first,
             output: second,
         }),

@@ -71,6 +71,7 @@ pub fn same_name<'a>(command: Command<'a>) -> Option<&'a str>
 {
     match command {
         Command::Convert { input, output, .. } => taken(output, input),
+        Command::StatusBsdl { input, output } => taken(output, input),
         Command::Flatten {
             input,
             output,

@@ -10,8 +10,8 @@ ghost use Rattle.insert_cli.specs.Meets.{MissesNothing};
 ghost use Rattle.insert_cli.specs.Names.{Writes};
 
 use crate::command::command_of;
+use crate::dispatch::run_command;
 use crate::names::same_name;
-use crate::running::run_command;
 use crate::words::WordList;
 use cell_text::texts_of_libraries_are_spelled_or_at_fault;
 use command_faults::{Fault, Status, put_fault};

@@ -5,11 +5,11 @@
 // By the contract of `make` and its law functions.
 #![tactic(auto)]
 
+mod command;
 mod inserted_texts;
-mod inserting;
 mod laws;
 
+pub use command::Insert;
 pub use inserted_texts::{fault_of, written_and_put};
-pub use inserting::Insert;
 pub use insertions::{InsertFault, Inserted, insert_texts};
 pub use laws::free_texts_want_memory;

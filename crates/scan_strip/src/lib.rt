@@ -12,10 +12,10 @@
 #![tactic(auto)]
 
 mod again;
+mod answer;
 mod fault;
 mod laws;
-mod stripping;
 
+pub use answer::{Stripped, strip, strip_tree};
 pub use fault::StripFault;
 pub use laws::insertions_are_stripped;
-pub use stripping::{Stripped, strip, strip_tree};

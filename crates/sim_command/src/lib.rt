@@ -8,8 +8,8 @@
 #![tactic(auto)]
 
 mod laws;
-mod playing;
-mod simulating;
+mod plays;
+mod simulation;
 
 pub use laws::simulation_faults_stand_apart;
-pub use simulating::simulate;
+pub use simulation::simulate;

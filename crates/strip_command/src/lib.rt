@@ -7,9 +7,9 @@
 // By the contract of `make` and its law function.
 #![tactic(auto)]
 
+mod command;
 mod laws;
 mod stripped_texts;
-mod stripping;
 
+pub use command::Strip;
 pub use laws::stripping_faults_stand_apart;
-pub use stripping::Strip;

@@ -5,7 +5,7 @@
 // By the contract of `make`.
 #![tactic(auto)]
 
+mod command;
 mod program_texts;
-mod writing;
 
-pub use writing::Vectors;
+pub use command::Vectors;

@@ -1,0 +1,3 @@
+pub mod ContentsWords
+pub mod Faults
+pub mod Lengths

@@ -1,0 +1,2 @@
+pub mod OwnNames
+pub mod Pairs

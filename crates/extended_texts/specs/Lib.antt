@@ -1,0 +1,4 @@
+pub mod FaultKinds
+pub mod Laws
+pub mod Reading
+pub mod TextFaults
