@@ -16,7 +16,7 @@ use Rattle.cell_library.specs.declared.FlopKind.{FlopKind}
 use Rattle.cell_library.specs.declared.ResetTo.{ResetTo}
 use Rattle.cell_library.specs.declared.ResetTo.TheVariants.{Nothing, Zero, One}
 use Rattle.cell_library.specs.Gates.{flop_operand_count}
-use Rattle.cell_text.specs.declared.reading.Kept.{Kept}
+use Rattle.cell_text.specs.declared.reader.Kept.{Kept}
 use Rattle.cell_text.specs.Words.{Words, flop_named}
 use Rattle.cell_text.specs.Lines.{parted, takes, is_gate, is_flop, is_cell_line}
 use Rattle.cell_text.specs.Faults.{words_in, other_form}

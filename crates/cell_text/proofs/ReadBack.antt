@@ -8,7 +8,7 @@ use Rattle.cell_library.specs.declared.listed.ListedCell.{ListedCell}
 use Rattle.cell_library.specs.Laws.{OwnNamesAreExact}
 use Rattle.cell_text.specs.declared.fault.LibFault.{LibFault}
 use Rattle.cell_text.specs.declared.fault.LibFault.TheVariants as fault
-use Rattle.cell_text.specs.declared.reading.Kept.{Kept}
+use Rattle.cell_text.specs.declared.reader.Kept.{Kept}
 use Rattle.cell_text.specs.Words.{Words}
 use Rattle.cell_text.specs.Cells.{cell_in}
 use Rattle.cell_text.specs.Rules.{name_in, barred_after, body_fault, rule_fault}

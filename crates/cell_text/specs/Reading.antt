@@ -7,7 +7,7 @@ use Rattle.cell_library.specs.declared.listed.Step.{Step}
 use Rattle.texts.specs.declared.text.OutOfMemory.{OutOfMemory}
 use Rattle.cell_text.specs.declared.fault.LibFault.{LibFault}
 use Rattle.cell_text.specs.declared.fault.LibFault.TheVariants as fault
-use Rattle.cell_text.specs.declared.reading.Kept.{Kept}
+use Rattle.cell_text.specs.declared.reader.Kept.{Kept}
 use Rattle.cell_text.specs.Words.{Words}
 use Rattle.cell_text.specs.Lines.{is_version, is_cell_line}
 use Rattle.cell_text.specs.Rules.{is_unfit, barred_after, name_in}

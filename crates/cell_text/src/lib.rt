@@ -17,13 +17,13 @@ mod fault;
 mod laws;
 mod lines;
 mod names;
-mod printing;
-mod reading;
+mod printer;
+mod reader;
 #[cfg(test)]
 mod tests;
 mod words;
 
 pub use fault::LibFault;
 pub use laws::{lines_have_forms, texts_of_libraries_are_spelled_or_at_fault};
-pub use printing::print_library;
-pub use reading::read_library;
+pub use printer::print_library;
+pub use reader::read_library;

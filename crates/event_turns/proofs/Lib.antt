@@ -8,5 +8,6 @@ pub mod Waiting
 pub mod Made
 pub mod Gathering
 pub mod Turned
+pub mod Pairing
 pub mod Running
 pub mod Stepping

@@ -14,7 +14,8 @@ use Rattle.netlist_settling.specs.Values.{AreSides}
 use Rattle.event_order.specs.Order.{class_of}
 use Rattle.event_order.proofs.Rising.{turns_rise, scaled, class_few}
 use Rattle.event_turns.specs.declared.circuit.Gate.{Gate}
-use Rattle.event_turns.specs.Circuits.{AreReaders, IsCircuit, IsLiveGate, StandsInPlace, place_of, turn_at}
+use Rattle.event_turns.specs.declared.circuit.Row.{Row}
+use Rattle.event_turns.specs.Circuits.{AreReaders, AreRows, IsCircuit, IsLiveGate, StandsInPlace, place_of, turn_at}
 use Rattle.event_turns.specs.Tables.{AreGates, AreTurned}
 
 -- the place of a turn
@@ -50,16 +51,34 @@ turn_place class n p t few below is =
       ]
     ]
 
-pub is_circuit : (N : NetlistView) (order : List CellId) (sides : List (Option Dir)) (firsts : List ℕ) (gates : List Gate) (feeds : List Feed) (turns starts readers : List ℕ) → IsWellFormed N → IsLaidOut N → IsCellOrder N order
-    → AreSides N sides → length order < 2 ^ 30 → AreGates N order (length order) gates feeds → AreTurned N order turns firsts → AreReaders N turns starts readers
-    → IsCircuit (record { lists = N; sides = sides; firsts = firsts; gates = gates; feeds = feeds; turns = turns; starts = starts; readers = readers })
-is_circuit N order sides firsts gates feeds turns starts readers formed laid ordered directed few placed turned waiting = record {
+-- what is kept in a place is kept of a live cell
+pub live_gate : (N : NetlistView) (order : List CellId) (gates : List Gate) (feeds : List Feed) → IsCellOrder N order → AreGates N order (length order) gates feeds
+    → (place : ℕ) (gate : Gate) → slice_get gates place ≡ Some gate → IsLiveGate N feeds gate
+live_gate N order gates feeds ordered placed place gate at =
+    let within = slice_get_within gates place gate at in
+    let below : place < length order = (let long = placed.long in omega arith) in
+    let id = slice_get_there order place below in
+    let cell = some_there (cell_at N id.0.0) (ordered.only place id.0.0 id.1) in
+    let has = placed.each place id.0.0 cell.0 below id.1 cell.1 in
+    let same : has.gate ≡ gate = some_same has.gate gate _ has.there at in
+    let own : IsLiveGate N feeds has.gate = record {
+      cell = cell.0;
+      live = ap (cell_at N) has.is_of.number_is ∙ cell.1;
+      is_of = record { number_is = refl; kind_is = has.is_of.kind_is; output_is = has.is_of.output_is; few = has.is_of.few; room = has.is_of.room; feeds_are = has.is_of.feeds_are };
+    } in
+    rw same at own
+
+pub is_circuit : (N : NetlistView) (order : List CellId) (sides : List (Option Dir)) (firsts : List ℕ) (gates : List Gate) (feeds : List Feed) (rows : List Row) (turns starts readers : List ℕ) → IsWellFormed N → IsLaidOut N → IsCellOrder N order
+    → AreSides N sides → length order < 2 ^ 30 → AreGates N order (length order) gates feeds → AreRows feeds sides gates rows → AreTurned N order turns firsts → AreReaders N turns starts readers
+    → IsCircuit (record { lists = N; sides = sides; firsts = firsts; gates = gates; feeds = feeds; rows = rows; turns = turns; starts = starts; readers = readers })
+is_circuit N order sides firsts gates feeds rows turns starts readers formed laid ordered directed few placed paired turned waiting = record {
   formed = formed;
   laid = laid;
   sides = directed;
   turns = turns_rise N order turned.late (turn_at turns) formed ordered turned.late_is turned.turns_are;
   gates = λ number cell live. stands number cell live (ordered.each number (rw live refl));
-  live = live_gate;
+  live = live_gate N order gates feeds ordered placed;
+  rows = paired;
   firsts = turned.firsts_are;
   few = (let long = placed.long in omega arith);
   readers = waiting;
@@ -77,18 +96,3 @@ is_circuit N order sides firsts gates feeds turns starts readers formed laid ord
           is_of = has.is_of;
           early = (let early = of.early in let long = placed.long in omega arith);
         }
-
-    live_gate : (place : ℕ) (gate : Gate) → slice_get gates place ≡ Some gate → IsLiveGate N feeds gate
-    live_gate place gate at =
-        let within = slice_get_within gates place gate at in
-        let below : place < length order = (let long = placed.long in omega arith) in
-        let id = slice_get_there order place below in
-        let cell = some_there (cell_at N id.0.0) (ordered.only place id.0.0 id.1) in
-        let has = placed.each place id.0.0 cell.0 below id.1 cell.1 in
-        let same : has.gate ≡ gate = some_same has.gate gate _ has.there at in
-        let own : IsLiveGate N feeds has.gate = record {
-          cell = cell.0;
-          live = ap (cell_at N) has.is_of.number_is ∙ cell.1;
-          is_of = record { number_is = refl; kind_is = has.is_of.kind_is; output_is = has.is_of.output_is; few = has.is_of.few; room = has.is_of.room; feeds_are = has.is_of.feeds_are };
-        } in
-        rw same at own

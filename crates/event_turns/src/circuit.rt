@@ -7,8 +7,10 @@ ghost use Rattle.netlist_settling.specs.Values.{AreSides};
 
 use crate::gates::gates_of;
 use crate::readers::readers_of;
+use crate::rows::rows_of;
 use crate::tables::turns_of;
 use cell_library::Kind;
+use counted_cells::Pair;
 use netlist_arena::Netlist;
 use netlist_model::{CellId, Dir, Feed, NetId};
 use std::alloc::Global;
@@ -28,6 +30,16 @@ pub struct Gate {
     pub output: Option<NetId>,
 }
 
+/// What an event needs of a gate of two nets whose net is no pin that is driven from outside; in `pair` None of any
+/// other cell. (In few bytes, since an event looks at gates all over the netlist.)
+#[derive(Clone, Copy, PartialEq, Eq)]
+pub struct Row {
+    pub pair: Option<Pair>,
+    pub a: NetId,
+    pub b: NetId,
+    pub net: NetId,
+}
+
 /// What events need of a netlist.
 #[derive(Drop)]
 pub struct Circuit<'a> {
@@ -35,9 +47,10 @@ pub struct Circuit<'a> {
     // Of each net its direction, and the turn after that of its driver.
     pub(crate) sides: Vec<Option<Dir>>,
     pub(crate) firsts: Vec<u32>,
-    // The cells in their order, and their operands.
+    // The cells in their order, their operands, and what is kept of each that is a pair.
     pub(crate) gates: Vec<Gate>,
     pub(crate) feeds: Vec<Feed>,
+    pub(crate) rows: Vec<Row>,
     // The turn of each cell, by its number.
     pub(crate) turns: Vec<u32>,
     // The turns of what waits on net n are those from starts[n] to starts[n + 1].
@@ -56,6 +69,7 @@ impl<'a> Model for Circuit<'a> {
       firsts = c.firsts.items;
       gates = c.gates.items;
       feeds = c.feeds.items;
+      rows = c.rows.items;
       turns = c.turns.items;
       starts = c.starts.items;
       readers = c.readers.items;
@@ -67,6 +81,7 @@ impl<'a> Model for Circuit<'a> {
       firsts = c.firsts.items;
       gates = c.gates.items;
       feeds = c.feeds.items;
+      rows = c.rows.items;
       turns = c.turns.items;
       starts = c.starts.items;
       readers = c.readers.items;
@@ -92,21 +107,28 @@ impl<'a> Circuit<'a> {
         if order.len() >= MOST_CELLS {
             return Err(OutOfMemory);
         }
-        let rows = gates_of(alloc, netlist, order)?;
+        let placed = gates_of(alloc, netlist, order)?;
         let turned = turns_of(
             alloc,
             netlist,
             order,
-            rows.gates.as_slice(),
-            rows.feeds.as_slice(),
+            placed.gates.as_slice(),
+            placed.feeds.as_slice(),
+        )?;
+        let rows = rows_of(
+            alloc,
+            placed.gates.as_slice(),
+            placed.feeds.as_slice(),
+            sides.as_slice(),
         )?;
         let waiting = readers_of(alloc, netlist, order, turned.turns.as_slice())?;
         Ok(Circuit {
             netlist,
             sides,
             firsts: turned.firsts,
-            gates: rows.gates,
-            feeds: rows.feeds,
+            gates: placed.gates,
+            feeds: placed.feeds,
+            rows,
             turns: turned.turns,
             starts: waiting.starts,
             readers: waiting.readers,

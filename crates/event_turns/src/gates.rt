@@ -15,7 +15,7 @@ use texts::OutOfMemory;
 
 /// The cells in their order, and their operands.
 #[derive(Drop)]
-pub(crate) struct Rows {
+pub(crate) struct Placed {
     pub(crate) gates: Vec<Gate>,
     pub(crate) feeds: Vec<Feed>,
 }
@@ -25,17 +25,17 @@ pub(crate) fn gates_of(
     alloc: Global,
     netlist: &Netlist,
     order: &[CellId],
-) -> Result<Rows, OutOfMemory>
+) -> Result<Placed, OutOfMemory>
     requires { IsCellOrder netlist.now.lists order.now }
-    ensures { IfOk result (λ rows. AreGates netlist.now.lists order.now (length order.now)
-        rows.gates.items rows.feeds.items) }
+    ensures { IfOk result (λ placed. AreGates netlist.now.lists order.now (length order.now)
+        placed.gates.items placed.feeds.items) }
 {
     let mut gates = Vec::new(alloc);
     let mut feeds = Vec::new(alloc);
     for cell in order {
         add_gate(netlist, *cell, &mut gates, &mut feeds)?;
     }
-    Ok(Rows { gates, feeds })
+    Ok(Placed { gates, feeds })
 }
 
 // Adds a cell and its operands.

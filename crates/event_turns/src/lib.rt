@@ -14,13 +14,15 @@
 mod circuit;
 mod drives;
 mod gates;
+mod pairs;
 mod readers;
 mod readings;
+mod rows;
 mod tables;
 mod turns;
 mod values;
 
-pub use circuit::{Circuit, Gate};
+pub use circuit::{Circuit, Gate, Row};
 pub use drives::keep_drives;
 pub use readings::reading;
 pub use turns::step;

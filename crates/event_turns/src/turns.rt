@@ -14,6 +14,7 @@ ghost use Rattle.event_turns.specs.Circuits.{FitsCircuit, HasRun, HasTurn, IsGat
 ghost use Rattle.event_turns.specs.Logs.{Logs, drives_with};
 
 use crate::circuit::{Circuit, Gate};
+use crate::pairs::take_place;
 use crate::values::{driven, kept_after, pin_at, value_at};
 use counted_cells::Steps;
 use netlist_model::{Dir, NetId};
@@ -53,9 +54,9 @@ fn wake_range(starts: &[usize], readers: &[u32], net: usize, queue: &mut TurnQue
     }
 }
 
-// Gives a net a value; where that is another, logs the net and queues what waits on it.
+/// Gives a net a value; where that is another, logs the net and queues what waits on it.
 #[tactic(auto, using(crate::proofs::Logging::logs_none, crate::proofs::Logging::logs_value))]
-fn give(
+pub(crate) fn give(
     circuit: &Circuit,
     net: NetId,
     given: Sig,
@@ -95,8 +96,8 @@ fn keep_drive(net: NetId, drive: Option<PinSig>, drives: &mut [PinSig], log: &mu
     }
 }
 
-// Takes the turn of a cell.
-fn take_turn<L: Ledger>(
+/// Takes the turn of a cell.
+pub(crate) fn take_turn<L: Ledger>(
     circuit: &Circuit,
     gate: Gate,
     pins: &[PinSig],
@@ -180,9 +181,9 @@ fn run<L: Ledger>(
         let Some(turn) = queue.pop(from) else {
             return;
         };
-        let gate = circuit.gates[place_of(count, turn)];
-        take_turn(
-            circuit, gate, pins, before, values, state, drives, queue, log, steps,
+        let place = place_of(count, turn);
+        take_place(
+            circuit, place, pins, before, values, state, drives, queue, log, steps,
         );
         from = turn + 1;
     }

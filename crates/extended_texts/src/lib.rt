@@ -12,8 +12,8 @@
 
 mod fault;
 mod laws;
-mod reading;
+mod reader;
 
 pub use fault::ExtendedTextFault;
 pub use laws::spells_one_extended;
-pub use reading::read_extended;
+pub use reader::read_extended;

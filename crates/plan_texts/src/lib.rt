@@ -8,11 +8,12 @@
 // - `PlanLine` tells the first line that can't stand there: some plan begins with the kept lines before it, and
 //   none with that line too (rules may be broken in either); where the plan ends too early, it is the line after
 //   the last. Where no line is at fault, the first rule that is broken is told, with its word.
-// - `print_plan`: the canonical text, which spells the plan.
+// - `write_plan`: the canonical text of any plan; of one that no bytes spell it is no plan's text, which reading it
+//   tells. `print_plan`: that of a plan that some bytes spell, which spells it.
 // - A law: bytes spell one plan, or have one fault, and not both.
 // - A law: a text whose first line is `plan 1` spells exactly the plans of version 1 by itself (specs/First.antt): its
 //   lines, its seven instructions and its rules, with version 1 and no usercode.
-// By the contracts of `read_plan`, `print_plan` and two law functions.
+// By the contracts of `read_plan`, `write_plan`, `print_plan` and three law functions.
 #![tactic(auto)]
 
 mod fault;
@@ -23,13 +24,15 @@ mod laws;
 mod lines;
 mod meaning;
 mod plan;
-mod printing;
-mod reading;
+mod printer;
+mod reader;
 mod rules;
 mod written;
 
 pub use fault::PlanFault;
-pub use laws::{first_version_stays, texts_of_plans_are_spelled_or_at_fault};
+pub use laws::{
+    canonical_plans_spell_themselves, first_version_stays, texts_of_plans_are_spelled_or_at_fault,
+};
 pub use plan::{PinLine, Plan, TapLine};
-pub use printing::print_plan;
-pub use reading::read_plan;
+pub use printer::{print_plan, write_plan};
+pub use reader::read_plan;

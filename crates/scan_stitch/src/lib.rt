@@ -21,13 +21,13 @@
 mod device;
 mod laws;
 mod names;
-mod preparing;
-mod stitching;
+mod needed_room;
+mod parts;
 mod whole;
 
 pub use device::device_of_fit;
 pub use laws::{fitted_bits_are_there, fitted_can_be_stitched};
-pub use preparing::{prepare, room};
+pub use needed_room::{prepare, room};
+pub use parts::stitch_netlist;
 pub use stitch_ready::lower_plan_devices;
-pub use stitching::stitch_netlist;
 pub use whole::stitch;

@@ -6,7 +6,7 @@ ghost use Rattle.plan_fitting.specs.Devices.{device_of_fitted};
 ghost use Rattle.scan_stitch.specs.Stitch.{CanStitch, IsStitched};
 
 use crate::names::tap_names;
-use crate::stitching::stitch_netlist;
+use crate::parts::stitch_netlist;
 use draft_laws::grown_is_formed;
 use netlist_link::Linked;
 use plan_fitting::Fitted;

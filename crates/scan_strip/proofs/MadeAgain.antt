@@ -12,7 +12,7 @@ use Rattle.plan_texts.specs.declared.plan.Plan.{Plan}
 use Rattle.plan_texts.specs.Canonical.{canonical_plan, IsPlan}
 use Rattle.plan_texts.specs.Exactly.{SpelledOnce}
 use Rattle.plan_texts.specs.Grammar.{SpellsPlan}
-use Rattle.plan_printing.specs.Spells.{CanonicalPlansSpell}
+use Rattle.plan_texts.specs.Spells.{CanonicalPlansSpell}
 use Rattle.plan_fitting.specs.declared.fitted.Fitted.{Fitted}
 use Rattle.plan_fitting.specs.Pins.{PinSeen, AreSeen}
 use Rattle.plan_fitting.specs.Devices.{IsFitted, fitted_of, device_of}

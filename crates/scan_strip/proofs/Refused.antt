@@ -20,7 +20,7 @@ use Rattle.plan_texts.specs.Canonical.{canonical_plan, IsPlan}
 use Rattle.plan_texts.specs.Exactly.{SpelledOnce, SpelledIsFaultless}
 use Rattle.plan_texts.specs.Faults as plans
 use Rattle.plan_texts.specs.Grammar.{SpellsPlan}
-use Rattle.plan_printing.specs.Spells.{CanonicalPlansSpell}
+use Rattle.plan_texts.specs.Spells.{CanonicalPlansSpell}
 use Rattle.plan_fitting.specs.declared.fault.FitFault.{FitFault}
 use Rattle.plan_fitting.specs.declared.fault.FitFault.TheVariants as fit
 use Rattle.plan_fitting.specs.Pins.{PinSeen, AreSeen}

@@ -15,9 +15,9 @@ mod fault;
 mod laws;
 mod lines;
 mod plan;
-mod reading;
+mod reader;
 
 pub use fault::StatusFault;
 pub use laws::texts_of_registers_are_spelled_or_at_fault;
 pub use plan::{StatusPlan, StatusRow};
-pub use reading::read_status;
+pub use reader::read_status;

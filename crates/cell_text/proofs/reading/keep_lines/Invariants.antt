@@ -1,9 +1,0 @@
-use Rattle.std.proofs.Common.{length, ℕ}
-use Rattle.cell_text.specs.Reading.{Going}
-use Rattle.cell_text.proofs.reading.keep_lines.Given as goal
-
-abbrev pub invariant-loop-line : goal.invariant-loop-line
-invariant-loop-line l = Going l.fn.reader.rows l.reader.rows l.kept
-
-abbrev pub decreases-loop-line : goal.decreases-loop-line
-decreases-loop-line l = length l.reader.rows

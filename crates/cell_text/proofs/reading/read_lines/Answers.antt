@@ -1,8 +1,0 @@
-use Rattle.std.proofs.Common.{◌≤◌, length, arith}
-use Rattle.cell_text.proofs.ReadBack.{rows_fit}
-use Rattle.cell_text.proofs.reading.read_lines.Goals as goal
-
-pub keep_lines-requires : goal.keep_lines-requires
-keep_lines-requires c =
-    let few = rows_fit c.args.bytes.now c.new-reader.result.rows c.pass.new.self.rows c.new-reader.ensures.rows c.pass.ensures.rows in
-    omega arith

@@ -1,7 +1,0 @@
-use Rattle.std.proofs.Common.{◌≡◌, ◌++◌, map, take}
-use Rattle.line_texts.specs.Rows.{rows_text}
-use Rattle.plan_texts.specs.Canonical.{opcode_row}
-use Rattle.plan_printing.proofs.printing.put_opcodes.Given as goal
-
-abbrev pub invariant-loop-opcode : goal.invariant-loop-opcode
-invariant-loop-opcode l = l.text ≡ l.fn.text ++ rows_text (map opcode_row (take l.opcode-index l.opcodes))
