@@ -3,7 +3,7 @@ use bsdl_words::{BsdlReader, cut};
 use std::test::Fail;
 
 // The description of the counter in `examples/`: 293 words in 2,243 bytes.
-const COUNTER: &[u8] = br#"entity counter8 is
+pub(crate) const COUNTER: &[u8] = br#"entity counter8 is
   generic (PHYSICAL_PIN_MAP : string := "DIP24");
   port (
     clk : in bit;

@@ -1,4 +1,5 @@
-// Trials of calls that no command reaches, each once: refusals in memory, real files and standard output, and parts of netlists.
+// Trials of calls that no command reaches, each once: refusals in memory, real files and standard output, texts that are cut or come
+// back, and the test logic of a device at work.
 // Each trial is a test; what it wants was worked out by hand.
 // Own: commands are tried by `worked_rows`.
 #![tactic(auto)]
@@ -8,12 +9,10 @@ mod answers;
 #[cfg(test)]
 mod calls;
 #[cfg(test)]
-mod home;
-#[cfg(test)]
-mod netlists;
+mod devices;
 #[cfg(test)]
 mod outside;
 #[cfg(test)]
-mod remembered;
+mod plans;
 #[cfg(test)]
-mod room;
+mod remembered;

@@ -23,7 +23,7 @@ pub(crate) fn operand(netlist: &Netlist, cell: CellId, place: u32) -> Option<Fee
 }
 
 // The reader after this one, if it is an operand that is a net.
-fn following(netlist: &Netlist, reader: Option<Reader>) -> Option<Reader> {
+pub(crate) fn following(netlist: &Netlist, reader: Option<Reader>) -> Option<Reader> {
     let reader = reader?;
     match operand(netlist, reader.cell, reader.place) {
         Some(Feed::Net(_)) => netlist.next_reader(reader),
@@ -86,7 +86,7 @@ fn a_cell_takes_the_number_of_the_last_that_was_removed(rt: HostRuntime) -> Resu
 }
 
 // Removes a cell, if it is there.
-fn remove(netlist: &mut Netlist, cell: CellId)
+pub(crate) fn remove(netlist: &mut Netlist, cell: CellId)
     ensures nets { netlist.new.lists.nets ≡ netlist.old.lists.nets }
     ensures spare { netlist.new.spare ≡ netlist.old.spare }
 {
