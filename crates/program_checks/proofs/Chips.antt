@@ -20,9 +20,9 @@ use Rattle.wrapped_chip.specs.Realises.{port_text, tap_ports, Keeps, Realises}
 use Rattle.realised_copies.specs.Laws.{SameRealises}
 use Rattle.plan_texts.specs.declared.plan.Plan.{Plan}
 use Rattle.plan_fitting.specs.Pins.{PinSeen}
-use Rattle.plan_fitting.specs.Devices.{fitted_of, device_of}
+use Rattle.plan_fitting.specs.Devices.{device_of}
 use Rattle.plan_devices.specs.Fitting.{HasWidths, IsFitting}
-use Rattle.plan_devices.specs.Laws.{PlansSuitNetlists, DevicesHavePorts, FittedIsFitting}
+use Rattle.plan_devices.specs.Laws.{PlansSuitNetlists, DevicesHavePorts}
 use Rattle.program_scripts.specs.program_runs.Laws.{PlansStandAround}
 use Rattle.scan_vectors.specs.declared.lines.Lines.{Lines}
 use Rattle.scan_vectors.specs.Canonical.{canonical_lines}
@@ -31,9 +31,9 @@ use Rattle.scan_programs.specs.Program.{program_of}
 use Rattle.program_scripts.specs.conformance_report.Agreement.{PortsAgree}
 use Rattle.program_scripts.specs.Beside.{IsDescribed}
 use Rattle.program_scripts.specs.Laws.{HasChip, ProgramsAreLegal, ScriptsAreMet}
-use Rattle.insertions.specs.Written.{spelt, tap_of}
+use Rattle.stitch_texts.specs.Written.{spelt, tap_of}
 use Rattle.program_checks.specs.Texts.{IsRead, KeepsAndRealises, BelongTogether}
-use Rattle.program_checks.specs.Laws.{NetlistsHaveChips, InsertionsBelongTogether, ProgramTextsSpellPrograms, TextsHaveChips, TextsAgree, ProgramsAreLegalThere, TextsMissNothing, WrittenProgramsMissNothing}
+use Rattle.program_checks.specs.Laws.{NetlistsHaveChips, ProgramTextsSpellPrograms, TextsHaveChips, TextsAgree, ProgramsAreLegalThere, TextsMissNothing, WrittenProgramsMissNothing}
 use Rattle.plan_devices.proofs.LinkViews.{view_is_wide}
 use Rattle.program_checks.proofs.Ports.{Known, own_port, inner_port, device_port, ports_agree, are_plain, input_at, input_is, tdo_is}
 
@@ -127,25 +127,7 @@ pub netlists_have_chips : LinkViewIsNamed → LinkViewIsFormed → PlansSuitNetl
 netlists_have_chips named formed suit have stand same_there tree linked device spelled listed links kept is =
     chip_by suit have stand same_there linked linked device is (viewed_alone named formed tree linked device spelled listed links is) kept
 
--- Insertions.
-
-pub insertions_belong_together : FittedIsFitting → InsertionsBelongTogether
-insertions_belong_together fitting library net plan verilog bsdl report i = record {
-  linked = i.written;
-  read = record { tree = i.written_tree; spells = i.spells_written; listed = i.listed; library_is = i.written_library; links = i.links_written };
-  device = device_of i.linked i.wanted i.fits.seen;
-  spells = i.device.spells;
-  chip = record {
-    core = i.linked;
-    plan = i.wanted;
-    seen = i.fits.seen;
-    fits = fitting i.tree i.linked i.wanted (fitted_of i.linked i.wanted i.fits.seen) i.is (subst IsLibrary (sym i.library_is) i.listed) i.links (plan, i.spells_plan)
-        (record { seen = i.fits.seen; are_seen = i.fits.are_seen; faultless = i.fits.faultless; is = refl });
-    device_is = refl;
-    keeps = i.keeps;
-    realises = i.realises;
-  };
-}
+-- Programs.
 
 pub program_texts_spell_programs : ProgramTextsSpellPrograms
 program_texts_spell_programs bsdl events is =

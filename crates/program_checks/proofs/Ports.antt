@@ -32,7 +32,7 @@ use Rattle.program_scripts.specs.Words.{IsPlain, ArePlain}
 use Rattle.program_scripts.specs.Beside.{HasPortAs, HasScalarPort, HasInnerPort}
 use Rattle.program_scripts.proofs.Pins.{side_is}
 use Rattle.program_scripts.proofs.Plain.{identifier_plain}
-use Rattle.insertions.specs.Written.{spelt, tap_of}
+use Rattle.stitch_texts.specs.Written.{spelt, tap_of}
 
 -- What is known: L is well named, its ports are those of K and then the plan's test access port, and B has K's ports, that and linkage.
 pub record Known (L K : LinkedView) (p : Plan) (B : Device) : Type 0 where

@@ -1,4 +1,4 @@
--- A netlist that keeps and realises, checked by the program of its device; what `insert` wrote is one.
+-- A netlist that keeps and realises, checked by the program of its device.
 -- IEEE Std 1149.1-2001: test access port, the annex on BSDL; IEEE Std 1364-2001 for the netlist. Plans, programs and reports are own.
 use Rattle.std.specs.Prelude.{◌≡◌, ℕ, List, []}
 use Rattle.verilog_tree.specs.declared.tree.Module.{Module}
@@ -20,7 +20,6 @@ use Rattle.program_scripts.specs.conformance_report.declared.verdict.Verdict.{Ve
 use Rattle.program_scripts.specs.conformance_report.Agreement.{PortsAgree}
 use Rattle.program_scripts.specs.conformance_report.Verdicts.{IsVerdict}
 use Rattle.program_scripts.specs.Laws.{HasChip, IsProgramScript}
-use Rattle.insertions.specs.Insertions.{IsInsertion}
 use Rattle.vectors_command.specs.Programs.{IsProgramText}
 use Rattle.program_checks.specs.Texts.{IsRead, KeepsAndRealises, BelongTogether, SpellsProgram}
 
@@ -33,11 +32,7 @@ NetlistsHaveChips = (tree : Module) (linked : LinkedView) (device : Device) → 
 
 -- Texts that belong together.
 
--- what an insertion writes does
-abbrev pub InsertionsBelongTogether : Type 0
-InsertionsBelongTogether = (library : List ListedCell) (net plan verilog bsdl report : List ℕ) → IsInsertion library net plan verilog bsdl report → BelongTogether library verilog bsdl
-
--- and the text of a device's program spells that program
+-- the text of a device's program spells that program
 abbrev pub ProgramTextsSpellPrograms : Type 0
 ProgramTextsSpellPrograms = (bsdl events : List ℕ) → IsProgramText bsdl events → SpellsProgram bsdl events
 

@@ -17,7 +17,7 @@ use Rattle.plan_devices.specs.Fitting.{IsFitting}
 use Rattle.scan_vectors.specs.declared.lines.Lines.{Lines}
 use Rattle.scan_vectors.specs.Grammar.{SpellsLines}
 use Rattle.scan_programs.specs.Program.{program_of}
-use Rattle.insertions.specs.Written.{spelt, tap_of}
+use Rattle.stitch_texts.specs.Written.{spelt, tap_of}
 
 -- a netlist that some text spells with this library
 pub record IsRead (library : List ListedCell) (text : List ℕ) (linked : LinkedView) : Type 0 where

@@ -1,5 +1,5 @@
 // A netlist that keeps another's ports and cells and realises its chip, checked by the program of the device: no expectation is missed.
-// What `insert` wrote is such a netlist. specs/Laws.antt has the statements, specs/Texts.antt what they speak of. Its functions are laws.
+// specs/Laws.antt has the statements, specs/Texts.antt what they speak of. Its functions are laws.
 // IEEE Std 1149.1-2001: test access port, the annex on BSDL; plans and programs are own.
 //
 // - Laws over texts in any spelling: the netlist's text spells a netlist that keeps the ports and cells of one
@@ -7,8 +7,7 @@
 //   the plan's device; the BSDL text spells that device (`BelongTogether`).
 // - `netlists_have_chips`: a link view that keeps and realises has the device's ports, and the chip that the
 //   device makes of the core.
-// - `insertions_belong_together`: what `insert` writes are such texts; and the text that `vectors` writes spells
-//   the device's program.
+// - `program_texts_spell_programs`: the text that `vectors` writes spells the device's program.
 // - `texts_have_chips`: whatever is read of such texts has that chip. `texts_agree`: its ports agree with the
 //   device's.
 // - `programs_are_legal_there`: the lines of the device's program are legal for it.
@@ -17,13 +16,13 @@
 // By the contract of its law functions.
 #![tactic(auto)]
 
-ghost use Rattle.program_checks.specs.Laws.{NetlistsHaveChips, InsertionsBelongTogether, ProgramTextsSpellPrograms, TextsHaveChips};
+ghost use Rattle.program_checks.specs.Laws.{NetlistsHaveChips, ProgramTextsSpellPrograms, TextsHaveChips};
 ghost use Rattle.program_checks.specs.Laws.{TextsAgree, ProgramsAreLegalThere, TextsMissNothing, WrittenProgramsMissNothing};
 
 use bsdl_round_trip::spelled_devices_keep_the_conditions;
 use bsdl_values::spells_one_device;
 use netlist_link::{link_view_is_formed, link_view_is_named, link_views_agree};
-use plan_devices::{devices_have_ports, fitted_is_fitting, plans_suit_netlists};
+use plan_devices::{devices_have_ports, plans_suit_netlists};
 use program_scripts::lower_program_runs::plans_stand_around;
 use program_scripts::{programs_are_legal, scripts_are_met};
 use realised_copies::same_realises;
@@ -43,13 +42,10 @@ pub fn netlists_have_chips()
     same_realises();
 }
 
-/// What `insert` writes is a netlist that keeps and realises, with its device; and what `vectors` writes is that device's program.
-pub fn insertions_belong_together()
-    ensures texts { InsertionsBelongTogether }
-    ensures programs { ProgramTextsSpellPrograms }
-{
-    fitted_is_fitting();
-}
+/// What `vectors` writes of a device is that device's program.
+pub fn program_texts_spell_programs()
+    ensures { ProgramTextsSpellPrograms }
+{}
 
 /// Whatever is read of texts that belong together has the chip that the described device makes of the core.
 pub fn texts_have_chips()

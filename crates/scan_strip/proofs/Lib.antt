@@ -2,4 +2,3 @@ mod Trees
 pub mod MadeAgain
 pub mod Refused
 pub mod Whole
-pub mod Headline

@@ -22,7 +22,7 @@ use Rattle.inserted_netlists.specs.Inserted.{with_test_logic}
 use Rattle.stitch_names.specs.Laws.{TapNamesAreEntered}
 use Rattle.stitch_names.specs.Prepared.{room_of, ports_of, prepared, with_tap_names, AreTapNames}
 use Rattle.insertion_inputs.specs.Inputs.{IsFittingAs, IsLinkedTree}
-use Rattle.scan_stitch.specs.Stitch.{CanStitch, IsStitched}
+use Rattle.insertion_inputs.specs.Stitch.{CanStitch, IsStitched}
 use Rattle.stitch_texts.specs.Written.{IsStitchedOf}
 use Rattle.stitch_texts.specs.Laws.{IsStitching, StitchedCanBeWritten}
 use Rattle.strip_gives.specs.Gives.{GivesAt, Gives}

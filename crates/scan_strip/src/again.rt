@@ -14,14 +14,13 @@ use crate::fault::StripFault;
 use bsdl_device::Device;
 use cell_library::Library;
 use equality::Same;
-use insertion_inputs::{Fitting, fit_text};
+use insertion_inputs::{Fitting, fit_text, stitch};
 use netlist_link::{Linked, faults_forbid_links, link, link_view_is_named};
 use netlist_unlink::unlink;
 use plan_devices::fitted_is_fitting;
 use plan_texts::{
     Plan, canonical_plans_spell_themselves, texts_of_plans_are_spelled_or_at_fault, write_plan,
 };
-use scan_stitch::stitch;
 use std::alloc::Global;
 use stitch_names::tap_names_are_entered;
 use stitch_texts::stitched_can_be_written;

@@ -6,16 +6,13 @@
 //   are recovered give the module with test logic and the device, and what it answers is that plan and the linked module;
 //   else it says `NotInserted`. Want of memory may come in place of either.
 // - So it says `NotInserted` only where no netlist with the library, and no plan, give the two.
-// - A law: what an insertion wrote is stripped to a module that denotes what the netlist's does, with the same linked netlist.
 // - `strip` takes the library from the netlist of the module.
-// By the contract of `strip_tree`, `strip` and a law function.
+// By the contract of `strip_tree` and `strip`.
 #![tactic(auto)]
 
 mod again;
 mod answer;
 mod fault;
-mod laws;
 
 pub use answer::{Stripped, strip, strip_tree};
 pub use fault::StripFault;
-pub use laws::insertions_are_stripped;

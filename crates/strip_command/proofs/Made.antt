@@ -18,8 +18,8 @@ use Rattle.plan_texts.specs.Canonical.{canonical_plan}
 use Rattle.plan_devices.specs.plan_fitting.Devices.{IsFitted, fitted_of}
 use Rattle.plan_devices.specs.plan_fitting.Fits.{Fits}
 use Rattle.plan_devices.specs.Laws.{FittedIsFitting, PrefixesAreFree}
-use Rattle.strip_gives.specs.Gives.{IsGiven}
-use Rattle.strip_law.specs.Answer.{IsNotInserted}
+use Rattle.scan_strip.specs.Gives.{IsGiven}
+use Rattle.scan_strip.specs.Answer.{IsNotInserted}
 use Rattle.scan_strip.specs.Stripped.{IsStripped}
 use Rattle.command_faults.specs.declared.fault.Fault.{Fault}
 use Rattle.command_faults.specs.declared.fault.Fault.TheVariants as fault
@@ -55,13 +55,12 @@ pub can_link : (library : List ListedCell) (tree : Module) (linked : LinkedView)
 can_link library tree linked links same = subst (λ (l : List ListedCell). IsLinkable l tree) same links.linkable
 
 -- a fault of stripping
-pub both_stands : (other library : List ListedCell) (net text : List ℕ) (tree : Module) (d : Device) (f : Fault) → other ≡ library → IsReadAs net tree → IsLinkable library tree → IsDeviceReadAs text d
-    → StandsInBoth other tree d f → StandsInInputs library net text f
+pub both_stands : (library : List ListedCell) (net text : List ℕ) (tree : Module) (d : Device) (f : Fault) → IsReadAs net tree → IsLinkable library tree → IsDeviceReadAs text d
+    → StandsInBoth library tree d f → StandsInInputs library net text f
 unfolding told
-both_stands other library net text tree d fault.NotInserted same read can device none =
-    record { tells = told library net text tree d read can device; none = subst (λ (l : List ListedCell). IsNotInserted l tree d) same none }
-both_stands other library net text tree d fault.OutOfMemory same read can device none = tt
-both_stands other library net text tree d f same read can device none = absurd none
+both_stands library net text tree d fault.NotInserted read can device none = record { tells = told library net text tree d read can device; none = none }
+both_stands library net text tree d fault.OutOfMemory read can device none = tt
+both_stands library net text tree d f read can device none = absurd none
 
 -- The texts of an answer.
 
@@ -74,16 +73,16 @@ prefix_is_free fitting free linked p g =
     let is : IsFitted linked p (fitted_of linked p fits.seen) = record { seen = fits.seen; are_seen = fits.are_seen; faultless = fits.faultless; is = refl } in
     (free linked p fits.seen (fitting g.tree linked p (fitted_of linked p fits.seen) g.gives.is g.gives.listed g.gives.links g.gives.plan is)).netlist
 
-pub texts_made : (other library : List ListedCell) (net text : List ℕ) (tree : Module) (d : Device) (linked : LinkedView) (p : Plan) (outputs : List (List ℕ)) (put : List ℕ) (end : Status) → other ≡ library
-    → IsReadAs net tree → IsLinkable library tree → IsDeviceReadAs text d → IsStripped other tree d linked p → outputs ≡ canonical (tree_of linked p.prefix) ∷ canonical_plan p ∷ [] → end ≡ Done
+pub texts_made : (library : List ListedCell) (net text : List ℕ) (tree : Module) (d : Device) (linked : LinkedView) (p : Plan) (outputs : List (List ℕ)) (put : List ℕ) (end : Status)
+    → IsReadAs net tree → IsLinkable library tree → IsDeviceReadAs text d → IsStripped library tree d linked p → outputs ≡ canonical (tree_of linked p.prefix) ∷ canonical_plan p ∷ [] → end ≡ Done
     → IsStrippedTexts library net text outputs put end
 unfolding told
-texts_made other library net text tree d linked p outputs put end same read can device s are done =
+texts_made library net text tree d linked p outputs put end read can device s are done =
     let is : IsStripping library net text (canonical (tree_of linked p.prefix)) (canonical_plan p) = record {
       tells = told library net text tree d read can device;
       linked = linked;
       plan = p;
-      stripped = subst (λ (l : List ListedCell). IsStripped l tree d linked p) same s;
+      stripped = s;
       net_is = refl;
       plan_is = refl;
     } in

@@ -10,6 +10,7 @@
 mod command;
 mod laws;
 mod stripped_texts;
+mod written_answer;
 
 pub use command::Strip;
 pub use laws::stripping_faults_stand_apart;

@@ -1,4 +1,5 @@
+use Rattle.strip_command.proofs.Made.{is_given, texts_made}
 use Rattle.strip_command.proofs.stripped_texts.strip_both.Goals as goal
 
-pub returns-in-Err-NotInserted-clause-fault : goal.returns-in-Err-NotInserted-clause-fault
-returns-in-Err-NotInserted-clause-fault c = c.in-Err-NotInserted.ensures.refused c.in-Err-NotInserted.field-0-is
+pub write_answer-requires : goal.write_answer-requires
+write_answer-requires c = is_given c.args.library.now c.args.tree.now c.args.device.now c.in-Ok.answer.linked c.in-Ok.answer.plan c.in-Ok.ensures.stripped

@@ -1,12 +1,15 @@
--- What an insertion wrote is stripped.
--- IEEE Std 1149.1-2001: boundary-scan register, the annex on BSDL; the statements are own.
+-- What an insertion wrote is stripped, and belongs together.
+-- IEEE Std 1149.1-2001: boundary-scan register, test access port, the annex on BSDL; the statements are own.
 use Rattle.std.specs.Prelude.{ℕ, List}
 use Rattle.cell_library.specs.declared.listed.ListedCell.{ListedCell}
 use Rattle.verilog_tree.specs.IsTree.{IsTree}
 use Rattle.plan_fitting.specs.Devices.{device_of}
-use Rattle.insertions.specs.Insertions.{IsInsertionText}
+use Rattle.insertions.specs.Insertions.{IsInsertion, IsInsertionText}
 use Rattle.strip_gives.specs.Gives.{Gives}
 use Rattle.strip_law.specs.Answer.{IsAnswer}
+use Rattle.program_checks.specs.Texts.{BelongTogether}
+
+-- Stripping.
 
 -- own: the netlist and the plan give the written module and its device
 abbrev pub InsertionGives : Type 0
@@ -17,3 +20,9 @@ InsertionGives = (library : List ListedCell) (net plan verilog bsdl report : Lis
 abbrev pub InsertionIsStripped : Type 0
 InsertionIsStripped = (library : List ListedCell) (net plan verilog bsdl report : List ℕ) (i : IsInsertionText library net plan verilog bsdl report)
     → IsTree i.is.written_tree → IsAnswer i.is.tree i.is.linked i.is.written_tree (device_of i.is.linked i.is.wanted i.is.fits.seen)
+
+-- Checks.
+
+-- what an insertion writes are texts that belong together
+abbrev pub InsertionsBelongTogether : Type 0
+InsertionsBelongTogether = (library : List ListedCell) (net plan verilog bsdl report : List ℕ) → IsInsertion library net plan verilog bsdl report → BelongTogether library verilog bsdl

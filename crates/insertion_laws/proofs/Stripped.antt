@@ -3,7 +3,7 @@ use Rattle.std.proofs.Common.{refl, sym, subst}
 use Rattle.cell_library.specs.Sound.{IsLibrary}
 use Rattle.plan_fitting.specs.Devices.{device_of}
 use Rattle.strip_law.specs.Answer.{RecoveredGives}
-use Rattle.scan_strip.specs.Headline.{InsertionGives, InsertionIsStripped}
+use Rattle.insertion_laws.specs.Laws.{InsertionGives, InsertionIsStripped}
 
 insertion : InsertionGives
 insertion library net plan verilog bsdl report i = record {

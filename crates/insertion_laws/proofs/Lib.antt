@@ -1,0 +1,2 @@
+mod Stripped
+mod Together

@@ -1,0 +1,13 @@
+// What an insertion wrote is stripped, and belongs together. Its functions are laws; specs/Laws.antt has the statements.
+// IEEE Std 1149.1-2001: boundary-scan register, test access port, the annex on BSDL; the statements are own.
+//
+// - `insertions_are_stripped`: what an insertion wrote is stripped to a module that denotes what the netlist's does, with the same
+//   linked netlist.
+// - `insertions_belong_together`: what `insert` writes are texts that belong together, so that a check by the device's program
+//   misses nothing.
+// By the contracts of two law functions.
+#![tactic(auto)]
+
+mod laws;
+
+pub use laws::{insertions_are_stripped, insertions_belong_together};
