@@ -7,6 +7,7 @@ use edge_io::OutOfMemory;
 use netlist_arena::Netlist;
 use netlist_model::{CellId, NetId, PortId};
 use std::alloc::Global;
+use std::process::Abort;
 use std::test::Fail;
 
 const LIBRARY: &[u8] = b"cells 1\ngate INVX1 Y A : A not\n";
@@ -143,22 +144,45 @@ fn is_same(alloc: Global, one: &Netlist, other: &Netlist) -> Result<bool, OutOfM
     )
 }
 
-#[test]
-fn a_copy_tells_what_the_netlist_tells(rt: HostRuntime) -> Result<(), Fail> {
-    let library = read_library(rt.alloc(), LIBRARY)?;
-    let linked = linked_of(rt.alloc(), NETLIST, library)?;
-    let mut copy = linked.netlist().copy(rt.alloc())?;
+// A number that no cell has is none's in a copy too.
+fn look_without_a_cell(
+    rt: &impl Abort,
+    alloc: Global,
+    whole: &Netlist,
+    less: &Netlist,
+    again: &Netlist,
+) -> Result<(), Fail> {
+    assert_eq!(rt; again.cell_count(), 3);
+    assert!(rt; is_same(alloc, less, again)?);
+    assert!(rt; !is_same(alloc, whole, again)?);
+    Ok(())
+}
+
+fn look_at_copy(
+    rt: &impl Abort,
+    alloc: Global,
+    whole: &Netlist,
+    copy: &mut Netlist,
+) -> Result<(), Fail> {
     assert_eq!(rt; copy.library().count(), 1);
     assert_eq!(rt; copy.cell_count(), 4);
     assert_eq!(rt; copy.net_count(), 7);
     assert_eq!(rt; copy.port_count(), 4);
     assert_eq!(rt; copy.pin_count(), 5);
-    assert!(rt; is_same(rt.alloc(), linked.netlist(), &copy)?);
-    // A number that no cell has is none's in a copy too.
-    remove(&mut copy, CellId(1));
-    let again = copy.copy(rt.alloc())?;
-    assert_eq!(rt; again.cell_count(), 3);
-    assert!(rt; is_same(rt.alloc(), &copy, &again)?);
-    assert!(rt; !is_same(rt.alloc(), linked.netlist(), &again)?);
-    Ok(())
+    assert!(rt; is_same(alloc, whole, copy)?);
+    remove(copy, CellId(1));
+    let again = copy.copy(alloc)?;
+    look_without_a_cell(rt, alloc, whole, copy, &again)
+}
+
+fn copy_whole(rt: &impl Abort, alloc: Global, whole: &Netlist) -> Result<(), Fail> {
+    let mut copy = whole.copy(alloc)?;
+    look_at_copy(rt, alloc, whole, &mut copy)
+}
+
+#[test]
+fn a_copy_tells_what_the_netlist_tells(rt: HostRuntime) -> Result<(), Fail> {
+    let library = read_library(rt.alloc(), LIBRARY)?;
+    let linked = linked_of(rt.alloc(), NETLIST, library)?;
+    copy_whole(&rt, rt.alloc(), linked.netlist())
 }

@@ -9,6 +9,7 @@ use netlist_meaning::{Nets, Pins, State, settle};
 use netlist_model::NetId;
 use signal_values::Sig;
 use std::alloc::Global;
+use std::process::Abort;
 use std::test::Fail;
 
 // A state of the netlist, in which its one flip-flop holds this.
@@ -31,16 +32,20 @@ fn settled(alloc: Global, linked: &Linked, held: Sig) -> Result<[Sig; 2], OutOfM
     Ok([nets.value(NetId(2)), nets.value(NetId(3))])
 }
 
-#[test]
-fn a_toggle_settles_as_worked_out(rt: HostRuntime) -> Result<(), Fail> {
-    let linked = toggle(rt.alloc())?;
+fn look_at_values(rt: &impl Abort, alloc: Global, linked: &Linked) -> Result<(), Fail> {
     assert_eq!(rt; linked.flop_count(), 1);
     for (held, q, d) in [
         (Sig::Zero, Sig::Zero, Sig::One),
         (Sig::One, Sig::One, Sig::Zero),
         (Sig::Unknown, Sig::Unknown, Sig::Unknown),
     ] {
-        assert!(rt; settled(rt.alloc(), &linked, held)? == [q, d]);
+        assert!(rt; settled(alloc, linked, held)? == [q, d]);
     }
     Ok(())
+}
+
+#[test]
+fn a_toggle_settles_as_worked_out(rt: HostRuntime) -> Result<(), Fail> {
+    let linked = toggle(rt.alloc())?;
+    look_at_values(&rt, rt.alloc(), &linked)
 }

@@ -3,6 +3,7 @@ ghost use Rattle.std.specs.Prelude.{◌≡◌, ◌<◌, ℕ, true, IfOk, IfSome,
 ghost use Rattle.netlist_model.specs.Cones.{IsControlPort};
 ghost use Rattle.netlist_model.specs.Runs.{IsKnownPin};
 ghost use Rattle.netlist_meaning.specs.Pins.{ArePinsOf, net_of, outside};
+ghost use Rattle.netlist_meaning.specs.States.{IsStateOf};
 
 use crate::linking::linked_of;
 use cell_library::Library;
@@ -12,6 +13,7 @@ use netlist_meaning::{Event, Pins, Sim, State};
 use netlist_model::{PinBit, width_of};
 use signal_values::PinSig;
 use std::alloc::Global;
+use std::process::Abort;
 use std::test::Fail;
 
 const TOGGLE: &[u8] = b"module t(input ck, input rn, output q);
@@ -115,13 +117,33 @@ pub(crate) fn pins_at_first(alloc: Global, linked: &Linked) -> Result<Pins, OutO
     Pins::new(alloc, linked)
 }
 
+// Plays the events from these pins and contents.
+fn look_at_readings(
+    rt: &impl Abort,
+    alloc: Global,
+    linked: &Linked,
+    pins: &Pins,
+    state: &State,
+) -> Result<(), Fail>
+    requires pins { ArePinsOf linked.now.arena.lists pins.now }
+    requires known { (net : ℕ) → IsControlPort linked.now.arena.lists net
+        → IsKnownPin (outside pins.now net) }
+    requires state { IsStateOf linked.now state.now }
+{
+    let mut sim = Sim::new(alloc, linked)?;
+    sim.start(pins, state);
+    assert!(rt; readings(linked, &mut sim) == Some(READINGS));
+    Ok(())
+}
+
+fn look_at_run(rt: &impl Abort, alloc: Global, linked: &Linked) -> Result<(), Fail> {
+    let pins = pins_at_first(alloc, linked)?;
+    let state = State::new(alloc, linked)?;
+    look_at_readings(rt, alloc, linked, &pins, &state)
+}
+
 #[test]
 fn a_toggle_reads_as_worked_out(rt: HostRuntime) -> Result<(), Fail> {
     let linked = toggle(rt.alloc())?;
-    let pins = pins_at_first(rt.alloc(), &linked)?;
-    let state = State::new(rt.alloc(), &linked)?;
-    let mut sim = Sim::new(rt.alloc(), &linked)?;
-    sim.start(&pins, &state);
-    assert!(rt; readings(&linked, &mut sim) == Some(READINGS));
-    Ok(())
+    look_at_run(&rt, rt.alloc(), &linked)
 }

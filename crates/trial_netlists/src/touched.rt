@@ -1,12 +1,18 @@
 // The same flip-flop, in a run in which each event works out the gates that it touches.
-ghost use Rattle.std.specs.Prelude.{◌≡◌, ◌<◌, true};
+ghost use Rattle.std.specs.Prelude.{◌≡◌, ◌<◌, ℕ, true};
+ghost use Rattle.netlist_model.specs.Cones.{IsControlPort};
+ghost use Rattle.netlist_model.specs.Runs.{IsKnownPin};
+ghost use Rattle.netlist_meaning.specs.Pins.{ArePinsOf, outside};
+ghost use Rattle.netlist_meaning.specs.States.{IsStateOf};
 
 use crate::toggled::{READINGS, bit, event, pins_at_first, toggle};
 use event_sim::{EventSim, Steps};
 use netlist_link::Linked;
-use netlist_meaning::State;
+use netlist_meaning::{Pins, State};
 use signal_values::PinSig;
+use std::alloc::Global;
 use std::marker::Brand;
+use std::process::Abort;
 use std::sync::ledger::{Blank, Ledger};
 use std::test::Fail;
 
@@ -59,14 +65,34 @@ fn readings_by_events<L: Ledger>(
     Some(readings)
 }
 
+// Plays the events from these pins and contents.
+fn look_at_readings(
+    rt: &impl Abort,
+    alloc: Global,
+    linked: &Linked,
+    pins: &Pins,
+    state: &State,
+) -> Result<(), Fail>
+    requires pins { ArePinsOf linked.now.arena.lists pins.now }
+    requires known { (net : ℕ) → IsControlPort linked.now.arena.lists net
+        → IsKnownPin (outside pins.now net) }
+    requires state { IsStateOf linked.now state.now }
+{
+    let mut sim = EventSim::new(alloc, linked)?;
+    sim.start(pins, state);
+    let read = readings_by_events::<Brand>(linked, &mut sim, Blank::new(1));
+    assert!(rt; read == Some(READINGS));
+    Ok(())
+}
+
+fn look_at_run(rt: &impl Abort, alloc: Global, linked: &Linked) -> Result<(), Fail> {
+    let pins = pins_at_first(alloc, linked)?;
+    let state = State::new(alloc, linked)?;
+    look_at_readings(rt, alloc, linked, &pins, &state)
+}
+
 #[test]
 fn a_toggle_reads_by_touched_gates_as_worked_out(rt: HostRuntime) -> Result<(), Fail> {
     let linked = toggle(rt.alloc())?;
-    let pins = pins_at_first(rt.alloc(), &linked)?;
-    let state = State::new(rt.alloc(), &linked)?;
-    let mut sim = EventSim::new(rt.alloc(), &linked)?;
-    sim.start(&pins, &state);
-    let read = readings_by_events::<Brand>(&linked, &mut sim, Blank::new(1));
-    assert!(rt; read == Some(READINGS));
-    Ok(())
+    look_at_run(&rt, rt.alloc(), &linked)
 }
