@@ -32,20 +32,21 @@ pub fn add_cells(
     ensures ports { OnOk result (netlist.new.lists.ports ≡ netlist.old.lists.ports) }
     ensures nets { OnOk result (netlist.new.lists.nets ≡ netlist.old.lists.nets) }
 {
+    let mut hint = 0;
     for cell in cells {
-        let name = cell_name(names, cell.name());
+        let name = cell_name(names, cell.name(), &mut hint);
         let _id = netlist.add_wide_cell(cell.kind(), name, cell.feeds(), cell.output())?;
     }
     Ok(())
 }
 
-// The name of the netlist for a cell's, if it has one.
-fn cell_name(names: &NameTable, name: Option<&[u8]>) -> Option<Name>
+// The name of the netlist for a cell's, if it has one, which is looked for near the hint.
+fn cell_name(names: &NameTable, name: Option<&[u8]>, hint: &mut u32) -> Option<Name>
     requires { IfSome (bytes_of name) (IsEntered names.now) }
     ensures { IsName names.now result (bytes_of name.entry) }
 {
     match name {
-        Some(name) => Some(original(names, name)),
+        Some(name) => Some(original(names, name, hint)),
         None => None,
     }
 }

@@ -33,11 +33,12 @@ pub fn add_ports(
     ensures spare { OnOk result (netlist.new.spare.cells ≡ netlist.old.spare.cells) }
 {
     let mut first = 0;
+    let mut hint = 0;
     for port in ports {
         let count = width(port.range);
         let bits = net_ids(alloc, first, count)?;
         let _id = netlist.add_port(
-            original(names, port.name.as_bytes()),
+            original(names, port.name.as_bytes(), &mut hint),
             direction_of(port.dir),
             range(port.range),
             &bits,

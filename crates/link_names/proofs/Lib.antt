@@ -7,3 +7,4 @@ pub mod NetCounts
 pub mod Fitting
 pub mod PortPlaces
 pub mod Modules
+pub mod Clear

@@ -254,7 +254,7 @@ pub fn cells_of<'a>(
     ensures { IfOk result (λ cells. cells.items
         ≡ map (model.cell_of library.now (entries_of table.now)) items.now) }
 {
-    let mut cells = Vec::new(alloc);
+    let mut cells = Vec::with_capacity(alloc, items.len())?;
     for item in items {
         cells.push(cell_of(alloc, library, numbers, table, item)?)?;
     }

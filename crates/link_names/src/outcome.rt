@@ -6,9 +6,10 @@ ghost use Rattle.link_model.specs.Faults.{text_fault, cells_in};
 ghost use Rattle.link_model.specs.Fits.{FitCells};
 ghost use Rattle.link_names.specs.Numbering.{HasNumbers};
 ghost use Rattle.link_names.specs.Views.{net_views, entries_of};
+ghost use Rattle.link_names.specs.Tests.{are_clear};
 ghost use Rattle.link_names.specs.Resolving.{head_fault, bit_fault, item_fault, IsResolved, IsOutcome};
 
-use crate::bits::{BitTest, find_bit};
+use crate::bits::{BitTest, bits_are_clear, find_bit};
 use crate::cell_numbers::numbers_of;
 use crate::cells::cells_of;
 use crate::counts::find_too_many;
@@ -46,9 +47,14 @@ fn find_bit_fault(
     alloc: Global,
     table: &IndexMap<&[u8], Declaration>,
     items: &[Item],
+    clear: bool,
 ) -> Result<Option<LinkFault>, OutOfMemory>
+    requires { clear ≡ are_clear (entries_of table.now) items.now }
     ensures { IfOk result (λ fault. fault ≡ bit_fault (entries_of table.now) items.now) }
 {
+    if clear {
+        return Ok(None);
+    }
     match find_bit(alloc, table, BitTest::NameUnknown, items)? {
         Some(fault) => return Ok(Some(fault)),
         None => {}
@@ -66,7 +72,8 @@ fn find_item_fault(
     requires numbers { HasNumbers library.now numbers.now }
     ensures { IfOk result (λ fault. fault ≡ item_fault library.now (entries_of table.now) items.now) }
 {
-    match find_bit_fault(alloc, table, items)? {
+    let clear = bits_are_clear(alloc, table, items)?;
+    match find_bit_fault(alloc, table, items, clear)? {
         Some(fault) => return Ok(Some(fault)),
         None => {}
     }
@@ -74,7 +81,7 @@ fn find_item_fault(
         Some(fault) => return Ok(Some(fault)),
         None => {}
     }
-    find_width(alloc, library, numbers, table, items)
+    find_width(alloc, library, numbers, table, items, clear)
 }
 
 fn build<'a>(

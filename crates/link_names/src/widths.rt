@@ -1,8 +1,10 @@
 // Bits of the wrong width, and constants on outputs.
-ghost use Rattle.std.specs.Prelude.{◌≡◌, IfOk};
+ghost use Rattle.std.specs.Prelude.{◌≡◌, None, IsTrue, IfOk};
 ghost use Rattle.link_model.specs.Lists.{first_in};
-ghost use Rattle.link_model.specs.Faults.{link_width, item_width};
+ghost use Rattle.link_model.specs.Faults.{item_bits, link_width, item_width};
+ghost use Rattle.link_names.specs.declared.bits.BitTest.TheVariants.{Any};
 ghost use Rattle.link_names.specs.Numbering.{HasNumbers};
+ghost use Rattle.link_names.specs.Tests.{first_at, are_clear};
 ghost use Rattle.link_names.specs.Views.{entries_of};
 
 use crate::bits::{BitTest, check_bit, check_item};
@@ -64,11 +66,16 @@ fn check_width(
     numbers: &IndexMap<&[u8], u32>,
     table: &IndexMap<&[u8], Declaration>,
     item: &Item,
+    clear: bool,
 ) -> Result<Option<LinkFault>, OutOfMemory>
     requires numbers { HasNumbers library.now numbers.now }
+    requires clear { IsTrue clear → first_at Any (entries_of table.now) (item_bits item.now) ≡ None }
     ensures { IfOk result (λ fault. fault ≡ item_width library.now (entries_of table.now) item.now) }
 {
     let Item::Instance(instance) = item else {
+        if clear {
+            return Ok(None);
+        }
         return check_item(alloc, table, BitTest::WrongWidth, item);
     };
     match kind_of(library, numbers, instance.cell.as_bytes()) {
@@ -84,20 +91,22 @@ fn check_width(
     }
 }
 
-/// The first fault of width in the items.
+/// The first fault of width in the items. Where no bit is at fault (`bits_are_clear`), only instances are looked at.
 pub fn find_width(
     alloc: Global,
     library: &Library,
     numbers: &IndexMap<&[u8], u32>,
     table: &IndexMap<&[u8], Declaration>,
     items: &[Item],
+    clear: bool,
 ) -> Result<Option<LinkFault>, OutOfMemory>
     requires numbers { HasNumbers library.now numbers.now }
+    requires clear { clear ≡ are_clear (entries_of table.now) items.now }
     ensures { IfOk result (λ fault. fault
         ≡ first_in (item_width library.now (entries_of table.now)) items.now) }
 {
     for item in items {
-        match check_width(alloc, library, numbers, table, item)? {
+        match check_width(alloc, library, numbers, table, item, clear)? {
             Some(fault) => return Ok(Some(fault)),
             None => {}
         }

@@ -93,10 +93,31 @@ number_of-at name names number h = by (nat_lt (position_or_len (bytes_eq name) n
         rw (← place) (place-at name names (ltb-true (position_or_len (bytes_eq name) names) (length names) e))
     by false e = let no : None ≡ Some number = rw e at h in absurd (cc)
 
--- what a new name comes to
-pub pushed : (name : List ℕ) (names new : List (List ℕ)) → number_of name names ≡ None → new ≡ with_name name names
-    → number_of name new ≡ Some (length names)
-pushed name names new none grown =
-    let gone = position_none (bytes_eq name) names none in
-    let longer : new ≡ names ++ name ∷ [] = grown ∙ rw gone refl in
-    ap (number_of name) longer ∙ number_of-new name names gone
+-- the number at which a name stands once it is entered
+pub entered : (name : List ℕ) (names new : List (List ℕ)) (number : ℕ) → new ≡ with_name name names → number ≡ position_or_len (bytes_eq name) names
+    → number_of name new ≡ Some number
+entered name names new number grown is = by (list_any (bytes_eq name) names) refl
+  where
+    by : (b : Bool) → list_any (bytes_eq name) names ≡ b → number_of name new ≡ Some number
+    by true e =
+        let same : new ≡ names = grown ∙ rw e refl in
+        ap (number_of name) same ∙ at-inside (position_or_len (bytes_eq name) names) (length names) (inside (bytes_eq name) names e) ∙ ap (λ (n : ℕ). Some n) (sym is)
+    by false e =
+        let longer : new ≡ names ++ name ∷ [] = grown ∙ rw e refl in
+        ap (number_of name) longer ∙ number_of-new name names e ∙ ap (λ (n : ℕ). Some n) (sym (is ∙ outside (bytes_eq name) names e))
+
+-- a name that stands in the list is found there
+found : (name : List ℕ) (names : List (List ℕ)) (number : ℕ) → slice_get names number ≡ Some name → list_any (bytes_eq name) names ≡ true
+found name [] number here = absurd (cc)
+found name (n ∷ ns) zero here = let same : n ≡ name = cc in rw (same, bytes_eq-same name) refl
+found name (n ∷ ns) (suc number) here = by (bytes_eq name n) refl (found name ns number here)
+  where
+    by : (b : Bool) → bytes_eq name n ≡ b → list_any (bytes_eq name) ns ≡ true → list_any (bytes_eq name) (n ∷ ns) ≡ true
+    by true e rest = rw e refl
+    by false e rest = rw e rest
+
+-- a name has the number where it stands, since it stands once
+pub number_where : (name : List ℕ) (names : List (List ℕ)) (number : ℕ) → IsOnce names → slice_get names number ≡ Some name → number_of name names ≡ Some number
+number_where name names number once here =
+    let first = at-inside (position_or_len (bytes_eq name) names) (length names) (inside (bytes_eq name) names (found name names number here)) in
+    first ∙ ap (λ (n : ℕ). Some n) (once (position_or_len (bytes_eq name) names) number name (number_of-at name names (position_or_len (bytes_eq name) names) first) here)

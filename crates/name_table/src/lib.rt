@@ -6,7 +6,7 @@
 // - `enter` puts a new name at the end and leaves a known one where it is; the number that it answers is that of
 //   the name.
 // - After a refusal the table is as before.
-// - `find` answers the number of a name exactly where it is there; `text` answers the bytes of a number.
+// - `find` and `find_near` answer the number of a name exactly where it is there; `text` answers the bytes of a number.
 // - `len` and `is_empty` are those of the list, and no name stands twice.
 // By the contract of its calls.
 #![tactic(auto)]
@@ -66,26 +66,14 @@ impl NameTable {
         ensures stands { IfOk result (λ number. slice_get self.new number ≡ Some name.now) }
         ensures err { OnErr result (self.new ≡ self.old) }
     {
-        match self.find(name) {
-            Some(number) => Ok(number),
-            None => self.push(name),
-        }
-    }
-
-    // Enters a new name.
-    fn push(&mut self, name: &[u8]) -> Result<u32, OutOfMemory>
-        requires { number_of name.now self.old ≡ None }
-        ensures names { OnOk result (self.new ≡ with_name name.now self.old) }
-        ensures number { IfOk result (λ number. number_of name.now self.new ≡ Some number) }
-        ensures stands { IfOk result (λ number. slice_get self.new number ≡ Some name.now) }
-        ensures err { OnErr result (self.new ≡ self.old) }
-    {
-        let number = self.names.len();
-        if number > u32::MAX as usize {
-            return Err(OutOfMemory);
+        if self.names.len() > u32::MAX as usize {
+            return match self.find(name) {
+                Some(number) => Ok(number),
+                None => Err(OutOfMemory),
+            };
         }
         let key = Key::new(self.alloc, name)?;
-        self.names.insert(key)?;
+        let (number, _) = self.names.insert_full(key)?;
         Ok(number as u32)
     }
 
@@ -96,6 +84,31 @@ impl NameTable {
     {
         let number = self.names.get_index_of(name)?;
         Some(number as u32)
+    }
+
+    /// The number of a name, if it is there; it is looked for first at the hint and at the number after it.
+    pub fn find_near(&self, name: &[u8], hint: u32) -> Option<u32>
+        ensures number { result ≡ number_of name.now self.now }
+        ensures stands { IfSome result (λ number. slice_get self.now number ≡ Some name.now) }
+    {
+        if self.has_at(name, hint) {
+            return Some(hint);
+        }
+        let next = hint.saturating_add(1);
+        if self.has_at(name, next) {
+            return Some(next);
+        }
+        self.find(name)
+    }
+
+    // Whether the name has this number.
+    fn has_at(&self, name: &[u8], number: u32) -> bool
+        ensures { IsTrue result ↔ (number_of name.now self.now ≡ Some number) }
+    {
+        if u64::from(number) >= self.len() {
+            return false;
+        }
+        self.text(number) == name
     }
 
     /// The name with this number.
