@@ -1,0 +1,9 @@
+pub mod SetFlags
+pub mod TableKeys
+pub mod Firsts
+pub mod PortNames
+pub mod DrivenNets
+pub mod WireWords
+pub mod Rows
+pub mod Fits
+pub mod Once

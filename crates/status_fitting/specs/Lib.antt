@@ -1,0 +1,10 @@
+pub mod First
+pub mod Wires
+pub mod Names
+pub mod Opcodes
+pub mod Faults
+pub mod Fitted
+pub mod Laws
+pub mod Keys
+pub mod Tables
+pub mod Steps
