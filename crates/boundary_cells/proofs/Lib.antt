@@ -1,5 +1,5 @@
 pub use Rattle.register_bits.proofs as register_bits
-pub mod Adding
+pub mod AddedTables
 pub mod Stages
 pub mod Cells
 pub mod ThreeStates

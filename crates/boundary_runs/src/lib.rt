@@ -16,7 +16,7 @@
 //   (`selected_steers`).
 // - A row of a wrapped chip has the kind, the update bit and what its cell captures in the row's place of the test
 //   logic's lists (`chip_rows`).
-// By the contract of five law functions.
+// By the contract of its law functions.
 #![tactic(auto)]
 
 ghost use Rattle.boundary_runs.specs.ChipRows.{ChipRows};

@@ -1,14 +1,6 @@
-pub mod BitCounts
-pub mod Bits
+pub use Rattle.bsdl_port_rules.proofs.Tables as Tables
 pub mod CellRows
-pub mod ControlSets
-pub mod Disagreeing
-pub mod Entries
 pub mod Few
-pub mod Finding
-pub mod KeyLists
+pub mod TableFinds
 pub mod Ordered
-pub mod Repeats
-pub mod Sets
-pub mod Tables
 pub mod Words

@@ -7,7 +7,7 @@ use Rattle.bsdl_device.specs.declared.written.WrittenRange.{WrittenRange}
 use Rattle.bsdl_device.specs.declared.written.PortDeclaration.{PortDeclaration}
 use Rattle.bsdl_device.specs.declared.written.StringAttribute.{StringAttribute}
 use Rattle.bsdl_device.specs.declared.written.File.{File}
-use Rattle.bsdl_device.specs.Matching.{each_after, separated_by}
+use Rattle.bsdl_device.specs.Patterns.{each_after, separated_by}
 use Rattle.bsdl_device.specs.Shape.{Mark, KeyWord, NameOf, mode_word, type_words, StringOf, joined, sections, strings_words, names_words, declaration_words, string_attribute_words, constant_section, port_section, code_words, usercode_words, idcode_section}
 use Rattle.bsdl_checks.specs.Counts.{strings_count, code_count, after_semicolons, first_word, all_words}
 

@@ -4,7 +4,7 @@ use Rattle.std.specs.Option.{option_map_or}
 use Rattle.bsdl_lexicon.specs.declared.symbol.BsdlSymbol.TheVariants.{Semicolon}
 use Rattle.bsdl_device.specs.declared.written.PortDeclaration.{PortDeclaration}
 use Rattle.bsdl_device.specs.declared.written.StringAttribute.{StringAttribute}
-use Rattle.bsdl_device.specs.Matching.{each_after}
+use Rattle.bsdl_device.specs.Patterns.{each_after}
 use Rattle.bsdl_device.specs.declared.written.File.{File}
 use Rattle.bsdl_device.specs.Shape.{Pattern, Mark, declaration_words, file_words, section_word}
 

@@ -1,7 +1,3 @@
-pub mod Bits
-pub mod Controls
 pub mod Counts
-pub mod Keys
-pub mod NameTables
 pub mod Ordered
 pub mod Tables

@@ -6,7 +6,7 @@ use Rattle.bsdl_device.specs.declared.entries.PinEntry.{PinEntry}
 use Rattle.bsdl_device.specs.declared.entries.RowEntry.{RowEntry}
 use Rattle.bsdl_device.specs.Checks.{is_numbered}
 use Rattle.bsdl_lexicon.specs.declared.name_key.NameKey.{NameKey}
-use Rattle.bsdl_checks.specs.NameTables.{under_name}
+use Rattle.bsdl_port_rules.specs.NameTables.{under_name}
 
 -- the first entry of each port stands under it, by its place
 pub record FindsEntries (list : List PinEntry) (entries : List (NameKey × ℕ)) : Type 0 where

@@ -5,9 +5,9 @@ ghost use Rattle.std.specs.Option.{option_map};
 ghost use Rattle.bsdl_device.specs.Checks as rule;
 ghost use Rattle.bsdl_device.specs.Denoted as denoted;
 
-use crate::port_table::PortTable;
 use crate::row_table::RowTable;
 use bsdl_device::{CellRow, DevBit, PortBit, RowEntry};
+use bsdl_port_rules::PortTable;
 use std::alloc::Global;
 use texts::{OutOfMemory, Row};
 

@@ -7,13 +7,11 @@ ghost use Rattle.bsdl_device.specs.Denoted as denoted;
 ghost use Rattle.bsdl_device.specs.Meanings.{first_meaning_fault};
 
 use crate::cells::{cells_of, place_of};
-use crate::instructions::instruction_named;
 use crate::pin_table::PinTable;
-use crate::port_table::PortTable;
-use crate::ports::declared_ports;
 use bsdl_device::{
     Contents, DeclaredPort, DevPort, Device, File, MappedPins, OpcodeEntry, PinEntry,
 };
+use bsdl_port_rules::{PortTable, declared_ports, instruction_named};
 use cell_library::Opcode;
 use std::alloc::Global;
 use texts::{OutOfMemory, Row, Text};

@@ -7,18 +7,13 @@ ghost use Rattle.bsdl_device.specs.Ports as declared;
 ghost use Rattle.bsdl_checks.specs.Counts.{all_words, first_word};
 ghost use Rattle.bsdl_checks.specs.Ordered as first;
 
-use crate::access::register_fails;
-use crate::boundary::boundary_fails;
-use crate::instructions::{
-    capture_fails, idcode_fails, length_fails, opcode_fails, usercode_fails,
-};
-use crate::pin_map::pin_map_fails;
-use crate::port_table::PortTable;
-use crate::ports::{declared_ports, name_fails};
-use crate::rows::row_fails;
 use crate::sections;
-use crate::tap::tap_fails;
 use bsdl_device::{Contents, File, MeaningKind};
+use bsdl_port_rules::{
+    PortTable, capture_fails, declared_ports, idcode_fails, length_fails, name_fails, opcode_fails,
+    pin_map_fails, register_fails, tap_fails, usercode_fails,
+};
+use bsdl_row_rules::{boundary_fails, row_fails};
 use std::alloc::Global;
 use texts::OutOfMemory;
 

@@ -1,41 +1,19 @@
 // The meaning checks of a BSDL file: the eleven rules in their order, and the device that a file describes where it breaks none.
 // Contracts cite the rules of bsdl_device's specs/Checks.antt and RowRules.antt, `first_meaning_fault` and `device_of`.
-// IEEE Std 1149.1-2001: the annex on BSDL; instruction register; device identification register; boundary cells. The order of the rules and the limits are own.
+// IEEE Std 1149.1-2001: the annex on BSDL; instruction register; device identification register;
+// boundary-scan register. The order of the rules and the limits are own.
 //
 // - `first_fault` gives the first broken rule in the stated order, with the number of the first word of its
 //   section, or none exactly where no rule is broken.
 // - `device` gives the device that the file and its contents describe; it asks that no rule is broken.
 // - The calls of `sections` give the numbers of the first words of sections; `strings_stand_within` says that the
 //   first string of each section stands within the file.
-// - Inside, by subject: names, ports, the pin map and the test access port (`ports`, `pin_map`, `tap`); the
-//   instruction register, the identification code, the usercode and register access (`instructions`, `access`);
-//   the boundary register (`boundary`, `rows`, `controls`, `disables`, `system_bits`, `bit_rows`): each rule says
-//   yes exactly where it is broken. Tables find the first port or entry of a name, in any case of letters, and the
-//   first row of a number.
+// - The rules stand in two crates below: those on ports, pins, instructions and registers in bsdl_port_rules, those on
+//   the boundary register in bsdl_row_rules. Tables here find the first entry of a port, in any case of letters, and
+//   the first row of a number.
 // By the contract of `first_fault`, `device`.
 #![tactic(auto)]
 
-// Names and numbers that come twice, and tables of ports.
-mod keys;
-mod names;
-mod port_table;
-
-// The rules on ports, instructions and rows.
-mod access;
-mod bit_rows;
-mod boundary;
-mod controls;
-mod disables;
-mod instructions;
-mod numbers;
-mod pin_map;
-mod ports;
-mod row_cells;
-mod rows;
-mod system_bits;
-mod tap;
-
-// The first rule that is broken, and the device.
 mod cells;
 mod describe;
 mod first;

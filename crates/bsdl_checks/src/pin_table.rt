@@ -3,9 +3,9 @@ ghost use Rattle.std.specs.Prelude.{◌≡◌, IfOk, find, position};
 ghost use Rattle.std.specs.Option.{option_copied};
 ghost use Rattle.bsdl_lexicon.specs.Names.{is_same_name};
 
-use crate::pin_map::mapped_ports;
 use bsdl_device::PinEntry;
 use bsdl_lexicon::NameKey;
+use bsdl_port_rules::mapped_ports;
 use first_faults::first_places;
 use indexmap::IndexMap;
 use std::alloc::Global;

@@ -3,8 +3,8 @@ ghost use Rattle.std.specs.Prelude.{◌≡◌, IfOk, find, position};
 ghost use Rattle.std.specs.Option.{option_copied};
 ghost use Rattle.bsdl_device.specs.Checks as rule;
 
-use crate::boundary::row_numbers;
 use bsdl_device::RowEntry;
+use bsdl_row_rules::row_numbers;
 use first_faults::first_places;
 use indexmap::IndexMap;
 use std::alloc::Global;

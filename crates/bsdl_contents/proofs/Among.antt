@@ -9,7 +9,7 @@ use Rattle.bsdl_reading.specs.Files.{or_next}
 use Rattle.bsdl_reading.proofs.Exact.{Exact, Anything}
 use Rattle.bsdl_reading.proofs.Matched.{Spelled, spelled_take}
 use Rattle.bsdl_reading.proofs.Views.{Free, seen}
-use Rattle.bsdl_contents.specs.Reading.{among}
+use Rattle.bsdl_contents.specs.Reader.{among}
 
 -- one word is no other
 key_differs : (a b : List ℕ) → is_same_name a b ≡ false → (w : ContentWord) → key_in a w ≡ Some tt → key_in b w ≡ None

@@ -1,13 +1,13 @@
 -- Readers that choose by a mark, and readers of a whole section.
 use Rattle.std.proofs.Common.{◌≡◌, List, [], ◌∷◌, ◌++◌, Some, None, refl, sym, ap, subst, ◌∙◌, append-nil, inl, inr, ◌⊎◌}
 use Rattle.list_laws.proofs.Options.{none_some}
-use Rattle.bsdl_device.specs.Matching.{MatchesBy}
+use Rattle.bsdl_device.specs.Patterns.{MatchesBy}
 use Rattle.bsdl_device.specs.Runs.{ContentWord, ContentPattern, Fits}
 use Rattle.bsdl_reading.specs.Readers.{Read, done, after, end_at}
 use Rattle.bsdl_reading.proofs.Exact.{Exact, Then, exact_after, exact_done, exact_weaker}
 use Rattle.bsdl_reading.proofs.Choices.{NotNext, EitherWay, exact_either}
 use Rattle.bsdl_reading.proofs.Matched.{Spelled, exact_stops}
-use Rattle.bsdl_contents.specs.Reading.{seen_as, choice_at, whole_at}
+use Rattle.bsdl_contents.specs.Reader.{seen_as, choice_at, whole_at}
 
 -- what both ways make of what they read, and the patterns that spell it
 pub record Ways (X Y Z : Type 0) (mark : ContentPattern) (make : X → Y) (make_other : Z → Y) (ok : X → Type 0) (fair : Z → Type 0) (fine : Y → Type 0) (words : X → List ContentPattern) (others : Z → List ContentPattern) (spelling : Y → List ContentPattern) : Type 0 where

@@ -14,7 +14,7 @@ use Rattle.bsdl_device.specs.declared.entries.RowEntry.{RowEntry}
 use Rattle.bsdl_device.specs.declared.entries.Contents.{Contents}
 use Rattle.bsdl_device.specs.declared.written.StringAttribute.{StringAttribute}
 use Rattle.bsdl_device.specs.declared.written.File.{File}
-use Rattle.bsdl_device.specs.Matching.{is_filled}
+use Rattle.bsdl_device.specs.Patterns.{is_filled}
 use Rattle.bsdl_device.specs.Runs.{ContentWord, ContentPattern, Fits, content_words}
 use Rattle.bsdl_device.specs.Shape.{joined}
 use Rattle.bsdl_device.specs.Grammar.{has_pins, pin_map_words, opcodes_words, capture_words, idcode_words, accesses_words, rows_words, opcode_words, row_words, pin_entry_words, access_words}
@@ -26,8 +26,8 @@ use Rattle.bsdl_reading.proofs.Matched.{Spelled}
 use Rattle.bsdl_reading.proofs.Listed.{AreSome}
 use Rattle.bsdl_reading.proofs.Views.{Free, all_free}
 use Rattle.bsdl_contents.specs.Laws.{HoldOneContents}
-use Rattle.bsdl_contents.specs.Reading as reading
-use Rattle.bsdl_contents.specs.Reading.{section_at, whole_at, contents_from, contents_at}
+use Rattle.bsdl_contents.specs.Reader as reading
+use Rattle.bsdl_contents.specs.Reader.{section_at, whole_at, contents_from, contents_at}
 use Rattle.bsdl_contents.proofs.Chosen.{whole_sound, whole_complete}
 use Rattle.bsdl_contents.proofs.EntryLaws.{ArePins, IsPinEntry, IsAccessEntry, list_law, pin_entry_law, opcode_law, bits_law, code_law, access_law}
 use Rattle.bsdl_contents.proofs.RowLaws.{row_law}

@@ -7,7 +7,7 @@ use Rattle.bsdl_reading.specs.Readers.{Read, done, after, front, rest, rest_if, 
 use Rattle.bsdl_contents.specs.declared.fault.PartFault.{PartFault}
 use Rattle.bsdl_contents.specs.declared.fault.PartFault.TheVariants as fault
 use Rattle.bsdl_contents.specs.Outcomes.{Gives}
-use Rattle.bsdl_contents.specs.Reading.{list_at}
+use Rattle.bsdl_contents.specs.Reader.{list_at}
 
 abbrev comma_next : List ContentWord → Option (Unit {0})
 comma_next ws = front (mark_in 44) ws

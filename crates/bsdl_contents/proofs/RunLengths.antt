@@ -4,7 +4,7 @@ use Rattle.std.proofs.lemmas.List.{drop_more, drop_all, take_all, length-drop}
 use borrow.Author.Tests.{eqb-true}
 use Rattle.bsdl_lexicon.specs.Bytes.{is_name_byte}
 use Rattle.bsdl_device.specs.Runs.{ContentWord, Run, Other, content_words, lengthened, begins_run}
-use Rattle.bsdl_contents.specs.Cutting.{run_len, unspaced}
+use Rattle.bsdl_contents.specs.WordsAhead.{run_len, unspaced}
 
 -- Blanks.
 

@@ -7,7 +7,7 @@ use Rattle.bsdl_device.specs.Spelled.{HasContents}
 use Rattle.bsdl_contents.specs.declared.fault.ContentsFault.{ContentsFault}
 use Rattle.bsdl_contents.specs.declared.fault.ContentsFault.TheVariants as contents
 use Rattle.bsdl_contents.specs.Outcomes.{TellsAll, IsFault, section_of}
-use Rattle.bsdl_contents.specs.Reading.{contents_at}
+use Rattle.bsdl_contents.specs.Reader.{contents_at}
 use Rattle.bsdl_contents.proofs.Held.{contents_sound, contents_complete, contents_wrong}
 
 pub told_ok : (f : File) (r : Result Contents ContentsFault) → TellsAll r (contents_at f) → IfOk r (λ c. HasContents f c)

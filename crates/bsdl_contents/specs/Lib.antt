@@ -1,4 +1,4 @@
-pub mod Cutting
-pub mod Reading
+pub mod WordsAhead
+pub mod Reader
 pub mod Outcomes
 pub mod Laws

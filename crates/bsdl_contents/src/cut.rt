@@ -1,7 +1,7 @@
 // Where words end.
 ghost use Rattle.std.specs.Prelude.{◌≡◌, ◌≤◌, length};
 ghost use Rattle.bsdl_device.specs.Runs.{content_words};
-ghost use Rattle.bsdl_contents.specs.Cutting.{run_len, unspaced, words_left};
+ghost use Rattle.bsdl_contents.specs.WordsAhead.{run_len, unspaced, words_left};
 
 use crate::piece::Piece;
 use bsdl_runs::runs::is_name_byte;

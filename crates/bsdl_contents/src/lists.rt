@@ -1,6 +1,6 @@
 ghost use Rattle.std.specs.Prelude.{◌≡◌, ◌≤◌, length, IfOk};
 ghost use Rattle.bsdl_contents.specs.Outcomes.{Gives};
-ghost use Rattle.bsdl_contents.specs.Reading.{list_at, pin_at, identifier_at, pin_entry_at, opcode_at, access_at, row_at};
+ghost use Rattle.bsdl_contents.specs.Reader.{list_at, pin_at, identifier_at, pin_entry_at, opcode_at, access_at, row_at};
 
 use crate::fault::PartFault;
 use crate::parts::{access, opcode, pin_entry, row};

@@ -1,6 +1,6 @@
 ghost use Rattle.std.specs.Prelude.{◌≡◌, ◌≤◌, length};
 ghost use Rattle.bsdl_contents.specs.Outcomes.{Gives};
-ghost use Rattle.bsdl_contents.specs.Reading as reading;
+ghost use Rattle.bsdl_contents.specs.Reader as reading;
 
 use crate::fault::PartFault;
 use crate::lists::{identifiers, pins};
@@ -12,7 +12,7 @@ use std::alloc::Global;
 use texts::{Row, Text};
 
 // Pins, and the parenthesis behind them.
-#[tactic(auto, unfolding(crate::specs::Reading::several_at))]
+#[tactic(auto, unfolding(crate::specs::Reader::several_at))]
 fn several_pins(alloc: Global, reader: &mut ContentReader) -> Result<Row<Text>, PartFault>
     ensures gives { Gives result reader.new (reading.several_at reader.old) }
     ensures within { length reader.new ≤ length reader.old }
@@ -23,7 +23,7 @@ fn several_pins(alloc: Global, reader: &mut ContentReader) -> Result<Row<Text>, 
 }
 
 // `pin` or `(pin,pin)`
-#[tactic(auto, unfolding(crate::specs::Reading::pins_at))]
+#[tactic(auto, unfolding(crate::specs::Reader::pins_at))]
 fn mapped_pins(alloc: Global, reader: &mut ContentReader) -> Result<MappedPins, PartFault>
     ensures gives { Gives result reader.new (reading.pins_at reader.old) }
     ensures within { length reader.new ≤ length reader.old }
@@ -36,7 +36,7 @@ fn mapped_pins(alloc: Global, reader: &mut ContentReader) -> Result<MappedPins, 
 }
 
 /// `port:pins`
-#[tactic(auto, unfolding(crate::specs::Reading::pin_entry_at))]
+#[tactic(auto, unfolding(crate::specs::Reader::pin_entry_at))]
 pub fn pin_entry(alloc: Global, reader: &mut ContentReader) -> Result<PinEntry, PartFault>
     ensures gives { Gives result reader.new (reading.pin_entry_at reader.old) }
     ensures within { length reader.new ≤ length reader.old }
@@ -48,7 +48,7 @@ pub fn pin_entry(alloc: Global, reader: &mut ContentReader) -> Result<PinEntry, 
 }
 
 /// `INSTRUCTION (bits)`
-#[tactic(auto, unfolding(crate::specs::Reading::opcode_at))]
+#[tactic(auto, unfolding(crate::specs::Reader::opcode_at))]
 pub fn opcode(alloc: Global, reader: &mut ContentReader) -> Result<OpcodeEntry, PartFault>
     ensures gives { Gives result reader.new (reading.opcode_at reader.old) }
     ensures within { length reader.new ≤ length reader.old }
@@ -61,7 +61,7 @@ pub fn opcode(alloc: Global, reader: &mut ContentReader) -> Result<OpcodeEntry, 
 }
 
 /// `REGISTER (INSTRUCTION, INSTRUCTION)`
-#[tactic(auto, unfolding(crate::specs::Reading::access_at))]
+#[tactic(auto, unfolding(crate::specs::Reader::access_at))]
 pub fn access(alloc: Global, reader: &mut ContentReader) -> Result<AccessEntry, PartFault>
     ensures gives { Gives result reader.new (reading.access_at reader.old) }
     ensures within { length reader.new ≤ length reader.old }
@@ -77,7 +77,7 @@ pub fn access(alloc: Global, reader: &mut ContentReader) -> Result<AccessEntry, 
 }
 
 // `index)`
-#[tactic(auto, unfolding(crate::specs::Reading::index_at))]
+#[tactic(auto, unfolding(crate::specs::Reader::index_at))]
 fn index(reader: &mut ContentReader) -> Result<u32, PartFault>
     ensures gives { Gives result reader.new (reading.index_at reader.old) }
     ensures within { length reader.new ≤ length reader.old }
@@ -87,7 +87,7 @@ fn index(reader: &mut ContentReader) -> Result<u32, PartFault>
     Ok(index)
 }
 
-#[tactic(auto, unfolding(crate::specs::Reading::optional_index_at))]
+#[tactic(auto, unfolding(crate::specs::Reader::optional_index_at))]
 fn optional_index(reader: &mut ContentReader) -> Result<Option<u32>, PartFault>
     ensures gives { Gives result reader.new (reading.optional_index_at reader.old) }
     ensures within { length reader.new ≤ length reader.old }
@@ -100,7 +100,7 @@ fn optional_index(reader: &mut ContentReader) -> Result<Option<u32>, PartFault>
 }
 
 // `port` or `port(index)`
-#[tactic(auto, unfolding(crate::specs::Reading::port_bit_at))]
+#[tactic(auto, unfolding(crate::specs::Reader::port_bit_at))]
 fn port_bit(alloc: Global, reader: &mut ContentReader) -> Result<PortBit, PartFault>
     ensures gives { Gives result reader.new (reading.port_bit_at reader.old) }
     ensures within { length reader.new ≤ length reader.old }
@@ -111,7 +111,7 @@ fn port_bit(alloc: Global, reader: &mut ContentReader) -> Result<PortBit, PartFa
 }
 
 // `*`, `port` or `port(index)`
-#[tactic(auto, unfolding(crate::specs::Reading::row_port_at))]
+#[tactic(auto, unfolding(crate::specs::Reader::row_port_at))]
 fn row_port(alloc: Global, reader: &mut ContentReader) -> Result<Option<PortBit>, PartFault>
     ensures gives { Gives result reader.new (reading.row_port_at reader.old) }
     ensures within { length reader.new ≤ length reader.old }
@@ -124,7 +124,7 @@ fn row_port(alloc: Global, reader: &mut ContentReader) -> Result<Option<PortBit>
 }
 
 // `control, value, Z`
-#[tactic(auto, unfolding(crate::specs::Reading::disable_at))]
+#[tactic(auto, unfolding(crate::specs::Reader::disable_at))]
 fn disable(reader: &mut ContentReader) -> Result<Disable, PartFault>
     ensures gives { Gives result reader.new (reading.disable_at reader.old) }
     ensures within { length reader.new ≤ length reader.old }
@@ -137,7 +137,7 @@ fn disable(reader: &mut ContentReader) -> Result<Disable, PartFault>
     Ok(Disable { control, value })
 }
 
-#[tactic(auto, unfolding(crate::specs::Reading::optional_disable_at))]
+#[tactic(auto, unfolding(crate::specs::Reader::optional_disable_at))]
 fn optional_disable(reader: &mut ContentReader) -> Result<Option<Disable>, PartFault>
     ensures gives { Gives result reader.new (reading.optional_disable_at reader.old) }
     ensures within { length reader.new ≤ length reader.old }
@@ -150,7 +150,7 @@ fn optional_disable(reader: &mut ContentReader) -> Result<Option<Disable>, PartF
 }
 
 // `number (cell,`
-#[tactic(auto, unfolding(crate::specs::Reading::row_head_at))]
+#[tactic(auto, unfolding(crate::specs::Reader::row_head_at))]
 fn row_head(reader: &mut ContentReader) -> Result<(u32, BoundaryKind), PartFault>
     ensures gives { Gives result reader.new (reading.row_head_at reader.old) }
     ensures within { length reader.new ≤ length reader.old }
@@ -163,7 +163,7 @@ fn row_head(reader: &mut ContentReader) -> Result<(u32, BoundaryKind), PartFault
 }
 
 // `port, function,`
-#[tactic(auto, unfolding(crate::specs::Reading::row_role_at))]
+#[tactic(auto, unfolding(crate::specs::Reader::row_role_at))]
 fn row_role(
     alloc: Global,
     reader: &mut ContentReader,
@@ -179,7 +179,7 @@ fn row_role(
 }
 
 // `safe)`, or with the three fields of a disable value
-#[tactic(auto, unfolding(crate::specs::Reading::row_values_at))]
+#[tactic(auto, unfolding(crate::specs::Reader::row_values_at))]
 fn row_values(reader: &mut ContentReader) -> Result<(Safe, Option<Disable>), PartFault>
     ensures gives { Gives result reader.new (reading.row_values_at reader.old) }
     ensures within { length reader.new ≤ length reader.old }
@@ -191,7 +191,7 @@ fn row_values(reader: &mut ContentReader) -> Result<(Safe, Option<Disable>), Par
 }
 
 /// `number (cell, port, function, safe)`, or with the three fields of a disable value
-#[tactic(auto, unfolding(crate::specs::Reading::row_at))]
+#[tactic(auto, unfolding(crate::specs::Reader::row_at))]
 pub fn row(alloc: Global, reader: &mut ContentReader) -> Result<RowEntry, PartFault>
     ensures gives { Gives result reader.new (reading.row_at reader.old) }
     ensures within { length reader.new ≤ length reader.old }

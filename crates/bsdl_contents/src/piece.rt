@@ -17,8 +17,8 @@ pub enum Piece<'a> {
 
 impl<'a> Piece<'a> {
     ghost use Rattle.bsdl_device.specs.Runs.{identifier_in, name_in, pin_in, integer_in, pattern_in, key_in, mark_in};
-    ghost use Rattle.bsdl_contents.specs.Cutting.{word_of};
-    ghost use Rattle.bsdl_contents.specs.Reading.{cell_in, function_in, safe_in, bit_in, register_in, code_in};
+    ghost use Rattle.bsdl_contents.specs.WordsAhead.{word_of};
+    ghost use Rattle.bsdl_contents.specs.Reader.{cell_in, function_in, safe_in, bit_in, register_in, code_in};
 
     /// The identifier that the word is, reserved or not.
     pub fn identifier(self) -> Option<&'a [u8]>

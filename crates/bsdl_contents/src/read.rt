@@ -2,7 +2,7 @@ ghost use Rattle.std.specs.Prelude.{◌≡◌, IfErr, IfOk};
 ghost use Rattle.bsdl_device.specs.declared.entries.Contents.{Contents as ContentsOf};
 ghost use Rattle.bsdl_device.specs.Spelled.{HasContents};
 ghost use Rattle.bsdl_contents.specs.Outcomes.{IsFault, TellsAll};
-ghost use Rattle.bsdl_contents.specs.Reading.{contents_at};
+ghost use Rattle.bsdl_contents.specs.Reader.{contents_at};
 
 use crate::fault::{ContentsFault, HeldSection};
 use crate::sections;

@@ -1,7 +1,7 @@
 ghost use Rattle.std.specs.Prelude.{◌≡◌, IfOk};
 ghost use Rattle.bsdl_device.specs.Shape as shape;
 ghost use Rattle.bsdl_contents.specs.Outcomes.{Tells};
-ghost use Rattle.bsdl_contents.specs.Reading as reading;
+ghost use Rattle.bsdl_contents.specs.Reader as reading;
 
 use crate::fault::PartFault;
 use crate::lists;
@@ -24,7 +24,7 @@ fn joined(alloc: Global, strings: &[Text]) -> Result<Text, OutOfMemory>
 }
 
 /// What the strings of the pin map hold.
-#[tactic(auto, unfolding(crate::specs::Reading::section_at))]
+#[tactic(auto, unfolding(crate::specs::Reader::section_at))]
 pub fn pin_map(alloc: Global, strings: &[Text]) -> Result<Row<PinEntry>, PartFault>
     ensures { Tells result (reading.section_at reading.pin_map_at strings.now) }
 {
@@ -36,7 +36,7 @@ pub fn pin_map(alloc: Global, strings: &[Text]) -> Result<Row<PinEntry>, PartFau
 }
 
 /// What the strings of INSTRUCTION_OPCODE hold.
-#[tactic(auto, unfolding(crate::specs::Reading::section_at))]
+#[tactic(auto, unfolding(crate::specs::Reader::section_at))]
 pub fn opcodes(alloc: Global, strings: &[Text]) -> Result<Row<OpcodeEntry>, PartFault>
     ensures { Tells result (reading.section_at reading.opcodes_at strings.now) }
 {
@@ -48,7 +48,7 @@ pub fn opcodes(alloc: Global, strings: &[Text]) -> Result<Row<OpcodeEntry>, Part
 }
 
 /// What the strings of INSTRUCTION_CAPTURE hold.
-#[tactic(auto, unfolding(crate::specs::Reading::section_at))]
+#[tactic(auto, unfolding(crate::specs::Reader::section_at))]
 pub fn capture(alloc: Global, strings: &[Text]) -> Result<Bits, PartFault>
     ensures { Tells result (reading.section_at reading.bits_at strings.now) }
 {
@@ -60,7 +60,7 @@ pub fn capture(alloc: Global, strings: &[Text]) -> Result<Bits, PartFault>
 }
 
 // The code, of 32 bits.
-#[tactic(auto, unfolding(crate::specs::Reading::section_at))]
+#[tactic(auto, unfolding(crate::specs::Reader::section_at))]
 fn code(alloc: Global, strings: &[Text]) -> Result<u32, PartFault>
     ensures { Tells result (reading.section_at reading.code_at strings.now) }
 {
@@ -85,7 +85,7 @@ pub fn optional_code(
 }
 
 /// What the strings of REGISTER_ACCESS hold.
-#[tactic(auto, unfolding(crate::specs::Reading::section_at))]
+#[tactic(auto, unfolding(crate::specs::Reader::section_at))]
 pub fn accesses(alloc: Global, strings: &[Text]) -> Result<Row<AccessEntry>, PartFault>
     ensures { Tells result (reading.section_at reading.accesses_at strings.now) }
 {
@@ -97,7 +97,7 @@ pub fn accesses(alloc: Global, strings: &[Text]) -> Result<Row<AccessEntry>, Par
 }
 
 /// What the strings of BOUNDARY_REGISTER hold.
-#[tactic(auto, unfolding(crate::specs::Reading::section_at))]
+#[tactic(auto, unfolding(crate::specs::Reader::section_at))]
 pub fn rows(alloc: Global, strings: &[Text]) -> Result<Row<RowEntry>, PartFault>
     ensures { Tells result (reading.section_at reading.rows_at strings.now) }
 {

@@ -11,7 +11,7 @@ use Rattle.bsdl_device.specs.declared.written.File.{File}
 use Rattle.bsdl_device.specs.declared.values.Device.{Device}
 use Rattle.bsdl_device.specs.declared.entries.OpcodeEntry.{OpcodeEntry}
 use Rattle.bsdl_device.specs.declared.entries.Contents.{Contents}
-use Rattle.bsdl_device.specs.Matching.{MatchesBy, is_filled}
+use Rattle.bsdl_device.specs.Patterns.{MatchesBy, is_filled}
 use Rattle.bsdl_device.specs.Shape.{file_words, Fits, section_word}
 use Rattle.bsdl_device.specs.Spelled.{SpellsFile, HasContents}
 use Rattle.bsdl_device.specs.Meanings.{first_meaning_fault, MeaningFault}
@@ -36,10 +36,10 @@ use Rattle.extended_device.specs.Rules.{base_contents, registers_fail, own_regis
 use Rattle.extended_device.specs.Spelled.{SpellsExtended, extended_of}
 use Rattle.extended_device.specs.Faults.{IsExtendedRight, IsExtendedContentsFault, IsExtendedSyntax, in_shape, in_contents, IsBaseFault, IsRegistersFault, IsToldAt, IsExtendedFault}
 use Rattle.extended_entries.specs.declared.parted.Parted.{Parted}
-use Rattle.extended_entries.specs.Parting.{with_access, IsParted}
+use Rattle.extended_entries.specs.BaseFile.{with_access, IsParted}
 use Rattle.extended_rules.specs.declared.opcodes.PartedContents.{PartedContents}
 use Rattle.bsdl_extended.specs.FaultKinds.{file_fault}
-use Rattle.bsdl_extended.specs.Parting.{HasParted, IsPartedFrom, fails_at, registers_for}
+use Rattle.bsdl_extended.specs.BaseFile.{HasParted, IsPartedFrom, fails_at, registers_for}
 use Rattle.bsdl_extended.specs.Places.{contents_word}
 use Rattle.bsdl_extended.proofs.Lengths.{section_same, words_same, string_same, meaning_same}
 

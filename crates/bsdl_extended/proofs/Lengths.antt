@@ -5,12 +5,12 @@ use Rattle.std.specs.Option.{option_map}
 use Rattle.bsdl_lexicon.specs.declared.symbol.BsdlSymbol.TheVariants.{Semicolon, Ampersand}
 use Rattle.bsdl_device.specs.declared.written.File.{File}
 use Rattle.bsdl_device.specs.declared.entries.Contents.{Contents}
-use Rattle.bsdl_device.specs.Matching.{each_after}
+use Rattle.bsdl_device.specs.Patterns.{each_after}
 use Rattle.bsdl_device.specs.Shape.{Pattern, StringOf, Mark, strings_words, access_section, sections, joined, section_word, code_words}
 use Rattle.bsdl_device.specs.Meanings.{Check, MeaningFault, checks, fault_of, first_meaning_fault}
 use Rattle.bsdl_device.specs.Faults as faults
 use Rattle.bsdl_checks.specs.Counts.{all_words}
-use Rattle.extended_entries.specs.Parting.{with_access}
+use Rattle.extended_entries.specs.BaseFile.{with_access}
 
 -- Strings.
 

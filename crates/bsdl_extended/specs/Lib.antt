@@ -1,3 +1,3 @@
 pub mod FaultKinds
-pub mod Parting
+pub mod BaseFile
 pub mod Places

@@ -6,7 +6,7 @@ ghost use Rattle.bsdl_device.specs.Spelled.{HasContents, SpellsFile};
 ghost use Rattle.extended_device.specs.declared.values.Extended.{Extended as ExtendedOf};
 ghost use Rattle.extended_device.specs.Spelled.{SpellsExtended};
 ghost use Rattle.extended_device.specs.Faults.{IsExtendedFault};
-ghost use Rattle.bsdl_extended.specs.Parting.{HasParted, IsPartedFrom, fails_at, registers_for};
+ghost use Rattle.bsdl_extended.specs.BaseFile.{HasParted, IsPartedFrom, fails_at, registers_for};
 ghost use Rattle.bsdl_extended.specs.FaultKinds as kinds;
 
 use crate::places::string_word;

@@ -1,5 +1,5 @@
 ghost use Rattle.bsdl_files.specs.Sections.{integer_attribute_at, string_attribute_at, registers_at};
-ghost use Rattle.bsdl_files.specs.Parsing.{Gives, GivesAs};
+ghost use Rattle.bsdl_files.specs.Parsed.{Gives, GivesAs};
 ghost use Rattle.bsdl_files.specs.Rests.{entity_after, strings_after, user_and_access_at, access_at, user_registers_at, code_and_user_at, user_alone_at, user_pair, register_pair};
 ghost use Rattle.bsdl_files.specs.Marks.{patterns};
 

@@ -1,4 +1,4 @@
-ghost use Rattle.bsdl_files.specs.Parsing.{Gives};
+ghost use Rattle.bsdl_files.specs.Parsed.{Gives};
 ghost use Rattle.bsdl_files.specs.Sections.{entity_at, generic_at, conformance_at, pin_map_at, constant_at, end_at, mapping_at, tap_at, scan_at, instruction_at, boundary_at, sections_at};
 
 use crate::attributes::{integer_attribute, registers, string_attribute};
@@ -158,7 +158,7 @@ fn end_section(alloc: Global, reader: &mut BsdlReader) -> Result<Text, ParseFaul
     )
 }
 
-#[tactic(auto, unfolding(crate::specs::Sections::mapping_at, crate::specs::Parsing::then))]
+#[tactic(auto, unfolding(crate::specs::Sections::mapping_at, crate::specs::Parsed::then))]
 fn mapping(alloc: Global, reader: &mut BsdlReader) -> Result<MappingSections, ParseFault>
     ensures { Gives result reader.new (mapping_at reader.old) }
 {
@@ -174,7 +174,7 @@ fn mapping(alloc: Global, reader: &mut BsdlReader) -> Result<MappingSections, Pa
     })
 }
 
-#[tactic(auto, unfolding(crate::specs::Sections::tap_at, crate::specs::Parsing::then))]
+#[tactic(auto, unfolding(crate::specs::Sections::tap_at, crate::specs::Parsed::then))]
 fn tap(alloc: Global, reader: &mut BsdlReader) -> Result<TapNames, ParseFault>
     ensures { Gives result reader.new (tap_at reader.old) }
 {
@@ -192,7 +192,7 @@ fn tap(alloc: Global, reader: &mut BsdlReader) -> Result<TapNames, ParseFault>
     })
 }
 
-#[tactic(auto, unfolding(crate::specs::Sections::scan_at, crate::specs::Parsing::then))]
+#[tactic(auto, unfolding(crate::specs::Sections::scan_at, crate::specs::Parsed::then))]
 fn scan(alloc: Global, reader: &mut BsdlReader) -> Result<ScanSections, ParseFault>
     ensures { Gives result reader.new (scan_at reader.old) }
 {
@@ -202,7 +202,7 @@ fn scan(alloc: Global, reader: &mut BsdlReader) -> Result<ScanSections, ParseFau
     Ok(ScanSections { tap, clock, stop })
 }
 
-#[tactic(auto, unfolding(crate::specs::Sections::instruction_at, crate::specs::Parsing::then))]
+#[tactic(auto, unfolding(crate::specs::Sections::instruction_at, crate::specs::Parsed::then))]
 fn instruction(alloc: Global, reader: &mut BsdlReader) -> Result<InstructionSections, ParseFault>
     ensures { Gives result reader.new (instruction_at reader.old) }
 {
@@ -216,7 +216,7 @@ fn instruction(alloc: Global, reader: &mut BsdlReader) -> Result<InstructionSect
     })
 }
 
-#[tactic(auto, unfolding(crate::specs::Sections::boundary_at, crate::specs::Parsing::then))]
+#[tactic(auto, unfolding(crate::specs::Sections::boundary_at, crate::specs::Parsed::then))]
 fn boundary(alloc: Global, reader: &mut BsdlReader) -> Result<BoundarySections, ParseFault>
     ensures { Gives result reader.new (boundary_at reader.old) }
 {
@@ -227,7 +227,7 @@ fn boundary(alloc: Global, reader: &mut BsdlReader) -> Result<BoundarySections, 
 }
 
 /// The file of the words from here on; the reader then stands behind it, or where the fault is.
-#[tactic(auto, unfolding(crate::specs::Sections::sections_at, crate::specs::Parsing::then))]
+#[tactic(auto, unfolding(crate::specs::Sections::sections_at, crate::specs::Parsed::then))]
 pub fn file(alloc: Global, reader: &mut BsdlReader) -> Result<File, ParseFault>
     ensures { Gives result reader.new (sections_at reader.old) }
 {

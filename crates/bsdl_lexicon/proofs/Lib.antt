@@ -1,4 +1,4 @@
 pub use Rattle.list_laws.proofs as list_laws
-pub mod Reading
+pub mod ReadWords
 pub mod SameNames
 pub mod ReservedWords

@@ -31,7 +31,7 @@ impl<'a> BsdlReader<'a> {
     }
 
     /// How many words are left.
-    #[tactic(auto, using(crate::proofs::Reading::length_plain))]
+    #[tactic(auto, using(crate::proofs::ReadWords::length_plain))]
     pub fn len(&self) -> usize
         ensures { result ≡ length self.now }
     {

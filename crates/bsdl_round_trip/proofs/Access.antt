@@ -13,7 +13,7 @@ use Rattle.bsdl_lexicon.proofs.SameNames.{same_turned}
 use Rattle.bsdl_device.specs.declared.entries.OpcodeEntry.{OpcodeEntry}
 use Rattle.bsdl_device.specs.declared.entries.AccessEntry.{AccessEntry}
 use Rattle.bsdl_device.specs.declared.entries.Register.TheVariants as register
-use Rattle.bsdl_device.specs.Matching.{is_filled}
+use Rattle.bsdl_device.specs.Patterns.{is_filled}
 use Rattle.bsdl_device.specs.Grammar.{IsAccess}
 use Rattle.bsdl_device.specs.Instructions.{instruction_word, names_instruction}
 use Rattle.bsdl_device.specs.Checks.{is_repeated, has_instruction, lacks_instruction, instructions_of, is_without_opcode, selects_other}

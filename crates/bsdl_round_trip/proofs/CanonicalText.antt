@@ -13,7 +13,7 @@ use Rattle.bsdl_device.specs.declared.values.CellRow.{CellRow}
 use Rattle.bsdl_device.specs.declared.values.Device.{Device}
 use Rattle.bsdl_device.specs.declared.written.Direction.TheVariants as direction
 use Rattle.bsdl_device.specs.declared.entries.Register.TheVariants as register
-use Rattle.bsdl_device.specs.Matching.{is_filled}
+use Rattle.bsdl_device.specs.Patterns.{is_filled}
 use Rattle.bsdl_device.specs.Shape.{joined, mode_word, direction_word, stop_word}
 use Rattle.bsdl_device.specs.Canonical.{pieces, separated_text, next_string, bits_text, pattern_text, direction_text, bounds_text, vector_text, type_text, named_text, port_text, ports_text, pin_entry_text, pin_map_text, entity_text, conformance_text, head_text, port_name, scan_in_text, scan_mode_text, scan_out_text, scan_reset_text, scan_clock_text, tap_text, attribute_text, opcode_text, opcodes_text, and_string, code_text, idcode_text, usercode_text, has_opcode, instructions_text, user_access_text, device_id_text, boundary_access_text, bypass_access_text, access_text, registers_text, row_text, rows_text, boundary_length_text, boundary_rows_text, boundary_text, canonical_device}
 use Rattle.bsdl_round_trip.proofs.Pieces.{pieces_then}

@@ -12,7 +12,7 @@ use Rattle.list_laws.proofs.Lists.{all_append, push_all}
 use Rattle.list_laws.proofs.Digits.{push_value, value_below, decimal_digits}
 use Rattle.cell_library.specs.declared.codes.Bits.{Bits}
 use Rattle.bsdl_lexicon.specs.Bytes.{is_name_byte, is_digit, is_quotable}
-use Rattle.bsdl_device.specs.Matching.{each_after, separated_by}
+use Rattle.bsdl_device.specs.Patterns.{each_after, separated_by}
 use Rattle.bsdl_device.specs.Runs.{ContentWord, Run, Other, content_words, lengthened, begins_run, value_after, is_integer, is_pattern, is_pin, is_identifier, ContentPattern, KeyRun, IdentifierRun, NameRun, PinRun, IntegerRun, BitsRun, MarkByte, Fits, Matches}
 use Rattle.bsdl_device.specs.Canonical.{bits_text, pattern_text}
 use Rattle.bsdl_device.proofs.Identifiers.{digits_are_name_bytes}

@@ -24,8 +24,8 @@ use Rattle.bsdl_device.specs.declared.entries.PortBit.{PortBit}
 use Rattle.bsdl_device.specs.declared.entries.RowEntry.{RowEntry}
 use Rattle.bsdl_device.specs.declared.entries.Register.{Register}
 use Rattle.bsdl_device.specs.declared.entries.Register.TheVariants as register
-use Rattle.bsdl_device.specs.Matching.{separated_by}
-use Rattle.bsdl_device.specs.Matching as matching
+use Rattle.bsdl_device.specs.Patterns.{separated_by}
+use Rattle.bsdl_device.specs.Patterns as matching
 use Rattle.bsdl_device.specs.Runs.{ContentPattern, KeyRun, IdentifierRun, NameRun, PinRun, MarkByte, comma, is_identifier}
 use Rattle.bsdl_device.specs.Instructions.{instruction_word}
 use Rattle.bsdl_device.specs.Grammar.{register_word, access_words, cell_word, function_word, safe_word, bit_word, pin_entry_words, opcode_words, row_words}

@@ -15,7 +15,7 @@ use Rattle.bsdl_device.specs.declared.values.DevPort.{DevPort}
 use Rattle.bsdl_device.specs.declared.values.Device.{Device}
 use Rattle.bsdl_device.specs.declared.written.DeclaredPort.{DeclaredPort}
 use Rattle.bsdl_device.specs.declared.entries.PinEntry.{PinEntry}
-use Rattle.bsdl_device.specs.Matching.{is_filled}
+use Rattle.bsdl_device.specs.Patterns.{is_filled}
 use Rattle.bsdl_device.specs.Grammar.{has_pins}
 use Rattle.bsdl_device.specs.Ports as declared
 use Rattle.bsdl_device.specs.Ports.{port_named, port_bits, width}

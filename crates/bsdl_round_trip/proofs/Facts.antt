@@ -23,7 +23,7 @@ use Rattle.bsdl_device.specs.declared.entries.OpcodeEntry.{OpcodeEntry}
 use Rattle.bsdl_device.specs.declared.entries.PortBit.{PortBit}
 use Rattle.bsdl_device.specs.declared.entries.RowEntry.{RowEntry}
 use Rattle.bsdl_device.specs.declared.entries.Contents.{Contents}
-use Rattle.bsdl_device.specs.Matching.{separated_by, is_filled}
+use Rattle.bsdl_device.specs.Patterns.{separated_by, is_filled}
 use Rattle.bsdl_device.specs.Shape.{NameOf, Mark, joined, sections, file_words, declaration_words, names_words, type_words, IsFile, is_declaration}
 use Rattle.bsdl_device.specs.Runs as runs
 use Rattle.bsdl_device.specs.Runs.{content_words, comma, PinRun}

@@ -12,8 +12,8 @@ use Rattle.bsdl_device.specs.declared.values.Device.{Device}
 use Rattle.bsdl_device.specs.declared.written.Direction.TheVariants as direction
 use Rattle.bsdl_device.specs.declared.written.StringAttribute.{StringAttribute}
 use Rattle.bsdl_device.specs.declared.written.File.{File}
-use Rattle.bsdl_device.specs.Matching as matching
-use Rattle.bsdl_device.specs.Matching.{is_filled}
+use Rattle.bsdl_device.specs.Patterns as matching
+use Rattle.bsdl_device.specs.Patterns.{is_filled}
 use Rattle.bsdl_device.specs.Shape as shape
 use Rattle.bsdl_device.specs.Shape.{Pattern, KeyWord, NameOf, StringOf, Mark, declaration_words, strings_words, joined, sections, file_words, IsFile, is_declaration}
 use Rattle.bsdl_device.specs.Spelled.{SpellsFile}

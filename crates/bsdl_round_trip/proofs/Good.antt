@@ -11,7 +11,7 @@ use Rattle.bsdl_lexicon.specs.Bytes.{is_name_byte, is_digit}
 use Rattle.bsdl_lexicon.specs.Reserved.{is_reserved}
 use Rattle.bsdl_lexicon.specs.Words.{plain}
 use Rattle.bsdl_lexicon.specs.Pieces.{Piece, blank, comment, identifier, integer, real, quoted, symbol, becomes, spelling, IsIdentifier, IsInteger, IsReal, ArePieces, value_from, words_from}
-use Rattle.bsdl_device.specs.Matching.{each_after, separated_by}
+use Rattle.bsdl_device.specs.Patterns.{each_after, separated_by}
 use Rattle.bsdl_device.specs.Shape as shape
 use Rattle.bsdl_device.specs.Runs as runs
 use Rattle.bsdl_device.specs.Runs.{ContentWord, Run, Other, content_words, lengthened, begins_run, value_after, is_integer, is_pattern, is_pin, is_identifier}

@@ -19,7 +19,7 @@ use Rattle.bsdl_device.specs.declared.entries.OpcodeEntry.{OpcodeEntry}
 use Rattle.bsdl_device.specs.declared.entries.Register.TheVariants as register
 use Rattle.bsdl_device.specs.declared.entries.AccessEntry.{AccessEntry}
 use Rattle.bsdl_device.specs.declared.entries.RowEntry.{RowEntry}
-use Rattle.bsdl_device.specs.Matching.{is_filled, separated_by}
+use Rattle.bsdl_device.specs.Patterns.{is_filled, separated_by}
 use Rattle.bsdl_device.specs.Runs as runs
 use Rattle.bsdl_device.specs.Runs.{ContentPattern, content_words, comma}
 use Rattle.bsdl_device.specs.Shape.{joined}

@@ -14,7 +14,7 @@ use Rattle.bsdl_device.specs.declared.values.PortMode.{PortMode}
 use Rattle.bsdl_device.specs.declared.values.DevPort.{DevPort}
 use Rattle.bsdl_device.specs.declared.values.Device.{Device}
 use Rattle.bsdl_device.specs.declared.written.DeclaredPort.{DeclaredPort}
-use Rattle.bsdl_device.specs.Matching.{is_filled}
+use Rattle.bsdl_device.specs.Patterns.{is_filled}
 use Rattle.bsdl_device.specs.Ports.{port_named, is_mode}
 use Rattle.bsdl_device.specs.Checks.{any_pair, is_repeated, tap_names, is_scalar_port}
 use Rattle.bsdl_device.specs.RowRules.{is_tap_port}

@@ -20,7 +20,7 @@ use Rattle.bsdl_device.specs.declared.entries.PinEntry.{PinEntry}
 use Rattle.bsdl_device.specs.declared.entries.PortBit.{PortBit}
 use Rattle.bsdl_device.specs.declared.entries.RowEntry.{RowEntry}
 use Rattle.bsdl_device.specs.declared.entries.Contents.{Contents}
-use Rattle.bsdl_device.specs.Matching.{is_filled}
+use Rattle.bsdl_device.specs.Patterns.{is_filled}
 use Rattle.bsdl_device.specs.Shape.{joined, file_words}
 use Rattle.bsdl_device.specs.Grammar.{has_pins}
 use Rattle.bsdl_device.specs.Ports.{declared_ports, port_named, is_mode}

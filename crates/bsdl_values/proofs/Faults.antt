@@ -11,7 +11,7 @@ use Rattle.bsdl_device.specs.declared.values.Device.{Device}
 use Rattle.bsdl_device.specs.declared.meaning.MeaningKind.{MeaningKind}
 use Rattle.bsdl_device.specs.declared.written.File.{File}
 use Rattle.bsdl_device.specs.declared.entries.Contents.{Contents}
-use Rattle.bsdl_device.specs.Matching.{MatchesBy}
+use Rattle.bsdl_device.specs.Patterns.{MatchesBy}
 use Rattle.bsdl_device.specs.Shape.{file_words, Fits}
 use Rattle.bsdl_device.specs.Spelled.{SpellsFile, HasContents, SpellsDevice}
 use Rattle.bsdl_device.specs.Meanings.{first_meaning_fault, MeaningFault}

@@ -17,7 +17,7 @@ use Rattle.bsdl_device.specs.declared.fault.DeviceTextFault.TheVariants.{BsdlWor
 use Rattle.bsdl_values.specs.DeviceFaults.{IsDeviceFault}
 use Rattle.bsdl_device.specs.FaultKinds.{device_fault}
 use Rattle.bsdl_values.specs.FaultKinds.{word_fault}
-use Rattle.bsdl_values.specs.Reading.{HasBsdlWords, SpelledDevice, IsDeviceReadAs}
+use Rattle.bsdl_values.specs.TextOutcome.{HasBsdlWords, SpelledDevice, IsDeviceReadAs}
 use Rattle.bsdl_values.specs.TextFaults.{IsDeviceTextFault, IsWordsFault}
 use Rattle.bsdl_values.proofs.Faults.{AreOne, one_device}
 

@@ -4,7 +4,7 @@ use Rattle.bsdl_device.specs.declared.values.Device.{Device}
 use Rattle.bsdl_device.specs.Spelled.{SpellsText}
 use Rattle.bsdl_device.specs.Canonical.{canonical_device}
 use Rattle.bsdl_device.specs.IsDevice.{IsDevice}
-use Rattle.bsdl_values.specs.Reading.{IsDeviceReadAs}
+use Rattle.bsdl_values.specs.TextOutcome.{IsDeviceReadAs}
 
 -- A byte list spells one device at most.
 abbrev pub SpellsOneDevice : Type 0

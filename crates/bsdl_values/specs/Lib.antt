@@ -2,5 +2,5 @@ pub mod DeviceFaults
 pub mod FaultKinds
 pub mod Laws
 pub mod Places
-pub mod Reading
+pub mod TextOutcome
 pub mod TextFaults

@@ -4,7 +4,7 @@ use Rattle.bsdl_lexicon.specs.declared.words.BsdlWords.{BsdlWords}
 use Rattle.bsdl_device.specs.declared.fault.DeviceTextFault.{DeviceTextFault}
 use Rattle.bsdl_device.specs.declared.fault.DeviceTextFault.TheVariants.{BsdlWord, BsdlSyntax, BsdlMeaning, OutOfMemory}
 use Rattle.bsdl_values.specs.DeviceFaults.{IsBsdlSyntax, IsBsdlMeaning}
-use Rattle.bsdl_values.specs.Reading.{IsBsdlWord, HasBsdlSyntax, HasBsdlMeaning}
+use Rattle.bsdl_values.specs.TextOutcome.{IsBsdlWord, HasBsdlSyntax, HasBsdlMeaning}
 
 -- the fault stands in a text
 abbrev pub IsDeviceTextFault : List ℕ → DeviceTextFault → Type 0

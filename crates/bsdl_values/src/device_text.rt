@@ -1,7 +1,7 @@
 ghost use Rattle.std.specs.Prelude.{◌≡◌, IfErr, IfOk};
 ghost use Rattle.bsdl_device.specs.IsDevice.{IsDevice};
 ghost use Rattle.bsdl_values.specs.FaultKinds as kinds;
-ghost use Rattle.bsdl_values.specs.Reading.{HasBsdlWords, IsDeviceReadAs, SpelledDevice};
+ghost use Rattle.bsdl_values.specs.TextOutcome.{HasBsdlWords, IsDeviceReadAs, SpelledDevice};
 ghost use Rattle.bsdl_values.specs.TextFaults.{IsDeviceTextFault, IsWordsFault};
 
 use crate::parse::parse_device;

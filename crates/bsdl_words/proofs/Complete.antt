@@ -14,7 +14,7 @@ use Rattle.bsdl_lexicon.specs.Pieces.{Piece, blank, comment, identifier, integer
 use Rattle.bsdl_words.specs.declared.mode.Mode.TheVariants as in_
 use Rattle.bsdl_words.specs.declared.mode.Mode.{Mode}
 use Rattle.bsdl_words.specs.Machine.{state, between, step, end, with_name, with_integer, with_real, with_quoted, with_colon, with_becomes}
-use Rattle.word_cutter.proofs.Keeping.{kept_on, stayed_on}
+use Rattle.word_cutter.proofs.KeptWords.{kept_on, stayed_on}
 use Rattle.bsdl_words.proofs.Outcome.{outcome, same_outcome, same_place}
 use Rattle.bsdl_words.proofs.Bytes.{letter_not_blank, digit_not_blank, digit_not_letter, clings_not_digit, clings_no_point, clings_not_name, name_not_digit, name_no_mark, mark_not_digit, sign_not_digit, quotable_no_quote, line_end_is_blank}
 

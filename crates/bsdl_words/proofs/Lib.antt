@@ -4,5 +4,5 @@ pub mod Once
 pub mod Begun
 pub mod Sound
 pub mod Bytes
-pub mod Feeding
+pub mod Feeds
 pub mod Runs

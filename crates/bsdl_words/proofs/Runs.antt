@@ -5,7 +5,7 @@ use Rattle.std.proofs.lemmas.Bool.{lt-ltb, cond-true, cond-false, not-true, le-l
 use Rattle.bsdl_lexicon.specs.declared.token.BsdlSpanned.{BsdlSpanned}
 use Rattle.bsdl_lexicon.specs.Bytes.{is_blank, is_letter_or_digit, is_name_byte, is_quotable}
 use Rattle.word_cutter.specs.Run.{run, Stops}
-use Rattle.word_cutter.proofs.Keeping.{keeps, stays, too_long}
+use Rattle.word_cutter.proofs.KeptWords.{keeps, stays, too_long}
 use Rattle.bsdl_words.specs.declared.mode.Mode.{Mode}
 use Rattle.bsdl_words.specs.declared.mode.Mode.TheVariants as in_
 use Rattle.bsdl_words.specs.declared.machine.BsdlMachine.{BsdlMachine}

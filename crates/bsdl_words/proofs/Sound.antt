@@ -18,7 +18,7 @@ use Rattle.bsdl_words.specs.declared.mode.Mode.{Mode}
 use Rattle.bsdl_words.specs.declared.mode.Mode.TheVariants as in_
 use Rattle.bsdl_words.specs.Machine.{State, state, between, symbol_with, real_ends, with_name, with_integer, with_real, with_quoted, with_colon, with_becomes}
 use Rattle.word_cutter.proofs.Cases.{and_then_cond, and_then_map}
-use Rattle.word_cutter.proofs.Keeping.{byte_more}
+use Rattle.word_cutter.proofs.KeptWords.{byte_more}
 use Rattle.bsdl_words.proofs.Outcome.{outcome}
 use Rattle.bsdl_words.proofs.Bytes.{letter_or_digit, no_clings}
 use Rattle.bsdl_words.proofs.Begun.{name_push, underscore_push, Pointed, Fractioned, Marked, Signed, Powered, pointed, fraction_first, fraction_push, marked, signed, power_first, power_signed, power_push, real_of_fraction, real_of_power}

@@ -110,7 +110,7 @@ impl<'a> Packed<'a> {
 }
 
 // The number of a cell in the netlist.
-#[tactic(auto, using(crate::proofs::Packing::packed_inside, crate::proofs::Packing::packed_cell))]
+#[tactic(auto, using(crate::proofs::PackedNetlist::packed_inside, crate::proofs::PackedNetlist::packed_cell))]
 fn number_of(netlist: &Netlist, cells: &[CellId], cell: CellId) -> CellId
     requires { IsLive (packed netlist.now.lists cells.now) cell.0 }
     ensures { cell_at netlist.now.lists result.0 ≡ cell_at (packed netlist.now.lists cells.now) cell.0 }

@@ -13,7 +13,7 @@ use Rattle.cell_library.specs.Sound.{is_cell_name, is_port_name, IsSoundCell, Is
 use Rattle.cell_text.specs.Words.{Words}
 use Rattle.cell_text.specs.Cells.{are_ports, cell_in}
 use Rattle.cell_text.specs.Rules.{name_in, is_unfit, barred_after}
-use Rattle.cell_text.specs.Reading.{CanBeCells}
+use Rattle.cell_text.specs.Reader.{CanBeCells}
 use Rattle.cell_text.proofs.Barred.{IsFree, free_at}
 use Rattle.cell_text.proofs.Written.{IsCellOf, cell_of_line, name_is}
 use Rattle.cell_text.proofs.Again.{passed_ports, ports_apart}

@@ -10,7 +10,7 @@ use Rattle.list_laws.proofs.Tests.{or_first, or_second, neither, never_true, bot
 use Rattle.first_faults.specs.Repeated.{has_name, repeated_after, repeated, texts, bytes_of}
 use Rattle.cell_text.specs.Words.{Words}
 use Rattle.cell_text.specs.Rules.{is_unfit, is_barred, barred_after}
-use Rattle.cell_text.specs.Reading.{fit_count}
+use Rattle.cell_text.specs.Reader.{fit_count}
 use Rattle.cell_text.proofs.Borrowed.{texts_length, texts_take, past}
 
 abbrev told : Words → List ℕ → Words → Bool → Option (List ℕ)

@@ -9,7 +9,7 @@ use Rattle.cell_library.specs.declared.listed.Step.TheVariants as step
 use Rattle.cell_library.specs.Sound.{wants, is_of, leaves_one}
 use Rattle.cell_text.specs.Words.{Words, step_of, step_word, step_named, input_or}
 use Rattle.cell_text.specs.Cells.{steps_of, put_before}
-use Rattle.cell_text.specs.Reading.{behind_those}
+use Rattle.cell_text.specs.Reader.{behind_those}
 
 -- The loop over words.
 

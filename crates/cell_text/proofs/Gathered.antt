@@ -20,7 +20,7 @@ use Rattle.cell_text.specs.declared.reader.Kept.{Kept}
 use Rattle.cell_text.specs.Words.{Words, flop_named}
 use Rattle.cell_text.specs.Lines.{parted, takes, is_gate, is_flop, is_cell_line}
 use Rattle.cell_text.specs.Faults.{words_in, other_form}
-use Rattle.cell_text.specs.Reading.{rows_of, Keeps, Going, IsKept}
+use Rattle.cell_text.specs.Reader.{rows_of, Keeps, Going, IsKept}
 use Rattle.cell_text.proofs.Borrowed.{texts_append, texts_length}
 use Rattle.cell_text.proofs.Parts.{parts_of, length-taken}
 

@@ -13,7 +13,7 @@ use Rattle.cell_text.specs.Words.{Words}
 use Rattle.cell_text.specs.Lines.{is_cell_line}
 use Rattle.cell_text.specs.Cells.{cell_in}
 use Rattle.cell_text.specs.Rules.{name_in, body_fault}
-use Rattle.cell_text.specs.Reading.{rows_of, CanBeCells}
+use Rattle.cell_text.specs.Reader.{rows_of, CanBeCells}
 use Rattle.cell_text.proofs.Gathered.{all_of_front}
 use Rattle.cell_text.proofs.Added.{CanAdd, can_add}
 

@@ -14,7 +14,7 @@ use Rattle.cell_text.specs.Cells.{cell_in}
 use Rattle.cell_text.specs.Rules.{name_in, barred_after, body_fault, rule_fault}
 use Rattle.cell_text.specs.Faults.{end_of, other_form, line_fault, cell_rows, first_fault, IsFault}
 use Rattle.cell_text.specs.Grammar.{SpellsLibrary}
-use Rattle.cell_text.specs.Reading.{rows_of, is_begun, IsKept, IsBadLine, AreLines, CanBeCells, IsFirst}
+use Rattle.cell_text.specs.Reader.{rows_of, is_begun, IsKept, IsBadLine, AreLines, CanBeCells, IsFirst}
 use Rattle.cell_text.proofs.Counts.{kept_within}
 use Rattle.cell_text.proofs.Spelled.{can_be_cells, spelled, told_rules, told_line, told_many, told_name, told_body}
 

@@ -25,7 +25,7 @@ use Rattle.cell_text.specs.Cells.{cell_in}
 use Rattle.cell_text.specs.Rules.{name_in, is_unfit, barred_after, too_many, name_fault, body_fault, rule_fault}
 use Rattle.cell_text.specs.Faults.{words_in, end_of, other_form, line_fault, cell_rows, first_fault}
 use Rattle.cell_text.specs.Grammar.{cell_words, version_words, library_rows, SpellsLibrary}
-use Rattle.cell_text.specs.Reading.{CanBeCells}
+use Rattle.cell_text.specs.Reader.{CanBeCells}
 use Rattle.cell_text.specs.Laws.{SpelledOnce, SpelledIsFaultless, FaultlessIsSpelled, GateForm, FlopForm, LinesHaveForms}
 use Rattle.cell_text.proofs.Barred.{none_barred}
 use Rattle.cell_text.proofs.Parts.{parts_of, is_parted}

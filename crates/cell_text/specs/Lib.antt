@@ -5,4 +5,4 @@ pub mod Rules
 pub mod Faults
 pub mod Grammar
 pub mod Laws
-pub mod Reading
+pub mod Reader

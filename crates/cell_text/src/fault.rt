@@ -4,7 +4,7 @@ use thiserror::Error;
 /// Why bytes spell no library; of several faults, the first by this order, and of one kind the first in the text.
 #[derive(Debug, Drop, Error)]
 pub enum LibFault {
-    /// A line that can't stand there, or where the text has no first line `cells 1` the line after the last.
+    /// A line that can't stand there; or, where each line is skipped, the line after the last.
     #[error("line {line} is no line of a library, or stands where it can't")]
     LibLine { line: u64 },
     /// More than 4,096 cells.

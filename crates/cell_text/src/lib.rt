@@ -19,8 +19,6 @@ mod lines;
 mod names;
 mod printer;
 mod reader;
-#[cfg(test)]
-mod tests;
 mod words;
 
 pub use fault::LibFault;

@@ -2,7 +2,7 @@
 ghost use Rattle.std.specs.Prelude.{◌≡◌, ◌≤◌, [], length, map, IfOk};
 ghost use Rattle.first_faults.specs.Repeated.{bytes_of, texts};
 ghost use Rattle.cell_text.specs.Rules as rules;
-ghost use Rattle.cell_text.specs.Reading.{rows_of, fit_count};
+ghost use Rattle.cell_text.specs.Reader.{rows_of, fit_count};
 
 use crate::cells::is_cell_name;
 use crate::words::name_in;

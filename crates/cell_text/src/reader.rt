@@ -6,7 +6,7 @@ ghost use Rattle.cell_text.specs.Cells as cells;
 ghost use Rattle.cell_text.specs.Faults as faults;
 ghost use Rattle.cell_text.specs.Grammar.{SpellsLibrary};
 ghost use Rattle.cell_text.specs.Rules as rules;
-ghost use Rattle.cell_text.specs.Reading as reading;
+ghost use Rattle.cell_text.specs.Reader as reading;
 
 use crate::cells::cell_in;
 use crate::fault::LibFault;

@@ -16,7 +16,7 @@ use Rattle.bsdl_device.specs.declared.values.Device.{Device}
 use Rattle.bsdl_device.specs.declared.fault.DeviceTextFault.{DeviceTextFault}
 use Rattle.bsdl_device.specs.declared.fault.DeviceTextFault.TheVariants as device
 use Rattle.bsdl_device.specs.Spelled.{SpellsDevice}
-use Rattle.bsdl_values.specs.Reading.{HasBsdlMeaning}
+use Rattle.bsdl_values.specs.TextOutcome.{HasBsdlMeaning}
 use Rattle.scan_vectors.specs.declared.fault.EventFault.{EventFault}
 use Rattle.scan_vectors.specs.declared.fault.EventFault.TheVariants as event
 use Rattle.scan_vectors.specs.declared.lines.Lines.{Lines}

@@ -8,7 +8,7 @@ use Rattle.bsdl_device.specs.declared.meaning.MeaningKind.TheVariants.{Name, Por
 use Rattle.bsdl_device.specs.declared.written.File.{File}
 use Rattle.bsdl_device.specs.declared.entries.Contents.{Contents}
 use Rattle.bsdl_device.specs.Meanings.{Check, MeaningFault, checks, fault_of}
-use Rattle.bsdl_values.specs.Reading.{HasBsdlMeaning}
+use Rattle.bsdl_values.specs.TextOutcome.{HasBsdlMeaning}
 
 -- the check isn't of ports
 abbrev IsOther : Check → Type 0

@@ -1,6 +1,6 @@
 -- What is known of `check` from its parts.
 use Rattle.std.proofs.Common.{◌≡◌, ℕ, Result, Ok, Err, IfOk, IfErr, List}
-use Rattle.verilog_texts.specs.Reading.{IsReadAs}
+use Rattle.verilog_texts.specs.TextOutcome.{IsReadAs}
 use Rattle.verilog_tree.specs.declared.tree.Module.{Module}
 use Rattle.cell_library.specs.declared.listed.ListedCell.{ListedCell}
 use Rattle.cell_library.specs.Sound.{IsLibrary}
@@ -11,7 +11,7 @@ use Rattle.bsdl_device.specs.declared.meaning.MeaningKind.TheVariants.{Ports}
 use Rattle.bsdl_device.specs.declared.values.Device.{Device}
 use Rattle.bsdl_device.specs.declared.fault.DeviceTextFault.{DeviceTextFault}
 use Rattle.bsdl_device.specs.declared.fault.DeviceTextFault.TheVariants as device
-use Rattle.bsdl_values.specs.Reading.{IsDeviceReadAs}
+use Rattle.bsdl_values.specs.TextOutcome.{IsDeviceReadAs}
 use Rattle.bsdl_values.specs.TextFaults.{IsDeviceTextFault}
 use Rattle.check_runs.specs.declared.line_check.Checked.{Checked}
 use Rattle.command_faults.specs.declared.fault.Fault.{Fault}

@@ -2,7 +2,7 @@
 // Its task stands in specs/Tasks.antt, over specs/Checks.antt and specs/Faults.antt.
 // IEEE Std 1364-2001 for the netlist, IEEE Std 1149.1-2001 for the device; events and what is put are own.
 //
-// By the contract of `make` and a law function.
+// By the contract of `make`.
 #![tactic(auto)]
 
 mod check_texts;

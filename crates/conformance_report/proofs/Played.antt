@@ -18,7 +18,7 @@ use Rattle.netlist_meaning.specs.Pins.{net_of}
 use Rattle.netlist_meaning.specs.Events.{IsEventStep}
 use Rattle.sim_runs.specs.Runs.{net_number, event_of, events_at, events_of, HasStarts, IsRunOf}
 use Rattle.sim_runs.specs.Outputs.{sets_with}
-use Rattle.sim_runs.specs.Playing.{IsFirst, Moves, line_event}
+use Rattle.sim_runs.specs.PlayedScript.{IsFirst, Moves, line_event}
 use Rattle.conformance_report.specs.declared.verdict.Missed.{Missed}
 use Rattle.conformance_report.specs.declared.verdict.Verdict.{Verdict}
 use Rattle.conformance_report.specs.Verdicts.{Judges, IsVerdict, expected_by, expected, expectation, is_met, is_missed}

@@ -3,7 +3,7 @@ ghost use Rattle.std.specs.Prelude.{◌≡◌, ◌+◌, ◌<◌, ◌^◌, ◌∷
 ghost use Rattle.event_scripts.specs.Scripts.{IsPlayable};
 ghost use Rattle.netlist_meaning.specs.Sims.{moment_of};
 ghost use Rattle.sim_runs.specs.Outputs.{sets_with};
-ghost use Rattle.sim_runs.specs.Playing.{CanPlay, IsFirst, Moves};
+ghost use Rattle.sim_runs.specs.PlayedScript.{CanPlay, IsFirst, Moves};
 ghost use Rattle.conformance_report.specs.Verdicts.{IsVerdict, Judges, expectation, expected_by};
 
 use crate::verdict::{Missed, Verdict};

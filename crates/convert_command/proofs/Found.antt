@@ -4,12 +4,12 @@ use Rattle.verilog_tree.specs.declared.tree.Module.{Module}
 use Rattle.verilog_tree.specs.Texts.{SpellsText}
 use Rattle.verilog_tree.specs.Canonical.{canonical}
 use Rattle.verilog_tree.specs.IsTree.{IsTree}
-use Rattle.verilog_texts.specs.Reading.{IsReadAs}
+use Rattle.verilog_texts.specs.TextOutcome.{IsReadAs}
 use Rattle.verilog_texts.specs.Laws.{BytesSpellOneTree}
 use Rattle.bsdl_device.specs.declared.values.Device.{Device}
 use Rattle.bsdl_device.specs.Spelled.{SpellsText as SpellsDeviceText}
 use Rattle.bsdl_device.specs.Canonical.{canonical_device}
-use Rattle.bsdl_values.specs.Reading.{IsDeviceReadAs}
+use Rattle.bsdl_values.specs.TextOutcome.{IsDeviceReadAs}
 use Rattle.convert_command.specs.Conversions.{IsCanonicalDevice, IsCanonicalModule}
 
 pub canonical_found : BytesSpellOneTree → (bytes printed : List ℕ) (tree : Module) → IsReadAs bytes tree → printed ≡ canonical tree

@@ -2,7 +2,7 @@ mod Lists
 mod Cells
 mod Views
 mod Pins
-mod Fitting
+mod Fits
 mod Rows
 mod Short
 mod PlanText

@@ -10,7 +10,7 @@ use Rattle.verilog_tree.specs.declared.tree.Bit.{Bit}
 use Rattle.verilog_tree.specs.declared.tree.GateKind.{GateKind}
 use Rattle.verilog_tree.specs.declared.tree.GateKind.TheVariants as gate
 use Rattle.verilog_tree.specs.declared.tree.Item.{Item}
-use Rattle.verilog_tree.specs.Spelling.{key_of_gate}
+use Rattle.verilog_tree.specs.WrittenWords.{key_of_gate}
 use Rattle.verilog_lexicon.specs.Keywords.{reserved_of, spelling_of}
 use Rattle.verilog_tree.specs.Canonical.{is_plain, name_text, index_text, bit_text, item_text, wire_text, ports_text, link_text}
 use Rattle.bsdl_device.specs.Canonical.{bits_text}

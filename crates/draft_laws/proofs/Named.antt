@@ -28,7 +28,7 @@ use Rattle.netlist_link.specs.WellNamed.{IsKnown, IsShortRange, index_from, IsWi
 use Rattle.draft_laws.specs.Grown.{IsOneOf, AddsCells}
 use Rattle.draft_laws.specs.Pins.{scalar}
 use Rattle.draft_laws.specs.Names.{IsUnused, EnteredIsUnused, named_net, IsLoneWire, WireIsFormed, WireIsNamed, PortIsNamed, IsNamedCell, AppendedIsNamed, LoneWireStays}
-use Rattle.draft_laws.proofs.Growing.{grown_formed}
+use Rattle.draft_laws.proofs.Growth.{grown_formed}
 use Rattle.draft_laws.proofs.Parts.{adds_appended}
 use Rattle.draft_laws.proofs.Ports.{dir_cases}
 

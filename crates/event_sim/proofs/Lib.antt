@@ -1,4 +1,4 @@
-pub mod Showing
-pub mod Placing
-pub mod Emptying
-pub mod Simming
+pub mod ShownBits
+pub mod NetPlaces
+pub mod EmptiedLog
+pub mod Simulators

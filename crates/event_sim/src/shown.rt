@@ -20,7 +20,7 @@ pub(crate) fn nets_of(alloc: Global, netlist: &Netlist) -> Result<Vec<NetId>, Ou
 }
 
 // Adds the nets of a port, unless it is an input.
-#[tactic(auto, using(crate::proofs::Showing::none_shown, crate::proofs::Showing::output_shown, crate::proofs::Showing::inout_shown))]
+#[tactic(auto, using(crate::proofs::ShownBits::none_shown, crate::proofs::ShownBits::output_shown, crate::proofs::ShownBits::inout_shown))]
 fn add_nets(
     alloc: Global,
     netlist: &Netlist,

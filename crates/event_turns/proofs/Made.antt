@@ -12,7 +12,7 @@ use Rattle.netlist_model.specs.Formed.{IsLaidOut, IsWellFormed}
 use Rattle.netlist_model.specs.Orders.{StandsAt, IsCellOrder}
 use Rattle.netlist_settling.specs.Values.{AreSides}
 use Rattle.event_order.specs.Order.{class_of}
-use Rattle.event_order.proofs.Rising.{turns_rise, scaled, class_few}
+use Rattle.event_order.proofs.Rises.{turns_rise, scaled, class_few}
 use Rattle.event_turns.specs.declared.circuit.Gate.{Gate}
 use Rattle.event_turns.specs.declared.circuit.Row.{Row}
 use Rattle.event_turns.specs.Circuits.{AreReaders, AreRows, IsCircuit, IsLiveGate, StandsInPlace, place_of, turn_at}

@@ -14,7 +14,7 @@ use Rattle.netlist_settling.specs.Values.{value_at, pin_at, side_at}
 use Rattle.netlist_settling.specs.Passes.{driven_value}
 use Rattle.event_laws.specs.Laws.{steps_of}
 use Rattle.event_turns.specs.Logs.{drives_with}
-use Rattle.event_turns.proofs.Driving.{with_long, with_other, with_own}
+use Rattle.event_turns.proofs.Drivers.{with_long, with_other, with_own}
 use Rattle.event_turns.specs.Circuits.{CircuitView, TakesValue, HasTurn, event_from}
 
 same_net : (net : NetId) (other : ℕ) → Some net ≡ Some (let n : NetId = record { 0 = other } in n) → net.0 ≡ other

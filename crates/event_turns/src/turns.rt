@@ -55,7 +55,7 @@ fn wake_range(starts: &[usize], readers: &[u32], net: usize, queue: &mut TurnQue
 }
 
 /// Gives a net a value; where that is another, logs the net and queues what waits on it.
-#[tactic(auto, using(crate::proofs::Logging::logs_none, crate::proofs::Logging::logs_value))]
+#[tactic(auto, using(crate::proofs::Logs::logs_none, crate::proofs::Logs::logs_value))]
 pub(crate) fn give(
     circuit: &Circuit,
     net: NetId,
@@ -82,7 +82,7 @@ pub(crate) fn give(
 }
 
 // Keeps what a three-state gate gives its net, and logs the net.
-#[tactic(auto, using(crate::proofs::Logging::logs_none, crate::proofs::Logging::logs_drive))]
+#[tactic(auto, using(crate::proofs::Logs::logs_none, crate::proofs::Logs::logs_drive))]
 fn keep_drive(net: NetId, drive: Option<PinSig>, drives: &mut [PinSig], log: &mut TurnQueue)
     requires there { net.0 < length drives.old }
     requires room { length drives.old ≤ 64 * length log.old }

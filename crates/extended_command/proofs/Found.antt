@@ -3,7 +3,7 @@ use Rattle.std.proofs.Common.{◌≡◌, ℕ, List, sym, subst}
 use Rattle.extended_device.specs.declared.values.Extended.{Extended}
 use Rattle.extended_device.specs.Canonical.{canonical_extended}
 use Rattle.extended_device.specs.Spelled.{SpellsExtendedText}
-use Rattle.extended_texts.specs.Reading.{IsExtendedReadAs}
+use Rattle.extended_texts.specs.TextOutcome.{IsExtendedReadAs}
 use Rattle.extended_command.specs.Tasks.{IsCanonicalExtended}
 
 pub extended_found : (bytes printed : List ℕ) (extended : Extended) → IsExtendedReadAs bytes extended → printed ≡ canonical_extended extended → IsCanonicalExtended bytes printed

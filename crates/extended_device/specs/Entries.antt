@@ -4,7 +4,7 @@ use Rattle.std.specs.Prelude.{ℕ, List, [], ◌∷◌, ◌++◌}
 use Rattle.bsdl_device.specs.declared.entries.AccessEntry.{AccessEntry}
 use Rattle.bsdl_device.specs.declared.entries.Contents.{Contents}
 use Rattle.bsdl_device.specs.declared.written.File.{File}
-use Rattle.bsdl_device.specs.Matching.{each_after}
+use Rattle.bsdl_device.specs.Patterns.{each_after}
 use Rattle.bsdl_device.specs.Runs.{ContentPattern, IdentifierRun, NameRun, IntegerRun, MarkByte, left_parenthesis, right_parenthesis, comma}
 use Rattle.bsdl_device.specs.Grammar.{accesses_words, IsAccess}
 use Rattle.bsdl_device.specs.Spelled.{Hold, HoldPinMap, HoldOpcodes, HoldCapture, HoldIdcode, HoldRows}

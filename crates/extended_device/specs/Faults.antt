@@ -1,6 +1,6 @@
 -- The places of faults, where the design may have registers of its own.
 -- IEEE Std 1149.1-2001: the annex on BSDL. Which fault comes first is own.
-use Rattle.std.specs.Prelude.{◌≡◌, ℕ, List, ◌∷◌, ◌++◌, Option, Some, None, IsTrue}
+use Rattle.std.specs.Prelude.{◌≡◌, ℕ, List, ◌∷◌, ◌++◌, Some, None, IsTrue}
 use Rattle.std.specs.List.{AllByRecursion}
 use Rattle.bsdl_lexicon.specs.declared.token.BsdlToken.{BsdlToken}
 use Rattle.bsdl_lexicon.specs.declared.words.BsdlWords.{BsdlWords}

@@ -1,6 +1,6 @@
 -- The devices with registers of their own that some text spells, by conditions on the device and the registers alone.
 -- IEEE Std 1149.1-2001: the annex on BSDL; instruction register; test data registers. The limits are own.
-use Rattle.std.specs.Prelude.{◌≡◌, ℕ, ◌≤◌, List, length, IsFalse}
+use Rattle.std.specs.Prelude.{◌≡◌, ℕ, ◌≤◌, length, IsFalse}
 use Rattle.std.specs.List.{list_any, AllByRecursion}
 use Rattle.cell_library.specs.declared.codes.Opcode.{Opcode}
 use Rattle.bsdl_lexicon.specs.Names.{is_same_name}

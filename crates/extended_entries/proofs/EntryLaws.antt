@@ -1,7 +1,7 @@
 -- The entries of the design's own registers are read as they are spelled.
 use Rattle.std.proofs.Common.{◌≡◌, ℕ, List, [], ◌∷◌, ◌++◌, true, length, ◌<◌, Option, Some, is_some, refl, ap, Result, Ok, Err, IsErrAnd}
 use Rattle.std.proofs.Common.{IsTrue}
-use Rattle.bsdl_device.specs.Matching.{MatchesBy, separated_by, is_filled}
+use Rattle.bsdl_device.specs.Patterns.{MatchesBy, separated_by, is_filled}
 use Rattle.bsdl_device.specs.Runs.{ContentWord, ContentPattern, Fits, mark_in, NameRun, IntegerRun, IdentifierRun, MarkByte, comma, left_parenthesis, right_parenthesis}
 use Rattle.bsdl_reading.specs.Readers.{Read, front, rest_if}
 use Rattle.bsdl_reading.proofs.Exact.{Exact, Anything}
@@ -9,7 +9,7 @@ use Rattle.bsdl_reading.proofs.Matched.{Spelled, spelled_ended, spelled_pair, sp
 use Rattle.bsdl_reading.proofs.Listed.{AreSome}
 use Rattle.bsdl_reading.proofs.Views.{Free, all_free}
 use Rattle.bsdl_contents.specs.declared.fault.PartFault.TheVariants as part
-use Rattle.bsdl_contents.specs.Reading.{views}
+use Rattle.bsdl_contents.specs.Reader.{views}
 use Rattle.bsdl_contents.proofs.Chosen.{whole_sound, whole_complete}
 use Rattle.bsdl_contents.proofs.EntryLaws.{marks_law, name_law, integer_law, identifier_law, list_law}
 use Rattle.bsdl_contents.proofs.ListLoops as loops
@@ -19,7 +19,7 @@ use Rattle.extended_device.specs.Entries.{entry_words}
 use Rattle.extended_entries.specs.declared.part_fault.PartFault.{PartFault}
 use Rattle.extended_entries.specs.declared.part_fault.PartFault.TheVariants as fault
 use Rattle.extended_entries.specs.Outcomes.{Gives}
-use Rattle.extended_entries.specs.Reading.{head_at, length_at, instruction_at, entry_of, entry_at, entries_in}
+use Rattle.extended_entries.specs.Reader.{head_at, length_at, instruction_at, entry_of, entry_at, entries_in}
 
 -- Parts.
 

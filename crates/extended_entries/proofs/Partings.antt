@@ -8,7 +8,7 @@ use borrow.Author.Tests.{eqb-true}
 use Rattle.list_laws.proofs.Tests.{neither, and_left, and_right, not_true}
 use Rattle.bsdl_device.specs.declared.written.File.{File}
 use Rattle.bsdl_device.specs.declared.entries.AccessEntry.{AccessEntry}
-use Rattle.bsdl_device.specs.Matching.{MatchesBy, each_after, separated_by, is_filled}
+use Rattle.bsdl_device.specs.Patterns.{MatchesBy, each_after, separated_by, is_filled}
 use Rattle.bsdl_device.specs.Runs.{ContentWord, Run, Other, ContentPattern, KeyRun, IdentifierRun, NameRun, PinRun, IntegerRun, BitsRun, MarkByte, Fits, mark_in, content_words, comma}
 use Rattle.bsdl_device.specs.Shape.{joined}
 use Rattle.bsdl_device.specs.Grammar.{access_words, accesses_words}
@@ -18,8 +18,8 @@ use Rattle.extended_device.specs.declared.values.RegisterEntry.{RegisterEntry}
 use Rattle.extended_device.specs.Entries.{entry_words, extended_words, HoldExtended}
 use Rattle.extended_entries.specs.declared.parted.OwnEntries.{OwnEntries}
 use Rattle.extended_entries.specs.OwnPlaces.{place_from}
-use Rattle.extended_entries.specs.Reading.{entries_in}
-use Rattle.extended_entries.specs.Parting.{own_at, own_in, with_access, IsParted}
+use Rattle.extended_entries.specs.Reader.{entries_in}
+use Rattle.extended_entries.specs.BaseFile.{own_at, own_in, with_access, IsParted}
 use Rattle.extended_entries.proofs.Cuts.{Alone, CutAt, words_cut, cut_words, is_other, has_byte, none_in}
 use Rattle.extended_entries.proofs.OwnPlaces.{CommaAt, comma_at, place_there, place_none, before_place, behind_place}
 use Rattle.extended_entries.proofs.EntryLaws.{AreEntries, entries_sound, entries_complete}

@@ -9,8 +9,8 @@ use Rattle.bsdl_device.specs.Shape.{joined}
 use Rattle.extended_device.specs.declared.values.RegisterEntry.{RegisterEntry}
 use Rattle.extended_entries.specs.declared.parted.OwnEntries.{OwnEntries}
 use Rattle.extended_entries.specs.OwnPlaces.{place_from}
-use Rattle.extended_entries.specs.Reading.{entries_in}
-use Rattle.extended_entries.specs.Parting.{own_at, own_in, with_access, IsPartedAs, KeepsFront}
+use Rattle.extended_entries.specs.Reader.{entries_in}
+use Rattle.extended_entries.specs.BaseFile.{own_at, own_in, with_access, IsPartedAs, KeepsFront}
 use Rattle.extended_entries.proofs.Partings.{parted_none, parted_some}
 
 -- The entries.

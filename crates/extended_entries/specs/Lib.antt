@@ -1,5 +1,5 @@
 pub mod Outcomes
 pub mod OwnPlaces
-pub mod Parting
-pub mod Reading
+pub mod BaseFile
+pub mod Reader
 pub mod Words

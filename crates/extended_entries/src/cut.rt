@@ -1,7 +1,7 @@
 // Words of joined strings, and where they end.
 ghost use Rattle.std.specs.Prelude.{◌≡◌, ◌≤◌, length};
 ghost use Rattle.bsdl_device.specs.Runs.{content_words};
-ghost use Rattle.bsdl_contents.specs.Cutting.{run_len, unspaced};
+ghost use Rattle.bsdl_contents.specs.WordsAhead.{run_len, unspaced};
 ghost use Rattle.extended_entries.specs.Words.{words_left};
 
 use bsdl_runs::runs::is_name_byte;

@@ -1,9 +1,9 @@
 // Entries of the design's own registers, with commas between them.
 ghost use Rattle.std.specs.Prelude.{◌≤◌, length};
 ghost use Rattle.bsdl_device.specs.Runs.{content_words};
-ghost use Rattle.bsdl_contents.specs.Reading.{list_at};
+ghost use Rattle.bsdl_contents.specs.Reader.{list_at};
 ghost use Rattle.extended_entries.specs.Outcomes.{Gives, Tells};
-ghost use Rattle.extended_entries.specs.Reading as reading;
+ghost use Rattle.extended_entries.specs.Reader as reading;
 
 use crate::part_fault::PartFault;
 use crate::reader::EntryReader;
@@ -12,7 +12,7 @@ use std::alloc::Global;
 use texts::{Row, Text};
 
 // `NAME [`
-#[tactic(auto, unfolding(crate::specs::Reading::head_at))]
+#[tactic(auto, unfolding(crate::specs::Reader::head_at))]
 fn head(alloc: Global, reader: &mut EntryReader) -> Result<Text, PartFault>
     ensures gives { Gives result reader.new (reading.head_at reader.old) }
     ensures within { length reader.new ≤ length reader.old }
@@ -23,7 +23,7 @@ fn head(alloc: Global, reader: &mut EntryReader) -> Result<Text, PartFault>
 }
 
 // `length ] (`
-#[tactic(auto, unfolding(crate::specs::Reading::length_at))]
+#[tactic(auto, unfolding(crate::specs::Reader::length_at))]
 fn length(reader: &mut EntryReader) -> Result<u32, PartFault>
     ensures gives { Gives result reader.new (reading.length_at reader.old) }
     ensures within { length reader.new ≤ length reader.old }
@@ -35,7 +35,7 @@ fn length(reader: &mut EntryReader) -> Result<u32, PartFault>
 }
 
 // `INSTRUCTION )`
-#[tactic(auto, unfolding(crate::specs::Reading::instruction_at))]
+#[tactic(auto, unfolding(crate::specs::Reader::instruction_at))]
 fn instruction(alloc: Global, reader: &mut EntryReader) -> Result<Text, PartFault>
     ensures gives { Gives result reader.new (reading.instruction_at reader.old) }
     ensures within { length reader.new ≤ length reader.old }
@@ -46,7 +46,7 @@ fn instruction(alloc: Global, reader: &mut EntryReader) -> Result<Text, PartFaul
 }
 
 // `NAME [length] (INSTRUCTION)`
-#[tactic(auto, unfolding(crate::specs::Reading::entry_at))]
+#[tactic(auto, unfolding(crate::specs::Reader::entry_at))]
 fn entry(alloc: Global, reader: &mut EntryReader) -> Result<RegisterEntry, PartFault>
     ensures gives { Gives result reader.new (reading.entry_at reader.old) }
     ensures within { length reader.new ≤ length reader.old }

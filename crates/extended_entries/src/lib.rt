@@ -1,5 +1,5 @@
 // The entries of the design's own registers in REGISTER_ACCESS, and the file without them.
-// The contract of `without_own` cites `HoldExtended` of extended_device, and specs/Parting.antt.
+// The contract of `without_own` cites `HoldExtended` of extended_device, and specs/BaseFile.antt.
 // IEEE Std 1149.1-2001: the annex on BSDL (register access).
 //
 // - `without_own` gives a file with as many strings that hold just the profile's registers, and the entries behind

@@ -3,8 +3,8 @@ ghost use Rattle.std.specs.Prelude.{◌≡◌, ◌<◌, ◌≤◌, length, IfOk,
 ghost use Rattle.bsdl_device.specs.Runs.{content_words};
 ghost use Rattle.bsdl_device.specs.Shape as shape;
 ghost use Rattle.extended_entries.specs.OwnPlaces.{place_from};
-ghost use Rattle.extended_entries.specs.Reading.{entries_in};
-ghost use Rattle.extended_entries.specs.Parting as parting;
+ghost use Rattle.extended_entries.specs.Reader.{entries_in};
+ghost use Rattle.extended_entries.specs.BaseFile as parting;
 
 use crate::entries::entries;
 use crate::own_place::own_place;

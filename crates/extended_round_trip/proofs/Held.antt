@@ -8,9 +8,9 @@ use Rattle.bsdl_device.specs.declared.written.File.{File}
 use Rattle.bsdl_device.specs.declared.entries.OpcodeEntry.{OpcodeEntry}
 use Rattle.bsdl_device.specs.declared.entries.AccessEntry.{AccessEntry}
 use Rattle.bsdl_device.specs.declared.entries.Contents.{Contents}
-use Rattle.bsdl_device.specs.Matching.{is_filled, each_after, separated_by}
+use Rattle.bsdl_device.specs.Patterns.{is_filled, each_after, separated_by}
 use Rattle.bsdl_device.specs.Runs.{ContentPattern, comma}
-use Rattle.bsdl_device.specs.Grammar.{opcode_words, access_words, accesses_words}
+use Rattle.bsdl_device.specs.Grammar.{opcode_words, access_words}
 use Rattle.bsdl_device.specs.Spelled.{Hold}
 use Rattle.bsdl_round_trip.proofs.ContentAtoms.{ContentAtom, Space, Identifier, Name, Integer, Mark, bytes_of, Entry}
 use Rattle.bsdl_round_trip.proofs.EntryAtoms.{opcode_atoms, access_atoms, opcode_bytes, comma_strings}

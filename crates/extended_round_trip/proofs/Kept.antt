@@ -11,7 +11,6 @@ use Rattle.list_laws.proofs.Options.{found}
 use Rattle.cell_library.specs.declared.codes.Bits.{Bits}
 use Rattle.cell_library.specs.declared.codes.Instr.{Instr}
 use Rattle.cell_library.specs.declared.codes.Opcode.{Opcode}
-use Rattle.bsdl_lexicon.specs.declared.token.BsdlSpanned.{BsdlSpanned}
 use Rattle.bsdl_lexicon.specs.Names.{lower, is_same_name}
 use Rattle.bsdl_lexicon.proofs.SameNames.{same_name-true, same_turned}
 use Rattle.bsdl_device.specs.declared.values.Device.{Device}
@@ -19,7 +18,7 @@ use Rattle.bsdl_device.specs.declared.written.File.{File}
 use Rattle.bsdl_device.specs.declared.entries.AccessEntry.{AccessEntry}
 use Rattle.bsdl_device.specs.declared.entries.OpcodeEntry.{OpcodeEntry}
 use Rattle.bsdl_device.specs.declared.entries.Contents.{Contents}
-use Rattle.bsdl_device.specs.Matching.{each_after, separated_by}
+use Rattle.bsdl_device.specs.Patterns.{each_after, separated_by}
 use Rattle.bsdl_device.specs.Shape.{joined}
 use Rattle.bsdl_device.specs.Runs.{content_words, is_identifier, comma}
 use Rattle.bsdl_device.specs.Grammar.{accesses_words, opcode_words}
@@ -27,7 +26,7 @@ use Rattle.bsdl_device.specs.Spelled.{HoldOpcodes}
 use Rattle.bsdl_device.specs.Instructions.{instruction_named, names_instruction, instruction_word, all_instructions, same_bits}
 use Rattle.bsdl_device.specs.Checks.{any_pair, has_other_length}
 use Rattle.bsdl_device.specs.Denoted.{device_of, opcode_of}
-use Rattle.bsdl_device.specs.IsDevice.{IsDeviceName, IsBits}
+use Rattle.bsdl_device.specs.IsDevice.{IsDeviceName}
 use Rattle.bsdl_device.proofs.Identifiers.{identifier_from}
 use Rattle.bsdl_lexicon.specs.Reserved.{is_reserved}
 use Rattle.bsdl_round_trip.proofs.Good.{GoodContent, GoodBits, is_name, good_words, all_contents, all_separated}
@@ -40,7 +39,7 @@ use Rattle.bsdl_round_trip.proofs.DeviceIs.{standing_device}
 use Rattle.extended_device.specs.declared.values.RegisterEntry.{RegisterEntry}
 use Rattle.extended_device.specs.declared.values.TestRegister.{TestRegister}
 use Rattle.extended_device.specs.declared.values.Extended.{Extended}
-use Rattle.extended_device.specs.Entries.{entry_words, HoldExtended, HasExtendedContents}
+use Rattle.extended_device.specs.Entries.{entry_words, HoldExtended}
 use Rattle.extended_device.specs.Rules.{base_contents, own_opcodes, base_opcodes, names_register, names_profile, entry_fails, opcodes_fail, entries_fail, own_registers_fail}
 use Rattle.extended_device.specs.IsExtended.{IsTestRegister, IsExtended}
 use Rattle.extended_device.specs.Spelled.{register_of, extended_of, SpellsExtendedText}

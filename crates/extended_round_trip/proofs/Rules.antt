@@ -1,5 +1,5 @@
 -- The contents of a canonical text: its base is the device's, and its own registers are the stated ones and break no rule.
-use Rattle.std.proofs.Common.{◌≡◌, ℕ, ◌+◌, ◌<◌, ◌≤◌, ◌==◌, Bool, true, false, cond, List, [], ◌∷◌, ◌++◌, length, map, count_by, find, Option, Some, None, refl, sym, ap, ◌∙◌, arith, append-nil, append_assoc, eq-eqb, ltb-true}
+use Rattle.std.proofs.Common.{◌≡◌, ℕ, ◌+◌, ◌<◌, ◌≤◌, ◌==◌, Bool, true, false, cond, List, [], ◌∷◌, ◌++◌, length, map, count_by, find, Option, Some, refl, sym, ap, ◌∙◌, arith, append-nil, append_assoc, eq-eqb, ltb-true}
 use Rattle.std.specs.Prelude.{◌||◌, ◌&&◌, not, nat_lt, filter}
 use Rattle.std.specs.List.{list_any, filter_map, cons_option, AllByRecursion}
 use Rattle.std.specs.Option.{option_map}

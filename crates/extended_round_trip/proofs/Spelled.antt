@@ -4,15 +4,14 @@ use Rattle.std.specs.List.{filter_map, AllByRecursion}
 use Rattle.cell_library.specs.declared.codes.Opcode.{Opcode}
 use Rattle.bsdl_lexicon.specs.Pieces.{words_from}
 use Rattle.bsdl_device.specs.declared.values.Device.{Device}
-use Rattle.bsdl_device.specs.declared.entries.AccessEntry.{AccessEntry}
 use Rattle.bsdl_device.specs.declared.entries.OpcodeEntry.{OpcodeEntry}
 use Rattle.bsdl_device.specs.declared.entries.Contents.{Contents}
-use Rattle.bsdl_device.specs.Matching.{is_filled}
+use Rattle.bsdl_device.specs.Patterns.{is_filled}
 use Rattle.bsdl_device.specs.Shape.{joined}
 use Rattle.bsdl_device.specs.Meanings.{first_meaning_fault}
 use Rattle.bsdl_device.specs.Denoted.{device_of}
 use Rattle.bsdl_round_trip.proofs.EntryAtoms.{opcode_bytes}
-use Rattle.bsdl_round_trip.proofs.Rebuilt.{opcode_entry, access_entries, rebuilt_by, rebuilt_file, rebuilt_contents}
+use Rattle.bsdl_round_trip.proofs.Rebuilt.{opcode_entry, rebuilt_by, rebuilt_file, rebuilt_contents}
 use Rattle.bsdl_round_trip.proofs.Held.{opcodes_filled}
 use Rattle.bsdl_round_trip.proofs.Means.{Keeps, none_broken}
 use Rattle.bsdl_round_trip.proofs.FileAtoms.{pieces_of, text_of-atoms, are_pieces, Free}
@@ -21,10 +20,9 @@ use Rattle.bsdl_round_trip.proofs.FileWords.{spells_file_by, strings_filled}
 use Rattle.bsdl_round_trip.proofs.CanonicalText.{chain_joined}
 use Rattle.bsdl_round_trip.proofs.ReadBack.{Stands}
 use Rattle.bsdl_round_trip.proofs.DeviceKept.{device_stands}
-use Rattle.extended_device.specs.declared.values.RegisterEntry.{RegisterEntry}
 use Rattle.extended_device.specs.declared.values.TestRegister.{TestRegister}
 use Rattle.extended_device.specs.declared.values.Extended.{Extended}
-use Rattle.extended_device.specs.Rules.{base_contents, own_opcodes, base_opcodes, names_profile, registers_fail, own_registers_fail}
+use Rattle.extended_device.specs.Rules.{base_contents, own_opcodes, registers_fail, own_registers_fail}
 use Rattle.extended_device.specs.IsExtended.{IsTestRegister, IsExtended}
 use Rattle.extended_device.specs.Spelled.{register_of, extended_of, SpellsExtendedText}
 use Rattle.extended_device.specs.Canonical.{canonical_extended}

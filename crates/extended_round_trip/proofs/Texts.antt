@@ -5,10 +5,9 @@ use Rattle.std.specs.List.{flat_map}
 use Rattle.std.specs.Fmt.{decimal}
 use Rattle.std.proofs.lemmas.List.{map-id, map-append, append_cancel_right}
 use Rattle.cell_library.specs.declared.codes.Opcode.{Opcode}
-use Rattle.bsdl_device.specs.declared.values.Device.{Device}
 use Rattle.bsdl_device.specs.declared.entries.AccessEntry.{AccessEntry}
-use Rattle.bsdl_device.specs.Matching.{is_filled}
-use Rattle.bsdl_device.specs.Canonical.{each_after, separated_text, next_string, pattern_text, pieces, head_text, tap_text, attribute_text, opcode_text, opcodes_text, idcode_text, usercode_text, access_text, boundary_text}
+use Rattle.bsdl_device.specs.Patterns.{is_filled}
+use Rattle.bsdl_device.specs.Canonical.{each_after, separated_text, next_string, pattern_text, head_text, tap_text, attribute_text, opcode_text, opcodes_text, idcode_text, usercode_text, access_text, boundary_text}
 use Rattle.bsdl_round_trip.proofs.Held.{GoodDevice, opcodes_filled, filled_map}
 use Rattle.bsdl_round_trip.proofs.EntryAtoms.{comma_strings, opcode_bytes, access_bytes}
 use Rattle.bsdl_round_trip.proofs.Rebuilt.{opcode_entry, access_entries}
@@ -19,7 +18,7 @@ use Rattle.extended_device.specs.declared.values.TestRegister.{TestRegister}
 use Rattle.extended_device.specs.declared.values.Extended.{Extended}
 use Rattle.extended_device.specs.Canonical.{own_opcode_text, own_opcodes_text, own_access_text, own_accesses_text, middle_text, front_text, back_text, canonical_extended}
 use Rattle.extended_round_trip.proofs.Rules.{own_entry, entry_of, entries_of, whole_opcodes}
-use Rattle.extended_round_trip.proofs.Held.{Item, item_bytes, access_item, own_item, items, whole_opcode_strings, whole_access_strings}
+use Rattle.extended_round_trip.proofs.Held.{item_bytes, access_item, own_item, items, whole_opcode_strings, whole_access_strings}
 
 -- Texts, one behind the other.
 

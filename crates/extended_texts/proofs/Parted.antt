@@ -4,7 +4,7 @@ use Rattle.bsdl_device.specs.declared.written.File.{File}
 use Rattle.bsdl_device.specs.Shape.{joined}
 use Rattle.extended_entries.specs.declared.parted.Parted.{Parted}
 use Rattle.extended_entries.specs.declared.parted.OwnEntries.{OwnEntries}
-use Rattle.extended_entries.specs.Parting.{own_in, with_access, IsParted}
+use Rattle.extended_entries.specs.BaseFile.{own_in, with_access, IsParted}
 use Rattle.extended_entries.proofs.Partings.{parted_none, parted_some}
 
 -- empty strings

@@ -4,7 +4,7 @@ use Rattle.bsdl_lexicon.specs.declared.words.BsdlWords.{BsdlWords}
 use Rattle.bsdl_words.specs.declared.fault.BsdlWordFault.{BsdlWordFault}
 use Rattle.bsdl_words.specs.declared.fault.BsdlWordFault.TheVariants as word
 use Rattle.bsdl_words.specs.Fed.{IsEndFault}
-use Rattle.bsdl_values.specs.Reading.{HasBsdlWords}
+use Rattle.bsdl_values.specs.TextOutcome.{HasBsdlWords}
 use Rattle.extended_device.specs.declared.fault.ExtendedFault.{ExtendedFault}
 use Rattle.extended_device.specs.declared.fault.ExtendedFault.TheVariants as fault
 use Rattle.extended_device.specs.declared.values.Extended.{Extended}
@@ -15,7 +15,7 @@ use Rattle.extended_texts.specs.declared.fault.ExtendedTextFault.{ExtendedTextFa
 use Rattle.extended_texts.specs.declared.fault.ExtendedTextFault.TheVariants as text
 use Rattle.extended_texts.specs.FaultKinds.{extended_fault, word_fault}
 use Rattle.extended_texts.specs.Laws.{SpellsOneExtended}
-use Rattle.extended_texts.specs.Reading.{SpelledExtended, IsExtendedReadAs}
+use Rattle.extended_texts.specs.TextOutcome.{SpelledExtended, IsExtendedReadAs}
 use Rattle.extended_texts.specs.TextFaults.{IsExtendedTextFault, IsWordsFault}
 
 pub end_fault : (e : BsdlWordFault) (bytes : List ℕ) → IsEndFault e bytes → IsExtendedTextFault bytes (word_fault e)

@@ -1,4 +1,4 @@
 pub mod FaultKinds
 pub mod Laws
-pub mod Reading
+pub mod TextOutcome
 pub mod TextFaults

@@ -1,12 +1,12 @@
 -- When a text spells no device, where that may have registers of its own. Own.
 use Rattle.std.specs.Prelude.{ℕ, List}
 use Rattle.bsdl_lexicon.specs.declared.words.BsdlWords.{BsdlWords}
-use Rattle.bsdl_values.specs.Reading.{IsBsdlWord}
+use Rattle.bsdl_values.specs.TextOutcome.{IsBsdlWord}
 use Rattle.extended_device.specs.declared.fault.ExtendedFault.TheVariants as fault
 use Rattle.extended_device.specs.Faults.{IsExtendedFault}
 use Rattle.extended_texts.specs.declared.fault.ExtendedTextFault.{ExtendedTextFault}
 use Rattle.extended_texts.specs.declared.fault.ExtendedTextFault.TheVariants as text
-use Rattle.extended_texts.specs.Reading.{HasWordsFault}
+use Rattle.extended_texts.specs.TextOutcome.{HasWordsFault}
 
 -- the fault stands in a text
 abbrev pub IsExtendedTextFault : List ℕ → ExtendedTextFault → Type 0

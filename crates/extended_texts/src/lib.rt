@@ -1,5 +1,5 @@
 // From the bytes of a BSDL text to the device that it describes, with the registers of the design's own.
-// The contract of `read_extended` cites specs/Reading.antt and specs/TextFaults.antt, and `SpellsExtendedText` and
+// The contract of `read_extended` cites specs/TextOutcome.antt and specs/TextFaults.antt, and `SpellsExtendedText` and
 // `IsExtended` of extended_device.
 // IEEE Std 1149.1-2001: the annex on BSDL (REGISTER_ACCESS); test data registers. Which fault comes first is own.
 //

@@ -1,8 +1,8 @@
 ghost use Rattle.std.specs.Prelude.{◌≡◌, IfErr, IfOk};
-ghost use Rattle.bsdl_values.specs.Reading.{HasBsdlWords};
+ghost use Rattle.bsdl_values.specs.TextOutcome.{HasBsdlWords};
 ghost use Rattle.extended_device.specs.IsExtended.{IsExtended};
 ghost use Rattle.extended_texts.specs.FaultKinds as kinds;
-ghost use Rattle.extended_texts.specs.Reading.{IsExtendedReadAs, SpelledExtended};
+ghost use Rattle.extended_texts.specs.TextOutcome.{IsExtendedReadAs, SpelledExtended};
 ghost use Rattle.extended_texts.specs.TextFaults.{IsExtendedTextFault, IsWordsFault};
 
 use crate::fault::ExtendedTextFault;

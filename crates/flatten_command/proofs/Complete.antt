@@ -8,7 +8,7 @@ use Rattle.verilog_tree.specs.declared.tree.Module.{Module}
 use Rattle.verilog_modules.specs.Texts.{SpellsModules}
 use Rattle.verilog_texts.specs.declared.fault.TextFault.{TextFault}
 use Rattle.verilog_texts.specs.declared.fault.TextFault.TheVariants as text
-use Rattle.verilog_texts.specs.Reading.{SpellsTrees}
+use Rattle.verilog_texts.specs.TextOutcome.{SpellsTrees}
 use Rattle.verilog_texts.specs.TextFaults.{IsModulesTextFault}
 use Rattle.hier_model.specs.declared.fault.HierFault.{HierFault}
 use Rattle.hier_model.specs.Faults.{hier_fault}

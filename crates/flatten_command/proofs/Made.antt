@@ -6,7 +6,7 @@ use Rattle.verilog_tree.specs.IsTree.{IsTree}
 use Rattle.verilog_tree.specs.Texts.{SpellsText}
 use Rattle.verilog_tree.specs.Canonical.{canonical}
 use Rattle.verilog_texts.specs.Laws.{BytesSpellOneTree}
-use Rattle.verilog_texts.specs.Reading.{AreReadAs}
+use Rattle.verilog_texts.specs.TextOutcome.{AreReadAs}
 use Rattle.hier_model.specs.declared.fault.HierFault.{HierFault}
 use Rattle.hier_flatten.specs.Flattened.{IsFlat, IsHierFault}
 use Rattle.hier_solutions.specs.Trees.{FlatModulesKeepTheConditions}

@@ -6,7 +6,7 @@ use Rattle.verilog_tree.specs.declared.tree.Module.{Module}
 use Rattle.verilog_tree.specs.IsTree.{IsTree}
 use Rattle.verilog_tree.specs.Texts.{SpellsText}
 use Rattle.verilog_tree.specs.Canonical.{canonical}
-use Rattle.verilog_texts.specs.Reading.{SpellsTrees}
+use Rattle.verilog_texts.specs.TextOutcome.{SpellsTrees}
 use Rattle.verilog_texts.specs.TextFaults.{IsModulesTextFault}
 use Rattle.hier_model.specs.declared.fault.HierFault.{HierFault}
 use Rattle.hier_model.specs.Faults.{hier_fault}

@@ -1,6 +1,6 @@
 // From the text that is read to the text of the flat module.
 ghost use Rattle.std.specs.Prelude.{IfErr, IfOk};
-ghost use Rattle.verilog_texts.specs.Reading.{AreReadAs};
+ghost use Rattle.verilog_texts.specs.TextOutcome.{AreReadAs};
 ghost use Rattle.verilog_texts.specs.TextFaults.{IsModulesTextFault};
 ghost use Rattle.flatten_command.specs.FlatTexts.{IsFlatOfText, IsFlattened, StandsInModules};
 

@@ -19,7 +19,7 @@ use Rattle.hier_counts.specs.declared.sizes.Size.{Size}
 use Rattle.hier_counts.specs.declared.levels.Counts.{Counts}
 use Rattle.hier_counts.specs.Widths.{capped}
 use Rattle.hier_counts.specs.Levels.{held_by, size_of, counts_at, no_counts, counts_in, next_counts}
-use Rattle.hier_counts.proofs.Leading.{StandsAt, first_stands}
+use Rattle.hier_counts.proofs.Leads.{StandsAt, first_stands}
 
 -- Lists of what modules come to.
 

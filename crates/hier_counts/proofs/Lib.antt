@@ -1,12 +1,12 @@
 pub mod CellTables
 pub mod EarlyLaws
 pub mod Joins
-pub mod Leading
+pub mod Leads
 pub mod LevelLaws
 pub mod Loops
-pub mod Marking
+pub mod Marks
 pub mod Reached
 pub mod RingLaws
-pub mod Searching
+pub mod Searches
 pub mod SizeLaws
 pub mod WidthLaws

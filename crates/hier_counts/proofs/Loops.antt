@@ -11,7 +11,7 @@ use Rattle.verilog_tree.specs.declared.tree.Module.{Module}
 use Rattle.hier_model.specs.Faults.{is_cell, twice_name}
 use Rattle.hier_counts.specs.Graph.{IsIn}
 use Rattle.hier_counts.specs.Search.{Seen, with_place, with_places}
-use Rattle.hier_counts.proofs.Searching.{place_grows}
+use Rattle.hier_counts.proofs.Searches.{place_grows}
 
 -- what is left at a place, by the code's way to count
 pub rest_at : {X : Type 0} (xs : List X) (k : ℕ) (x : X) → slice_get xs k ≡ Some x → drop k xs ≡ x ∷ drop (k + 1) xs

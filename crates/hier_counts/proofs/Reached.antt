@@ -23,8 +23,8 @@ use Rattle.hier_counts.specs.Marked.{first_marked}
 use Rattle.hier_counts.specs.Rings.{number, NeverRises}
 use Rattle.hier_counts.specs.Levels.{counts_at}
 use Rattle.hier_counts.specs.Early.{count_fault, reached_fault, early_fault}
-use Rattle.hier_counts.proofs.Leading.{StandsAt, first_stands, graph_closed, marks_reached, holds_where}
-use Rattle.hier_counts.proofs.Marking.{marked_is, both_are}
+use Rattle.hier_counts.proofs.Leads.{StandsAt, first_stands, graph_closed, marks_reached, holds_where}
+use Rattle.hier_counts.proofs.Marks.{marked_is, both_are}
 use Rattle.hier_counts.proofs.RingLaws.{ring_clear}
 use Rattle.hier_counts.proofs.EarlyLaws.{counts_pass}
 

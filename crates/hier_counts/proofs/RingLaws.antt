@@ -6,7 +6,7 @@ use Rattle.hier_model.specs.Faults.{holds_itself}
 use Rattle.hier_counts.specs.Once.{At, AreOnce}
 use Rattle.hier_counts.specs.Graph.{module_graph, row, IsIn, Path}
 use Rattle.hier_counts.specs.Rings.{number, NeverRises}
-use Rattle.hier_counts.proofs.Leading.{ring_at}
+use Rattle.hier_counts.proofs.Leads.{ring_at}
 
 path_falls : (graph : List (List ℕ)) (numbers : List ℕ) → NeverRises graph numbers → (k v w : ℕ) → Path graph k v w → number numbers w ≤ number numbers v
 path_falls graph numbers falls zero v w path = subst (λ (x : ℕ). number numbers x ≤ number numbers v) path (omega arith)

@@ -19,7 +19,7 @@ use Rattle.hier_counts.specs.declared.sizes.Held.{Held}
 use Rattle.hier_counts.specs.Widths.{capped, joined_bits}
 use Rattle.hier_counts.specs.Levels.{linked_in, held_by}
 use Rattle.hier_counts.proofs.Joins.{joined_is}
-use Rattle.hier_counts.proofs.Leading.{StandsAt, first_stands}
+use Rattle.hier_counts.proofs.Leads.{StandsAt, first_stands}
 
 -- Bits of declarations.
 

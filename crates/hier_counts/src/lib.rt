@@ -4,10 +4,10 @@
 //
 // - `find_early_fault` answers the first of these faults exactly: a module's name that came before or is a cell's; a cell in reached
 //   modules that is no module and no cell; the first reached module that holds itself; too many levels, cells or nets.
-// - What is reached, what holds itself and what is counted are those of hier_model's definitions; time is linear in the text, but for
-//   the rounds of counts, of which there are as many as there may be levels.
+// - What is reached, what holds itself and what is counted are those of hier_model's definitions.
 // - `CellNames` tells exactly the names of the seven cells and of those of a library.
-// By the contract of `find_early_fault` and `CellNames`.
+// By the contract of `find_early_fault` and `CellNames`. What no clause says: time is linear in the text, but for the rounds of counts,
+// of which there are as many as there may be levels.
 #![tactic(auto)]
 
 mod cell_names;

@@ -28,8 +28,8 @@ use Rattle.hier_model.specs.Faults.{NameCheck, enters, is_long, bad_name_after, 
 use Rattle.hier_flatten.specs.Visited.{IsListed}
 use Rattle.hier_flatten.specs.NameChecks.{Checks, port_checks, checks_at, net_checks}
 use Rattle.hier_flatten.proofs.NameLaws.{stops, goes_on}
-use Rattle.hier_flatten.proofs.Walking.{visit_in, Makes, makes_more, makes_all}
-use Rattle.hier_flatten.proofs.Entering.{enter_fault, enter_clear, name_found, name_absent, nets_behind, front_stays, all_entered}
+use Rattle.hier_flatten.proofs.Walks.{visit_in, Makes, makes_more, makes_all}
+use Rattle.hier_flatten.proofs.EnteredNames.{enter_fault, enter_clear, name_found, name_absent, nets_behind, front_stays, all_entered}
 use Rattle.hier_flatten.proofs.FlatLaws.{makes_first, nested}
 
 -- One name.

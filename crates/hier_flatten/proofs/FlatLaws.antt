@@ -17,7 +17,7 @@ use Rattle.hier_model.specs.Flat.{place_wires}
 use Rattle.hier_flatten.specs.Joins.{input_items}
 use Rattle.hier_flatten.specs.Visited.{IsListed, AreListed}
 use Rattle.hier_flatten.proofs.Listed.{visits_listed}
-use Rattle.hier_flatten.proofs.Walking.{Makes, visit_in}
+use Rattle.hier_flatten.proofs.Walks.{Makes, visit_in}
 
 -- Parts of a walk.
 

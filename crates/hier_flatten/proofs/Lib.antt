@@ -1,6 +1,6 @@
 pub mod Declared
 pub mod EnterLaws
-pub mod Entering
+pub mod EnteredNames
 pub mod FirstFault
 pub mod FlatLaws
 pub mod Joined
@@ -12,4 +12,4 @@ pub mod NetLaws
 pub mod ReferLaws
 pub mod StepChecks
 pub mod Told
-pub mod Walking
+pub mod Walks

@@ -12,7 +12,7 @@ use Rattle.hier_model.specs.declared.fault.HierFault.{HierFault}
 use Rattle.hier_model.specs.Faults.{turn_link}
 use Rattle.hier_flatten.specs.Visited.{IsListed, AreListed}
 use Rattle.hier_flatten.proofs.Listed.{visits_listed}
-use Rattle.hier_flatten.proofs.Walking.{Looks}
+use Rattle.hier_flatten.proofs.Walks.{Looks}
 
 pub begins_looking : {X : Type 0} (levels : ℕ) (modules own : List Module) (top : Module) (w : Walk) (test : Visit → Option X) → own ≡ modules → Begins own top w → IsTrue (has_levels levels modules top) → IsListed modules top
     → Looks levels modules test (first_in test (visits levels modules [] top)) w

@@ -14,7 +14,7 @@ use Rattle.hier_model.specs.Faults.{NameCheck, is_long, net_check, bad_name_afte
 use Rattle.hier_flatten.specs.Nets.{range_named}
 use Rattle.hier_flatten.specs.NameChecks.{Checks, net_checks}
 use Rattle.hier_flatten.proofs.NameLaws.{goes_on}
-use Rattle.hier_flatten.proofs.Entering.{net_known, net_fault, net_clear, nets_behind, nets_check, front_stays}
+use Rattle.hier_flatten.proofs.EnteredNames.{net_known, net_fault, net_clear, nets_behind, nets_check, front_stays}
 
 -- One net.
 

@@ -18,8 +18,8 @@ use Rattle.hier_model.specs.Faults.{NameCheck, enters, item_checks, turn_checks,
 use Rattle.hier_flatten.specs.Visited.{IsListed}
 use Rattle.hier_flatten.specs.NameChecks.{Checks, place_checks, checks_at}
 use Rattle.hier_flatten.proofs.NameLaws.{stops}
-use Rattle.hier_flatten.proofs.Walking.{visit_in}
-use Rattle.hier_flatten.proofs.Entering.{check_none}
+use Rattle.hier_flatten.proofs.Walks.{visit_in}
+use Rattle.hier_flatten.proofs.EnteredNames.{check_none}
 use Rattle.hier_flatten.proofs.EnterLaws.{Checking, checking_first, checking_on, checking_stops, checking_ends, visit_nets, all_nets, nets_all, visit_checks, all_checks, whole_fault, early_fault, nets_seen, declared_stay}
 
 -- a fault as it was matched

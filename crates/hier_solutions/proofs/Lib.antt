@@ -4,11 +4,11 @@ pub mod Cells
 pub mod EntryTrees
 pub mod FlatNames
 pub mod FlatTrees
-pub mod Meeting
+pub mod MetEquations
 pub mod Outputs
 pub mod OwnBits
 pub mod OwnLinks
 pub mod Places
 pub mod ReadingLaws
 pub mod Settled
-pub mod Solving
+pub mod Solutions

@@ -58,9 +58,10 @@ pub fn run_tool<S: Shelf, O: Sink>(
     shelf: &mut S,
     out: &mut O,
 ) -> Status
-    // At status 0 a conversion's output is the canonical text of the one tree or device that the input spells, that of
-    // `flatten` is the canonical text of the flat module of one of those that the input spells, and that of `vectors`
-    // is the text of the program of the device; nothing is put. At status 0 or 6 a simulation put the text of the
+    // At status 0 a conversion's output is the canonical text of the one tree or device that the input spells, of
+    // `statusbsdl` of the one device with its registers; that of `flatten` is the canonical text of the flat module of
+    // one of those that the input spells, that of `vectors` is the text of the program of the device, and those of
+    // `strip` are the canonical texts of a netlist and a plan from which the two inputs come; nothing is put. At status 0 or 6 a simulation put the text of the
     // events' run, or a check its misses and its last line, and the status is 6 where an expectation isn't met. At
     // status 0 an insertion wrote the netlist with the plan's test logic and the BSDL text of its device, and put its
     // report; and a demonstration did so for the netlist of its number, and put its line.

@@ -5,7 +5,7 @@ use Rattle.std.specs.Prelude.{MatchOption, IsOkUnless}
 use Rattle.std.specs.List.{enumerate_from}
 use Rattle.std.proofs.lemmas.List.{length-map}
 use Rattle.std.proofs.lemmas.List.Sums.{sum_by-cons}
-use Rattle.netlist_link.proofs.Rewriting.{within}
+use Rattle.netlist_link.proofs.Rewrites.{within}
 use Rattle.netlist_model.specs.declared.Range.{Range}
 use Rattle.netlist_model.specs.Lists.{PortView}
 use Rattle.netlist_model.specs.Formed.{IsLaidOut, width_of}
@@ -21,7 +21,7 @@ use Rattle.plan_fitting.specs.declared.fitted.Fitted.{Fitted}
 use Rattle.plan_fitting.specs.Pins.{PinSeen}
 use Rattle.plan_fitting.specs.Rows.{rows}
 use Rattle.plan_fitting.specs.Devices.{IsFitted, fit_port, device_of}
-use Rattle.scan_stitch.specs.plan_devices.Fitting.{IsFitting, HasRoom}
+use Rattle.scan_stitch.specs.plan_devices.FittingPlan.{IsFitting, HasRoom}
 use Rattle.scan_stitch.specs.plan_devices.Laws.{TapNamesAreNew, FittedIsFitting, PlansMakeDevices}
 use Rattle.scan_stitch.proofs.plan_devices.PlanClock.{plans_have_registers}
 use Rattle.scan_stitch.specs.Ready.{IsSmall, HasTapNames}

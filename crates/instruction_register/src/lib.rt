@@ -16,7 +16,7 @@
 // - So it is of the whole register, step by step, from whatever its stages hold (`instruction_steps`); from Test-
 //   Logic-Reset with reset's opcode on the latched bits are 0 or 1, whatever the shift stage holds there, since it
 //   captures before it is latched (`instructions_stay_legible`).
-// By the contract of `add_instruction` and two law functions.
+// By the contract of `add_instruction` and its law functions.
 // What the test logic's gates take, for n bits of the instruction register, and what is set aside for them:
 // | call | cells | nets | set aside | |---|---|---|---| | `add_tap` | 49 | 49 | 140 | | `add_instruction` | at
 // most 11 + 21n | the same | 100 + 64n | | `add_bypass` | 5 | 5 | 10 | | `add_ident` | 98 or 99 | the same | 130 | | `add_tdo`

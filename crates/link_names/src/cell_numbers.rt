@@ -5,7 +5,7 @@ ghost use Rattle.std.specs.Map.{keys_of};
 ghost use Rattle.std.specs.Str.{bytes_eq};
 ghost use Rattle.link_model.specs.cell_library.Library.{kind_named};
 ghost use Rattle.link_model.specs.Lists.{has_name};
-ghost use Rattle.link_names.specs.Numbering.{numbers_in, HasNumbers};
+ghost use Rattle.link_names.specs.CellNumbers.{numbers_in, HasNumbers};
 
 use indexmap::IndexMap;
 use link_model::lower_cell_library::{Kind, Library, own_kind_of};

@@ -4,7 +4,7 @@ ghost use Rattle.link_model.specs.cell_library.Library as ports;
 ghost use Rattle.std.specs.Option.{option_copied};
 ghost use Rattle.link_model.specs.Nets.{net_of};
 ghost use Rattle.link_model.specs.Cells as model;
-ghost use Rattle.link_names.specs.Numbering.{HasNumbers};
+ghost use Rattle.link_names.specs.CellNumbers.{HasNumbers};
 ghost use Rattle.link_names.specs.Views.{entries_of};
 ghost use Rattle.link_names.specs.FitItems.{FitsBit, FitsOperand, FitsLink, FitsGate, FitsItem};
 

@@ -7,7 +7,7 @@ ghost use Rattle.link_model.specs.verilog_tree.declared.tree.Link.{Link};
 ghost use Rattle.link_model.specs.Lists.{first_in, repeated};
 ghost use Rattle.link_model.specs.Cells.{bytes_of};
 ghost use Rattle.link_model.specs.Faults as text;
-ghost use Rattle.link_names.specs.Numbering.{HasNumbers};
+ghost use Rattle.link_names.specs.CellNumbers.{HasNumbers};
 ghost use Rattle.link_names.specs.Tests.{unknown_port, missing_port, port_linked_twice, port_test, instance_faults_in};
 
 use crate::cell_numbers::kind_of;

@@ -4,10 +4,10 @@ ghost use Rattle.link_model.specs.verilog_tree.IsTree.{IsTree};
 ghost use Rattle.link_model.specs.Nets.{declared_nets, declared_names, nets_in};
 ghost use Rattle.link_model.specs.Faults.{text_fault, cells_in};
 ghost use Rattle.link_model.specs.Fits.{FitCells};
-ghost use Rattle.link_names.specs.Numbering.{HasNumbers};
+ghost use Rattle.link_names.specs.CellNumbers.{HasNumbers};
 ghost use Rattle.link_names.specs.Views.{net_views, entries_of};
 ghost use Rattle.link_names.specs.Tests.{are_clear};
-ghost use Rattle.link_names.specs.Resolving.{head_fault, bit_fault, item_fault, IsResolved, IsOutcome};
+ghost use Rattle.link_names.specs.Outcomes.{head_fault, bit_fault, item_fault, IsResolved, IsOutcome};
 
 use crate::bits::{BitTest, bits_are_clear, find_bit};
 use crate::cell_numbers::numbers_of;

@@ -3,7 +3,7 @@ ghost use Rattle.std.specs.Prelude.{◌≡◌, None, IsTrue, IfOk};
 ghost use Rattle.link_model.specs.Lists.{first_in};
 ghost use Rattle.link_model.specs.Faults.{item_bits, link_width, item_width};
 ghost use Rattle.link_names.specs.declared.bits.BitTest.TheVariants.{Any};
-ghost use Rattle.link_names.specs.Numbering.{HasNumbers};
+ghost use Rattle.link_names.specs.CellNumbers.{HasNumbers};
 ghost use Rattle.link_names.specs.Tests.{first_at, are_clear};
 ghost use Rattle.link_names.specs.Views.{entries_of};
 

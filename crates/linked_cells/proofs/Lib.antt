@@ -1,8 +1,8 @@
 pub use Rattle.numbered_places.proofs.list_laws as list_laws
-pub mod Writing
+pub mod Writes
 pub mod Feeds
 pub mod Operands
 pub mod Walks
 pub mod Chains
 pub mod Threads
-pub mod Moving
+pub mod Moves

@@ -26,7 +26,7 @@ use Rattle.linked_cells.specs.numbered_places.Places.{there_at, place_at, Puts}
 use Rattle.linked_cells.specs.Views.{CellSlots}
 use Rattle.linked_cells.specs.declared.Net.{Net}
 use Rattle.linked_cells.specs.Cells.{cells_of, net_view, values, nets_of, slot_at, first_at, driver_at, KeepsNets, with_feed, with_slot_feed, feed_in, IsFeedThere, moved_feed, with_moved_feeds}
-use Rattle.linked_cells.proofs.Writing.{kept_there}
+use Rattle.linked_cells.proofs.Writes.{kept_there}
 use Rattle.linked_cells.proofs.Operands.{slot_of_feed, feed_found}
 
 abbrev pub AllThere : List (Option Net) → Type 0

@@ -13,7 +13,7 @@ use Rattle.std.specs.Option.{option_map}
 use Rattle.std.specs.Prelude.{Option}
 use Rattle.netlist_laws.proofs.Search.{cell_at_once}
 use Rattle.netlist_images.specs.Nested.{renamed_net, renamed_feed, renamed_cell, Nested}
-use Rattle.netlist_images.specs.Renumbering.{ArePortImages, IsRenumbering}
+use Rattle.netlist_images.specs.Renumbered.{ArePortImages, IsRenumbering}
 use Rattle.netlist_images.specs.RenumberedLaws.{CopyIsRenumbering, RenumberedBits, RenumberingTurns}
 use Rattle.netlist_images.proofs.Numbers.{copied_direction, copied_bit, copied_nested, drives_over, reads_over, driven_over, control_over}
 use Rattle.std.proofs.lemmas.List.{length-map}

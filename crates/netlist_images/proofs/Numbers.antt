@@ -12,7 +12,7 @@ use Rattle.netlist_laws.specs.netlist_model.Settled.{follows_pin}
 use Rattle.netlist_laws.specs.netlist_model.Cones.{GateReads, InCone, itself, behind, FlopReads, IsClockNet, IsControlNet}
 use Rattle.netlist_laws.specs.netlist_model.Formed.{IsDriven}
 use Rattle.netlist_images.specs.Nested.{renamed_net, renamed_feed, renamed_cell, Nested}
-use Rattle.netlist_images.specs.Renumbering.{IsPortImage, ArePortImages, IsCopied}
+use Rattle.netlist_images.specs.Renumbered.{IsPortImage, ArePortImages, IsCopied}
 use Rattle.netlist_images.proofs.Nests.{output_renamed}
 
 -- what stands at a place of a mapped list

@@ -81,8 +81,8 @@ pub record IsWellNamed (table : List (List ℕ)) (N : NetlistView) : Type 0 wher
   pub port_or_cell : (p i : ℕ) (port : PortView) (cell : CellView) → slice_get N.ports p ≡ Some port → cell_at N i ≡ Some cell → cell.name ≡ Some port.name → ⊥
   pub port_or_wire : (p net : ℕ) (port : PortView) → slice_get N.ports p ≡ Some port → IsWireNet N net port.name → ⊥
   pub cell_or_wire : (i net number : ℕ) (cell : CellView) → cell_at N i ≡ Some cell → cell.name ≡ Some (Original number) → IsWireNet N net (Original number) → ⊥
-  -- a library cell has a name, an `assign` has none
+  -- a library cell or a listed one has a name, an `assign` has none
   pub library_named : (i : ℕ) (cell : CellView) → cell_at N i ≡ Some cell → IsSome (cell_name N.library cell.kind) → IsSome cell.name
   pub assign_unnamed : (i : ℕ) (cell : CellView) → cell_at N i ≡ Some cell → cell.kind ≡ Assign → cell.name ≡ None
-  -- only a library cell may be without an output
+  -- only a library cell or a listed one may be without an output
   pub connected : (i : ℕ) (cell : CellView) → cell_at N i ≡ Some cell → cell_name N.library cell.kind ≡ None → IsSome cell.output

@@ -11,7 +11,7 @@ ghost use Rattle.link_order.specs.cell_order.Tables.{FitsRoom, with_room};
 ghost use Rattle.link_names.specs.link_model.Denoted.{name_bytes};
 ghost use Rattle.name_table.specs.Names.{with_name};
 ghost use Rattle.netlist_link.specs.Drafts.{IsEmpty, reserved, with_spare};
-ghost use Rattle.netlist_link.specs.Lending.{LendsNetlist};
+ghost use Rattle.netlist_link.specs.LentDrafts.{LendsNetlist};
 ghost use Rattle.netlist_link.specs.Linked.{IsLinked};
 ghost use Rattle.netlist_link.specs.WellNamed.{IsWellNamed};
 
@@ -131,7 +131,7 @@ fn make_port_room(ports: &mut Vec<Option<PortId>>, names: u64) -> Result<(), Out
 }
 
 // Makes room in a netlist and in the area beside it, or in neither.
-#[tactic(auto, using(crate::proofs::Rewriting::few_cells, crate::proofs::Rewriting::few_nets))]
+#[tactic(auto, using(crate::proofs::Rewrites::few_cells, crate::proofs::Rewrites::few_nets))]
 fn reserve_both(
     netlist: &mut Netlist,
     area: &mut WorkArea,

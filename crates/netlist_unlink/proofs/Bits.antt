@@ -25,7 +25,7 @@ use Rattle.netlist_unlink.proofs.Declared.{IsFound, names, net_found}
 use Rattle.netlist_unlink.proofs.Keys.{CanName, names_apart}
 use Rattle.netlist_unlink.proofs.Members.{in_left, map_twice, place_found}
 use Rattle.netlist_unlink.proofs.Nets.{nets_are}
-use Rattle.netlist_unlink.proofs.Ordering.{net_in_order, order_below}
+use Rattle.netlist_unlink.proofs.NetOrder.{net_in_order, order_below}
 
 apart_left : {X : Type 0} (xs ys : List X) → Apart (xs ++ ys) → Apart xs
 apart_left [] ys apart = tt

@@ -33,7 +33,7 @@ use Rattle.netlist_unlink.proofs.Members.{map_counted, place_found}
 use Rattle.netlist_unlink.proofs.Nets.{PortFits, dir_is, nets_are, port_bits, port_fits}
 use Rattle.netlist_unlink.proofs.NewCells.{NamesNets, cell_is, cells_are}
 use Rattle.netlist_unlink.proofs.NoFaults.{AreNarrow, HasNoItemFault, bits_of_item, item_fits, none_of_items}
-use Rattle.netlist_unlink.proofs.Ordering.{net_number}
+use Rattle.netlist_unlink.proofs.NetOrder.{net_number}
 
 -- Ports.
 

@@ -4,7 +4,7 @@ pub mod ItemLaws
 pub mod AddedLaws
 pub mod Flagged
 pub mod Facts
-pub mod Spelling
+pub mod SpelledNames
 pub mod Indexes
 pub mod RowFacts
 pub mod AllRows
@@ -13,7 +13,7 @@ pub mod Kept
 pub mod Apart
 pub mod Declared
 pub mod Members
-pub mod Ordering
+pub mod NetOrder
 pub mod WireRows
 pub mod Nets
 pub mod Keys

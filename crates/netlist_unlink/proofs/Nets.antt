@@ -27,7 +27,7 @@ use Rattle.netlist_unlink.specs.Trees.{Naming, added_from, added_wire, dir_of, n
 use Rattle.netlist_unlink.specs.Renumbered.{added_test, is_added, is_wire, named_net, net_order, numbers_from, one_if, port_numbers, wire_test}
 use Rattle.netlist_unlink.proofs.Lists.{none_passes}
 use Rattle.netlist_unlink.proofs.Members.{map_counted, map_twice}
-use Rattle.netlist_unlink.proofs.Ordering.{net_number}
+use Rattle.netlist_unlink.proofs.NetOrder.{net_number}
 use Rattle.netlist_unlink.proofs.WireRows.{AreRows, no_rows, none_more, one_more, wire_bit}
 
 -- what is known of a netlist whose nets are written

@@ -28,7 +28,7 @@ use Rattle.netlist_unlink.proofs.Denotes.{same_netlist, same_port}
 use Rattle.netlist_unlink.proofs.Members.{map_counted}
 use Rattle.netlist_unlink.proofs.Nets.{AreNamed, naming_in}
 use Rattle.netlist_unlink.proofs.NewCells.{AreBelow, IsBelow, feeds_below, output_below, same_cell}
-use Rattle.netlist_unlink.proofs.Ordering.{port_in, port_source}
+use Rattle.netlist_unlink.proofs.NetOrder.{port_in, port_source}
 
 -- The order of nets is that of their numbers.
 

@@ -43,7 +43,7 @@ use Rattle.netlist_unlink.specs.Rows.{is_original, rows}
 use Rattle.netlist_unlink.specs.Trees.{Naming, added, added_from, added_wire, bit_of, cell_text, first_operand, gate_of, item_of, items_from, naming_of, operand_links, operand_of, original, output_bit, output_links, port_of, port_text, range_of, tree_of, wire_of, written}
 use Rattle.netlist_unlink.specs.Prefixes.{IsFreePrefix, IsPrefix, IsUsed, port}
 use Rattle.netlist_unlink.proofs.Lists.{all_mapped, none_at}
-use Rattle.netlist_unlink.proofs.Spelling.{AreSpelled, added_name, listed_name, listed_port, listed_ports, original_name, spelled_name}
+use Rattle.netlist_unlink.proofs.SpelledNames.{AreSpelled, added_name, listed_name, listed_port, listed_ports, original_name, spelled_name}
 use Rattle.netlist_unlink.proofs.Indexes.{index_short}
 use Rattle.netlist_unlink.proofs.RowFacts.{RowFits}
 use Rattle.netlist_unlink.proofs.AllRows.{all_rows}

@@ -111,7 +111,7 @@ gate_of (kind.Listed number) = None
 abbrev pub cell_text : Naming → ℕ → Name → List ℕ
 cell_text naming number name = spelled naming 99 number name
 
--- a cell as a gate, as an instance of a library cell, or as an `assign`
+-- a cell as a gate, as an instance of a library cell or a listed one, or as an `assign`
 abbrev pub written : Naming → ℕ → CellView → Option GateKind → Option (List ℕ) → Item
 written naming number cell (Some kind) library = item.Gate (record {
   kind = kind;

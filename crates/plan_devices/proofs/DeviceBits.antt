@@ -31,7 +31,7 @@ use Rattle.plan_fitting.specs.Names.{NamedBit, named_bit, bits_of_port, port_bit
 use Rattle.plan_fitting.specs.Fits.{has_line}
 use Rattle.plan_fitting.specs.Rows.{rows, has_highz}
 use Rattle.plan_fitting.specs.Devices.{fit_port, fitted_of, dev_port, port_range, scalar_port, tap_ports, dev_ports, dev_bit, cell_row, device_of}
-use Rattle.plan_devices.specs.Fitting.{HasWidths}
+use Rattle.plan_devices.specs.FittingPlan.{HasWidths}
 use Rattle.plan_devices.proofs.Lists.{all_from_places, enumerated_at, all_enumerated}
 use Rattle.plan_devices.proofs.Rows.{Fact, Each}
 use Rattle.plan_devices.proofs.RowCounts.{weigh, count-cons, count_some, sits, makes_row, rows_count, at_most_one}

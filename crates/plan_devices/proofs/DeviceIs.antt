@@ -24,7 +24,7 @@ use Rattle.plan_fitting.specs.Fits.{has_line}
 use Rattle.plan_fitting.specs.Rows.{rows, has_highz}
 use Rattle.plan_fitting.specs.Devices.{fitted_of, cell_row, dev_bit, device_of}
 use Rattle.plan_fitting.specs.Laws.{OpcodesKeepTheRules, ControlCellsAreThere, DriversAgree, HighzDisablesAll}
-use Rattle.plan_devices.specs.Fitting.{IsFitting, HasRoom}
+use Rattle.plan_devices.specs.FittingPlan.{IsFitting, HasRoom}
 use Rattle.plan_devices.specs.Laws.{PlansMakeDevices}
 use Rattle.plan_devices.proofs.Lists.{all_from_places, all_enumerated}
 use Rattle.plan_devices.proofs.PlanPins.{plans_have_pins}

@@ -36,7 +36,7 @@ use Rattle.plan_fitting.specs.Pins.{PinSeen}
 use Rattle.plan_fitting.specs.Names.{NamedBit, port_name, port_names, named_bit, bits_of_port, port_bits}
 use Rattle.plan_fitting.specs.Fits.{has_line, tap_lines, names_of}
 use Rattle.plan_fitting.specs.Devices.{pin_for, pins_of_port, fit_port, fitted_of, dev_port, port_range, scalar_port, tap_ports, dev_ports, device_of}
-use Rattle.plan_devices.specs.Fitting.{IsFitting, HasRoom}
+use Rattle.plan_devices.specs.FittingPlan.{IsFitting, HasRoom}
 use Rattle.plan_devices.proofs.Names.{NamesFit}
 use Rattle.plan_devices.proofs.Lists.{all_from_places}
 use Rattle.plan_devices.proofs.PlanPins.{HasPins}

@@ -32,7 +32,7 @@ use Rattle.plan_fitting.specs.declared.fitted.FitRow.{FitRow}
 use Rattle.plan_fitting.specs.Pins.{PinSeen}
 use Rattle.plan_fitting.specs.Rows.{Driver, rows, has_highz}
 use Rattle.plan_fitting.specs.Devices.{mode_of_side, fit_port, fitted_of, dev_port, dev_bit, disable_by, cell_row, device_of}
-use Rattle.plan_devices.specs.Fitting.{HasWidths}
+use Rattle.plan_devices.specs.FittingPlan.{HasWidths}
 use Rattle.plan_devices.proofs.Rows.{side_driver, data_function, IsDataRow, IsControlRow, Each}
 use Rattle.plan_devices.proofs.Lined.{IsLined, clocks_control, suits_data, suits_control}
 use Rattle.plan_devices.proofs.Indices.{IsBit, range_there, dev_port_at, count_of_ports, has_index}

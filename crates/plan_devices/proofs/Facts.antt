@@ -12,7 +12,7 @@ use Rattle.plan_fitting.specs.plan_texts.declared.plan.PinLine.{PinLine}
 use Rattle.plan_fitting.specs.Pins.{PinSeen}
 use Rattle.plan_fitting.specs.Rows.{rows, has_highz}
 use Rattle.plan_fitting.specs.Fits.{missing_fault, twice_fault, cell_fault, name_fault, prefix_fault}
-use Rattle.plan_devices.specs.Fitting.{IsFitting}
+use Rattle.plan_devices.specs.FittingPlan.{IsFitting}
 use Rattle.plan_devices.proofs.Lists.{all_from_places}
 use Rattle.plan_devices.proofs.Names.{NamesFit, names_fit}
 use Rattle.plan_devices.proofs.Taken.{TakenOnce, taken_once}

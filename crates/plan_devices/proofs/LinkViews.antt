@@ -13,7 +13,7 @@ use Rattle.netlist_model.specs.Formed.{width_of}
 use Rattle.netlist_unlink.specs.netlist_link.Linked.{LinkedView}
 use Rattle.netlist_unlink.specs.netlist_link.Links.{IsLinkOf}
 use Rattle.netlist_unlink.specs.netlist_link.ViewLaws.{LinkViewIsNamed, LinkViewIsFormed}
-use Rattle.plan_devices.specs.Fitting.{HasWidths}
+use Rattle.plan_devices.specs.FittingPlan.{HasWidths}
 use Rattle.plan_devices.specs.Laws.{FittedIsFitting}
 
 same_width : (range : Option tree.Range) → width range ≡ width_of (option_map range_of range)

@@ -20,7 +20,7 @@ use Rattle.plan_fitting.specs.declared.fitted.FitRow.{FitRow}
 use Rattle.plan_fitting.specs.Pins.{PinSeen, same_bit}
 use Rattle.plan_fitting.specs.Rows.{rows, has_highz}
 use Rattle.plan_fitting.specs.Devices.{fitted_of, dev_bit, cell_row, device_of}
-use Rattle.plan_devices.specs.Fitting.{IsFitting, HasWidths}
+use Rattle.plan_devices.specs.FittingPlan.{IsFitting, HasWidths}
 use Rattle.plan_devices.proofs.Tests.{true_not_false}
 use Rattle.plan_devices.proofs.Lists.{none_there}
 use Rattle.plan_devices.proofs.Lined.{IsLined}

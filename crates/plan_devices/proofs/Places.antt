@@ -12,7 +12,7 @@ use Rattle.plan_fitting.specs.plan_texts.declared.plan.Plan.{Plan}
 use Rattle.plan_fitting.specs.declared.fitted.Fitted.{Fitted}
 use Rattle.plan_fitting.specs.Pins.{PinSeen}
 use Rattle.plan_fitting.specs.Devices.{fitted_of, fit_port, dev_port, scalar_port, tap_ports, dev_ports, device_of}
-use Rattle.plan_devices.specs.Fitting.{IsFitting}
+use Rattle.plan_devices.specs.FittingPlan.{IsFitting}
 use Rattle.plan_devices.specs.Laws.{HasOwnPort, HasPorts, HasTapPlaces, DevicesHavePorts}
 use Rattle.plan_devices.proofs.Indices.{count_of_ports, dev_port_at}
 use Rattle.plan_devices.proofs.DeviceTap.{behind_own}

@@ -22,7 +22,7 @@ use Rattle.plan_fitting.specs.declared.fitted.FitRow.{FitRow}
 use Rattle.plan_fitting.specs.Pins.{PinSeen, same_bit}
 use Rattle.plan_fitting.specs.Rows.{rows, has_highz}
 use Rattle.plan_fitting.specs.Devices.{fitted_of, cell_row, device_of}
-use Rattle.plan_devices.specs.Fitting.{IsFitting}
+use Rattle.plan_devices.specs.FittingPlan.{IsFitting}
 use Rattle.plan_devices.specs.Laws.{IsRowOf, RowsStandAtBits, BitsHaveRows}
 use Rattle.plan_devices.proofs.Lined.{IsLined}
 use Rattle.plan_devices.proofs.Rows.{IsDataRow}

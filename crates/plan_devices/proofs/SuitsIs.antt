@@ -33,7 +33,7 @@ use Rattle.plan_fitting.specs.Fits.{suits_port}
 use Rattle.plan_fitting.specs.Rows.{Driver, gate_driver, three_state, added_driver, same_bool, same_feed, rows, has_highz}
 use Rattle.plan_fitting.specs.Devices.{disable_value, disable_by, device_of}
 use Rattle.plan_fitting.proofs.Drivers.{same_bool_is, not_three}
-use Rattle.plan_devices.specs.Fitting.{IsFitting}
+use Rattle.plan_devices.specs.FittingPlan.{IsFitting}
 use Rattle.plan_devices.specs.Laws.{PlansSuitNetlists}
 use Rattle.plan_devices.proofs.Rows.{side_driver, data_function, Controlled}
 use Rattle.plan_devices.proofs.Drivers.{seen_direction, seen_driver, gate_has_driver}

@@ -34,7 +34,7 @@ use Rattle.plan_fitting.specs.Pins.{PinSeen}
 use Rattle.plan_fitting.specs.Rows.{rows}
 use Rattle.plan_fitting.specs.Fits.{tap_lines}
 use Rattle.plan_fitting.specs.Devices.{IsFitted, mode_of_side, port_range, scalar_port, fitted_of, cell_row, device_of}
-use Rattle.plan_devices.specs.Fitting.{IsFitting, HasRoom}
+use Rattle.plan_devices.specs.FittingPlan.{IsFitting, HasRoom}
 
 -- The device.
 

@@ -1,5 +1,5 @@
 pub use Rattle.plan_fitting.specs as plan_fitting
 pub use Rattle.netlist_unlink.specs as netlist_unlink
 pub use Rattle.netlist_unlink.specs.netlist_link as netlist_link
-pub mod Fitting
+pub mod FittingPlan
 pub mod Laws

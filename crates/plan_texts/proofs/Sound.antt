@@ -17,7 +17,7 @@ use Rattle.plan_texts.specs.declared.written.CodeGroups.{CodeGroups}
 use Rattle.plan_texts.specs.declared.written.Pins.{Pins}
 use Rattle.plan_texts.specs.declared.written.Written.{Written}
 use Rattle.plan_texts.specs.Forms.{is_name, is_prefix, is_clock, is_length, is_version, bits_of, version_line, word_line, length_line, capture_line, tap_line, opcode_line, idcode_line, user_line, control_line, pin_line}
-use Rattle.plan_texts.specs.Reading.{Rows, Read, done, after, front, rest_if, line_at, code_left, user_left, put_first, many_at, some_of, linkage_line, ended, names_at, tap_at, registers_at, codes_at, pins_at, written_at}
+use Rattle.plan_texts.specs.Reader.{Rows, Read, done, after, front, rest_if, line_at, code_left, user_left, put_first, many_at, some_of, linkage_line, ended, names_at, tap_at, registers_at, codes_at, pins_at, written_at}
 use Rattle.plan_texts.specs.Grammar.{PlanSource, OpcodeWords, GroupWords, keyed, tap_words, opcode_words, idcode_rows, user_rows, pin_words, plan_rows, IsTapLine, IsOpcode, AreGroupsIf, IsUserIf, IsControl, IsPinLine, IsSource, entry_of, groups_of, written_of}
 use Rattle.plan_texts.proofs.Complete.{words}
 use Rattle.plan_texts.proofs.Parts.{names_second, names_third, names_fourth, tap_second, tap_third, tap_fourth, tap_fifth, registers_second, registers_third, codes_second, written_third, written_fourth, written_fifth, written_sixth}

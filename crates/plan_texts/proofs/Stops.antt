@@ -10,7 +10,7 @@ use Rattle.plan_texts.specs.declared.written.CodeGroups.{CodeGroups}
 use Rattle.plan_texts.specs.declared.written.Pins.{Pins}
 use Rattle.plan_texts.specs.declared.written.Written.{Written}
 use Rattle.plan_texts.specs.Forms.{is_name, is_prefix, is_clock, version_line, word_line, length_line, capture_line, tap_line, opcode_line, idcode_line, user_line, control_line, pin_line}
-use Rattle.plan_texts.specs.Reading.{Rows, Read, done, after, front, rest_if, line_at, put_first, many_at, some_of, code_left, user_left, linkage_line, ended, names_at, tap_at, registers_at, codes_at, pins_at, written_at}
+use Rattle.plan_texts.specs.Reader.{Rows, Read, done, after, front, rest_if, line_at, put_first, many_at, some_of, code_left, user_left, linkage_line, ended, names_at, tap_at, registers_at, codes_at, pins_at, written_at}
 use Rattle.plan_texts.specs.Grammar.{keyed}
 use Rattle.plan_texts.proofs.Complete.{words, NotFirst, many_none, no_rows, no_user}
 use Rattle.plan_texts.proofs.Parts.{names_second, names_third, names_fourth, tap_second, tap_third, tap_fourth, tap_fifth, registers_second, registers_third, codes_second, written_third, written_fourth, written_fifth, written_sixth}

@@ -1,7 +1,7 @@
 // The groups of lines that a plan has, one behind the other.
 ghost use Rattle.std.specs.Prelude.{◌≡◌, codes, IfOk};
 ghost use Rattle.plan_texts.specs.Forms as forms;
-ghost use Rattle.plan_texts.specs.Reading.{Gives, line_at, front, rest_if, many_at, names_at, tap_at, registers_at, codes_at, pins_at, written_at, linkage_line};
+ghost use Rattle.plan_texts.specs.Reader.{Gives, line_at, front, rest_if, many_at, names_at, tap_at, registers_at, codes_at, pins_at, written_at, linkage_line};
 
 use crate::fault::LineFault;
 use crate::lines::{
@@ -60,7 +60,7 @@ fn read_prefix(alloc: Global, reader: &mut LineReader<'_>) -> Result<Text, LineF
     Ok(Text::from_bytes(alloc, prefix)?)
 }
 
-#[tactic(auto, unfolding(crate::specs::Reading::names_at))]
+#[tactic(auto, unfolding(crate::specs::Reader::names_at))]
 fn read_names(alloc: Global, reader: &mut LineReader<'_>) -> Result<Names, LineFault>
     ensures gives { Gives result reader.new.rows (names_at reader.old.rows) }
     ensures end { reader.new.end ≡ reader.old.end }
@@ -100,7 +100,7 @@ fn read_tap(alloc: Global, reader: &mut LineReader<'_>, key: &[u8]) -> Result<Ta
     Ok(tap_of(alloc, name, pin)?)
 }
 
-#[tactic(auto, unfolding(crate::specs::Reading::tap_at))]
+#[tactic(auto, unfolding(crate::specs::Reader::tap_at))]
 fn read_tap_lines(alloc: Global, reader: &mut LineReader<'_>) -> Result<TapLines, LineFault>
     ensures gives { Gives result reader.new.rows (tap_at reader.old.rows) }
     ensures end { reader.new.end ≡ reader.old.end }
@@ -162,7 +162,7 @@ fn read_capture(reader: &mut LineReader<'_>) -> Result<Bits, LineFault>
     Ok(bits)
 }
 
-#[tactic(auto, unfolding(crate::specs::Reading::registers_at))]
+#[tactic(auto, unfolding(crate::specs::Reader::registers_at))]
 fn read_registers(alloc: Global, reader: &mut LineReader<'_>) -> Result<Registers, LineFault>
     ensures gives { Gives result reader.new.rows (registers_at reader.old.rows) }
     ensures end { reader.new.end ≡ reader.old.end }
@@ -253,7 +253,7 @@ fn read_control(reader: &mut LineReader<'_>) -> Result<BoundaryKind, LineFault>
     Ok(kind)
 }
 
-#[tactic(auto, unfolding(crate::specs::Reading::codes_at))]
+#[tactic(auto, unfolding(crate::specs::Reader::codes_at))]
 fn read_codes(alloc: Global, reader: &mut LineReader<'_>, version: u32) -> Result<Codes, LineFault>
     ensures gives { Gives result reader.new.rows (codes_at version reader.old.rows) }
     ensures end { reader.new.end ≡ reader.old.end }
@@ -331,7 +331,7 @@ fn read_linkage(alloc: Global, reader: &mut LineReader<'_>) -> Result<Row<TapLin
     Ok(list)
 }
 
-#[tactic(auto, unfolding(crate::specs::Reading::pins_at))]
+#[tactic(auto, unfolding(crate::specs::Reader::pins_at))]
 fn read_pins(alloc: Global, reader: &mut LineReader<'_>) -> Result<Pins, LineFault>
     ensures gives { Gives result reader.new.rows (pins_at reader.old.rows) }
     ensures end { reader.new.end ≡ reader.old.end }
@@ -345,7 +345,7 @@ fn read_pins(alloc: Global, reader: &mut LineReader<'_>) -> Result<Pins, LineFau
 }
 
 /// The plan as it is written from here to the end; at a fault the reader stands at it.
-#[tactic(auto, unfolding(crate::specs::Reading::written_at))]
+#[tactic(auto, unfolding(crate::specs::Reader::written_at))]
 pub fn read_written(alloc: Global, reader: &mut LineReader<'_>) -> Result<Written, LineFault>
     ensures gives { Gives result reader.new.rows (written_at reader.old.rows) }
     ensures end { reader.new.end ≡ reader.old.end }

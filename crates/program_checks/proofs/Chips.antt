@@ -21,7 +21,7 @@ use Rattle.realised_copies.specs.Laws.{SameRealises}
 use Rattle.plan_texts.specs.declared.plan.Plan.{Plan}
 use Rattle.plan_fitting.specs.Pins.{PinSeen}
 use Rattle.plan_fitting.specs.Devices.{device_of}
-use Rattle.plan_devices.specs.Fitting.{HasWidths, IsFitting}
+use Rattle.plan_devices.specs.FittingPlan.{HasWidths, IsFitting}
 use Rattle.plan_devices.specs.Laws.{PlansSuitNetlists, DevicesHavePorts}
 use Rattle.program_scripts.specs.program_runs.Laws.{PlansStandAround}
 use Rattle.scan_vectors.specs.declared.lines.Lines.{Lines}

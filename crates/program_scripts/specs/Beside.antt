@@ -11,7 +11,7 @@ use Rattle.bsdl_device.specs.declared.values.DevPort.{DevPort}
 use Rattle.bsdl_device.specs.declared.values.Device.{Device}
 use Rattle.test_logic.specs.declared.TapInput.{TapInput}
 use Rattle.wrapped_chip.specs.Realises.{tap_place}
-use Rattle.plan_devices.specs.Fitting.{HasWidths}
+use Rattle.plan_devices.specs.FittingPlan.{HasWidths}
 use Rattle.scan_programs.specs.Met.{input_place}
 use Rattle.conformance_report.specs.Agreement.{IsSamePort}
 use Rattle.program_scripts.specs.Words.{ArePlain}

@@ -8,7 +8,7 @@ use Rattle.netlist_model.specs.Settled.{feed_values}
 use Rattle.netlist_model.specs.Formed.{IsWellFormed}
 use Rattle.netlist_model.specs.Runs.{Moment, PinEvent, IsRun}
 use Rattle.netlist_laws.specs.Settle.{SameFlops}
-use Rattle.netlist_images.specs.Renumbering.{IsRenumbering, renamed_event, seen_moment}
+use Rattle.netlist_images.specs.Renumbered.{IsRenumbering, renamed_event, seen_moment}
 use Rattle.bsdl_device.specs.declared.values.Device.{Device}
 use Rattle.wrapped_chip.specs.ChipRuns.{ChipMoment, ChipEvent, IsChipRun}
 use Rattle.wrapped_chip.specs.Realises.{SameOutside, tap_place, IsRunBeside, Realises, IsStretch, core_events, IsAlone}

@@ -2,7 +2,7 @@
 use Rattle.std.proofs.Common.{◌≡◌, inl, inr, ℕ, ◌+◌, length, sym, ap, ◌∙◌, subst}
 use Rattle.netlist_model.specs.Lists.{NetlistView, direction}
 use Rattle.netlist_model.specs.Settled.{follows_pin}
-use Rattle.netlist_images.specs.Renumbering.{IsRenumbering}
+use Rattle.netlist_images.specs.Renumbered.{IsRenumbering}
 use Rattle.netlist_images.specs.RenumberedLaws.{RenumberingTurns, RenumberedBits, RenumberedDirections, RenumberedPorts, SamePorts}
 use Rattle.wrapped_chip.specs.Realises.{SameBit, tap_place, IsTapNet}
 use Rattle.realised_copies.specs.Laws.{RenumberedControls}

@@ -8,7 +8,7 @@ use Rattle.netlist_model.specs.Lists.{CellView, NetlistView, cell_at}
 use Rattle.netlist_model.specs.Settled.{feed_values}
 use Rattle.netlist_model.specs.Formed.{IsWellFormed}
 use Rattle.netlist_model.specs.Runs.{Moment, PinEvent, IsRun}
-use Rattle.netlist_images.specs.Renumbering.{IsRenumbering, renamed_event, seen_moment}
+use Rattle.netlist_images.specs.Renumbered.{IsRenumbering, renamed_event, seen_moment}
 use Rattle.bsdl_device.specs.declared.values.Device.{Device}
 use Rattle.test_logic.specs.Machine.{Machine}
 use Rattle.wrapped_chip.specs.ChipRuns.{ChipMoment, ChipEvent}

@@ -6,7 +6,7 @@ use Rattle.netlist_model.specs.Lists.{PortView, NetlistView, bit_net, direction}
 use Rattle.netlist_model.specs.Formed.{IsWellFormed}
 use Rattle.netlist_model.specs.Runs.{Moment, PinEvent, reading_at}
 use Rattle.netlist_laws.specs.Ports.{BitHasDirection}
-use Rattle.netlist_images.specs.Renumbering.{IsRenumbering, renamed_event, seen_moment}
+use Rattle.netlist_images.specs.Renumbered.{IsRenumbering, renamed_event, seen_moment}
 use Rattle.netlist_images.specs.RenumberedLaws.{RenumberingTurns, RenumberedBits, RenumberedReads, RenumberedRuns, RunsHaveImages}
 use Rattle.signal_values.specs.declared.PinSig.{PinSig}
 use Rattle.wrapped_chip.specs.ChipRuns.{ChipEvent, at_pin, at_tap}

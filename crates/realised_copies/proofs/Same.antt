@@ -5,7 +5,7 @@ use Rattle.netlist_model.specs.declared.Feed.{Feed}
 use Rattle.netlist_model.specs.declared.Feed.TheVariants.{Net, Const}
 use Rattle.netlist_model.specs.Lists.{PortView, CellView, NetlistView, cell_at}
 use Rattle.netlist_images.specs.Nested.{renamed_net, renamed_feed, renamed_cell}
-use Rattle.netlist_images.specs.Renumbering.{ArePortImages, IsCopied, IsRenumbering}
+use Rattle.netlist_images.specs.Renumbered.{ArePortImages, IsCopied, IsRenumbering}
 use Rattle.realised_copies.specs.Laws.{RenumberedRealises, RenumberedAlone, RenumberedFindsHome, SameRealises, SameAlone, SameFindsHome}
 
 -- the same number

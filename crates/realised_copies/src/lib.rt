@@ -2,8 +2,10 @@
 // itself does (wrapped_chip). Laws only.
 // Own. For IEEE Std 1149.1-2001 see wrapped_chip.
 //
-// - So it goes to a netlist with the same ports and, by their numbers, the same live cells (`same_realises`,
-//   `same_is_alone`); and that it finds home goes both ways too (`renumbered_finds_home`, `same_finds_home`).
+// - With its nets and cells numbered anew, the numbers of the chip's cells apart, it owes what it owed (`renumbered_realises`,
+//   `renumbered_is_alone`, `renumbered_finds_home`), and has the control ports that it had (`renumbered_has_controls`).
+// - So does a netlist with the same ports and, by their numbers, the same live cells (`same_realises`, `same_is_alone`,
+//   `same_finds_home`).
 // By the contract of its law functions.
 #![tactic(auto)]
 

@@ -2,7 +2,7 @@
 use Rattle.std.proofs.Common.{◌≡◌, ◌≢◌, ℕ, ◌+◌, ◌≤◌, List, [], ◌∷◌, length, sym, subst, arith}
 use Rattle.netlist_model.specs.Lists.{NetlistView}
 use Rattle.netlist_arena.specs.Adds.{IsFree}
-use Rattle.boundary_cells.proofs.Adding.{feed_more}
+use Rattle.boundary_cells.proofs.AddedTables.{feed_more}
 use Rattle.plan_fitting.specs.declared.fitted.FitRow.{FitRow}
 use Rattle.scan_sides.specs.stitch_model.declared.Site.{Site}
 use Rattle.scan_sides.specs.stitch_model.declared.Site.TheVariants as site

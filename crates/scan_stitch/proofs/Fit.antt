@@ -35,7 +35,7 @@ use Rattle.plan_fitting.specs.Rows.{Driver, three_state, added_driver, output_dr
 use Rattle.plan_fitting.specs.Devices.{fitted_of, cell_row, disable_by, device_of}
 use Rattle.plan_fitting.proofs.Controls.{control_cells_are_there}
 use Rattle.plan_fitting.proofs.Drivers.{gate_is}
-use Rattle.stitch_ready.specs.plan_devices.Fitting.{IsFitting}
+use Rattle.stitch_ready.specs.plan_devices.FittingPlan.{IsFitting}
 use Rattle.stitch_ready.proofs.plan_devices.Lined.{IsLined}
 use Rattle.stitch_ready.proofs.plan_devices.Rows.{side_driver, data_function, data_core, Controlled, IsDataRow, IsControlRow}
 use Rattle.stitch_ready.proofs.plan_devices.RowPlaces.{net_of_line}
@@ -47,7 +47,7 @@ use Rattle.stitch_names.specs.Prepared.{room_of}
 use Rattle.stitch_ready.specs.Laws.{FittedCanStandBehind}
 use Rattle.stitch_ready.proofs.Rows.{all_at}
 use Rattle.scan_stitch.specs.Ready.{IsSmall}
-use Rattle.scan_stitch.specs.Stitching.{nets_around, IsRowFit, CanBeStitched}
+use Rattle.scan_stitch.specs.Stitched.{nets_around, IsRowFit, CanBeStitched}
 
 -- Operands of drivers.
 

@@ -8,7 +8,7 @@ use Rattle.netlist_model.specs.declared.NetId.{NetId}
 use Rattle.netlist_model.specs.Contained.{IsDense}
 use Rattle.netlist_model.specs.Lists.{PortView, NetView, CellView, NetlistView, cell_at, cell_count}
 use Rattle.netlist_arena.specs.Arena.{ArenaView, SpareView}
-use Rattle.netlist_arena.proofs.Walking.{slice_get-append_right}
+use Rattle.netlist_arena.proofs.Walks.{slice_get-append_right}
 use Rattle.gate_parts.specs.Parts.{added_nets}
 use Rattle.gate_parts.specs.Appended.{Appended}
 use Rattle.gate_parts.proofs.Steps.{length-added_nets, added_nets-add}
@@ -26,7 +26,7 @@ use Rattle.stitch_ready.specs.core_moves.Ready.{CanStandBehind, with_core_behind
 use Rattle.stitch_ready.proofs.core_moves.Behind.{mapped_at}
 use Rattle.scan_parts.specs.Ports.{with_ports}
 use Rattle.stitch_names.specs.Same.{IsSameNetlist}
-use Rattle.scan_stitch.specs.Stitching.{nets_around, surrounded, CanBeStitched}
+use Rattle.scan_stitch.specs.Stitched.{nets_around, surrounded, CanBeStitched}
 use Rattle.scan_stitch.proofs.Surrounded.{mapped_count}
 
 -- Nets behind nets.

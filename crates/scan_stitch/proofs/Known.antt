@@ -13,7 +13,7 @@ use Rattle.cell_order.specs.Tables.{RoomView, FitsRoom}
 use Rattle.draft_laws.specs.Grown.{IsOneOf, AddsCells, GrownIsFormed}
 use Rattle.netlist_link.specs.Linked.{LinkedView}
 use Rattle.netlist_link.specs.WellNamed.{IsWellNamed}
-use Rattle.netlist_link.proofs.Rewriting.{few_nets}
+use Rattle.netlist_link.proofs.Rewrites.{few_nets}
 use Rattle.plan_fitting.specs.declared.fitted.Fitted.{Fitted}
 use Rattle.plan_fitting.specs.Devices.{fitted_of}
 use Rattle.scan_parts.specs.stitch_model.declared.TapNames.{TapNames}
@@ -24,7 +24,7 @@ use Rattle.stitch_names.specs.Laws.{TapNamesAreEntered, StitchedIsNamed}
 use Rattle.stitch_ready.specs.Laws.{FittedCanStandBehind}
 use Rattle.stitch_runs.specs.FormedLaws.{StitchedIsFormed}
 use Rattle.scan_stitch.specs.Ready.{IsSmall}
-use Rattle.scan_stitch.specs.Stitching.{CanBeStitched, HasStitchRoom}
+use Rattle.scan_stitch.specs.Stitched.{CanBeStitched, HasStitchRoom}
 use Rattle.scan_stitch.specs.Stitch.{CanStitch}
 use Rattle.scan_stitch.proofs.Fit.{can_be_stitched}
 

@@ -21,7 +21,7 @@ use Rattle.scan_parts.specs.scan_sides.Pins.{between}
 use Rattle.scan_parts.specs.Ports.{with_ports, CanBePort}
 use Rattle.scan_parts.specs.Rows.{into_from, IsApart}
 use Rattle.scan_parts.specs.Whole.{net_room, cell_room, CanTakeLogic}
-use Rattle.scan_stitch.specs.Stitching.{surrounded, CanBeStitched}
+use Rattle.scan_stitch.specs.Stitched.{surrounded, CanBeStitched}
 use Rattle.scan_stitch.proofs.Surrounded.{no_port, lone_free, length_around, mapped_count, can_take, port_apart}
 
 pub same_boundary : (N M : NetlistView) (rows rows' : List FitRow) (first : NetId) → M.ports ≡ N.ports → rows' ≡ rows → first.0 ≡ length N.nets + 5 → between M.ports rows' first ≡ boundary_of N rows

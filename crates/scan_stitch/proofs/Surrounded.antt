@@ -40,7 +40,7 @@ use Rattle.stitch_ready.specs.core_moves.Ready.{IsDrivenAt, IsControlAt, HasCont
 use Rattle.stitch_ready.proofs.core_moves.Behind.{mapped_at}
 use Rattle.scan_parts.specs.Rows.{into_from, IsApart, IsReady}
 use Rattle.scan_parts.specs.Whole.{net_room, cell_room, CanTakeLogic}
-use Rattle.scan_stitch.specs.Stitching.{nets_around, surrounded, IsRowFit, CanBeStitched}
+use Rattle.scan_stitch.specs.Stitched.{nets_around, surrounded, IsRowFit, CanBeStitched}
 use Rattle.scan_parts.proofs.IntoNets.{EachFits, before_rows, core_apart, into_apart, into_free}
 use Rattle.scan_parts.proofs.Outputs.{net_number}
 

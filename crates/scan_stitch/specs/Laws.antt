@@ -8,12 +8,12 @@ use Rattle.plan_texts.specs.declared.plan.Plan.{Plan}
 use Rattle.plan_fitting.specs.declared.fitted.Fitted.{Fitted}
 use Rattle.plan_fitting.specs.Pins.{PinSeen}
 use Rattle.plan_fitting.specs.Devices.{IsFitted, fitted_of}
-use Rattle.stitch_ready.specs.plan_devices.Fitting.{IsFitting}
+use Rattle.stitch_ready.specs.plan_devices.FittingPlan.{IsFitting}
 use Rattle.scan_parts.specs.stitch_model.declared.TapNames.{TapNames}
 use Rattle.stitch_names.specs.Prepared.{room_of}
 use Rattle.scan_parts.specs.scan_sides.Pins.{ArePinsThere}
 use Rattle.scan_stitch.specs.Ready.{AreBitsInRange, IsSmall}
-use Rattle.scan_stitch.specs.Stitching.{CanBeStitched}
+use Rattle.scan_stitch.specs.Stitched.{CanBeStitched}
 
 -- each row's bit is one of its port, and of the netlist's ports
 abbrev pub FittedBitsAreThere : Type 0

@@ -7,7 +7,7 @@ use Rattle.netlist_link.specs.Linked.{LinkedView, IsLinked}
 use Rattle.plan_texts.specs.declared.plan.Plan.{Plan}
 use Rattle.plan_fitting.specs.declared.fitted.Fitted.{Fitted}
 use Rattle.plan_fitting.specs.Devices.{IsFitted}
-use Rattle.stitch_ready.specs.plan_devices.Fitting.{IsFitting}
+use Rattle.stitch_ready.specs.plan_devices.FittingPlan.{IsFitting}
 use Rattle.scan_parts.specs.stitch_model.declared.TapNames.{TapNames}
 use Rattle.scan_parts.specs.stitch_model.Stitched.{stitched}
 use Rattle.stitch_names.specs.Prepared.{room_of, ports_of, prepared, AreTapNames}

@@ -6,7 +6,7 @@ ghost use Rattle.scan_parts.specs.stitch_model.Sites as sites;
 ghost use Rattle.scan_parts.specs.stitch_model.Stitched.{tap_port, stitched};
 ghost use Rattle.stitch_names.specs.Prepared.{room_of};
 ghost use Rattle.stitch_names.specs.Same.{IsSameNetlist};
-ghost use Rattle.scan_stitch.specs.Stitching.{surrounded, CanBeStitched, HasStitchRoom};
+ghost use Rattle.scan_stitch.specs.Stitched.{surrounded, CanBeStitched, HasStitchRoom};
 
 use gate_parts::appended_count;
 use netlist_arena::Netlist;

@@ -10,7 +10,7 @@ use Rattle.line_texts.proofs.Rows.{IsNumberedRow}
 use Rattle.scan_vectors.specs.declared.lines.Line.{Line}
 use Rattle.scan_vectors.specs.declared.lines.Lines.{Lines}
 use Rattle.scan_vectors.specs.Grammar.{Written, written_words, header_words, act_word, act_of, pin_of, SpellsLines}
-use Rattle.scan_vectors.specs.Reading.{IsBehind, IsReading}
+use Rattle.scan_vectors.specs.Reader.{IsBehind, IsReading}
 use Rattle.scan_vectors.specs.Canonical.{IsLines}
 use Rattle.scan_vectors.proofs.Steps.{lines_count}
 

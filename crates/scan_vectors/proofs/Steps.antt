@@ -16,7 +16,7 @@ use Rattle.scan_vectors.specs.Grammar.{Written, written_words, HasLetter, header
 use Rattle.first_faults.specs.First.{or_else, first_in}
 use Rattle.line_texts.proofs.Written.{kept_from-kept}
 use Rattle.scan_vectors.specs.Faults.{line_fault, fault_in, first_fault, event_of, is_header, IsFault}
-use Rattle.scan_vectors.specs.Reading.{IsBefore, IsBehind, IsReading, HasRead, AddsLine, CannotAdd}
+use Rattle.scan_vectors.specs.Reader.{IsBefore, IsBehind, IsReading, HasRead, AddsLine, CannotAdd}
 use Rattle.scan_vectors.proofs.Events.{header_is, event_has_words, HasWords}
 
 pub header_read : (bytes : List ℕ) (lines : Lines) (n : ℕ) (line : List ℕ) (rest : List (List ℕ)) → is_kept (words_of line) ≡ true → is_header (words_of line) ≡ true

@@ -1,6 +1,6 @@
 pub mod Grammar
 pub mod Faults
 pub mod Forms
-pub mod Reading
+pub mod Reader
 pub mod Canonical
 pub mod Exactly

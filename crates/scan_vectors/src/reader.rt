@@ -33,7 +33,7 @@ fn line_of(act: Act, pin: Text, value: PinSig) -> Line
 
 impl Reader {
     ghost use Rattle.std.specs.Prelude.{ℕ, List, ◌∷◌, [], true, false, IfErr, OnOk};
-    ghost use Rattle.scan_vectors.specs.Reading.{IsBefore, IsBehind, IsReading, HasRead, AddsLine, CannotAdd};
+    ghost use Rattle.scan_vectors.specs.Reader.{IsBefore, IsBehind, IsReading, HasRead, AddsLine, CannotAdd};
 
     /// Before the first line.
     pub fn new(alloc: Global) -> Reader

@@ -5,7 +5,7 @@ use Rattle.command_faults.specs.declared.fault.Fault.TheVariants as fault
 use Rattle.command_faults.specs.declared.status.Status.{Status}
 use Rattle.command_faults.specs.Statuses.{status_of}
 use Rattle.verilog_tree.specs.declared.tree.Module.{Module}
-use Rattle.verilog_texts.specs.Reading.{IsReadAs}
+use Rattle.verilog_texts.specs.TextOutcome.{IsReadAs}
 use Rattle.cell_library.specs.declared.listed.ListedCell.{ListedCell}
 use Rattle.link_model.specs.Late.{IsLinkable}
 use Rattle.netlist_link.specs.Linked.{LinkedView}

@@ -1,7 +1,7 @@
 // From texts that were read to the text that is put.
 ghost use Rattle.std.specs.Prelude.{◌≡◌, ◌≤◌, ℕ, List, ◌∷◌, length, IfOk, IfErr};
 ghost use Rattle.verilog_tree.specs.declared.tree.Module.{Module};
-ghost use Rattle.verilog_texts.specs.Reading.{IsReadAs};
+ghost use Rattle.verilog_texts.specs.TextOutcome.{IsReadAs};
 ghost use Rattle.netlist_link.specs.Links.{IsLinkOf};
 ghost use Rattle.command_edges.specs.Ends.{IsEnd, run_status};
 ghost use Rattle.command_edges.specs.Libraries.{IsLibraryOf};

@@ -27,7 +27,7 @@ use Rattle.event_scripts.specs.declared.script.ScriptLine.{ScriptLine}
 use Rattle.event_scripts.specs.Scripts.{IsPlayable, IsStartAt}
 use Rattle.netlist_meaning.specs.Pins.{PinsView, ArePinsOf, AreFirstPins, IsDrivenPin, SetsPin, net_of, outside}
 use Rattle.sim_runs.specs.Runs.{net_number, event_of, events_at, events_of, HasStarts, IsRunOf}
-use Rattle.sim_runs.specs.Playing.{AreKnown, CanPlay, CanStart, HaveStarts, IsFirst, TakesStart, line_event}
+use Rattle.sim_runs.specs.PlayedScript.{AreKnown, CanPlay, CanStart, HaveStarts, IsFirst, TakesStart, line_event}
 
 -- each line can be played
 pub can_play : (N : NetlistView) (script : List ScriptLine) (place : ℕ) (line : ScriptLine) → IsPlayable N script → slice_get script place ≡ Some line → CanPlay line.act N line

@@ -20,7 +20,7 @@ use Rattle.netlist_meaning.specs.Events.{IsEventStep}
 use Rattle.output_lines.proofs.Pieces.{appended-twice, appended-front}
 use Rattle.sim_runs.specs.Runs.{net_number, event_of, events_at, events_of, IsRunOf}
 use Rattle.sim_runs.specs.Outputs.{first_readings, line_text, line_misses, lines_text, misses, sets_with, done_line, run_text}
-use Rattle.sim_runs.specs.Playing.{Moves, line_event}
+use Rattle.sim_runs.specs.PlayedScript.{Moves, line_event}
 use Rattle.sim_runs.proofs.Lists.{at_left, less_left, left_none}
 use Rattle.sim_runs.proofs.Texts.{IsFront, first_same, line_same, misses_same, front_one, front_two}
 

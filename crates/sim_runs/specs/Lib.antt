@@ -2,4 +2,4 @@ pub mod Shown
 pub mod Runs
 pub mod Outputs
 pub mod Bits
-pub mod Playing
+pub mod PlayedScript

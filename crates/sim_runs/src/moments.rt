@@ -5,7 +5,7 @@ ghost use Rattle.netlist_model.specs.Formed.{IsWellFormed};
 ghost use Rattle.event_scripts.specs.Scripts.{IsPlayable};
 ghost use Rattle.netlist_meaning.specs.Pins.{ArePinsOf, outside};
 ghost use Rattle.netlist_meaning.specs.Sims.{moment_of};
-ghost use Rattle.sim_runs.specs.Playing.{AreKnown, CanStart, HaveStarts, IsFirst, TakesStart};
+ghost use Rattle.sim_runs.specs.PlayedScript.{AreKnown, CanStart, HaveStarts, IsFirst, TakesStart};
 
 use edge_io::OutOfMemory;
 use event_scripts::ScriptLine;

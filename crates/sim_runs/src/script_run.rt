@@ -13,7 +13,7 @@ ghost use Rattle.netlist_meaning.specs.Pins.{net_of};
 ghost use Rattle.netlist_meaning.specs.Sims.{moment_of};
 ghost use Rattle.sim_runs.specs.Bits.{AreBits, told_at, told_of, untold};
 ghost use Rattle.sim_runs.specs.Outputs.{IsOutput, expect_misses, expect_text, line_misses, line_text, mark_text, misses, run_text, set_text, sets_with};
-ghost use Rattle.sim_runs.specs.Playing.{CanPlay, Moves, line_event};
+ghost use Rattle.sim_runs.specs.PlayedScript.{CanPlay, Moves, line_event};
 ghost use Rattle.sim_runs.specs.Runs.{IsRunOf, net_number};
 
 use crate::fault::PlayFault;

@@ -14,7 +14,7 @@ use Rattle.status_texts.specs.declared.plan.StatusPlan.{StatusPlan}
 use Rattle.status_texts.specs.Grammar.{RegisterWords, first_words, register_words, status_rows, IsRegister, AreRegisters, register_of, plan_of, SpellsStatus}
 use Rattle.status_texts.specs.Faults.{end_of, Begun, IsLineFault, HasFault, in_line, HasNoFault}
 use Rattle.status_texts.specs.Lines.{is_first, register_line}
-use Rattle.status_texts.specs.Reading.{Rows, Read, few_at, plan_at, status_at, Gives}
+use Rattle.status_texts.specs.Reader.{Rows, Read, few_at, plan_at, status_at, Gives}
 use Rattle.status_texts.proofs.Words.{Words, first_seen, register_sees}
 use Rattle.status_texts.proofs.Few.{Lines, words, Split, few_split, few_reads}
 

@@ -6,7 +6,7 @@ use Rattle.status_texts.specs.declared.plan.StatusPlan.{StatusPlan}
 use Rattle.status_texts.specs.declared.plan.StatusRow.{StatusRow}
 use Rattle.status_texts.specs.Grammar.{RegisterWords, register_words, IsRegister, register_of}
 use Rattle.status_texts.specs.Lines.{is_first, register_line}
-use Rattle.status_texts.specs.Reading.{Rows, front, rest_if, put_first, few_at, put_before, plan_at, status_at}
+use Rattle.status_texts.specs.Reader.{Rows, front, rest_if, put_first, few_at, put_before, plan_at, status_at}
 use Rattle.status_texts.proofs.Words.{Words, register_seen, register_sees}
 
 -- lines by their words

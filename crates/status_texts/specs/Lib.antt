@@ -2,4 +2,4 @@ pub mod Grammar
 pub mod Faults
 pub mod Exactly
 pub mod Lines
-pub mod Reading
+pub mod Reader

@@ -3,7 +3,7 @@ ghost use Rattle.std.specs.Prelude.{◌≡◌, IfOk, IfErr};
 ghost use Rattle.line_texts.specs.Words.{kept_lines};
 ghost use Rattle.status_texts.specs.Faults.{HasNoFault, IsFault};
 ghost use Rattle.status_texts.specs.Grammar.{SpellsStatus};
-ghost use Rattle.status_texts.specs.Reading.{Gives, front, rest_if, few_at, plan_at, status_at};
+ghost use Rattle.status_texts.specs.Reader.{Gives, front, rest_if, few_at, plan_at, status_at};
 
 use crate::fault::{LineFault, StatusFault};
 use crate::lines::{is_first, register_line};

@@ -17,7 +17,7 @@ use Rattle.stitch_rows.specs.plan_fitting.declared.fitted.FitRow.{FitRow}
 use Rattle.stitch_rows.specs.plan_fitting.declared.fitted.Fitted.{Fitted}
 use Rattle.stitch_rows.specs.plan_fitting.Devices.{fitted_of}
 use Rattle.stitch_rows.specs.plan_fitting.Pins.{PinSeen}
-use Rattle.stitch_rows.specs.plan_devices.Fitting.{IsFitting}
+use Rattle.stitch_rows.specs.plan_devices.FittingPlan.{IsFitting}
 use Rattle.stitch_rows.specs.stitch_model.Sites.{row_net, site_of}
 use Rattle.stitch_rows.specs.stitch_model.Sides.{is_moved, moves, core_side}
 use Rattle.stitch_rows.specs.stitch_model.Stitched.{boundary_at}

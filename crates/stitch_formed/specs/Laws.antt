@@ -11,7 +11,7 @@ use Rattle.stitch_rows.specs.netlist_link.Linked.{LinkedView}
 use Rattle.plan_texts.specs.declared.plan.Plan.{Plan}
 use Rattle.stitch_rows.specs.plan_fitting.Devices.{fitted_of}
 use Rattle.stitch_rows.specs.plan_fitting.Pins.{PinSeen}
-use Rattle.stitch_rows.specs.plan_devices.Fitting.{IsFitting}
+use Rattle.stitch_rows.specs.plan_devices.FittingPlan.{IsFitting}
 use Rattle.stitch_rows.specs.stitch_model.declared.TapNames.{TapNames}
 use Rattle.stitch_rows.specs.stitch_model.Logic.{logic_size}
 use Rattle.stitch_rows.specs.stitch_model.Stitched.{first_net, stitched}

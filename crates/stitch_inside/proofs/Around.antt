@@ -18,7 +18,7 @@ use Rattle.plan_devices.specs.plan_fitting.declared.fitted.FitRow.{FitRow}
 use Rattle.plan_devices.specs.plan_fitting.Pins.{PinSeen}
 use Rattle.plan_devices.specs.plan_fitting.Rows.{rows}
 use Rattle.plan_devices.specs.plan_fitting.Devices.{fitted_of, dev_bit, disable_value, disable_by, cell_row, device_of}
-use Rattle.plan_devices.specs.Fitting.{IsFitting}
+use Rattle.plan_devices.specs.FittingPlan.{IsFitting}
 use Rattle.stitch_laws.specs.stitch_model.declared.Site.{Site}
 use Rattle.stitch_laws.specs.stitch_model.declared.Site.TheVariants as site
 use Rattle.stitch_laws.specs.stitch_model.Sites.{Boundary, row_net, site_of}

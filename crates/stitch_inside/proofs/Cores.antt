@@ -31,7 +31,7 @@ use Rattle.plan_devices.specs.plan_fitting.Pins.{PinSeen}
 use Rattle.plan_devices.specs.plan_fitting.Rows.{rows}
 use Rattle.plan_devices.specs.plan_fitting.Devices.{fitted_of, disable_by, cell_row, device_of}
 use Rattle.plan_devices.specs.plan_fitting.Laws.{ControlCellsAreThere}
-use Rattle.plan_devices.specs.Fitting.{IsFitting}
+use Rattle.plan_devices.specs.FittingPlan.{IsFitting}
 use Rattle.plan_devices.specs.Laws.{fed, RowsTakeTheCore, ControlsTakeTheCore, ControlsFollowTheirRows, RowsStandAtBits, BitsHaveRows}
 use Rattle.plan_devices.proofs.DeviceRows.{mapped_at}
 use Rattle.stitch_laws.specs.stitch_model.declared.Site.TheVariants as site

@@ -25,7 +25,7 @@ use Rattle.plan_devices.specs.plan_fitting.declared.fitted.Fitted.{Fitted}
 use Rattle.plan_devices.specs.plan_fitting.Pins.{PinSeen}
 use Rattle.plan_devices.specs.plan_fitting.Laws.{ControlCellsAreThere}
 use Rattle.plan_devices.specs.plan_fitting.Devices.{fitted_of}
-use Rattle.plan_devices.specs.Fitting.{IsFitting}
+use Rattle.plan_devices.specs.FittingPlan.{IsFitting}
 use Rattle.stitch_laws.specs.stitch_model.declared.TapNames.{TapNames}
 use Rattle.stitch_laws.specs.stitch_model.Sites.{Boundary, row_net, site_of}
 use Rattle.stitch_laws.specs.stitch_model.Sides.{side_from, core_side, is_driven, feeds_behind}

@@ -44,7 +44,7 @@ use Rattle.plan_devices.specs.plan_fitting.Pins.{PinSeen}
 use Rattle.plan_devices.specs.plan_fitting.Rows.{rows}
 use Rattle.plan_devices.specs.plan_fitting.Laws.{CodesAreTheDevices, OpcodesKeepTheRules}
 use Rattle.plan_devices.specs.plan_fitting.Devices.{codes_of, fitted_of, cell_row, device_of}
-use Rattle.plan_devices.specs.Fitting.{IsFitting}
+use Rattle.plan_devices.specs.FittingPlan.{IsFitting}
 use Rattle.plan_devices.specs.Laws.{PlansSuitNetlists}
 use Rattle.plan_devices.proofs.DeviceRows.{mapped_at}
 use Rattle.plan_devices.proofs.Facts.{facts_of}

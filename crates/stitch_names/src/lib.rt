@@ -9,7 +9,7 @@
 //   (`same_is_named`).
 // - None of its original names begins with the plan's prefix (`stitched_has_free_prefix`).
 // - The cells and nets that are added are no more than `room` says (`stitched_fits_room`).
-// By the contract of four law functions.
+// By the contract of its law functions.
 #![tactic(auto)]
 
 ghost use Rattle.stitch_names.specs.Laws.{StitchedHasFreePrefix, StitchedIsNamed, TapNamesAreEntered};

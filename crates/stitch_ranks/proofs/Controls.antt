@@ -22,7 +22,7 @@ use Rattle.plan_devices.specs.plan_fitting.declared.fitted.Fitted.{Fitted}
 use Rattle.plan_devices.specs.plan_fitting.Pins.{PinSeen}
 use Rattle.plan_devices.specs.plan_fitting.Devices.{fitted_of}
 use Rattle.plan_devices.specs.plan_fitting.Laws.{ControlCellsAreThere}
-use Rattle.plan_devices.specs.Fitting.{IsFitting}
+use Rattle.plan_devices.specs.FittingPlan.{IsFitting}
 use Rattle.plan_devices.specs.Laws.{PlansSuitNetlists, RowsStandAtBits, RowsTakeTheCore}
 use Rattle.stitch_cells.specs.stitch_model.declared.TapNames.{TapNames}
 use Rattle.stitch_cells.specs.stitch_model.declared.Site.{Site}

@@ -33,7 +33,7 @@ use Rattle.plan_devices.specs.plan_fitting.Pins.{PinSeen}
 use Rattle.plan_devices.specs.plan_fitting.Rows.{Driver, three_state, added_driver, same_bool, same_feed, rows, has_highz}
 use Rattle.plan_devices.specs.plan_fitting.Devices.{fitted_of, disable_by, cell_row, device_of}
 use Rattle.plan_devices.specs.plan_fitting.Laws.{ControlCellsAreThere}
-use Rattle.plan_devices.specs.Fitting.{IsFitting}
+use Rattle.plan_devices.specs.FittingPlan.{IsFitting}
 use Rattle.plan_devices.proofs.Rows.{side_driver, data_function, data_core, Controlled, IsDataRow}
 use Rattle.plan_devices.proofs.Lined.{IsLined}
 use Rattle.plan_devices.proofs.Drivers.{seen_direction, makes_rows}

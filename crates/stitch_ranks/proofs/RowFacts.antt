@@ -25,7 +25,7 @@ use Rattle.plan_devices.specs.plan_fitting.declared.fitted.FitRow.{FitRow}
 use Rattle.plan_devices.specs.plan_fitting.Pins.{PinSeen}
 use Rattle.plan_devices.specs.plan_fitting.Rows.{rows}
 use Rattle.plan_devices.specs.plan_fitting.Devices.{fitted_of, cell_row, device_of}
-use Rattle.plan_devices.specs.Fitting.{IsFitting}
+use Rattle.plan_devices.specs.FittingPlan.{IsFitting}
 use Rattle.plan_devices.specs.Laws.{fed, PlansSuitNetlists, RowsStandAtBits, RowsTakeTheCore}
 use Rattle.stitch_cells.specs.stitch_model.declared.Site.TheVariants as site
 use Rattle.stitch_cells.specs.stitch_model.Sites.{pin_net, row_net, is_own_net, input_site, output_site, site_by, site_of}

@@ -14,7 +14,7 @@ use Rattle.plan_texts.specs.declared.plan.Plan.{Plan}
 use Rattle.plan_fitting.specs.declared.fitted.FitRow.{FitRow}
 use Rattle.plan_fitting.specs.Pins.{PinSeen}
 use Rattle.plan_fitting.specs.Rows.{rows, has_highz}
-use Rattle.plan_devices.specs.Fitting.{IsFitting}
+use Rattle.plan_devices.specs.FittingPlan.{IsFitting}
 use Rattle.plan_devices.proofs.Lists.{all_from_places, none_there}
 use Rattle.plan_devices.proofs.Lined.{IsLined}
 use Rattle.plan_devices.proofs.Rows.{IsDataRow, side_driver, data_function}

@@ -23,7 +23,7 @@ use Rattle.plan_fitting.specs.Pins.{PinSeen}
 use Rattle.plan_fitting.specs.Rows.{rows, has_highz}
 use Rattle.plan_fitting.specs.Devices.{fitted_of, cell_row, disable_by, device_of}
 use Rattle.plan_fitting.proofs.Controls.{control_cells_are_there, control_is}
-use Rattle.plan_devices.specs.Fitting.{IsFitting}
+use Rattle.plan_devices.specs.FittingPlan.{IsFitting}
 use Rattle.plan_devices.proofs.Lined.{IsLined}
 use Rattle.plan_devices.proofs.Rows.{IsDataRow}
 use Rattle.plan_devices.proofs.RowPlaces.{rows_stand_at_bits, net_of_line}

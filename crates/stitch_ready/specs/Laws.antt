@@ -8,7 +8,7 @@ use Rattle.netlist_link.specs.Linked.{LinkedView}
 use Rattle.plan_texts.specs.declared.plan.Plan.{Plan}
 use Rattle.plan_fitting.specs.Pins.{PinSeen}
 use Rattle.plan_fitting.specs.Rows.{rows}
-use Rattle.plan_devices.specs.Fitting.{IsFitting}
+use Rattle.plan_devices.specs.FittingPlan.{IsFitting}
 use Rattle.core_moves.specs.stitch_model.Sites.{sides_of}
 use Rattle.core_moves.specs.stitch_model.Stitched.{with_nets}
 use Rattle.core_moves.specs.scan_sides.Pins.{AreFew}

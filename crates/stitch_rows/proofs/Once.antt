@@ -13,7 +13,7 @@ use Rattle.plan_devices.specs.plan_fitting.declared.fitted.FitRow.{FitRow}
 use Rattle.plan_devices.specs.plan_fitting.Pins.{PinSeen}
 use Rattle.plan_devices.specs.plan_fitting.Rows.{rows}
 use Rattle.plan_devices.specs.plan_fitting.Devices.{fitted_of, cell_row, device_of}
-use Rattle.plan_devices.specs.Fitting.{IsFitting}
+use Rattle.plan_devices.specs.FittingPlan.{IsFitting}
 use Rattle.plan_devices.specs.Laws.{RowsStandAtBits, BitsHaveRows}
 use Rattle.stitch_model.specs.Sites.{pin_net, row_net}
 use Rattle.stitch_rows.specs.Rows.{RowsStandOnce, NetsHaveRows}

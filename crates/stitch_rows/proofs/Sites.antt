@@ -28,7 +28,7 @@ use Rattle.plan_devices.specs.plan_fitting.Rows.{Driver, gate_driver, three_stat
 use Rattle.plan_devices.specs.plan_fitting.Devices.{fitted_of}
 use Rattle.plan_devices.proofs.plan_fitting.Drivers.{not_three, same_bool_is, gate_is}
 use Rattle.plan_devices.proofs.plan_fitting.Controls.{control_is}
-use Rattle.plan_devices.specs.Fitting.{IsFitting}
+use Rattle.plan_devices.specs.FittingPlan.{IsFitting}
 use Rattle.plan_devices.proofs.Rows.{side_driver, data_function, data_core, Controlled, IsDataRow, IsControlRow}
 use Rattle.plan_devices.proofs.Drivers.{seen_direction, gate_has_driver}
 use Rattle.plan_devices.proofs.Lined.{IsLined}

@@ -14,7 +14,7 @@ use Rattle.plan_devices.specs.plan_fitting.declared.fitted.FitRow.{FitRow}
 use Rattle.plan_devices.specs.plan_fitting.declared.fitted.Fitted.{Fitted}
 use Rattle.plan_devices.specs.plan_fitting.Pins.{PinSeen}
 use Rattle.plan_devices.specs.plan_fitting.Devices.{fitted_of}
-use Rattle.plan_devices.specs.Fitting.{IsFitting}
+use Rattle.plan_devices.specs.FittingPlan.{IsFitting}
 use Rattle.stitch_model.specs.declared.Site.TheVariants as site
 use Rattle.stitch_model.specs.Sites.{row_net, site_of}
 

@@ -10,7 +10,7 @@ use Rattle.plan_texts.specs.declared.plan.Plan.{Plan}
 use Rattle.stitch_inside.specs.plan_fitting.declared.fitted.Fitted.{Fitted}
 use Rattle.stitch_inside.specs.plan_fitting.Pins.{PinSeen}
 use Rattle.stitch_inside.specs.plan_fitting.Devices.{fitted_of}
-use Rattle.stitch_inside.specs.plan_devices.Fitting.{IsFitting}
+use Rattle.stitch_inside.specs.plan_devices.FittingPlan.{IsFitting}
 use Rattle.stitch_inside.specs.instruction_register.Register.{instruction_size}
 use Rattle.stitch_inside.specs.stitch_model.declared.TapNames.{TapNames}
 use Rattle.stitch_inside.specs.stitch_model.Logic.{logic_size, code_size}

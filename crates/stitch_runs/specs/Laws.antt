@@ -12,7 +12,7 @@ use Rattle.wrapped_chip.specs.Home.{FindsHome}
 use Rattle.plan_texts.specs.declared.plan.Plan.{Plan}
 use Rattle.stitch_inside.specs.plan_fitting.Pins.{PinSeen}
 use Rattle.stitch_inside.specs.plan_fitting.Devices.{fitted_of, device_of}
-use Rattle.stitch_inside.specs.plan_devices.Fitting.{IsFitting}
+use Rattle.stitch_inside.specs.plan_devices.FittingPlan.{IsFitting}
 use Rattle.stitch_inside.specs.stitch_model.declared.TapNames.{TapNames}
 use Rattle.stitch_inside.specs.stitch_model.Stitched.{stitched}
 

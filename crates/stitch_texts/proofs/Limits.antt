@@ -7,7 +7,7 @@ use Rattle.netlist_model.specs.Lists.{PortView, NetView, NetlistView, cell_count
 use Rattle.netlist_arena.specs.Arena.{bit_count}
 use Rattle.link_model.specs.Faults.{too_many}
 use Rattle.netlist_link.specs.Linked.{LinkedView}
-use Rattle.netlist_link.proofs.Rewriting.{few_cells, few_nets}
+use Rattle.netlist_link.proofs.Rewrites.{few_cells, few_nets}
 use Rattle.netlist_unlink.specs.Renumbered.{port_numbers, passed_limit}
 use Rattle.plan_fitting.specs.declared.fitted.Fitted.{Fitted}
 use Rattle.stitch_names.specs.stitch_model.declared.TapNames.{TapNames}

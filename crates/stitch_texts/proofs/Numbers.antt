@@ -3,7 +3,7 @@ use Rattle.std.proofs.Common.{ℕ, List, sym, ◌∙◌, subst, Option}
 use Rattle.std.specs.Prelude.{IsSome}
 use Rattle.netlist_model.specs.Lists.{PortView, CellView, NetlistView}
 use Rattle.netlist_images.specs.Nested.{IsNested}
-use Rattle.netlist_images.specs.Renumbering.{ArePortImages, IsRenumbering}
+use Rattle.netlist_images.specs.Renumbered.{ArePortImages, IsRenumbering}
 use Rattle.written_images.specs.Laws.{new_number, new_place, WrittenIsRenumbered, DenseKeepsPlaces}
 use Rattle.stitch_names.specs.stitch_cells.Sizes.{StitchedHasCounts}
 use Rattle.stitch_names.specs.stitch_model.Stitched.{stitched}

@@ -6,7 +6,7 @@ use Rattle.verilog_tree.specs.Canonical.{canonical}
 use Rattle.verilog_tree.specs.Texts.{SpellsText}
 use Rattle.netlist_model.specs.declared.Name.{Name}
 use Rattle.netlist_model.specs.Lists.{NetlistView, cell_at}
-use Rattle.netlist_images.specs.Renumbering.{IsRenumbering}
+use Rattle.netlist_images.specs.Renumbered.{IsRenumbering}
 use Rattle.netlist_arena.specs.Arena.{bit_count}
 use Rattle.netlist_arena.specs.Room.{too_many}
 use Rattle.link_model.specs.Denoted.{name_bytes}

@@ -1,6 +1,6 @@
 -- What is known of `strip` from its parts.
 use Rattle.std.proofs.Common.{◌≡◌, ℕ, List, [], ◌∷◌, refl, sym, subst}
-use Rattle.verilog_texts.specs.Reading.{IsReadAs}
+use Rattle.verilog_texts.specs.TextOutcome.{IsReadAs}
 use Rattle.verilog_tree.specs.declared.tree.Module.{Module}
 use Rattle.verilog_tree.specs.Canonical.{canonical}
 use Rattle.cell_library.specs.declared.listed.ListedCell.{ListedCell}
@@ -11,7 +11,7 @@ use Rattle.netlist_unlink.specs.Prefixes.{IsFreePrefix}
 use Rattle.netlist_unlink.specs.Trees.{tree_of}
 use Rattle.bsdl_device.specs.declared.fault.DeviceTextFault.{DeviceTextFault}
 use Rattle.bsdl_device.specs.declared.values.Device.{Device}
-use Rattle.bsdl_values.specs.Reading.{IsDeviceReadAs}
+use Rattle.bsdl_values.specs.TextOutcome.{IsDeviceReadAs}
 use Rattle.bsdl_values.specs.TextFaults.{IsDeviceTextFault}
 use Rattle.plan_texts.specs.declared.plan.Plan.{Plan}
 use Rattle.plan_texts.specs.Canonical.{canonical_plan}

@@ -1,9 +1,9 @@
 // From texts that were read to texts to be written.
 ghost use Rattle.std.specs.Prelude.{ℕ, List, IfErr, IfOk, OnOk};
 ghost use Rattle.verilog_tree.specs.IsTree.{IsTree};
-ghost use Rattle.verilog_texts.specs.Reading.{IsReadAs};
+ghost use Rattle.verilog_texts.specs.TextOutcome.{IsReadAs};
 ghost use Rattle.link_model.specs.Late.{IsLinkable};
-ghost use Rattle.bsdl_values.specs.Reading.{IsDeviceReadAs};
+ghost use Rattle.bsdl_values.specs.TextOutcome.{IsDeviceReadAs};
 ghost use Rattle.strip_command.specs.Faults.{StandsInBoth, StandsInInputs, StandsInTree};
 ghost use Rattle.strip_command.specs.Tasks.{IsStrippedTexts};
 

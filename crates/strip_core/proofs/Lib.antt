@@ -1,4 +1,4 @@
-pub mod Finding
+pub mod FoundPairs
 pub mod Undone
 pub mod LiveRows
 pub mod Stands

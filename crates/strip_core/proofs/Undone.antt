@@ -14,7 +14,7 @@ use Rattle.stitch_model.specs.Sites.{Boundary, site_of, row_sides, sides_of, sid
 use Rattle.stitch_model.specs.Sides.{is_driven, drives, level_net, driver_feeds, feeds_from, feeds_behind, core_side, core_cell, core_feed}
 use Rattle.stitch_model.proofs.Moves.{sides_cons, fed_here, fed_on}
 use Rattle.strip_core.specs.Pairs.{pair, pair_at, pairs_from, pairs_of, find_pair, once, twice, IsUndone, IsFeedUnder, CanBeUndone}
-use Rattle.strip_core.proofs.Finding.{find_here, find_past, find_below, moved_found}
+use Rattle.strip_core.proofs.FoundPairs.{find_here, find_past, find_below, moved_found}
 
 -- Operands.
 

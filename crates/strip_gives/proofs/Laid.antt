@@ -19,7 +19,7 @@ use Rattle.link_model.specs.Faults.{cells_in, driver_fault, text_fault}
 use Rattle.link_model.specs.Fits.{CellsBelow, IsCellBelow}
 use Rattle.link_names.proofs.Modules.{cells_fit}
 use Rattle.link_names.proofs.NetCounts.{length-nets_in}
-use Rattle.strip_gives.proofs.Fitting.{cell-fits, feed-fits, output-fits}
+use Rattle.strip_gives.proofs.Fits.{cell-fits, feed-fits, output-fits}
 use Rattle.link_arena.proofs.Parts.{are_below, port-bits-few}
 use Rattle.netlist_link.specs.Linked.{LinkedView}
 use Rattle.netlist_link.specs.Links.{IsLinkOf}

@@ -1,4 +1,4 @@
-pub mod Fitting
+pub mod Fits
 pub mod Same
 pub mod Views
 pub mod Laid

@@ -3,7 +3,7 @@ use Rattle.std.proofs.Common.{◌≡◌, List, sym, ◌∙◌, ap, subst, Option
 use Rattle.verilog_tree.specs.declared.tree.Module.{Module}
 use Rattle.cell_library.specs.declared.listed.ListedCell.{ListedCell}
 use Rattle.netlist_link.specs.ViewLaws.{LinkViewIsFormed, LinkViewIsNamed}
-use Rattle.netlist_link.proofs.Rewriting.{few_nets}
+use Rattle.netlist_link.proofs.Rewrites.{few_nets}
 use Rattle.netlist_unlink.specs.Trees.{tree_of}
 use Rattle.netlist_unlink.proofs.Again.{denotes_same}
 use Rattle.plan_texts.specs.declared.plan.Plan.{Plan}

@@ -15,7 +15,7 @@ use Rattle.link_model.specs.Cells.{NamedCell, cell_of}
 use Rattle.link_model.specs.Denoted.{IsNamed, NamedNetlist, denoted}
 use Rattle.link_model.specs.Faults.{driver_fault, cells_in, item_name, names_of, text_fault}
 use Rattle.link_model.specs.Late.{IsLinkable}
-use Rattle.link_arena.proofs.Entering.{repeated_after-append}
+use Rattle.link_arena.proofs.EnteredNames.{repeated_after-append}
 use Rattle.link_arena.proofs.Parts.{no_repetition}
 use Rattle.strip_law.specs.Same.{SameNames, SameIsLinked}
 use Rattle.strip_law.proofs.Heads.{heads, heads_are, apart}

@@ -21,7 +21,7 @@ use Rattle.plan_fitting.specs.declared.fitted.Fitted.{Fitted}
 use Rattle.plan_fitting.specs.Pins.{PinSeen}
 use Rattle.plan_fitting.specs.Fits.{tap_lines}
 use Rattle.plan_fitting.specs.Devices.{fitted_of}
-use Rattle.plan_devices.specs.Fitting.{IsFitting}
+use Rattle.plan_devices.specs.FittingPlan.{IsFitting}
 use Rattle.plan_devices.specs.Laws.{PrefixesAreFree, TapNamesAreNew, HasFreePrefix, HasNewTapNames}
 use Rattle.stitch_names.specs.Laws.{TapNamesAreEntered}
 use Rattle.stitch_names.specs.Prepared.{with_tap_names}

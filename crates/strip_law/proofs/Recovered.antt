@@ -4,12 +4,12 @@ use Rattle.std.specs.Prelude.{option_and_then}
 use Rattle.verilog_tree.specs.declared.tree.Module.{Module}
 use Rattle.bsdl_device.specs.declared.values.Device.{Device}
 use Rattle.netlist_link.specs.Linked.{LinkedView}
-use Rattle.netlist_link.proofs.Rewriting.{few_nets}
+use Rattle.netlist_link.proofs.Rewrites.{few_nets}
 use Rattle.plan_texts.specs.declared.plan.Plan.{Plan}
 use Rattle.plan_fitting.specs.declared.fitted.Fitted.{Fitted}
 use Rattle.plan_fitting.specs.Pins.{PinSeen}
 use Rattle.plan_fitting.specs.Devices.{fitted_of, device_of}
-use Rattle.plan_devices.specs.Fitting.{IsFitting}
+use Rattle.plan_devices.specs.FittingPlan.{IsFitting}
 use Rattle.plan_devices.specs.Laws.{FittedIsFitting}
 use Rattle.stitch_model.specs.Stitched.{stitched}
 use Rattle.stitch_names.specs.Prepared.{room_of, ports_of, with_tap_names}

@@ -12,7 +12,7 @@ use Rattle.netlist_unlink.specs.Renumbered.{DenotesSame}
 use Rattle.plan_texts.specs.declared.plan.Plan.{Plan}
 use Rattle.plan_fitting.specs.Pins.{PinSeen}
 use Rattle.plan_fitting.specs.Devices.{fitted_of}
-use Rattle.plan_devices.specs.Fitting.{IsFitting}
+use Rattle.plan_devices.specs.FittingPlan.{IsFitting}
 use Rattle.stitch_model.specs.declared.TapNames.{TapNames}
 use Rattle.stitch_model.specs.Stitched.{stitched}
 use Rattle.stitch_names.specs.Prepared.{with_tap_names, AreTapNames}
@@ -27,7 +27,7 @@ FittedCanBeTold = (m : Module) (L : LinkedView) (p : Plan) (seen : List PinSeen)
     → AreTapNames (with_tap_names (fitted_of L p seen) L.names) (fitted_of L p seen) names → length (stitched L.arena.lists names (fitted_of L p seen)).nets < 2 ^ 32
     → CanBeTold L (with_tap_names (fitted_of L p seen) L.names) names (fitted_of L p seen) p.prefix
 
--- own: the netlist and the plan that a module with test logic and a device come from are recovered: the netlist as it is written, and the plan but for the spelling of words and the kind of control cells that aren't there
+-- own: the netlist and the plan that a module with test logic and a device come from are recovered: the netlist as it is written, and the plan but for the spelling of words, the kind of control cells that aren't there, and version 2 without a user code
 abbrev pub RecoveredIsTheNetlist : Type 0
 RecoveredIsTheNetlist = (m : Module) (L : LinkedView) (p : Plan) (inserted : Module) (d : Device) → (g : Gives m L p inserted d)
     → recovered inserted d ≡ Some (tree_of L p.prefix, told_plan L p g.at.fits.seen)

@@ -36,7 +36,7 @@ use Rattle.plan_fitting.specs.Names.{port_name, index_word}
 use Rattle.plan_fitting.specs.Pins.{PinSeen, same_bit}
 use Rattle.plan_fitting.specs.Rows.{Driver, controls, three_state, output_driver, controlled_by, output_rows, inout_rows, rows_at, rows_after}
 use Rattle.plan_fitting.specs.Devices.{pin_for, pins_of_port, fitted_of, dev_port, port_range, scalar_port, tap_ports, dev_ports, dev_bit, cell_row, device_of}
-use Rattle.plan_devices.specs.Fitting.{HasWidths}
+use Rattle.plan_devices.specs.FittingPlan.{HasWidths}
 use Rattle.plan_devices.proofs.Indices.{place_of_index, dev_port_at, IsBit, range_there}
 use Rattle.plan_devices.proofs.DeviceTap.{behind_own}
 use Rattle.plan_devices.proofs.RowCounts.{makes_row}

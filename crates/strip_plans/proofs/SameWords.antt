@@ -25,7 +25,7 @@ use Rattle.plan_texts.specs.declared.plan.Plan.{Plan}
 use Rattle.plan_texts.specs.declared.plan.PinLine.{PinLine}
 use Rattle.plan_fitting.specs.Names.{port_names, port_name, index_word}
 use Rattle.plan_fitting.specs.Pins.{PinSeen, IsSeen, AreSeen}
-use Rattle.plan_devices.specs.Fitting.{IsFitting}
+use Rattle.plan_devices.specs.FittingPlan.{IsFitting}
 use Rattle.plan_devices.proofs.Indices.{IsBit}
 use Rattle.plan_devices.proofs.Names.{NamesFit}
 use Rattle.plan_devices.proofs.Facts.{Facts}

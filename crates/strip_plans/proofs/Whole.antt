@@ -27,7 +27,7 @@ use Rattle.plan_fitting.specs.declared.fitted.Fitted.{Fitted}
 use Rattle.plan_fitting.specs.Pins.{PinSeen}
 use Rattle.plan_fitting.specs.Rows.{rows_after, rows, has_highz}
 use Rattle.plan_fitting.specs.Devices.{pin_for, fit_port, fitted_of, codes_of, device_of}
-use Rattle.plan_devices.specs.Fitting.{IsFitting}
+use Rattle.plan_devices.specs.FittingPlan.{IsFitting}
 use Rattle.plan_devices.proofs.Facts.{Facts, facts_of}
 use Rattle.plan_devices.proofs.DeviceRows.{lined_bit}
 use Rattle.plan_devices.proofs.RowCounts.{makes_row}

@@ -14,7 +14,7 @@ use Rattle.plan_fitting.specs.Names.{port_name, index_word}
 use Rattle.plan_fitting.specs.Pins.{PinSeen}
 use Rattle.plan_fitting.specs.Rows.{rows}
 use Rattle.plan_fitting.specs.Devices.{cell_row, fitted_of, device_of}
-use Rattle.plan_devices.specs.Fitting.{IsFitting}
+use Rattle.plan_devices.specs.FittingPlan.{IsFitting}
 use Rattle.strip_model.specs.Plans.{control_of, plan_of}
 
 -- the word of a bit: the name of its port, and its index without leading zeros

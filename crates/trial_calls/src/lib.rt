@@ -11,6 +11,8 @@ mod calls;
 #[cfg(test)]
 mod devices;
 #[cfg(test)]
+mod libraries;
+#[cfg(test)]
 mod outside;
 #[cfg(test)]
 mod plans;

@@ -1,7 +1,7 @@
 -- The text of a program, from what was read and printed.
 use Rattle.std.proofs.Common.{◌≡◌, ℕ, List}
 use Rattle.bsdl_device.specs.declared.values.Device.{Device}
-use Rattle.bsdl_values.specs.Reading.{IsDeviceReadAs}
+use Rattle.bsdl_values.specs.TextOutcome.{IsDeviceReadAs}
 use Rattle.scan_vectors.specs.Grammar.{SpellsLines}
 use Rattle.scan_vectors.specs.Canonical.{canonical_lines, canonical_text}
 use Rattle.scan_vectors.specs.Exactly.{SpelledOnce}

@@ -1,3 +1,3 @@
 pub mod Entries
 pub mod KeyWordLaws
-pub mod Reading
+pub mod ReadWords

@@ -26,7 +26,7 @@ impl<'a> Model for WordReader<'a> {
 
 impl<'a> WordReader<'a> {
     /// A reader that stands before the first word.
-    #[tactic(auto, using(crate::proofs::Reading::length_plain))]
+    #[tactic(auto, using(crate::proofs::ReadWords::length_plain))]
     pub fn new(words: &'a Words) -> WordReader<'a>
         ensures { result ≡ plain words.now.list }
     {

@@ -1,4 +1,4 @@
-pub mod Parsing
+pub mod Parsed
 pub mod Headers
 pub mod Tables
 pub mod Items

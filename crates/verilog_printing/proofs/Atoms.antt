@@ -18,7 +18,7 @@ use Rattle.verilog_tree.specs.declared.tree.Dir.{Dir}
 use Rattle.verilog_tree.specs.declared.tree.Dir.TheVariants as dir
 use Rattle.verilog_tree.specs.declared.tree.GateKind.{GateKind}
 use Rattle.verilog_tree.specs.declared.tree.GateKind.TheVariants as gate
-use Rattle.verilog_tree.specs.Spelling.{key_of_dir, key_of_gate}
+use Rattle.verilog_tree.specs.WrittenWords.{key_of_dir, key_of_gate}
 use Rattle.verilog_tree.specs.IsTree.{IsVisible, IsTreeName, IsTreeNumber}
 use Rattle.verilog_tree.specs.Canonical.{is_plain, name_text}
 use Rattle.verilog_printing.proofs.Cuts.{Cut, Apart, NoStar, one_piece, with_words}

@@ -19,7 +19,7 @@ use Rattle.verilog_tree.specs.declared.tree.Instance.{Instance}
 use Rattle.verilog_tree.specs.declared.tree.Item.{Item}
 use Rattle.verilog_tree.specs.declared.tree.Item.TheVariants as item
 use Rattle.verilog_tree.specs.declared.tree.Module.{Module}
-use Rattle.verilog_tree.specs.Spelling.{key_of_dir, key_of_gate, each_after_comma, optional_words, name_words, bit_words, operand_words, port_words, header_words, link_words, listed_words, item_words, source_words}
+use Rattle.verilog_tree.specs.WrittenWords.{key_of_dir, key_of_gate, each_after_comma, optional_words, name_words, bit_words, operand_words, port_words, header_words, link_words, listed_words, item_words, source_words}
 use Rattle.verilog_tree.specs.IsTree.{IsTreeName, IsTreeOperand, IsTreePort, IsTreeWire, IsTreeGate, IsTreeLink, IsTreeInstance, IsTreeAssign, IsTreeItem, IsTree}
 use Rattle.verilog_tree.specs.Canonical.{operand_text, port_text, ports_text, wire_text, named_text, gate_text, connected_text, link_text, links_text, instance_text, assign_text, item_text, canonical}
 use Rattle.verilog_tree.specs.Texts.{SpellsText}

@@ -11,7 +11,7 @@ use Rattle.verilog_tree.specs.declared.tree.Range.{Range}
 use Rattle.verilog_tree.specs.declared.tree.Bit.{Bit}
 use Rattle.verilog_tree.specs.declared.tree.Operand.{Operand}
 use Rattle.verilog_tree.specs.declared.tree.Operand.TheVariants as operand
-use Rattle.verilog_tree.specs.Spelling.{each_after_comma, optional_words, range_words, index_words, bit_words, operand_words}
+use Rattle.verilog_tree.specs.WrittenWords.{each_after_comma, optional_words, range_words, index_words, bit_words, operand_words}
 use Rattle.verilog_tree.specs.IsTree.{IsTreeNumber, IsTreeRange, IsTreeBit, IsTreeOperand}
 use Rattle.verilog_tree.specs.Canonical.{name_text, range_text, ranged_text, index_text, bit_text, operand_text, each_after}
 use Rattle.verilog_printing.proofs.Cuts.{Cut, Anything, NoStar, Apart, joined, narrowed, spaced, nothing, one_piece}

@@ -1,7 +1,7 @@
 // Gates, instances and continuous assignments.
 ghost use Rattle.std.specs.Prelude.{◌≡◌, ◌++◌, OnOk, codes};
 ghost use Rattle.std.specs.List.{flat_map};
-ghost use Rattle.verilog_tree.specs.Spelling as words;
+ghost use Rattle.verilog_tree.specs.WrittenWords as words;
 ghost use Rattle.verilog_tree.specs.Canonical as text_of;
 
 use crate::names::{put_name, put_number};

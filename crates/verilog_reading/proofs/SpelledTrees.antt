@@ -21,7 +21,7 @@ use Rattle.verilog_tree.specs.declared.tree.Link.{Link}
 use Rattle.verilog_tree.specs.declared.tree.Port.{Port}
 use Rattle.verilog_tree.specs.declared.tree.Module.{Module}
 use Rattle.verilog_tree.specs.Sources.{DeclarationHead, PortSource, Header, absent, empty, ansi, names, AssignSource, GateSource, InstanceSource, ItemSource, directions, wires, assigns, gates, instances, Source}
-use Rattle.verilog_tree.specs.Spelling.{key_of_gate, each_after_comma, optional_words, name_words, range_words, index_words, bit_words, operand_words, wire_words, head_words, port_words, header_words, assign_words, gate_words, link_words, listed_words, instance_words, item_words, source_words}
+use Rattle.verilog_tree.specs.WrittenWords.{key_of_gate, each_after_comma, optional_words, name_words, range_words, index_words, bit_words, operand_words, wire_words, head_words, port_words, header_words, assign_words, gate_words, link_words, listed_words, instance_words, item_words, source_words}
 use Rattle.verilog_tree.specs.Trees.{port_of, ports_after, declared_by, declarations, has_name, declared_port, header_ports, takes_inputs, gate_inputs, item_fits, IsSource, is_port_net, wire_of, item_wires, gate_of, instance_of, assign_of, item_items, ports_of, tree_of}
 use Rattle.verilog_tree.specs.IsTree.{IsTreeName, IsTreeNumber, IsTreeRange, IsTreeBit, IsTreeOperand, IsTreePort, IsTreeWire, IsTreeLink, IsTreeItem, IsTree}
 use Rattle.verilog_tree.specs.Texts.{SpellsText}

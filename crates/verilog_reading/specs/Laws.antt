@@ -3,9 +3,9 @@ use Rattle.std.specs.Prelude.{◌≡◌, ℕ, ◌+◌, ◌-◌, ◌<◌, ◌≤�
 use Rattle.std.specs.List.{flat_map, AllByRecursion}
 use Rattle.verilog_lexicon.specs.declared.word.Word.{Word}
 use Rattle.verilog_tree.specs.Sources.{Source}
-use Rattle.verilog_tree.specs.Spelling.{source_words}
+use Rattle.verilog_tree.specs.WrittenWords.{source_words}
 use Rattle.verilog_tree.specs.Trees.{IsSource}
-use Rattle.verilog_reading.specs.Reading.{source_at, modules_at}
+use Rattle.verilog_reading.specs.Reader.{source_at, modules_at}
 
 -- The words of a module that keeps the rules are read as it.
 abbrev pub ReadsEachSource : Type 0

@@ -21,7 +21,7 @@ use Rattle.verilog_reading.specs.Conditions.{SpelledTreesKeepConditions, Spelled
 use Rattle.verilog_modules.specs.Laws.{WordsSpellOneModule, WordsSpellOneList}
 use Rattle.verilog_modules.specs.Texts.{SpellsModules, RefusesText}
 use Rattle.verilog_texts.specs.Laws.{BytesSpellOneTree, BytesSpellOneList}
-use Rattle.verilog_texts.specs.Reading.{HasWords, Spelled, IsReadAs, SpellsTrees, AreSpelled, AreReadAs}
+use Rattle.verilog_texts.specs.TextOutcome.{HasWords, Spelled, IsReadAs, SpellsTrees, AreSpelled, AreReadAs}
 use Rattle.verilog_texts.specs.TextFaults.{word_fault, syntax_fault, IsTextFault, IsModuleFault, IsWordFault, IsModulesTextFault, IsModulesFault}
 
 -- a text that has words begins one

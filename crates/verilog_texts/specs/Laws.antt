@@ -2,7 +2,7 @@
 use Rattle.std.specs.Prelude.{◌≡◌, ℕ, List}
 use Rattle.verilog_tree.specs.declared.tree.Module.{Module}
 use Rattle.verilog_tree.specs.Texts.{SpellsText}
-use Rattle.verilog_texts.specs.Reading.{SpellsTrees}
+use Rattle.verilog_texts.specs.TextOutcome.{SpellsTrees}
 
 -- bytes spell at most one tree
 abbrev pub BytesSpellOneTree : Type 0

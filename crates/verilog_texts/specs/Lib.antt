@@ -1,3 +1,3 @@
-pub mod Reading
+pub mod TextOutcome
 pub mod TextFaults
 pub mod Laws

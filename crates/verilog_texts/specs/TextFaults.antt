@@ -9,7 +9,7 @@ use Rattle.verilog_modules.specs.Faults.{IsBadSyntax}
 use Rattle.verilog_modules.specs.Texts.{IsBadText}
 use Rattle.verilog_texts.specs.declared.fault.TextFault.{TextFault}
 use Rattle.verilog_texts.specs.declared.fault.TextFault.TheVariants.{BadWord, BadSyntax, OutOfMemory}
-use Rattle.verilog_texts.specs.Reading.{IsBadWord, HasBadSyntax, HasBadText}
+use Rattle.verilog_texts.specs.TextOutcome.{IsBadWord, HasBadSyntax, HasBadText}
 
 abbrev pub word_fault : WordFault → TextFault
 word_fault (word.BadWord place) = BadWord place

@@ -1,5 +1,5 @@
 ghost use Rattle.std.specs.Prelude.{IfErr, IfOk};
-ghost use Rattle.verilog_texts.specs.Reading.{AreReadAs, AreSpelled, HasWords, IsReadAs, Spelled};
+ghost use Rattle.verilog_texts.specs.TextOutcome.{AreReadAs, AreSpelled, HasWords, IsReadAs, Spelled};
 ghost use Rattle.verilog_texts.specs.TextFaults.{IsModulesFault, IsModulesTextFault, IsTextFault, IsModuleFault, IsWordFault};
 
 use crate::fault::TextFault;

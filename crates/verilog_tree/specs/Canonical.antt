@@ -17,7 +17,7 @@ use Rattle.verilog_tree.specs.declared.tree.Instance.{Instance}
 use Rattle.verilog_tree.specs.declared.tree.Item.{Item}
 use Rattle.verilog_tree.specs.declared.tree.Item.TheVariants as item
 use Rattle.verilog_tree.specs.declared.tree.Module.{Module}
-use Rattle.verilog_tree.specs.Spelling.{key_of_dir, key_of_gate}
+use Rattle.verilog_tree.specs.WrittenWords.{key_of_dir, key_of_gate}
 
 -- a name that is read as it is: a simple one that isn't reserved
 abbrev pub is_plain : List ℕ → Bool

@@ -1,6 +1,6 @@
 pub mod Canonical
 pub mod IsTree
 pub mod Sources
-pub mod Spelling
+pub mod WrittenWords
 pub mod Texts
 pub mod Trees

@@ -6,7 +6,7 @@ use Rattle.verilog_lexicon.specs.Pieces.{words_of}
 use Rattle.verilog_lexicon.specs.Words.{plain}
 use Rattle.verilog_tree.specs.declared.tree.Module.{Module}
 use Rattle.verilog_tree.specs.Sources.{Source}
-use Rattle.verilog_tree.specs.Spelling.{source_words}
+use Rattle.verilog_tree.specs.WrittenWords.{source_words}
 use Rattle.verilog_tree.specs.Trees.{IsSource, tree_of}
 
 -- some written module has these words and this tree

@@ -17,7 +17,7 @@ use Rattle.verilog_words.specs.declared.mode.Enclosure.TheVariants.{BlockComment
 use Rattle.verilog_words.specs.declared.mode.Directive.{Directive}
 use Rattle.verilog_words.specs.declared.mode.Directive.TheVariants.{Timescale, DefaultNettype, Celldefine, Endcelldefine}
 use Rattle.verilog_words.specs.Machine.{state, between, closer, directive_name, takes_line, is_whole, after_directive, enclosed, step, end, with_name, with_escaped, with_number, with_constant, with_parenthesis}
-use Rattle.word_cutter.proofs.Keeping.{kept_on, stayed_on}
+use Rattle.word_cutter.proofs.KeptWords.{kept_on, stayed_on}
 use Rattle.verilog_words.proofs.Outcome.{outcome, same_place}
 use Rattle.verilog_words.proofs.Runs.{named, name_one, escaped, escaped_one, numbered, number_one}
 use Rattle.verilog_words.proofs.Bytes.{letter_not_blank, digit_not_blank, digit_not_letter, not_clings, no_quote, line_end_is_blank, line_end_ends_name, blank_not_escaped}

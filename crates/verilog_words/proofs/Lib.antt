@@ -3,6 +3,6 @@ pub mod Outcome
 pub mod Complete
 pub mod Sound
 pub mod Bytes
-pub mod Feeding
+pub mod Feeds
 pub mod Runs
 pub mod Taken

@@ -8,7 +8,7 @@ use Rattle.verilog_lexicon.specs.declared.word.Spanned.{Spanned}
 use Rattle.verilog_lexicon.specs.Bytes.{is_blank, is_letter, is_digit, is_name_byte, clings, is_escaped_byte}
 use Rattle.word_cutter.specs.Run.{run, Stops}
 use Rattle.word_cutter.proofs.Runs.{run_byte}
-use Rattle.word_cutter.proofs.Keeping.{one_more, keeps, stays, too_long}
+use Rattle.word_cutter.proofs.KeptWords.{one_more, keeps, stays, too_long}
 use Rattle.verilog_words.specs.declared.mode.Mode.TheVariants as in_
 use Rattle.verilog_words.specs.declared.mode.Enclosure.{Enclosure}
 use Rattle.verilog_words.specs.Machine.{State, state, between, begin, step, with_name, with_number}

@@ -26,7 +26,7 @@ use Rattle.verilog_words.specs.declared.mode.Directive.{Directive}
 use Rattle.verilog_words.specs.declared.mode.Directive.TheVariants.{Timescale, DefaultNettype, Celldefine, Endcelldefine}
 use Rattle.verilog_words.specs.Machine.{State, state, between, closer, directive_name, takes_line, is_whole, goes_on, after_directive, in_line, symbol_with, directive_with, with_name, with_escaped, with_number, with_constant, with_parenthesis}
 use Rattle.word_cutter.proofs.Cases.{and_then_cond, and_then_map}
-use Rattle.word_cutter.proofs.Keeping.{byte_more}
+use Rattle.word_cutter.proofs.KeptWords.{byte_more}
 use Rattle.verilog_words.proofs.Outcome.{outcome}
 
 -- What the bytes of the piece that was begun are.

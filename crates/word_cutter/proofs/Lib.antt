@@ -1,4 +1,4 @@
 pub mod Runs
 pub mod Language
-pub mod Keeping
+pub mod KeptWords
 pub mod Cases

@@ -14,7 +14,7 @@ use Rattle.link_model.specs.Cells.{NamedCell}
 use Rattle.link_model.specs.Denoted.{AreAll, IsLive, IsNamed, IsPort, denoted}
 use Rattle.netlist_unlink.specs.Renumbered.{cells_from, net_order, new_feed, new_net, new_port, renumbered}
 use Rattle.netlist_images.specs.Nested.{renamed_net, renamed_feed, IsNested}
-use Rattle.netlist_images.specs.Renumbering.{ArePortImages, IsCopied, IsCellImage}
+use Rattle.netlist_images.specs.Renumbered.{ArePortImages, IsCopied, IsCellImage}
 use Rattle.netlist_images.specs.RenumberedLaws.{CopyIsRenumbering}
 use Rattle.written_images.specs.Laws.{new_number, new_place, DenotedIsRenumbered, WrittenIsRenumbered}
 use Rattle.written_images.proofs.Places.{number_of, place_back, IsNewOf, HasNew, new_at, HasOld, old_at}

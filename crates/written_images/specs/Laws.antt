@@ -10,7 +10,7 @@ use Rattle.netlist_link.specs.Linked.{LinkedView}
 use Rattle.netlist_link.specs.Links.{IsLinkOf}
 use Rattle.netlist_unlink.specs.Trees.{Naming}
 use Rattle.netlist_unlink.specs.Renumbered.{net_order, place_of, IsWritten, IsWrittenAs}
-use Rattle.netlist_images.specs.Renumbering.{IsRenumbering}
+use Rattle.netlist_images.specs.Renumbered.{IsRenumbering}
 
 -- own: the new number of a net of the list; other numbers stay
 abbrev pub new_number : NetlistView → ℕ → ℕ

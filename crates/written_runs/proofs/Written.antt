@@ -14,7 +14,7 @@ use Rattle.realised_copies.specs.Laws.{KeepsNumbers, RenumberedRealises, Renumbe
 use Rattle.plan_texts.specs.declared.plan.Plan.{Plan}
 use Rattle.plan_fitting.specs.declared.fitted.Fitted.{Fitted}
 use Rattle.plan_fitting.specs.Devices.{device_of}
-use Rattle.stitch_runs.specs.plan_devices.Fitting.{IsFitting}
+use Rattle.stitch_runs.specs.plan_devices.FittingPlan.{IsFitting}
 use Rattle.stitch_runs.specs.plan_devices.Laws.{FittedIsFitting, PlansSuitNetlists}
 use Rattle.stitch_runs.specs.stitch_model.declared.TapNames.{TapNames}
 use Rattle.stitch_runs.specs.stitch_model.Stitched.{stitched}

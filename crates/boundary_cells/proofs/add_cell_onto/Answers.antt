@@ -3,7 +3,7 @@ use Rattle.register_bits.specs.netlist_model.Lists.{CellView, cell_count}
 use Rattle.register_bits.specs.gate_parts.Appended.{Appended}
 use Rattle.register_bits.proofs.gate_parts.Steps.{length-cells_from}
 use Rattle.boundary_cells.specs.Cells.{choice_cell}
-use Rattle.boundary_cells.proofs.Adding.{joined}
+use Rattle.boundary_cells.proofs.AddedTables.{joined}
 use Rattle.boundary_cells.proofs.add_cell_onto.Goals as goal
 
 pub add_driver-requires-clause-cells : goal.add_driver-requires-clause-cells

@@ -1,4 +1,4 @@
-use Rattle.event_laws.proofs.Counting.{none_is_touched}
+use Rattle.event_laws.proofs.TurnCounts.{none_is_touched}
 use Rattle.event_laws.proofs.none_is_touched.Goals as goal
 
 pub returns : goal.returns

@@ -1,4 +1,4 @@
-use Rattle.event_laws.proofs.Counting.{touched_are_gates}
+use Rattle.event_laws.proofs.TurnCounts.{touched_are_gates}
 use Rattle.event_laws.proofs.touched_are_gates.Goals as goal
 
 pub returns : goal.returns

@@ -2,7 +2,7 @@ use Rattle.std.proofs.Common.{List, [], ◌++◌, ◌∙◌, ap, sym}
 use Rattle.std.specs.List.{cons_option}
 use Rattle.cell_library.specs.declared.codes.Opcode.{Opcode}
 use Rattle.bsdl_device.specs.Denoted.{opcode_of}
-use Rattle.bsdl_checks.proofs.Bits.{filter_map-next}
+use Rattle.bsdl_row_rules.proofs.Bits.{filter_map-next}
 use Rattle.bsdl_checks.proofs.describe.opcodes_of.Goals as goal
 
 pub loop-entry-preserved : goal.loop-entry-preserved

@@ -1,5 +1,5 @@
 use Rattle.std.proofs.Common.{length, drop, ◌-◌, ◌+◌, ◌≡◌, ◌≤◌}
-use Rattle.bsdl_contents.specs.Cutting.{run_len}
+use Rattle.bsdl_contents.specs.WordsAhead.{run_len}
 use Rattle.bsdl_contents.proofs.cut.length_of_run.Given as goal
 
 abbrev pub invariant-loop-at : goal.invariant-loop-at

@@ -1,5 +1,5 @@
 use Rattle.std.proofs.Common.{length, drop, ◌-◌, ◌≡◌, ◌≤◌}
-use Rattle.bsdl_contents.specs.Cutting.{unspaced}
+use Rattle.bsdl_contents.specs.WordsAhead.{unspaced}
 use Rattle.bsdl_contents.proofs.cut.skip_blanks.Given as goal
 
 abbrev pub invariant-loop-at : goal.invariant-loop-at

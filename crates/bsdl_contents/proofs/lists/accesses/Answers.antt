@@ -1,5 +1,5 @@
 use Rattle.std.proofs.Common.{◌∙◌, sym, ap, arith, [], ◌∷◌, ◌++◌}
-use Rattle.bsdl_contents.specs.Reading.{list_at, access_at}
+use Rattle.bsdl_contents.specs.Reader.{list_at, access_at}
 use Rattle.bsdl_contents.proofs.ListLoops.{starts, goes_on, faults, ends}
 use Rattle.bsdl_contents.proofs.lists.accesses.Goals as goal
 

@@ -1,5 +1,5 @@
 use Rattle.std.proofs.Common.{◌∙◌, sym, ap, arith, [], ◌∷◌, ◌++◌}
-use Rattle.bsdl_contents.specs.Reading.{list_at, pin_entry_at}
+use Rattle.bsdl_contents.specs.Reader.{list_at, pin_entry_at}
 use Rattle.bsdl_contents.proofs.ListLoops.{starts, goes_on, faults, ends}
 use Rattle.bsdl_contents.proofs.lists.pin_entries.Goals as goal
 

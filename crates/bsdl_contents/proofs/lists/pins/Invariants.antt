@@ -1,5 +1,5 @@
 use Rattle.std.proofs.Common.{◌≤◌, length}
-use Rattle.bsdl_contents.specs.Reading.{list_at, pin_at}
+use Rattle.bsdl_contents.specs.Reader.{list_at, pin_at}
 use Rattle.bsdl_contents.proofs.ListLoops.{Continues}
 use Rattle.bsdl_contents.proofs.lists.pins.Given as goal
 

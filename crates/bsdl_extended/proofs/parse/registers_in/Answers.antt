@@ -1,7 +1,7 @@
 use Rattle.std.proofs.Common.{List, ◌∙◌, ap}
 use Rattle.bsdl_device.specs.declared.entries.OpcodeEntry.{OpcodeEntry}
 use Rattle.extended_device.specs.declared.values.RegisterEntry.{RegisterEntry}
-use Rattle.bsdl_extended.specs.Parting.{registers_for}
+use Rattle.bsdl_extended.specs.BaseFile.{registers_for}
 use Rattle.bsdl_extended.proofs.parse.registers_in.Goals as goal
 
 pub returns : goal.returns

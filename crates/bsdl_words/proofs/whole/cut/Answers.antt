@@ -1,6 +1,6 @@
 use Rattle.std.proofs.Common.{[]}
 use Rattle.std.proofs.lemmas.Result.{IfOk-weaker, IfErr-weaker, err_from_is_err_and}
-use Rattle.bsdl_words.proofs.Feeding.{fault_whole}
+use Rattle.bsdl_words.proofs.Feeds.{fault_whole}
 use Rattle.bsdl_words.proofs.whole.cut.Goals as goal
 
 pub returns-in_err-feed-clause-fault : goal.returns-in_err-feed-clause-fault

@@ -5,7 +5,7 @@ use Rattle.list_laws.proofs.Lists.{front_of}
 use Rattle.netlist_laws.specs.netlist_model.Orders.{IsCellOrder, StandsAt}
 use Rattle.cell_order.specs.Packed.{AreLiveCells, cell_under, packed}
 use Rattle.cell_order.specs.Walk.{IsClosed}
-use Rattle.cell_order.proofs.Packing.{order_inside, packed_closed, packed_dense, packed_order, path_inside}
+use Rattle.cell_order.proofs.PackedNetlist.{order_inside, packed_closed, packed_dense, packed_order, path_inside}
 use Rattle.cell_order.proofs.packed.search.Goals as goal
 
 pub note_drivers-requires-clause-dense : goal.note_drivers-requires-clause-dense

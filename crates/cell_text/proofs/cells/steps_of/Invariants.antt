@@ -1,7 +1,7 @@
 use Rattle.std.proofs.Common.{◌≡◌, drop}
 use Rattle.first_faults.specs.Repeated.{texts}
 use Rattle.cell_text.specs.Cells.{steps_of}
-use Rattle.cell_text.specs.Reading.{behind_those}
+use Rattle.cell_text.specs.Reader.{behind_those}
 use Rattle.cell_text.proofs.cells.steps_of.Given as goal
 
 abbrev pub invariant-loop-word : goal.invariant-loop-word

@@ -1,6 +1,6 @@
 use Rattle.std.proofs.Common.{◌≡◌, ◌≤◌, ◌+◌, ◌-◌, ℕ, drop, length}
 use Rattle.first_faults.specs.Repeated.{texts}
-use Rattle.cell_text.specs.Reading.{fit_count}
+use Rattle.cell_text.specs.Reader.{fit_count}
 use Rattle.cell_text.proofs.names.fit_count.Given as goal
 
 abbrev pub invariant-loop-count : goal.invariant-loop-count

@@ -2,7 +2,7 @@ use Rattle.std.proofs.Common.{ℕ, List, Some, sym, ap, subst, ◌∙◌}
 use Rattle.line_texts.specs.Words.{words_of}
 use Rattle.line_texts.specs.Ahead.{first_number, rest_of}
 use Rattle.cell_text.specs.Words.{Words}
-use Rattle.cell_text.specs.Reading.{Going}
+use Rattle.cell_text.specs.Reader.{Going}
 use Rattle.cell_text.proofs.Gathered.{goes_on, bad_line}
 use Rattle.cell_text.proofs.reader.keep_lines.Goals as goal
 

@@ -1,5 +1,5 @@
 use Rattle.std.proofs.Common.{length, ℕ}
-use Rattle.cell_text.specs.Reading.{Going}
+use Rattle.cell_text.specs.Reader.{Going}
 use Rattle.cell_text.proofs.reader.keep_lines.Given as goal
 
 abbrev pub invariant-loop-line : goal.invariant-loop-line

@@ -1,7 +1,7 @@
 use Rattle.std.proofs.Common.{ℕ, List, [], map, Option, Some, Bor, sym, ap, ◌∙◌, arith}
 use Rattle.first_faults.specs.Repeated.{bytes_of}
 use Rattle.cell_text.specs.Rules.{barred_after, name_in}
-use Rattle.cell_text.specs.Reading.{rows_of}
+use Rattle.cell_text.specs.Reader.{rows_of}
 use Rattle.cell_text.proofs.ReadBack.{name_told}
 use Rattle.cell_text.proofs.reader.read_library.Goals as goal
 

@@ -1,5 +1,5 @@
 use Rattle.demo_chips.specs.Netlists.{demo_module}
-use Rattle.demo_plans.proofs.Fitting.{plan_fits}
+use Rattle.demo_plans.proofs.Fits.{plan_fits}
 use Rattle.demo_plans.proofs.laws.demo_plan_fits.Goals as goal
 
 pub returns : goal.returns

@@ -1,5 +1,5 @@
 use Rattle.std.proofs.Common.{◌≤◌}
-use Rattle.event_sim.proofs.Emptying.{IsEmptied}
+use Rattle.event_sim.proofs.EmptiedLog.{IsEmptied}
 use Rattle.event_sim.proofs.changes.empty_log.Given as goal
 
 abbrev pub invariant-loop-passed : goal.invariant-loop-passed

@@ -1,5 +1,5 @@
 use Rattle.std.proofs.Common.{◌≡◌, ◌<◌, ◌∙◌, ℕ, sym, ap, length, arith}
-use Rattle.event_sim.proofs.Simming.{anew_logged, logged_nets}
+use Rattle.event_sim.proofs.Simulators.{anew_logged, logged_nets}
 use Rattle.event_sim.proofs.events.take_event.Goals as goal
 
 pub empty_log-requires-clause-same : goal.empty_log-requires-clause-same

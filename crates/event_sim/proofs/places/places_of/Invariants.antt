@@ -1,5 +1,5 @@
 use Rattle.std.proofs.Common.{◌≤◌, length}
-use Rattle.event_sim.proofs.Placing.{ArePlacedUpTo}
+use Rattle.event_sim.proofs.NetPlaces.{ArePlacedUpTo}
 use Rattle.event_sim.proofs.places.places_of.Given as goal
 
 abbrev pub invariant-loop-place : goal.invariant-loop-place

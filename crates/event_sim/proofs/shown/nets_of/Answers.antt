@@ -2,7 +2,7 @@ use Rattle.std.proofs.Common.{◌≡◌, ◌<◌, ◌++◌, ◌∙◌, ap, lengt
 use Rattle.std.specs.List.{slice_get}
 use Rattle.netlist_model.specs.declared.NetId.{NetId}
 use Rattle.event_sim.specs.Shown.{shown_at}
-use Rattle.event_sim.proofs.Showing.{shown_next}
+use Rattle.event_sim.proofs.ShownBits.{shown_next}
 use Rattle.event_sim.proofs.shown.nets_of.Goals as goal
 
 pub loop-number-preserved : goal.loop-number-preserved

@@ -1,5 +1,5 @@
 use Rattle.std.proofs.Common.{◌<◌, ◌≤◌, length, arith}
-use Rattle.event_turns.proofs.Driving.{none_driven, one_driven, all_driven, gate_at, gate_below}
+use Rattle.event_turns.proofs.Drivers.{none_driven, one_driven, all_driven, gate_at, gate_below}
 use Rattle.event_turns.proofs.drives.keep_drives.Goals as goal
 
 pub loop-place-init : goal.loop-place-init

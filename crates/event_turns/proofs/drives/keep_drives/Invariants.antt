@@ -1,4 +1,4 @@
-use Rattle.event_turns.proofs.Driving.{AreDrivenUpTo}
+use Rattle.event_turns.proofs.Drivers.{AreDrivenUpTo}
 use Rattle.event_turns.proofs.drives.keep_drives.Given as goal
 
 abbrev pub invariant-loop-place : goal.invariant-loop-place

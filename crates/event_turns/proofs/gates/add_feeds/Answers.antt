@@ -2,7 +2,7 @@ use Rattle.std.proofs.Common.{arith}
 use Rattle.netlist_model.specs.Lists.{cell_at}
 use Rattle.netlist_settling.specs.Values.{feeds_of}
 use Rattle.netlist_settling.proofs.Looked.{feed_there}
-use Rattle.event_turns.proofs.Placing.{feeds_pushed, feeds_whole}
+use Rattle.event_turns.proofs.CellPlaces.{feeds_pushed, feeds_whole}
 use Rattle.event_turns.proofs.gates.add_feeds.Goals as goal
 
 pub loop-place-preserved : goal.loop-place-preserved

@@ -1,7 +1,7 @@
 use Rattle.std.proofs.Common.{◌∷◌, ◌++◌, [], ◌∙◌, ap, refl, length, arith}
 use Rattle.netlist_model.specs.Lists.{cell_at}
 use Rattle.event_turns.specs.declared.circuit.Gate.{Gate}
-use Rattle.event_turns.proofs.Placing.{few_looked, gate_looked}
+use Rattle.event_turns.proofs.CellPlaces.{few_looked, gate_looked}
 use Rattle.event_turns.proofs.gates.add_gate.Goals as goal
 
 pub returns-clause-few : goal.returns-clause-few

@@ -3,7 +3,7 @@ use Rattle.std.proofs.lemmas.Option.{slice_get-get_or}
 use Rattle.list_laws.proofs.Options.{some_there}
 use Rattle.netlist_model.specs.Lists.{CellView, cell_at}
 use Rattle.netlist_settling.specs.Values.{feeds_of}
-use Rattle.event_turns.proofs.Placing.{gate_added, no_gates_in}
+use Rattle.event_turns.proofs.CellPlaces.{gate_added, no_gates_in}
 use Rattle.event_turns.proofs.gates.gates_of.Goals as goal
 
 pub loop-cell-init : goal.loop-cell-init

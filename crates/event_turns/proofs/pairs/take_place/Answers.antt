@@ -1,6 +1,6 @@
 use Rattle.std.proofs.Common.{◌≡◌, ◌∙◌, arith}
 use Rattle.std.proofs.lemmas.Option.{get_or_from_slice_get}
-use Rattle.event_turns.proofs.Pairing.{pair_net, pair_turn}
+use Rattle.event_turns.proofs.TurnPairs.{pair_net, pair_turn}
 use Rattle.event_turns.proofs.pairs.take_place.Goals as goal
 
 pub take_pair-requires-clause-there : goal.take_pair-requires-clause-there

@@ -3,7 +3,7 @@ use Rattle.std.proofs.lemmas.Option.{slice_get-get_or}
 use Rattle.list_laws.proofs.Options.{some_there}
 use Rattle.netlist_model.specs.Lists.{cell_at}
 use Rattle.event_turns.specs.Tables.{waited}
-use Rattle.event_turns.proofs.Waiting.{waits_more, cell_waits, feed_looked, flop_looked, long_looked}
+use Rattle.event_turns.proofs.Waits.{waits_more, cell_waits, feed_looked, flop_looked, long_looked}
 use Rattle.event_turns.proofs.readers.add_waits.Goals as goal
 
 pub loop-operand-preserved : goal.loop-operand-preserved

@@ -1,5 +1,5 @@
 use Rattle.std.proofs.Common.{arith}
-use Rattle.event_turns.proofs.Waiting.{owner_more}
+use Rattle.event_turns.proofs.Waits.{owner_more}
 use Rattle.event_turns.proofs.readers.owners_at.Goals as goal
 
 pub loop-place-preserved : goal.loop-place-preserved

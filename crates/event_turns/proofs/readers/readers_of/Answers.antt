@@ -1,4 +1,4 @@
-use Rattle.event_turns.proofs.Waiting.{are_readers, key_below}
+use Rattle.event_turns.proofs.Waits.{are_readers, key_below}
 use Rattle.event_turns.proofs.readers.readers_of.Goals as goal
 
 pub ranges_of-requires-clause-below : goal.ranges_of-requires-clause-below

@@ -3,7 +3,7 @@ use Rattle.list_laws.proofs.Options.{some_same}
 use Rattle.std.proofs.lemmas.Option.{slice_get-get_or}
 use Rattle.netlist_model.specs.declared.CellId.{CellId}
 use Rattle.event_turns.specs.Circuits.{turn_at}
-use Rattle.event_turns.proofs.Waiting.{no_waits_in, all_waits}
+use Rattle.event_turns.proofs.Waits.{no_waits_in, all_waits}
 use Rattle.event_turns.proofs.readers.waits_of.Goals as goal
 
 pub loop-place-init : goal.loop-place-init

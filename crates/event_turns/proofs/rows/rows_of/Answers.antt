@@ -1,7 +1,7 @@
 use Rattle.std.proofs.Common.{◌≡◌, Some, length, refl, sym, ap, ◌∙◌, arith}
 use Rattle.std.specs.Prelude.{slice_get}
 use Rattle.std.proofs.lemmas.Option.{slice_get-get_or}
-use Rattle.event_turns.proofs.Pairing.{rows_pushed}
+use Rattle.event_turns.proofs.TurnPairs.{rows_pushed}
 use Rattle.event_turns.proofs.rows.rows_of.Goals as goal
 
 pub row_of-requires : goal.row_of-requires

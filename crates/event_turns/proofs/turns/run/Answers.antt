@@ -1,9 +1,9 @@
 use Rattle.std.proofs.Common.{◌≡◌, ◌≤◌, ◌*◌, ◌∙◌, ap, refl, Some, length, arith}
 use Rattle.std.specs.Prelude.{slice_get}
 use Rattle.std.proofs.lemmas.Option.{slice_get_within}
-use Rattle.event_turns.proofs.Running.{found, turn_passed, not_before, run_ends, past_all}
+use Rattle.event_turns.proofs.TurnRuns.{found, turn_passed, not_before, run_ends, past_all}
 use Rattle.event_turns.specs.Circuits.{place_of}
-use Rattle.event_turns.proofs.Logging.{logs_then}
+use Rattle.event_turns.proofs.Logs.{logs_then}
 use Rattle.event_turns.proofs.turns.run.Goals as goal
 
 pub returns-in_default : goal.returns-in_default

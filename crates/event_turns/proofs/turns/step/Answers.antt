@@ -1,6 +1,6 @@
 use Rattle.std.proofs.Common.{◌∙◌}
 use Rattle.event_turns.proofs.Kept.{first_is}
-use Rattle.event_turns.proofs.Stepping.{given_is, frontier_is}
+use Rattle.event_turns.proofs.EventSteps.{given_is, frontier_is}
 use Rattle.event_turns.proofs.turns.step.Goals as goal
 
 pub step_from-requires-clause-given : goal.step_from-requires-clause-given

@@ -1,6 +1,6 @@
 use Rattle.std.proofs.Common.{◌<◌, length, length-set, arith, inl, refl}
-use Rattle.event_turns.proofs.Logging.{logs_push, logs_then}
-use Rattle.event_turns.proofs.Stepping.{begun, stepped}
+use Rattle.event_turns.proofs.Logs.{logs_push, logs_then}
+use Rattle.event_turns.proofs.EventSteps.{begun, stepped}
 use Rattle.event_turns.proofs.turns.step_from.Goals as goal
 
 pub run-requires-clause-begun : goal.run-requires-clause-begun

@@ -8,7 +8,7 @@ use Rattle.netlist_laws.specs.Runs.{kind_next}
 use Rattle.netlist_settling.specs.Values.{value_at, pin_at}
 use Rattle.netlist_settling.specs.Passes.{driven_value}
 use Rattle.event_laws.specs.Laws.{steps_of}
-use Rattle.event_turns.proofs.Logging.{logs_then}
+use Rattle.event_turns.proofs.Logs.{logs_then}
 use Rattle.event_turns.proofs.Turned.{side_is, driving, idle}
 use Rattle.event_turns.proofs.turns.take_turn.Goals as goal
 

@@ -1,5 +1,5 @@
 use Rattle.std.proofs.Common.{arith}
-use Rattle.event_turns.proofs.Gathering.{reader_early, woken}
+use Rattle.event_turns.proofs.TurnTables.{reader_early, woken}
 use Rattle.event_turns.proofs.turns.wake.Goals as goal
 
 pub wake_range-requires : goal.wake_range-requires

@@ -1,6 +1,6 @@
 use Rattle.std.proofs.Common.{◌∙◌, sym, ap, arith, [], ◌∷◌, ◌++◌}
-use Rattle.bsdl_contents.specs.Reading.{list_at}
-use Rattle.extended_entries.specs.Reading.{entry_at}
+use Rattle.bsdl_contents.specs.Reader.{list_at}
+use Rattle.extended_entries.specs.Reader.{entry_at}
 use Rattle.bsdl_contents.proofs.ListLoops.{starts, goes_on, ends}
 use Rattle.extended_entries.proofs.EntryLaws.{faults}
 use Rattle.extended_entries.proofs.entries.list.Goals as goal

@@ -1,6 +1,6 @@
 use Rattle.std.proofs.Common.{◌≤◌, length}
-use Rattle.bsdl_contents.specs.Reading.{list_at}
-use Rattle.extended_entries.specs.Reading.{entry_at}
+use Rattle.bsdl_contents.specs.Reader.{list_at}
+use Rattle.extended_entries.specs.Reader.{entry_at}
 use Rattle.bsdl_contents.proofs.ListLoops.{Continues}
 use Rattle.extended_entries.proofs.entries.list.Given as goal
 

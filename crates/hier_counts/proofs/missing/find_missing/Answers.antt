@@ -6,7 +6,7 @@ use Rattle.list_laws.proofs.Lists.{slice_get_there}
 use Rattle.verilog_tree.specs.declared.tree.Module.{Module}
 use Rattle.hier_model.specs.Faults.{missing_cell}
 use Rattle.hier_counts.specs.Marked.{first_marked}
-use Rattle.hier_counts.proofs.Marking.{marked_on}
+use Rattle.hier_counts.proofs.Marks.{marked_on}
 use Rattle.hier_counts.proofs.missing.find_missing.Goals.{then-reached-place+in-None, else-reached-place}
 use Rattle.hier_counts.proofs.missing.find_missing.Goals as goal
 

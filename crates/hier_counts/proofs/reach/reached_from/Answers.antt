@@ -3,7 +3,7 @@ use Rattle.std.proofs.lemmas.List.{length-replicate}
 use Rattle.std.proofs.lemmas.Option.{slice_get_read}
 use Rattle.hier_counts.specs.Graph.{row, IsIn}
 use Rattle.hier_counts.specs.Search.{Seen, seen_in, with_places}
-use Rattle.hier_counts.proofs.Searching.{found_inside, search_begins, search_goes, search_ends}
+use Rattle.hier_counts.proofs.Searches.{found_inside, search_begins, search_goes, search_ends}
 use Rattle.hier_counts.proofs.Reached.{row_read}
 use Rattle.hier_counts.proofs.reach.reached_from.Goals as goal
 

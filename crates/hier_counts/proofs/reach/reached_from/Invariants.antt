@@ -1,6 +1,6 @@
 use Rattle.std.proofs.Common.{◌-◌, length}
 use Rattle.hier_counts.specs.Search.{seen_in}
-use Rattle.hier_counts.proofs.Searching.{Searches}
+use Rattle.hier_counts.proofs.Searches.{Searches}
 use Rattle.hier_counts.proofs.reach.reached_from.Given as goal
 
 abbrev pub invariant-loop-next : goal.invariant-loop-next

@@ -5,7 +5,7 @@ use Rattle.list_laws.proofs.Lists.{slice_get_there}
 use Rattle.verilog_tree.specs.declared.tree.Module.{Module}
 use Rattle.hier_model.specs.Faults.{holds_itself}
 use Rattle.hier_counts.specs.Marked.{first_marked}
-use Rattle.hier_counts.proofs.Marking.{marked_on, marked_here}
+use Rattle.hier_counts.proofs.Marks.{marked_on, marked_here}
 use Rattle.hier_counts.proofs.Reached.{held_there}
 use Rattle.hier_counts.proofs.recursion.find_recursive.Goals.{else-marks-place-via-then-marks-place+in_ok-holds_itself+else-branch, else-marks-place-via-else-marks-place}
 use Rattle.hier_counts.proofs.recursion.find_recursive.Goals as goal

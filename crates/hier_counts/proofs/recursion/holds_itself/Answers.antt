@@ -1,7 +1,7 @@
 use Rattle.std.proofs.Common.{◌≡◌, ◌∙◌, ℕ, ◌<◌, false, List, length, ap, arith}
 use Rattle.std.proofs.lemmas.List.{get_or_read}
 use Rattle.hier_counts.specs.Graph.{row}
-use Rattle.hier_counts.proofs.Leading.{length-graph}
+use Rattle.hier_counts.proofs.Leads.{length-graph}
 use Rattle.hier_counts.proofs.Reached.{row_read, closed_at, row_low, holds_clear, holds_marked}
 use Rattle.hier_counts.proofs.recursion.holds_itself.Goals as goal
 

@@ -4,7 +4,7 @@ use Rattle.verilog_tree.specs.declared.tree.Item.{Item}
 use Rattle.hier_walk.specs.Visits.{visits}
 use Rattle.hier_walk.specs.Walks.{Goes}
 use Rattle.hier_model.specs.Entries.{level_limit, visit_entries, entry_item}
-use Rattle.hier_flatten.proofs.Walking.{makes_more, makes_all, step_listed, walk_falls}
+use Rattle.hier_flatten.proofs.Walks.{makes_more, makes_all, step_listed, walk_falls}
 use Rattle.hier_flatten.proofs.FlatLaws.{visit_items, makes_first, path_in_slice, mapped_flat, items_step}
 use Rattle.hier_flatten.proofs.flat.flat_items.Goals as goal
 

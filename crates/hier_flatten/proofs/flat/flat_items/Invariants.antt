@@ -2,7 +2,7 @@ use Rattle.std.proofs.Common.{length, map}
 use Rattle.hier_walk.specs.Visits.{Visit}
 use Rattle.hier_walk.specs.Walks.{left_in}
 use Rattle.hier_model.specs.Entries.{level_limit, visit_entries, entry_item, entries}
-use Rattle.hier_flatten.proofs.Walking.{Makes}
+use Rattle.hier_flatten.proofs.Walks.{Makes}
 use Rattle.hier_flatten.proofs.flat.flat_items.Given as goal
 
 abbrev pub invariant-loop-walk : goal.invariant-loop-walk

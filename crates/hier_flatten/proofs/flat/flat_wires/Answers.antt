@@ -5,7 +5,7 @@ use Rattle.hier_walk.specs.Visits.{Visit, visits}
 use Rattle.hier_walk.specs.Walks.{Goes}
 use Rattle.hier_model.specs.Entries.{level_limit, turn_places}
 use Rattle.hier_model.specs.Flat.{place_wires}
-use Rattle.hier_flatten.proofs.Walking.{makes_more, makes_all, walk_falls}
+use Rattle.hier_flatten.proofs.Walks.{makes_more, makes_all, walk_falls}
 use Rattle.hier_flatten.proofs.FlatLaws.{visit_wires, makes_first, path_in_slice, nested, wires_made, wires_step}
 use Rattle.hier_flatten.proofs.flat.flat_wires.Goals as goal
 

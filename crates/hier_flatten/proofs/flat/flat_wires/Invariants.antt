@@ -3,7 +3,7 @@ use Rattle.std.specs.List.{flat_map}
 use Rattle.hier_walk.specs.Walks.{left_in}
 use Rattle.hier_model.specs.Entries.{level_limit, opened_places}
 use Rattle.hier_model.specs.Flat.{place_wires}
-use Rattle.hier_flatten.proofs.Walking.{Makes}
+use Rattle.hier_flatten.proofs.Walks.{Makes}
 use Rattle.hier_flatten.proofs.FlatLaws.{visit_wires}
 use Rattle.hier_flatten.proofs.flat.flat_wires.Given as goal
 

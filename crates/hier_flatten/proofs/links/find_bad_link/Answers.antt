@@ -4,7 +4,7 @@ use Rattle.hier_walk.specs.Visits.{Visit}
 use Rattle.hier_walk.specs.Walks.{turn_of, Goes}
 use Rattle.hier_model.specs.Entries.{level_limit}
 use Rattle.hier_model.specs.Faults.{turn_link, bad_link_in}
-use Rattle.hier_flatten.proofs.Walking.{look_found, looks_on}
+use Rattle.hier_flatten.proofs.Walks.{look_found, looks_on}
 use Rattle.hier_flatten.proofs.LinkWalks.{begins_looking, opened_within, opened_link}
 use Rattle.hier_flatten.proofs.links.find_bad_link.Goals as goal
 

@@ -3,7 +3,7 @@ use Rattle.hier_walk.specs.Visits.{Visit}
 use Rattle.hier_walk.specs.Walks.{left_in}
 use Rattle.hier_model.specs.Entries.{level_limit}
 use Rattle.hier_model.specs.Faults.{turn_link, bad_link_in}
-use Rattle.hier_flatten.proofs.Walking.{Looks}
+use Rattle.hier_flatten.proofs.Walks.{Looks}
 use Rattle.hier_flatten.proofs.links.find_bad_link.Given as goal
 
 abbrev pub invariant-loop-walk : goal.invariant-loop-walk

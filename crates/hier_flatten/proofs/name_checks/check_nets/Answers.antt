@@ -1,6 +1,6 @@
 use Rattle.std.proofs.Common.{[], refl}
 use Rattle.hier_model.specs.Entries.{level_limit}
-use Rattle.hier_flatten.proofs.Walking.{walk_falls}
+use Rattle.hier_flatten.proofs.Walks.{walk_falls}
 use Rattle.hier_flatten.proofs.FlatLaws.{path_in_slice}
 use Rattle.hier_flatten.proofs.StepChecks.{nets_first, nets_stop_first, goes_as, ends_as, nets_on, nets_stop_on, nets_end}
 use Rattle.hier_flatten.proofs.name_checks.check_nets.Goals as goal

@@ -1,5 +1,5 @@
 use Rattle.hier_model.specs.Entries.{level_limit}
-use Rattle.hier_flatten.proofs.Walking.{step_listed, walk_falls}
+use Rattle.hier_flatten.proofs.Walks.{step_listed, walk_falls}
 use Rattle.hier_flatten.proofs.FlatLaws.{path_in_slice}
 use Rattle.hier_flatten.proofs.EnterLaws.{visit_checks}
 use Rattle.hier_flatten.proofs.StepChecks.{early_is, nets_are, items_first, items_few, items_on, items_stop, items_end, goes_as, ends_as}

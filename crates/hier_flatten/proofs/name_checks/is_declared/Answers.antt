@@ -1,6 +1,6 @@
 use Rattle.std.proofs.Common.{ℕ, sym, ap, ◌∙◌}
 use Rattle.std.specs.Prelude.{nat_lt}
-use Rattle.hier_flatten.proofs.Entering.{name_below, name_never}
+use Rattle.hier_flatten.proofs.EnteredNames.{name_below, name_never}
 use Rattle.hier_flatten.proofs.name_checks.is_declared.Goals as goal
 
 pub returns-in-Some : goal.returns-in-Some

@@ -1,4 +1,4 @@
-use Rattle.hier_links.proofs.Linking.{settled_where_linked}
+use Rattle.hier_links.proofs.FlatLinks.{settled_where_linked}
 use Rattle.hier_links.proofs.laws.settled_where_linked.Goals as goal
 
 pub returns : goal.returns

@@ -1,4 +1,4 @@
-use Rattle.hier_solutions.proofs.Solving.{settled_where_solved}
+use Rattle.hier_solutions.proofs.Solutions.{settled_where_solved}
 use Rattle.hier_solutions.proofs.laws.settled_where_solved.Goals as goal
 
 pub returns : goal.returns

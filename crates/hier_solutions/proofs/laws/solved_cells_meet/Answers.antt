@@ -1,4 +1,4 @@
-use Rattle.hier_solutions.proofs.Meeting.{solved_cells_meet}
+use Rattle.hier_solutions.proofs.MetEquations.{solved_cells_meet}
 use Rattle.hier_solutions.proofs.laws.solved_cells_meet.Goals as goal
 
 pub returns : goal.returns

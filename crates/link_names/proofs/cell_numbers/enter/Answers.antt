@@ -1,7 +1,7 @@
 use Rattle.std.proofs.Common.{◌∙◌, [], ◌∷◌, ap, map}
 use Rattle.indexmap.proofs.CallerLemmas.{insert_entry-new}
-use Rattle.link_names.specs.Numbering.{number_entry}
-use Rattle.link_names.proofs.Numbering.{no_entry, numbers-append}
+use Rattle.link_names.specs.CellNumbers.{number_entry}
+use Rattle.link_names.proofs.CellNumbers.{no_entry, numbers-append}
 use Rattle.link_names.proofs.cell_numbers.enter.Goals as goal
 
 pub returns : goal.returns

@@ -1,7 +1,7 @@
 use Rattle.std.proofs.Common.{◌∙◌, ap, arith}
 use Rattle.list_laws.proofs.Lists.{front_all}
-use Rattle.link_names.specs.Numbering.{numbers_in, numbered_from}
-use Rattle.link_names.proofs.Numbering.{next_is_new, numbered_more}
+use Rattle.link_names.specs.CellNumbers.{numbers_in, numbered_from}
+use Rattle.link_names.proofs.CellNumbers.{next_is_new, numbered_more}
 use Rattle.link_names.proofs.cell_numbers.numbers_of.Goals as goal
 
 pub enter-requires : goal.enter-requires

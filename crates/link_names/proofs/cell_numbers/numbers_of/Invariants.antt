@@ -1,5 +1,5 @@
 use Rattle.std.proofs.Common.{◌≡◌, take}
-use Rattle.link_names.specs.Numbering.{numbers_in, numbered_from}
+use Rattle.link_names.specs.CellNumbers.{numbers_in, numbered_from}
 use Rattle.link_names.proofs.cell_numbers.numbers_of.Given as goal
 
 abbrev pub invariant-loop-number : goal.invariant-loop-number

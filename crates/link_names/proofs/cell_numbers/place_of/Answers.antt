@@ -1,5 +1,5 @@
 use Rattle.std.proofs.Common.{◌∙◌}
-use Rattle.link_names.proofs.Numbering.{number_found}
+use Rattle.link_names.proofs.CellNumbers.{number_found}
 use Rattle.link_names.proofs.cell_numbers.place_of.Goals as goal
 
 pub returns : goal.returns

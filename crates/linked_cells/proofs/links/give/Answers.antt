@@ -1,6 +1,6 @@
 use Rattle.linked_cells.proofs.Threads.{loosely_written}
 use Rattle.linked_cells.specs.Cells.{slot_at, first_at}
-use Rattle.linked_cells.proofs.Writing.{found_loose}
+use Rattle.linked_cells.proofs.Writes.{found_loose}
 use Rattle.linked_cells.proofs.links.give.Goals as goal
 
 pub returns-in-Const-clause-threaded : goal.returns-in-Const-clause-threaded

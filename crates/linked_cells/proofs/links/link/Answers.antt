@@ -1,7 +1,7 @@
 use Rattle.std.proofs.Common.{sym, ◌∙◌}
 use Rattle.linked_cells.proofs.Threads.{linked, first_there, written_there, matched_there}
 use Rattle.linked_cells.specs.Cells.{slot_at, first_at}
-use Rattle.linked_cells.proofs.Writing.{found_loose}
+use Rattle.linked_cells.proofs.Writes.{found_loose}
 use Rattle.linked_cells.proofs.links.link.Goals as goal
 
 pub set_before-requires : goal.set_before-requires

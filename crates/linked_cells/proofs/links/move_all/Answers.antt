@@ -1,8 +1,8 @@
 use Rattle.std.proofs.Common.{◌∙◌, sym}
 use Rattle.linked_cells.proofs.Threads.{first_there, after_there, matched_there}
-use Rattle.linked_cells.proofs.Moving.{moving_start, moving_last, moving_keeps, moving_joined}
+use Rattle.linked_cells.proofs.Moves.{moving_start, moving_last, moving_keeps, moving_joined}
 use Rattle.linked_cells.specs.Cells.{slot_at, first_at, slot_count, all_readers}
-use Rattle.linked_cells.proofs.Writing.{kept_there}
+use Rattle.linked_cells.proofs.Writes.{kept_there}
 use Rattle.linked_cells.proofs.Feeds.{stands_among_all, cells_moved}
 use Rattle.linked_cells.proofs.links.move_all.Goals as goal
 

@@ -1,6 +1,6 @@
 use Rattle.linked_cells.proofs.Threads.{loosely_written}
 use Rattle.linked_cells.specs.Cells.{slot_at, first_at}
-use Rattle.linked_cells.proofs.Writing.{const_loose}
+use Rattle.linked_cells.proofs.Writes.{const_loose}
 use Rattle.linked_cells.proofs.Operands.{feed_found, found_const}
 use Rattle.linked_cells.proofs.links.take.Goals as goal
 

@@ -1,5 +1,5 @@
 use Rattle.std.proofs.Common.{◌∙◌, sym}
-use Rattle.linked_cells.proofs.Moving.{moving_there, moving_step, moving_less}
+use Rattle.linked_cells.proofs.Moves.{moving_there, moving_step, moving_less}
 use Rattle.linked_cells.specs.Cells.{slot_at, slot_count}
 use Rattle.linked_cells.proofs.links.turn_all.Goals as goal
 

@@ -1,6 +1,6 @@
 use Rattle.linked_cells.proofs.Threads.{unlinked, neighbours_there, written_there, after_there, matched_there}
 use Rattle.linked_cells.specs.Cells.{slot_at, first_at}
-use Rattle.linked_cells.proofs.Writing.{found_on, const_loose}
+use Rattle.linked_cells.proofs.Writes.{found_on, const_loose}
 use Rattle.linked_cells.proofs.links.unlink.Goals as goal
 
 pub set_after-requires : goal.set_after-requires

@@ -1,5 +1,5 @@
 use Rattle.std.proofs.Common.{sym, arith}
-use Rattle.linked_cells.proofs.Writing.{place_within, none_there}
+use Rattle.linked_cells.proofs.Writes.{place_within, none_there}
 use Rattle.linked_cells.proofs.slots.link_to.Goals as goal
 
 pub prove-unreachable-requires : goal.prove-unreachable-requires

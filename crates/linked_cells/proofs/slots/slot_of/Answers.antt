@@ -1,6 +1,6 @@
 use Rattle.std.proofs.Common.{◌≡◌, sym, ◌∙◌, Some}
 use Rattle.numbered_places.specs.Places.{place_at}
-use Rattle.linked_cells.proofs.Writing.{slot_in, place_within, none_there}
+use Rattle.linked_cells.proofs.Writes.{slot_in, place_within, none_there}
 use Rattle.linked_cells.proofs.slots.slot_of.Goals as goal
 
 pub slot-requires : goal.slot-requires

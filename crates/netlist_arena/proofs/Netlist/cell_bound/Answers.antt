@@ -1,5 +1,5 @@
 use Rattle.std.proofs.Common.{arith}
-use Rattle.netlist_arena.proofs.Looking.{number_below}
+use Rattle.netlist_arena.proofs.Looks.{number_below}
 use Rattle.netlist_arena.proofs.Netlist.cell_bound.Goals as goal
 
 pub returns : goal.returns

@@ -1,5 +1,5 @@
 use Rattle.std.proofs.Common.{sym, ◌∙◌}
-use Rattle.netlist_arena.proofs.Placing.{count_cells}
+use Rattle.netlist_arena.proofs.CellPlaces.{count_cells}
 use Rattle.netlist_arena.proofs.Netlist.cell_count.Goals as goal
 
 pub returns : goal.returns

@@ -3,7 +3,7 @@ use Rattle.linked_cells.proofs.list_laws.Options.{some_there}
 use Rattle.linked_cells.specs.Cells.{cells_of, feed_in, driver_at}
 use Rattle.netlist_arena.proofs.NetDrivers.{drivers_same, outputs_connected}
 use Rattle.linked_cells.proofs.Operands.{slot_there}
-use Rattle.linked_cells.proofs.Writing.{nets_same, kept_there, length_kept, driver_kept}
+use Rattle.linked_cells.proofs.Writes.{nets_same, kept_there, length_kept, driver_kept}
 use Rattle.netlist_arena.proofs.Lists.{feed_there, operand_there, connected_below, connected_counts}
 use Rattle.netlist_arena.proofs.Netlist.connect.Goals as goal
 

@@ -1,7 +1,7 @@
 use Rattle.std.proofs.Common.{length}
 use Rattle.linked_cells.specs.Cells.{cell_view}
 use Rattle.netlist_arena.proofs.Laid.{feed_below}
-use Rattle.netlist_arena.proofs.Looking.{operand_within, operand_is, slot_feed}
+use Rattle.netlist_arena.proofs.Looks.{operand_within, operand_is, slot_feed}
 use Rattle.netlist_arena.proofs.Netlist.feed.Goals as goal
 
 pub slot-slot-requires : goal.slot-slot-requires

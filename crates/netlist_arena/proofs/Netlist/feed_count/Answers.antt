@@ -1,6 +1,6 @@
 use Rattle.std.proofs.Common.{ℕ, sym, ◌∙◌, ap, Some, subst}
 use Rattle.linked_cells.specs.cell_library.Gates.{Takes}
-use Rattle.netlist_arena.proofs.Looking.{operand_count}
+use Rattle.netlist_arena.proofs.Looks.{operand_count}
 use Rattle.netlist_arena.proofs.Netlist.feed_count.Goals as goal
 
 pub returns-clause-takes : goal.returns-clause-takes

@@ -1,7 +1,7 @@
 use Rattle.std.proofs.Common.{◌≡◌, sym, Some, refl}
 use Rattle.linked_cells.specs.numbered_places.Places.{place_at}
-use Rattle.netlist_arena.proofs.Placing.{place_view}
-use Rattle.netlist_arena.proofs.Looking.{no_cell}
+use Rattle.netlist_arena.proofs.CellPlaces.{place_view}
+use Rattle.netlist_arena.proofs.Looks.{no_cell}
 use Rattle.netlist_arena.proofs.Netlist.is_live.Goals as goal
 
 pub returns-in-Some : goal.returns-in-Some

@@ -11,8 +11,8 @@ use Rattle.linked_cells.specs.Cells.{cells_of, nets_of, slot_at, first_at, drive
 use Rattle.netlist_arena.specs.Drivers.{AreDrivers}
 use Rattle.netlist_arena.proofs.Lists.{net_there, views_same, views_there, still_there}
 use Rattle.netlist_arena.proofs.NetDrivers.{drivers_single}
-use Rattle.netlist_arena.proofs.Driving.{driver_moves, drivers_moved}
-use Rattle.netlist_arena.proofs.Placing.{live_place}
+use Rattle.netlist_arena.proofs.DrivenNets.{driver_moves, drivers_moved}
+use Rattle.netlist_arena.proofs.CellPlaces.{live_place}
 use Rattle.netlist_arena.proofs.Netlist.move_driver.Goals as goal
 
 driven_below : (N : NetlistView) (net : ℕ) → IsDriven N net → All (IsPlaceBelow (length N.nets)) N.cells → net < length N.nets

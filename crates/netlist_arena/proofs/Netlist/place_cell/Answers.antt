@@ -3,7 +3,7 @@ use Rattle.linked_cells.specs.netlist_model.Lists.{CellView, NetlistView}
 use Rattle.netlist_arena.proofs.Puts.{puts_adds, puts_below, puts_counts}
 use Rattle.linked_cells.proofs.Threads.{threaded_loosely}
 use Rattle.linked_cells.specs.Cells.{cells_of, nets_of, slot_at, first_at, driver_at}
-use Rattle.linked_cells.proofs.Writing.{nets_same, kept_there, length_kept, driver_kept}
+use Rattle.linked_cells.proofs.Writes.{nets_same, kept_there, length_kept, driver_kept}
 use Rattle.netlist_arena.proofs.Lists.{feed_there, output_there, output_in_range, views_same, views_there}
 use Rattle.netlist_arena.proofs.NetDrivers.{drivers_same, drivers_added}
 use Rattle.netlist_arena.proofs.Netlist.place_cell.Goals as goal

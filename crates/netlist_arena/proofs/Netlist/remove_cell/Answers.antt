@@ -6,11 +6,11 @@ use Rattle.netlist_arena.proofs.Puts.{emptied}
 use Rattle.netlist_arena.proofs.Single.{undriven_removed}
 use Rattle.linked_cells.proofs.Threads.{threaded_loosely}
 use Rattle.linked_cells.specs.Cells.{cells_of, nets_of, slot_at, first_at, driver_at}
-use Rattle.linked_cells.proofs.Writing.{nets_same, kept_there, length_kept, driver_kept}
+use Rattle.linked_cells.proofs.Writes.{nets_same, kept_there, length_kept, driver_kept}
 use Rattle.netlist_arena.proofs.Lists.{operand_there, output_place, views_same, views_there}
 use Rattle.netlist_arena.proofs.NetDrivers.{drivers_same, drivers_single, drivers_removed}
-use Rattle.netlist_arena.proofs.Placing.{remove_threaded}
-use Rattle.netlist_arena.proofs.Removing.{removing, output_of_live}
+use Rattle.netlist_arena.proofs.CellPlaces.{remove_threaded}
+use Rattle.netlist_arena.proofs.Removals.{removing, output_of_live}
 use Rattle.netlist_arena.proofs.Netlist.remove_cell.Goals as goal
 
 pub clear_all-requires-clause-nets : goal.clear_all-requires-clause-nets

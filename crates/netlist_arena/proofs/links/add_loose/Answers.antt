@@ -1,6 +1,6 @@
 use Rattle.std.proofs.Common.{length}
 use Rattle.linked_cells.specs.Cells.{cells_of, first_at}
-use Rattle.netlist_arena.proofs.Placing.{put_at, put_threaded, put_blank, put_given}
+use Rattle.netlist_arena.proofs.CellPlaces.{put_at, put_threaded, put_blank, put_given}
 use Rattle.netlist_arena.proofs.links.add_loose.Goals as goal
 
 pub give_all-requires-clause-threaded : goal.give_all-requires-clause-threaded

@@ -1,4 +1,4 @@
-use Rattle.netlist_arena.proofs.Driving.{driven_slots, driven_cells}
+use Rattle.netlist_arena.proofs.DrivenNets.{driven_slots, driven_cells}
 use Rattle.netlist_arena.proofs.links.drive.Goals as goal
 
 pub returns-clause-slots : goal.returns-clause-slots

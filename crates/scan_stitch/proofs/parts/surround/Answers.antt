@@ -6,7 +6,7 @@ use Rattle.plan_fitting.specs.declared.fitted.FitRow.{FitRow}
 use Rattle.scan_parts.specs.stitch_model.Sites.{sides_of}
 use Rattle.scan_parts.specs.stitch_model.Stitched.{with_nets}
 use Rattle.scan_parts.specs.scan_sides.Pins.{ArePinsThere, AreFew}
-use Rattle.scan_stitch.specs.Stitching.{nets_around}
+use Rattle.scan_stitch.specs.Stitched.{nets_around}
 use Rattle.scan_stitch.proofs.Joined.{nets_joined, first_is, can_stand, surrounded_is}
 use Rattle.scan_stitch.proofs.parts.surround.Goals as goal
 

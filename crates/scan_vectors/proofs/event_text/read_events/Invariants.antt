@@ -1,6 +1,6 @@
 use Rattle.std.proofs.Common.{◌≤◌, ◌+◌, length}
 use Rattle.line_texts.specs.Words.{lines_of}
-use Rattle.scan_vectors.specs.Reading.{IsReading}
+use Rattle.scan_vectors.specs.Reader.{IsReading}
 use Rattle.scan_vectors.proofs.event_text.read_events.Given as goal
 
 abbrev pub invariant-loop-rest : goal.invariant-loop-rest

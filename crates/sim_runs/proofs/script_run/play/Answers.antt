@@ -4,7 +4,7 @@ use Rattle.netlist_model.specs.Runs.{Moment}
 use Rattle.netlist_meaning.specs.Sims.{moment_of}
 use Rattle.sim_runs.specs.Runs.{IsRunOf}
 use Rattle.sim_runs.specs.Outputs.{misses, run_text}
-use Rattle.sim_runs.specs.Playing.{IsFirst}
+use Rattle.sim_runs.specs.PlayedScript.{IsFirst}
 use Rattle.sim_runs.proofs.Starts.{HasRun, has_run}
 use Rattle.sim_runs.proofs.script_run.play.Goals as goal
 

@@ -1,4 +1,4 @@
-use Rattle.status_texts.specs.Reading.{few_at}
+use Rattle.status_texts.specs.Reader.{few_at}
 use Rattle.status_texts.proofs.Few.{no_plan, plan_and_more, plan_alone, not_so}
 use Rattle.status_texts.proofs.reader.read_registers.Goals as goal
 

@@ -1,6 +1,6 @@
 use Rattle.std.proofs.Common.{ℕ, sym, ap, ◌∙◌}
 use Rattle.line_texts.specs.Ahead.{first_number}
-use Rattle.status_texts.specs.Reading.{status_at}
+use Rattle.status_texts.specs.Reader.{status_at}
 use Rattle.status_texts.proofs.Exact.{given_at_line, line_at_fault, read_is_spelled, told_is_free}
 use Rattle.status_texts.proofs.reader.read_status.Goals as goal
 

@@ -1,6 +1,6 @@
 use Rattle.std.proofs.Common.{Option, sym, ap, refl, ◌∙◌, arith}
 use Rattle.status_texts.specs.declared.plan.StatusRow.{StatusRow}
-use Rattle.status_texts.specs.Reading.{Rows, rest_if}
+use Rattle.status_texts.specs.Reader.{Rows, rest_if}
 use Rattle.status_texts.proofs.Few.{few_begins, few_goes_on, few_stops, few_fill}
 use Rattle.status_texts.proofs.reader.take_registers.Goals as goal
 

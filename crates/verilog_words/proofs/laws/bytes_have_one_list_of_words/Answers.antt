@@ -1,5 +1,5 @@
 use Rattle.std.proofs.lemmas.Option.{same_Some}
-use Rattle.verilog_words.proofs.Feeding.{unique}
+use Rattle.verilog_words.proofs.Feeds.{unique}
 use Rattle.verilog_words.proofs.laws.bytes_have_one_list_of_words.Goals as goal
 
 pub returns : goal.returns

@@ -1,7 +1,7 @@
 use Rattle.std.proofs.Common.{List, position, ◌∙◌, ap}
 use Rattle.bsdl_lexicon.specs.Names.{is_same_name}
 use Rattle.bsdl_lexicon.specs.declared.name_key.NameKey.{NameKey}
-use Rattle.bsdl_checks.proofs.Finding.{finds_entries}
+use Rattle.bsdl_checks.proofs.TableFinds.{finds_entries}
 use Rattle.bsdl_checks.proofs.pin_table.PinTable.of.Goals as goal
 
 pub invariant_of-result : goal.invariant_of-result

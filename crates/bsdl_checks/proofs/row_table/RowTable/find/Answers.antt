@@ -1,7 +1,7 @@
 use Rattle.std.proofs.Common.{◌≡◌, ℕ, List, Some, find, position, ◌∙◌, ap, sym}
 use Rattle.bsdl_device.specs.declared.entries.RowEntry.{RowEntry}
 use Rattle.bsdl_device.specs.Checks.{is_numbered}
-use Rattle.bsdl_checks.proofs.Tables.{found, not_found}
+use Rattle.bsdl_port_rules.proofs.Tables.{found, not_found}
 use Rattle.bsdl_checks.proofs.row_table.RowTable.find.Goals as goal
 
 pub returns-in-None : goal.returns-in-None

@@ -1,5 +1,5 @@
 use Rattle.std.proofs.Common.{ℕ, List, nat_eq, position, ◌∙◌, ap}
-use Rattle.bsdl_checks.proofs.Finding.{finds_rows}
+use Rattle.bsdl_checks.proofs.TableFinds.{finds_rows}
 use Rattle.bsdl_checks.proofs.row_table.RowTable.of.Goals as goal
 
 pub invariant_of-result : goal.invariant_of-result

@@ -2,7 +2,7 @@ use Rattle.std.proofs.Common.{◌++◌, sym, subst}
 use Rattle.bsdl_words.specs.Fed.{IsFault}
 use Rattle.bsdl_words.specs.Steps.{state_of}
 use Rattle.bsdl_words.specs.declared.fault.BsdlWordFault.{BsdlWordFault}
-use Rattle.bsdl_words.proofs.Feeding.{stops_fault, runs}
+use Rattle.bsdl_words.proofs.Feeds.{stops_fault, runs}
 use Rattle.bsdl_words.proofs.cutter.BsdlCutter.feed.Goals as goal
 
 pub returns-in-Err-clause-fault : goal.returns-in-Err-clause-fault

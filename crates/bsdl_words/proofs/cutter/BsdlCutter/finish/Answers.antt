@@ -3,7 +3,7 @@ use Rattle.std.proofs.lemmas.Option.{same_Some}
 use Rattle.bsdl_words.specs.Fed.{IsEndFault}
 use Rattle.bsdl_words.specs.Steps.{state_of}
 use Rattle.bsdl_words.specs.declared.fault.BsdlWordFault.{BsdlWordFault}
-use Rattle.bsdl_words.proofs.Feeding.{text_ends, text_end, text_fault, unique}
+use Rattle.bsdl_words.proofs.Feeds.{text_ends, text_end, text_fault, unique}
 use Rattle.bsdl_words.proofs.cutter.BsdlCutter.finish.Goals as goal
 
 pub returns-in-Err-clause-fault : goal.returns-in-Err-clause-fault

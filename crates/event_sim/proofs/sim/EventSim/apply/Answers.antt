@@ -1,7 +1,7 @@
 use Rattle.std.proofs.Common.{◌≡◌, ◌≤◌, ◌<◌, ◌+◌, ◌*◌, ◌∙◌, ℕ, sym, ap, length, arith}
 use Rattle.netlist_model.specs.Lists.{NetlistView}
 use Rattle.list_laws.proofs.Lists.{front_of}
-use Rattle.event_sim.proofs.Simming.{state_fits}
+use Rattle.event_sim.proofs.Simulators.{state_fits}
 use Rattle.event_sim.proofs.sim.EventSim.apply.Goals as goal
 
 pub take_event-requires-clause-fits : goal.take_event-requires-clause-fits

@@ -4,7 +4,7 @@ use Rattle.netlist_model.specs.declared.CellId.{CellId}
 use Rattle.netlist_arena.specs.Arena.{ArenaView}
 use Rattle.netlist_meaning.specs.States.{cell_bound}
 use Rattle.event_sim.specs.Shown.{shown_nets}
-use Rattle.event_sim.proofs.Showing.{shown_once, shown_below}
+use Rattle.event_sim.proofs.ShownBits.{shown_once, shown_below}
 use Rattle.event_sim.proofs.sim.EventSim.new.Goals as goal
 
 pub places_of-requires-clause-below : goal.places_of-requires-clause-below

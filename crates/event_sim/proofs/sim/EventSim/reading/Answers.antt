@@ -1,5 +1,5 @@
 use Rattle.std.proofs.Common.{◌≡◌}
-use Rattle.event_sim.proofs.Simming.{reading_kept}
+use Rattle.event_sim.proofs.Simulators.{reading_kept}
 use Rattle.event_sim.proofs.sim.EventSim.reading.Goals as goal
 
 pub returns : goal.returns

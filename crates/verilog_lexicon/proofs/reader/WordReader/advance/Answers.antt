@@ -1,6 +1,6 @@
 use Rattle.std.proofs.Common.{◌∙◌, ap}
 use Rattle.verilog_lexicon.specs.Words.{plain, rest}
-use Rattle.verilog_lexicon.proofs.Reading.{drop_one}
+use Rattle.verilog_lexicon.proofs.ReadWords.{drop_one}
 use Rattle.verilog_lexicon.proofs.reader.WordReader.advance.Goals as goal
 
 pub returns : goal.returns

@@ -2,7 +2,7 @@ use Rattle.std.proofs.Common.{◌++◌, sym, subst}
 use Rattle.verilog_words.specs.Fed.{IsFault}
 use Rattle.verilog_words.specs.Steps.{state_of}
 use Rattle.verilog_words.specs.declared.fault.WordFault.{WordFault}
-use Rattle.verilog_words.proofs.Feeding.{stops_fault, runs}
+use Rattle.verilog_words.proofs.Feeds.{stops_fault, runs}
 use Rattle.verilog_words.proofs.cutter.Cutter.feed.Goals as goal
 
 pub returns-in-Err-clause-fault : goal.returns-in-Err-clause-fault

@@ -3,7 +3,7 @@ use Rattle.std.proofs.lemmas.Option.{same_Some}
 use Rattle.verilog_words.specs.Fed.{IsEndFault}
 use Rattle.verilog_words.specs.Steps.{state_of}
 use Rattle.verilog_words.specs.declared.fault.WordFault.{WordFault}
-use Rattle.verilog_words.proofs.Feeding.{text_ends, text_end, text_fault, unique}
+use Rattle.verilog_words.proofs.Feeds.{text_ends, text_end, text_fault, unique}
 use Rattle.verilog_words.proofs.cutter.Cutter.finish.Goals as goal
 
 pub returns-in-Err-clause-fault : goal.returns-in-Err-clause-fault

@@ -1,5 +1,0 @@
-use Rattle.std.proofs.Common.{◌∙◌}
-use Rattle.bsdl_checks.proofs.controls.is_present.Goals as goal
-
-pub returns : goal.returns
-returns c = c.has_number.ensures ∙ c.requires.present c.args.number

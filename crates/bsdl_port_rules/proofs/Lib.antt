@@ -1,0 +1,4 @@
+pub mod Entries
+pub mod KeyLists
+pub mod Repeats
+pub mod Tables
