@@ -99,11 +99,13 @@ def cell_of(number, words):
     """The cell of a line; None where its form is none of a cell."""
     if words[0] == "flop" and len(words) > 2 and len(words) == 4 + len(FLOPS.get(words[2], ())):
         return Cell(words[1], words[3], words[4:], kind=words[2], number=number)
-    if words[0] != "gate" or words.count(":") != 1 or words.index(":") < 3:
+    if words[0] != "gate":
         return None
-    colon = words.index(":")
-    inputs, steps = words[3:colon], words[colon + 1 :]
-    return Cell(words[1], words[2], inputs, steps, number=number) if len(inputs) <= MOST_INPUTS and 1 <= len(steps) <= MOST_STEPS else None
+    # Of several `:` the first that fits parts the line.
+    for colon in range(3, min(len(words), 4 + MOST_INPUTS)):
+        if words[colon] == ":" and 1 <= len(words) - colon - 1 <= MOST_STEPS:
+            return Cell(words[1], words[2], words[3:colon], words[colon + 1 :], number=number)
+    return None
 
 
 def lines_of(text):

@@ -1,11 +1,13 @@
 -- What an insertion wrote is stripped.
-use Rattle.std.proofs.Common.{refl, sym, subst}
+use Rattle.std.proofs.Common.{refl, sym, subst, ◌∙◌}
 use Rattle.cell_library.specs.Sound.{IsLibrary}
+use Rattle.verilog_reading.specs.Conditions.{SpelledTreesKeepConditions}
 use Rattle.plan_fitting.specs.Devices.{device_of}
+use Rattle.strip_law.specs.Law.{OneNetlistGives}
 use Rattle.strip_law.specs.Answer.{RecoveredGives}
-use Rattle.insertion_laws.specs.Laws.{InsertionGives, InsertionIsStripped}
+use Rattle.insertion_laws.specs.Laws.{InsertionGives, InsertionIsStripped, InsertionComesBack}
 
-insertion : InsertionGives
+pub insertion : InsertionGives
 insertion library net plan verilog bsdl report i = record {
   is = i.is.is;
   listed = subst IsLibrary (sym i.is.library_is) i.is.listed;
@@ -21,6 +23,12 @@ insertion library net plan verilog bsdl report i = record {
   };
 }
 
-pub stripped : RecoveredGives → InsertionIsStripped
-stripped answers library net plan verilog bsdl report i tree =
-    answers i.is.tree i.is.linked i.is.wanted i.is.written_tree (device_of i.is.linked i.is.wanted i.is.fits.seen) tree (insertion library net plan verilog bsdl report i)
+pub stripped : RecoveredGives → SpelledTreesKeepConditions → InsertionIsStripped
+stripped answers keep library net plan verilog bsdl report i =
+    answers i.is.tree i.is.linked i.is.wanted i.is.written_tree (device_of i.is.linked i.is.wanted i.is.fits.seen) (keep verilog i.is.written_tree i.is.spells_written)
+    (insertion library net plan verilog bsdl report i)
+
+pub comes_back : OneNetlistGives → InsertionComesBack
+comes_back one library net plan verilog bsdl report i m L p is given =
+    one m i.is.tree L i.is.linked p i.is.wanted i.is.written_tree (device_of i.is.linked i.is.wanted i.is.fits.seen) (is ∙ sym i.is.library_is) given
+    (insertion library net plan verilog bsdl report i)

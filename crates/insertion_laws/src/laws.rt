@@ -1,13 +1,18 @@
-ghost use Rattle.insertion_laws.specs.Laws.{InsertionIsStripped, InsertionsBelongTogether};
+ghost use Rattle.insertion_laws.specs.Laws.{InsertionComesBack, InsertionGives, InsertionIsStripped, InsertionsBelongTogether};
 
 use plan_devices::fitted_is_fitting;
-use strip_law::recovered_gives;
+use strip_law::{one_netlist_gives, recovered_gives};
+use verilog_reading::spelled_trees_keep_the_conditions;
 
-/// A law: what an insertion wrote is stripped.
+/// A law: what an insertion wrote is given by the netlist and the plan that it read; so it is stripped, and no other netlist comes back.
 pub fn insertions_are_stripped()
-    ensures { InsertionIsStripped }
+    ensures gives { InsertionGives }
+    ensures stripped { InsertionIsStripped }
+    ensures comes_back { InsertionComesBack }
 {
     recovered_gives();
+    one_netlist_gives();
+    spelled_trees_keep_the_conditions();
 }
 
 /// A law: what `insert` writes is a netlist that keeps and realises, with its device.

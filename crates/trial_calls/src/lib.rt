@@ -1,5 +1,5 @@
 // Trials of calls that no command reaches, each once: refusals in memory, real files and standard output, texts that are cut or come
-// back, and the test logic of a device at work.
+// back, libraries, modules of a text, the test logic of a device at work, and what was built in taken out again.
 // Each trial is a test; what it wants was worked out by hand.
 // Own: commands are tried by `worked_rows`.
 #![tactic(auto)]
@@ -11,6 +11,8 @@ mod calls;
 #[cfg(test)]
 mod devices;
 #[cfg(test)]
+mod hierarchies;
+#[cfg(test)]
 mod libraries;
 #[cfg(test)]
 mod outside;
@@ -18,3 +20,5 @@ mod outside;
 mod plans;
 #[cfg(test)]
 mod remembered;
+#[cfg(test)]
+mod stripped;

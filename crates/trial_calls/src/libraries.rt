@@ -1,5 +1,6 @@
 // Texts of libraries with what is told of them, with memory enough.
 use cell_text::{LibFault, print_library, read_library};
+use edge_io::Text;
 use signal_values::Sig;
 use std::alloc::Global;
 use std::test::Fail;
@@ -173,5 +174,22 @@ fn a_library_gives_values_and_is_printed(rt: HostRuntime) -> Result<(), Fail> {
     let wanted =
         b"cells 1\ngate AOI21 Y A B C : A B and C or not\nflop F DFFNS Q D C S\n".as_slice();
     assert!(rt; printed.as_bytes() == wanted);
+    Ok(())
+}
+
+// The canonical text of what a text spells, after a copy.
+fn printed_again(alloc: Global, text: &[u8]) -> Result<Text, Fail> {
+    let read = read_library(alloc, text)?;
+    let copy = read.copy(alloc)?;
+    Ok(print_library(alloc, &copy)?)
+}
+
+#[test]
+fn a_library_of_one_cell_reads_back(rt: HostRuntime) -> Result<(), Fail> {
+    let wanted = b"cells 1\ngate AOI21 Y A B C : A B and C or not\n".as_slice();
+    let once = printed_again(rt.alloc(), wanted)?;
+    assert!(rt; once.as_bytes() == wanted);
+    let twice = printed_again(rt.alloc(), once.as_bytes())?;
+    assert!(rt; twice.as_bytes() == wanted);
     Ok(())
 }
