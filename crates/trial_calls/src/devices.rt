@@ -63,15 +63,15 @@ fn look_at_scans(rt: &impl Abort, machine: &mut Machine, captured: &[Sig])
     assert_eq!(rt; machine.tdo(), PinSig::HighZ);
     // Update-DR, Select-DR-Scan, Select-IR-Scan, Capture-IR, Shift-IR.
     walk(machine, captured, &[true, true, true, false, false]);
-    // It captures 0001, and no instruction has the opcode 1010.
-    assert_eq!(rt; scan(machine, captured, 4, 10), Some(1));
+    // It captures 0001 and then shows what went in, 1, 0, 1, 1; behind these goes 0110, which is no instruction's opcode.
+    assert_eq!(rt; scan(machine, captured, 8, 109), Some(209));
     assert_eq!(rt; machine.in_effect(), Instr::Idcode);
     // Update-IR.
     walk(machine, captured, &[true]);
     assert_eq!(rt; machine.in_effect(), Instr::Bypass);
-    // Select-DR-Scan, Capture-DR, Shift-DR: of 181 the bits 0 to 6 come out behind a 0, which is 2 * 53.
+    // Select-DR-Scan, Capture-DR, Shift-DR: 1, 0, 1 go in, and 0, 1, 0 come out.
     walk(machine, captured, &[true, false, false]);
-    assert_eq!(rt; scan(machine, captured, 8, 181), Some(106));
+    assert_eq!(rt; scan(machine, captured, 3, 5), Some(2));
     machine.reset();
     assert_eq!(rt; machine.in_effect(), Instr::Idcode);
 }

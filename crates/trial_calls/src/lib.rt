@@ -17,6 +17,8 @@ mod libraries;
 #[cfg(test)]
 mod outside;
 #[cfg(test)]
+mod pieces;
+#[cfg(test)]
 mod plans;
 #[cfg(test)]
 mod remembered;
