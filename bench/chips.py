@@ -30,7 +30,7 @@ def chains():
 
 
 def fans(parts):
-    """As many inputs as there can be, and a part of the buffers that there is room for, which the inputs feed in turn."""
+    """As many inputs as there can be, and a part of the buffers that find room, which the inputs feed in turn."""
     count = (LIMIT - room(INPUTS)) // parts
     yield f"module fans (input [{INPUTS - 1}:0] a);"
     yield f"  wire [{count - 1}:0] w;"

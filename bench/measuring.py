@@ -1,5 +1,5 @@
 """What the benchmarks share: netlists, plans, and runs that are timed."""
-import os, re, subprocess, sys, time
+import os, re, subprocess, sys, tempfile, time
 
 TOP = os.path.dirname(os.path.dirname(os.path.abspath(__file__)))
 PROGRAM = os.path.join(TOP, "crates/lavkhind/out/lavkhind")
@@ -104,6 +104,19 @@ def run(words, runs=RUNS, wanted=0):
         best = spent if best is None else min(best, spent)
         peak = max(peak, usage.ru_maxrss * 1024)
     return best, peak
+
+
+def folder_given(usage):
+    """The folder of the command line, or a new one; the script ends with its usage where other words are given."""
+    words = sys.argv[1:]
+    if "--help" in words:
+        print(usage)
+        sys.exit()
+    if len(words) > 1 or any(word.startswith("-") for word in words):
+        sys.exit(usage)
+    folder = words[0] if words else tempfile.mkdtemp(prefix="lavkhind-bench-")
+    os.makedirs(folder, exist_ok=True)
+    return folder
 
 
 def build():
