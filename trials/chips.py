@@ -10,10 +10,11 @@ WORD = re.compile(r"\\\S+\s|1'[bBoOdDhH][01]|[A-Za-z_][\w$]*|\d+|\S")
 
 
 def words_given(usage):
-    """The program and the words of the command line without it; a line of usage where they are asked for."""
+    """The program, and the words of the command line without it; or the usage, where that is asked for, and the end."""
     words = sys.argv[1:]
     if "--help" in words or "-h" in words:
-        sys.exit(usage)
+        print(usage)
+        sys.exit()
     if "--program" not in words:
         if not os.path.exists(PROGRAM):
             sys.exit("there is no proved program: ./prove makes it")
