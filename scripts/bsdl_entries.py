@@ -1,6 +1,6 @@
 """What the strings and sections of a BSDL file break: the entry, and the rule, by a reader of its own.
 
-The program tells the string or the section, in the files that it refuses; it is the program that says whether one is refused.
+The program tells the string or the section, in the files that it refuses; the program alone says whether one is.
 """
 import bisect, re
 
@@ -586,7 +586,7 @@ def is_bsdl(text):
 
 
 def broken_at(text, place):
-    """What is broken in the string, or in the section, whose first byte is at the place; None where nothing is found."""
+    """What is broken in the string or section whose first byte is at the place; None where nothing is found."""
     try:
         sections = Sections(text)
         name, is_string = sections.at_place(place)

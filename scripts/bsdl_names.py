@@ -1,4 +1,4 @@
-"""Which names can stand in a BSDL file: names of VHDL that aren't reserved; and the words that BSDL's annex reserves besides."""
+"""Which names can stand in a BSDL file: those of VHDL that aren't reserved; and what BSDL's annex reserves besides."""
 import re
 
 # The reserved words of VHDL-93; `insert` and `showbsdl` refuse them as names.
@@ -12,7 +12,7 @@ VHDL = frozenset(
     """.split()
 )
 
-# The words that BSDL's own annex reserves, beside BC_0 to BC_99; `insert` writes them, and other readers refuse the file.
+# The words that BSDL's own annex reserves, beside BC_0 to BC_99; `insert` writes them; other readers refuse some.
 ANNEX = frozenset(
     """
     at_pins bidir bidir_in bidir_out both boundary boundary_length boundary_register bsdl_extension bypass cap cap_data captures

@@ -11,7 +11,8 @@ LEVELS = (("+|", "or"), ("*&", "and"), ("^", "xor"))
 
 
 class Function:
-    """A function as steps, operands first. `'` and `!` bind most, then `^`, then `*`, `&` and a blank, then `+` and `|`."""
+    """A function as steps, operands first. `'` and `!` bind most, then `^`, then `*`, `&` and a blank, then `+` and
+    `|`."""
 
     def __init__(self, text):
         self.words, place, text = [], 0, text.strip()
@@ -186,7 +187,8 @@ class Liberty:
 
     def __init__(self, path):
         self.path, self.cells, self.areas, self.left_out, self.notes = path, [], {}, {}, {}
-        # Of those that are left out: which synthesis can put gates in the place of, and models of those with three states.
+        # Of those that are left out: which synthesis can put gates in the place of, and models of those with three
+        # states.
         self.logic, self.three_states = set(), {}
         for group in read_liberty(path, text_of(path)).of_kind("cell"):
             found = LibertyCell(group)

@@ -1,4 +1,4 @@
-"""Libraries of cells, as `insert`, `check` and `sim` read them: their lines, the rules on them, and models of their cells."""
+"""Libraries of cells, as the commands read them: their lines, the rules on them, and models of their cells."""
 import re
 from dataclasses import dataclass
 from typing import List

@@ -1,5 +1,6 @@
-"""The test logic of a device at work, by IEEE Std 1149.1-2001: the controller, the registers, and what is known at the pins where
-nothing is known of the core. Bits are 0, 1 and X; a pin may be Z besides. In a list of bits place 0 is nearest TDO."""
+"""The test logic of a device at work, by IEEE Std 1149.1-2001: the controller, the registers, and what is known at the
+pins where nothing is known of the core. Bits are 0, 1 and X; a pin may be Z besides. In a list of bits place 0 is
+nearest TDO."""
 from collections import deque
 
 from boundary import BOUNDARY, BYPASS, DEVICE_ID, REGISTERS

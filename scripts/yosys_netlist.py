@@ -65,8 +65,8 @@ def net_names(module):
 class Netlist:
     """The module in the netlist language.
 
-    `narrow` are the ports of the range [0:0], `listed` the cells of a library by name, `flops` those that stand for known kinds, and `renamed`
-    other names of ports.
+    `narrow` are the ports of the range [0:0], `listed` the cells of a library by name, `flops` those that stand for
+    known kinds, and `renamed` other names of ports.
     """
 
     def __init__(self, name, module, narrow=(), listed=None, flops=None, renamed=None):
@@ -78,7 +78,8 @@ class Netlist:
         self.names = Names([*self.ports, *(cell for cell, what in self.cells.items() if not what.get("hide_name"))], module["netnames"])
         self.rtl_names = net_names(module)
         self.items, self.wires, self.counts = [], [], {}
-        # The word of each bit that is a net, and the bare name of it; the drivers of pins that need a bufif1 of their own.
+        # The word of each bit that is a net, and the bare name of it; the drivers of pins that need a bufif1 of their
+        # own.
         self.nets, self.bare, self.moved, self.inouts = {}, {}, {}, set()
         self.three_states = {what["connections"]["Y"][0]: what for what in self.cells.values() if what["type"] == THREE_STATES}
         self.driven = {bits[0] for what in self.cells.values() for port, bits in what["connections"].items() if bits and self.is_output(what, port)}
@@ -92,7 +93,7 @@ class Netlist:
         return cell.get("port_directions", {}).get(port) == "output" or (cell["type"] in self.listed and self.listed[cell["type"]].out == port)
 
     def place_ports(self):
-        """Inputs and inouts are the nets of their bits, then outputs; a port bit whose net is another's is fed by it."""
+        """Inputs and inouts are their bits' nets, then outputs; a port bit whose net is another's is fed by it."""
         order = {"input": 0, "inout": 1, "output": 2}
         fed = []
         for port, (direction, bits) in sorted(self.ports.items(), key=lambda it: order[it[1][0]]):

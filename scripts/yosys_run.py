@@ -9,7 +9,8 @@ from yosys_netlist import module_of, net_names
 
 # What yosys comes to, where no library says else.
 OWN_GATES = "abc -g AND,NAND,OR,NOR,XOR,XNOR,MUX"
-# Cells that hold values and that no flip-flop of the netlist language is, by their kinds: what they are, and what can be done.
+# Cells that hold values and that no flip-flop of the netlist language is, by their kinds: what they are, and what can
+# be done.
 HELD = (
     (r"\$_DLATCH_[NP]_|\$_DLATCH_[NP][NP][01]_|\$_SR_", "a latch", "give it a value in each case (often an `always @*` leaves one out), or take the clock gate out"),
     (r"\$_DFFSRE?_\w+_|\$_DLATCHSR_\w+_", "both cleared and preset", "take one of the two"),
@@ -40,7 +41,8 @@ def quoted(word):
 
 
 def library_steps(design, room):
-    """Reads the library: a cell of it that RTL names stays, but for one that isn't listed and whose function says all of it."""
+    """Reads the library: a cell of it that RTL names stays, but for one that isn't listed and whose function says all
+    of it."""
     liberty, models = design.liberty, os.path.join(room, "three_states.v")
     own = set(re.findall(r"\bmodule\s+\\?(\w+)", "\n".join(map(text_of, design.files))))
     keep(models, "".join(model for name, model in liberty.three_states.items() if name not in own))

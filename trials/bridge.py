@@ -5,7 +5,8 @@ from chips import CELLS, keep, run, spelled
 
 
 def bench(module, tap, values):
-    """A bench that does what remote_bitbang asks for on its standard input, with these values at the inputs; it ends with the readings."""
+    """A bench that does what remote_bitbang asks for on its standard input, with these values at the inputs; it ends
+    with the readings."""
     inputs = [(number, port) for number, port in enumerate(module.ports) if port.direction == "input"]
     names = {port.name: f"p{number}" for number, port in enumerate(module.ports)}
     clock, mode, data, out, reset = (names[tap[name]] for name in ("CLOCK", "MODE", "IN", "OUT", "RESET"))

@@ -96,7 +96,8 @@ class Port:
 
 
 class Item:
-    """A gate, an instance or an assignment: its kind, its name or None, and its operands or links as they are spelled."""
+    """A gate, an instance or an assignment: its kind, its name or None, and its operands or links as they are
+    spelled."""
 
     def __init__(self, kind, name, operands, links):
         self.kind, self.name, self.operands, self.links = kind, name, operands, links

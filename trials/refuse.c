@@ -1,5 +1,6 @@
-/* Loaded before a program (LD_PRELOAD): refuses its allocation number REFUSE, counted from 1, and with REFUSE_ALL=1 all after it too.
-   With REFUSE=0 nothing is refused, and the count of allocations is written to the file that REFUSE_COUNT names. */
+/* Loaded before a program (LD_PRELOAD): refuses its allocation number REFUSE, counted from 1, and with REFUSE_ALL=1 all
+   after it too. With REFUSE=0 nothing is refused, and the count of allocations is written to the file that REFUSE_COUNT
+   names. */
 #define _GNU_SOURCE
 #include <dlfcn.h>
 #include <errno.h>

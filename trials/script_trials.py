@@ -17,7 +17,8 @@ def script(name, *words):
 
 
 def refusals(name, cases):
-    """Runs of a script on wrong input, by what is wrong: each must say so in a line, with a status other than 0, and no traceback."""
+    """Runs of a script on wrong input, by what is wrong: each must say so in a line, with a status other than 0, and no
+    traceback."""
     for what, words in cases.items():
         done = subprocess.run([sys.executable, os.path.join(SCRIPTS, name), *words], stdin=subprocess.DEVNULL, capture_output=True, text=True)
         said = done.stderr.strip().split("\n")

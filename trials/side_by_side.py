@@ -1,8 +1,9 @@
-"""A netlist with many changed copies, one change each, played side by side: bit m of each value belongs to copy m, and copy 0 is
-unchanged. It means what `check` means: all settles before flip-flops step, which take the D of before the event.
+"""A netlist with many changed copies, one change each, played side by side: bit m of each value belongs to copy m, and
+copy 0 is unchanged. It means what `check` means: all settles before flip-flops step, which take the D of before the
+event.
 
-A value is a pair of numbers, the copies in which it is 1 and those in which it is 0; in the others it is unknown. A pin has a third
-number: the copies in which it is let go."""
+A value is a pair of numbers, the copies in which it is 1 and those in which it is 0; in the others it is unknown. A pin
+has a third number: the copies in which it is let go."""
 import heapq
 from functools import reduce
 
@@ -68,7 +69,8 @@ class Cell:
             self.operands = [item.links[name] for name in names if name in item.links]
         else:
             self.output, self.operands = item.operands[0], item.operands[1:]
-        # What it is in some of the copies: the copy's bit, its kind and its operands; and copies in which its output is stuck.
+        # What it is in some of the copies: the copy's bit, its kind and its operands; and copies in which its output is
+        # stuck.
         self.every_change, self.stuck = [], [0, 0]
         # Those of them that are still played.
         self.changes = []

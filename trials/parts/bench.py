@@ -18,7 +18,8 @@ def played(room, bsdl, events, netlist, *more):
 
 
 def apart(room, netlist):
-    """The netlist with its inner vectors as single wires: Icarus takes minutes over a vector of thousands of bits that gates drive one by one."""
+    """The netlist with its inner vectors as single wires: Icarus takes minutes over a vector of thousands of bits that
+    gates drive one by one."""
     text = text_of(netlist)
     for left, right, name in re.findall(r"^  wire \[(\d+):(\d+)\] (\w+);$", text, re.M):
         low, high = sorted((int(left), int(right)))
@@ -29,7 +30,8 @@ def apart(room, netlist):
 
 
 def spoiled(room, netlist):
-    """The netlist with an inserted flip-flop that isn't cleared by TRST, but whose D is stuck: it is unknown at first, and then 0."""
+    """The netlist with an inserted flip-flop that isn't cleared by TRST, but whose D is stuck: it is unknown at first,
+    and then 0."""
     text, count = re.subn(r"(DFFR bs_c\d+ \(\.D\()\w+(\).*)", r"\g<1>1'b0\2", text_of(netlist), count=1)
     if not count:
         sys.exit(f"{netlist} has no inserted flip-flop")

@@ -1,4 +1,5 @@
-"""The pictures of scripts/draw hold each pin, port and cell once, and no cell stands on another; the table has a line for each."""
+"""The pictures of scripts/draw hold each pin, port and cell once, and no cell stands on another; the table has a line
+for each."""
 import os, re, sys
 from xml.etree import ElementTree
 

@@ -1,4 +1,5 @@
-"""Netlists of scripts/from_rtl, and of yosys' own recipe, do what the RTL does, up to the chip that `insert` makes; and what is refused is told by the RTL's names."""
+"""Netlists of scripts/from_rtl, and of yosys' own recipe, do what the RTL does, up to the chip that `insert` makes; and
+what is refused is told by the RTL's names."""
 import os, re, shutil, subprocess, sys
 
 from chips import CELLS, TOP, keep, run, text_of

@@ -1,4 +1,5 @@
-"""The program of scripts/long_program is met by each chip, visits each transition, and finds rows that were exchanged."""
+"""The program of scripts/long_program is met by each chip, visits each transition, and finds rows that were
+exchanged."""
 import itertools, os, re, sys
 
 from chips import keep, run, text_of

@@ -1,4 +1,5 @@
-"""The commands of docs/MANUAL.md, typed in an empty folder in a copy of the repository, print the lines that stand under them there."""
+"""The commands of docs/MANUAL.md, typed in an empty folder in a copy of the repository, print the lines that stand
+under them there."""
 import os, re, shutil, subprocess, sys
 from dataclasses import dataclass, field
 from typing import List

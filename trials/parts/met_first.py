@@ -59,7 +59,8 @@ NETLISTS = (
     (module(""), "NotDriven y"),
     (module("buf (y, a);", "input a, input a, output y"), "NameTwice a"),
 )
-# Changes of the counter's plan, and the fault; of PlanLine the line is the one that has the new text, but where a text is said.
+# Changes of the counter's plan, and the fault; of PlanLine the line is the one that has the new text, but where a text
+# is said.
 PLANS = (
     ("length 4\n", "length 4 # four\n", "PlanLine"),
     ("control BC_1\n", f"usercode {'01' * 16}\ncontrol BC_1\n", "PlanLine"),

@@ -99,7 +99,8 @@ ALIKE = (
 
 
 def changed_words(program, room, text):
-    """Words changed by chance for others alike: what the program refuses by a rule, or within a string, is told, and nothing is of what it takes."""
+    """Words changed by chance for others alike: what the program refuses by a rule, or within a string, is told, and
+    nothing is of what it takes."""
     path, chance, counts = os.path.join(room, "changed.bsd"), random.Random(2), [0, 0]
     spots = [(found, words.split()) for found in re.finditer(r"\w+", text) for words in ALIKE if found[0] in words.split()]
     for _ in range(CHANGES):

@@ -1,5 +1,5 @@
-"""OpenOCD plays the SVF of scripts/svf on the written netlist, which Icarus simulates: without a mismatch, and with one where the
-BSDL file says something else."""
+"""OpenOCD plays the SVF of scripts/svf on the written netlist, which Icarus simulates: without a mismatch, and with one
+where the BSDL file says something else."""
 import os, re, sys
 
 from bridge import bench, bridged, simulated
@@ -65,7 +65,8 @@ def chain(program, room, chips):
     return "two chips in a chain: each passes with its header and trailer, and not without"
 
 
-# Two counters in a chain, the first one's q[0] (cell 12, under control cell 5) wired to the last one's en (cell 2): the example of the manual.
+# Two counters in a chain, the first one's q[0] (cell 12, under control cell 5) wired to the last one's en (cell 2): the
+# example of the manual.
 BOARD = """module board (input TCK, input TMS, input TDI, output TDO, input TRST);
   wire between;
   wire [7:0] q, r;

@@ -1,4 +1,5 @@
-"""Each script that reads a chip is tried on the greatest demonstration chip, of 100,138 cells, and on the chip of examples/synthesis."""
+"""Each script that reads a chip is tried on the greatest demonstration chip, of 100,138 cells, and on the chip of
+examples/synthesis."""
 import os
 
 from chips import TOP, keep, run, text_of
