@@ -1,0 +1,3 @@
+pub mod Told
+pub mod Added
+pub mod Feeds
