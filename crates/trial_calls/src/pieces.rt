@@ -1,4 +1,6 @@
 // The words of a text that comes in two pieces.
+use std::alloc::Global;
+use std::process::Abort;
 use std::test::Fail;
 use verilog_lexicon::Words;
 use verilog_words::Cutter;
@@ -28,17 +30,28 @@ fn are_same_words(one: &Words, other: &Words) -> bool {
     one.len() == other.len() && one.end() == other.end()
 }
 
-#[test]
-fn a_text_in_two_pieces_has_the_words_of_the_whole(rt: HostRuntime) -> Result<(), Fail> {
-    let mut whole = Cutter::new(rt.alloc());
-    whole.feed(WHOLE)?;
-    let whole = whole.finish()?;
-    let mut pieces = Cutter::new(rt.alloc());
-    pieces.feed(FRONT)?;
-    pieces.feed(REST)?;
-    let pieces = pieces.finish()?;
+fn words_of(alloc: Global, pieces: &[&[u8]]) -> Result<Words, Fail> {
+    let mut cutter = Cutter::new(alloc);
+    for piece in pieces {
+        cutter.feed(piece)?;
+    }
+    Ok(cutter.finish()?)
+}
+
+fn look_at_words(rt: &impl Abort, whole: &Words, pieces: &Words) -> Result<(), Fail> {
     assert_eq!(rt; whole.len(), 18);
     assert!(rt; whole.name_at(4) == Some(br"a+b".as_slice()));
-    assert!(rt; are_same_words(&whole, &pieces));
+    assert!(rt; are_same_words(whole, pieces));
     Ok(())
+}
+
+fn look_at_pieces(rt: &impl Abort, alloc: Global, whole: &Words) -> Result<(), Fail> {
+    let pieces = words_of(alloc, &[FRONT, REST])?;
+    look_at_words(rt, whole, &pieces)
+}
+
+#[test]
+fn a_text_in_two_pieces_has_the_words_of_the_whole(rt: HostRuntime) -> Result<(), Fail> {
+    let whole = words_of(rt.alloc(), &[WHOLE])?;
+    look_at_pieces(&rt, rt.alloc(), &whole)
 }
