@@ -22,6 +22,7 @@ impl Model for Calls {
 }
 
 impl Calls {
+    /// No call is listed, and none was made.
     pub fn new(alloc: Global) -> Calls
         ensures { result ≡ record { listed = []; made = 0; faults = 0 } }
     {

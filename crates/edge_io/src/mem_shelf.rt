@@ -101,7 +101,7 @@ impl MemShelf {
     }
 }
 
-// Copies what fits, from this place on.
+/// Copies what fits, from this place on, and answers how much.
 pub fn copy_at(from: &[u8], at: u64, into: &mut [u8]) -> usize
     ensures count { result ≤ length into.new }
     ensures reads { Reads at result into.new from.now }

@@ -68,6 +68,7 @@ impl Reserved {
         self.bytes.clear();
     }
 
+    /// The bytes that are there.
     pub fn as_bytes(&self) -> &[u8]
         ensures { result.now ≡ self.now.bytes }
     {

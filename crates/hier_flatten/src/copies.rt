@@ -8,6 +8,7 @@ use std::alloc::Global;
 use texts::{OutOfMemory, Row, Text};
 use verilog_tree::{Bit, Gate, Instance, Item, Link, Operand};
 
+/// The bit at an occurrence, with a flat name.
 pub fn flat_bit(alloc: Global, at: &[&[u8]], bit: &Bit) -> Result<Bit, OutOfMemory>
     ensures { IfOk result (λ flat. flat ≡ names.flat_bit (texts at.now) bit.now) }
 {
@@ -17,6 +18,7 @@ pub fn flat_bit(alloc: Global, at: &[&[u8]], bit: &Bit) -> Result<Bit, OutOfMemo
     })
 }
 
+/// The operand at an occurrence, with flat names.
 pub fn flat_operand(alloc: Global, at: &[&[u8]], operand: &Operand) -> Result<Operand, OutOfMemory>
     ensures { IfOk result (λ flat. flat ≡ names.flat_operand (texts at.now) operand.now) }
 {

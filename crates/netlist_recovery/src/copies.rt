@@ -16,6 +16,7 @@ pub fn copy_name(alloc: Global, name: &Option<Text>) -> Result<Option<Text>, Out
     }
 }
 
+/// A copy of a bit.
 pub fn copy_bit(alloc: Global, bit: &Bit) -> Result<Bit, OutOfMemory>
     ensures { IfOk result (λ copy. copy ≡ bit.now) }
 {
@@ -25,6 +26,7 @@ pub fn copy_bit(alloc: Global, bit: &Bit) -> Result<Bit, OutOfMemory>
     })
 }
 
+/// A copy of an operand.
 pub fn copy_operand(alloc: Global, operand: &Operand) -> Result<Operand, OutOfMemory>
     ensures { IfOk result (λ copy. copy ≡ operand.now) }
 {
@@ -34,6 +36,7 @@ pub fn copy_operand(alloc: Global, operand: &Operand) -> Result<Operand, OutOfMe
     }
 }
 
+/// A copy of a port.
 pub fn copy_port(alloc: Global, port: &Port) -> Result<Port, OutOfMemory>
     ensures { IfOk result (λ copy. copy ≡ port.now) }
 {
@@ -44,6 +47,7 @@ pub fn copy_port(alloc: Global, port: &Port) -> Result<Port, OutOfMemory>
     })
 }
 
+/// A copy of a wire.
 pub fn copy_wire(alloc: Global, wire: &Wire) -> Result<Wire, OutOfMemory>
     ensures { IfOk result (λ copy. copy ≡ wire.now) }
 {

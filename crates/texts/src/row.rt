@@ -55,6 +55,7 @@ impl<T: Drop> Row<T> {
         let _ = self.items.reserve(count);
     }
 
+    /// The items in order.
     pub fn as_slice(&self) -> &[T]
         ensures { result.now ≡ self.now }
     {
@@ -68,6 +69,7 @@ impl<T: Drop> Row<T> {
         self.items.len()
     }
 
+    /// Whether there are none.
     pub fn is_empty(&self) -> bool
         ensures { IsTrue result ↔ (self.now ≡ []) }
     {

@@ -166,6 +166,7 @@ impl Text {
         }
     }
 
+    /// The bytes in order.
     pub fn as_bytes(&self) -> &[u8]
         ensures { result.now ≡ self.now }
     {
@@ -182,6 +183,7 @@ impl Text {
         self.as_bytes().len()
     }
 
+    /// Whether there are none.
     pub fn is_empty(&self) -> bool
         ensures { IsTrue result ↔ (self.now ≡ []) }
     {

@@ -9,30 +9,35 @@ use word_cutter::ByteClass;
 
 // Tests of one byte.
 
+/// A space, a tab, a line feed, a carriage return or a form feed.
 pub fn is_blank(b: u8) -> bool
     ensures { result ≡ bytes.is_blank b }
 {
     b == b' ' || b == b'\t' || b == b'\n' || b == b'\r' || b == 12
 }
 
+/// A digit.
 pub fn is_digit(b: u8) -> bool
     ensures { result ≡ bytes.is_digit b }
 {
     b'0' <= b && b <= b'9'
 }
 
+/// What can't stand right behind a number or a constant.
 pub fn clings(b: u8) -> bool
     ensures { result ≡ bytes.clings b }
 {
     is_name_byte(b) || b == b'\''
 }
 
+/// A byte of an escaped name: one that prints, and no blank.
 pub fn is_escaped_byte(b: u8) -> bool
     ensures { result ≡ bytes.is_escaped_byte b }
 {
     33 <= b && b <= 126
 }
 
+/// The base of a constant.
 pub fn is_base(b: u8) -> bool
     ensures { result ≡ bytes.is_base b }
 {
