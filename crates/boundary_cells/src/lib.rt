@@ -12,9 +12,9 @@
 //   keeps; a falling edge takes the shift bit into the update bit, or keeps; and at each moment the net carries
 //   what the cell gives the core or the driver in the instruction's mode.
 // - Each place of the test logic's boundary register steps as these bits do (`rows_step_as_bits`).
-// | cell | gates | nets | |---|---|---| | BC_4 | 3 | 3 | | BC_1 at an input or output | 6 | 5 | | BC_2 at an
-// output | 7 | 6 | | control cell, BC_1 | 7 | 6 | | control cell, BC_2 | 8 | 7 | | BC_7 | 8 | 7 |
-// By the contract of these calls and six law functions.
+// - Gates and nets: BC_4 3 and 3; BC_1 at an input or output 6 and 5; BC_2 at an output 7 and 6; as control cells BC_1
+//   7 and 6, BC_2 8 and 7; BC_7 8 and 7.
+// By the contract of these calls and its law functions.
 #![tactic(auto)]
 
 ghost use Rattle.std.specs.Prelude.{◌≡◌, ◌≢◌, ℕ, ◌+◌, ◌<◌, ◌≤◌, ◌^◌, length, IsTrue};

@@ -11,7 +11,7 @@
 // - The rules stand in two crates below: those on ports, pins, instructions and registers in bsdl_port_rules, those on
 //   the boundary register in bsdl_row_rules. Tables here find the first entry of a port, in any case of letters, and
 //   the first row of a number.
-// By the contract of `first_fault`, `device`.
+// By the contract of `first_fault`, `device`, the calls of `sections`, and `strings_stand_within`.
 #![tactic(auto)]
 
 mod cells;

@@ -15,5 +15,4 @@
 mod parse;
 mod places;
 
-pub use extended_device::{Extended, ExtendedFault, RegisterEntry, TestRegister};
 pub use parse::parse_extended;

@@ -13,7 +13,8 @@
 //   is none.
 // - `BsdlReader` is the list of words that are left: each `peek_…` sees the first, each `take_…` takes it exactly
 //   where it is what was asked for, and leaves the rest as it was.
-// By the contract of `same_name`, `is_reserved`, `BsdlReader` and a law function.
+// By the contract of `same_name`, `lower`, `is_reserved`, `BsdlToken`, `BsdlSymbol`, `BsdlWords`, `BsdlReader` and its law
+// function.
 #![tactic(auto)]
 
 mod laws;

@@ -6,7 +6,7 @@
 // - `canonical_texts_spell_their_devices`: each device that keeps `IsDevice` is spelled by its canonical text.
 // - `canonical_reads_back`: for each device that some bytes spell, the bytes of its canonical text spell that
 //   device.
-// By the contract of three law functions.
+// By the contract of its law functions.
 #![tactic(auto)]
 
 pub mod laws;

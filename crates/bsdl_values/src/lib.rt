@@ -13,7 +13,7 @@
 // - `read_device`: the same from the bytes of a text, besides `BsdlWord` with the place where the bytes can't go
 //   on. On success the bytes spell the device and no other, so do those of its canonical text, and the device
 //   keeps `IsDevice`.
-// By the contract of `parse_device`, `read_device` and two law functions.
+// By the contract of `parse_device`, `read_device` and its law functions.
 #![tactic(auto)]
 
 mod device_text;

@@ -10,7 +10,7 @@
 // - After a refusal every later call answers the same one.
 // - `cut` is the same on a whole text.
 // - A law: bytes are one list of words at most.
-// By the contract of `BsdlCutter::feed`, `BsdlCutter::finish`, `cut` and a law function.
+// By the contract of `BsdlCutter`, `cut` and its law function.
 #![tactic(auto)]
 
 mod classes;
@@ -22,7 +22,7 @@ mod machine;
 mod mode;
 mod whole;
 
-pub use bsdl_lexicon::{BsdlReader, BsdlSpanned, BsdlSymbol, BsdlToken, BsdlWords};
+pub use bsdl_lexicon::BsdlReader;
 pub use cutter::BsdlCutter;
 pub use fault::BsdlWordFault;
 pub use laws::texts_are_one_list_of_words;

@@ -9,7 +9,7 @@
 // - `print_library`: the canonical text, which spells the library.
 // - A law: bytes spell one library, or have a fault, and not both. Another: a line has the form of a cell's exactly where
 //   its words are a key, a name, ports, and steps behind a colon or a kind of flip-flop, in the counts that are allowed.
-// By the contract of `read_library`, `print_library` and two law functions.
+// By the contract of `read_library`, `print_library` and its law functions.
 #![tactic(auto)]
 
 mod cells;

@@ -8,7 +8,7 @@
 //   whichever text) 3, a failed read 4, a failed write 5.
 // - `Status::exit_number` is the number from 0 to 6.
 // - The conversions from the faults of each text give the fault that holds them.
-// By the contract of `put_fault`, `Fault::status`, `Status::exit_number`.
+// By the contract of `put_fault`, `Fault::status`, `Status::exit_number` and the conversions.
 #![tactic(auto)]
 
 mod fault;

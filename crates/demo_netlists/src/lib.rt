@@ -7,7 +7,7 @@
 //   or driven is declared, each net has the one driver that it must have, no gates read in a loop, and clocks and
 //   clears are inputs.
 // - `demo_has_its_cells`: whatever it is linked to has `100 + 10 * n` gates, 32 flip-flops and 16 outputs.
-// By the contract of three law functions.
+// By the contract of its law functions.
 #![tactic(auto)]
 
 ghost use Rattle.demo_netlists.specs.Laws.{DemoCanBeLinked, DemoHasItsCells, DemoIsATree};

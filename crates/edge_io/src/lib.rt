@@ -25,8 +25,8 @@
 //   not told.
 // - `FileShelf`, `OutSink`: they meet the rules of a shelf and of a sink and begin with no fault, but tell no
 //   bytes, so nothing is said of what a file holds.
-// By the contract of `Shelf`, `Sink`, `read_whole`, `write_whole`, `put_whole`, `MemShelf`, `MemSink`,
-// `NeverFails`.
+// By the contract of `Shelf`, `Sink`, `read_whole`, `write_whole`, `put_whole`, `MemShelf`, `MemSink`, `NeverFails`,
+// `FileShelf`, `OutSink`.
 #![tactic(auto)]
 
 mod calls;

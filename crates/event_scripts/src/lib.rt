@@ -12,7 +12,7 @@
 // - Lines are legal or illegal at one line, and not both (a law); so `resolve` has one answer but for want of
 //   memory.
 // - `parts_of` gives what a line does, its word and its value.
-// By the contract of `resolve` and a law function.
+// By the contract of `resolve`, `parts_of` and its law function.
 #![tactic(auto)]
 
 mod bits;

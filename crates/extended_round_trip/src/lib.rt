@@ -6,7 +6,7 @@
 //
 // - `spelled_extended_keep_the_conditions`: each device that some bytes spell keeps `IsExtended`.
 // - `canonical_extended_texts_spell`: each device that keeps `IsExtended` is spelled by its canonical text.
-// By the contract of two law functions.
+// By the contract of its law functions.
 #![tactic(auto)]
 
 pub mod laws;

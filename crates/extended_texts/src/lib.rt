@@ -7,7 +7,7 @@
 //   device keeps `IsExtended`.
 // - Its faults are those of `parse_extended`, besides `BsdlWord` with the place where the bytes can't go on.
 // - A law: bytes spell at most one device.
-// By the contract of `read_extended` and a law function.
+// By the contract of `read_extended` and its law function.
 #![tactic(auto)]
 
 mod fault;

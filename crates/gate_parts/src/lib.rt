@@ -19,7 +19,7 @@
 //   that was given for that flip-flop; a step takes it to the next value (`flop_starts`, `flop_steps`).
 // - A table of levels, checked by one computation, numbers the gates of a part so that each reads smaller numbers
 //   (`levels_number`).
-// By the contract of `add_part`, `add_driver` and its laws.
+// By the contract of `add_part`, `add_driver` and its law functions.
 #![tactic(auto)]
 
 ghost use Rattle.std.specs.Prelude.{◌≡◌, ◌≢◌, ℕ, ◌+◌, ◌<◌, ◌≤◌, ◌^◌, [], ◌∷◌, length, IsTrue, Some};

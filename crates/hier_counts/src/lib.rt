@@ -6,7 +6,7 @@
 //   modules that is no module and no cell; the first reached module that holds itself; too many levels, cells or nets.
 // - What is reached, what holds itself and what is counted are those of hier_model's definitions.
 // - `CellNames` tells exactly the names of the seven cells and of those of a library.
-// By the contract of `find_early_fault` and `CellNames`. What no clause says: time is linear in the text, but for the rounds of counts,
+// By the contract of `find_early_fault`, `CellNames`, `note` and `width_of`. What no clause says: time is linear in the text, but for the rounds of counts,
 // of which there are as many as there may be levels.
 #![tactic(auto)]
 

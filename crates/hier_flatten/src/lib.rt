@@ -21,4 +21,3 @@ mod nets;
 mod operands;
 
 pub use flattened::{Hier, flatten, parse_hier};
-pub use hier_model::{HierFault, HierWhat};

@@ -4,7 +4,7 @@
 //
 // - Where modules can be made flat and the flat module links with the library, the settled valuations of its nets are those that solve
 //   the hierarchy, read at (occurrence, net, bit); and each valuation can be read so.
-// By a law function.
+// By the contract of its law function.
 #![tactic(auto)]
 
 mod laws;

@@ -8,7 +8,7 @@
 // - What that needs of the flat module holds where neither flattening nor linking finds a fault (`entries_own_bits`).
 // - Each valuation of the flat netlist can be read so (`some_reading`).
 // - Where no fault stands the flat module keeps the conditions of a tree, so that some text spells it (`flat_modules_keep_the_conditions`).
-// By law functions.
+// By the contract of its law functions.
 #![tactic(auto)]
 
 pub mod laws;

@@ -26,7 +26,7 @@
 // Proved, of the words: `command_of` gives the command that the words are, and none exactly where they are none or
 // one begins with `-`; words are one command at most; `WordList::push` adds a word at the end, or leaves the list
 // as it was; `WordList::new` is empty.
-// By the contract of `run_tool`.
+// By the contract of `run_tool`, `command_of` and `WordList`.
 #![tactic(auto)]
 
 mod command;
@@ -35,6 +35,6 @@ mod names;
 mod tool;
 mod words;
 
-pub use command_faults::{Fault, Status};
+pub use command_faults::Status;
 pub use tool::run_tool;
 pub use words::WordList;

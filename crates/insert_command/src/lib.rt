@@ -2,7 +2,7 @@
 // Its task stands in specs/Tasks.antt, which stands on insertions' specs/Insertions.antt.
 // Own: no chapter of a standard speaks of it.
 //
-// By the contract of `make` and a law function.
+// By the contract of `make`, `fault_of`, `written_and_put` and its law function.
 #![tactic(auto)]
 
 mod command;

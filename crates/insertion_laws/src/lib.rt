@@ -5,7 +5,7 @@
 //   that denotes what the netlist's does, and no other netlist gives it.
 // - `insertions_belong_together`: what `insert` writes are texts that belong together, so that a check by the device's program
 //   misses nothing.
-// By the contracts of two law functions.
+// By the contract of its law functions.
 #![tactic(auto)]
 
 mod laws;

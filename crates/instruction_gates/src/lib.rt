@@ -10,7 +10,7 @@
 //   the instruction in effect, and whether it is USERCODE (`selections_tell`).
 // - The copies carry the latched opcode on nets one behind another, bit 0 first (`copies_tell`).
 // - An event takes the two stages to those of the test logic after it, whatever they held (`stages_step`).
-// By the contract of the five calls and their laws.
+// By the contract of the five calls and its law functions.
 #![tactic(auto)]
 
 ghost use Rattle.std.specs.Prelude.{◌≡◌};

@@ -18,10 +18,14 @@
 //   captures before it is latched (`instructions_stay_legible`).
 // By the contract of `add_instruction` and its law functions.
 // What the test logic's gates take, for n bits of the instruction register, and what is set aside for them:
-// | call | cells | nets | set aside | |---|---|---|---| | `add_tap` | 49 | 49 | 140 | | `add_instruction` | at
-// most 11 + 21n | the same | 100 + 64n | | `add_bypass` | 5 | 5 | 10 | | `add_ident` | 98 or 99 | the same | 130 | | `add_tdo`
-// | 7 | 6 | 20 | | `add_port_nets` | 0 | 5 | 10 | | each boundary cell | 3 to 8 | 3 to 7 | 24 | | all together | |
-// | 410 + 64n, and 24 a boundary cell |
+// - `add_tap`: 49 cells and nets; set aside 140;
+// - `add_instruction`: at most 11 + 21n; set aside 100 + 64n;
+// - `add_bypass`: 5; set aside 10;
+// - `add_ident`: 98 or 99; set aside 130;
+// - `add_tdo`: 7 cells and 6 nets; set aside 20;
+// - `add_port_nets`: 5 nets; set aside 10;
+// - a boundary cell: 3 to 8 cells and 3 to 7 nets; set aside 24;
+// - all together: set aside 410 + 64n, and 24 a boundary cell.
 #![tactic(auto)]
 
 ghost use Rattle.std.specs.Prelude.{◌≡◌, ◌+◌, ◌*◌, ◌<◌, ◌≤◌, length};

@@ -5,8 +5,8 @@
 // - `LineReader` goes through the kept lines of a text with their numbers; `after_key` and `one_word` to
 //   `four_words` see exactly the lines of that form; `put_two` to `put_five` write a line of so many words.
 // - The kept lines of a text are rows of words, and such rows, where they are written, read back.
-// By the contract of `LineReader`, `next_word`, `one_word` to `four_words`, `put_two` to `put_five` and two law
-// functions.
+// By the contract of `LineReader`, `split_line`, `next_word`, `is_remark`, `after_key`, `one_word` to `four_words`,
+// `put_two` to `put_five` and its law functions.
 #![tactic(auto)]
 
 mod forms;

@@ -7,7 +7,7 @@
 //   three-state driver, in this order and within each in the order of nets.
 // - A law: where none stands, no cell drives an input, no net has two drivers, outputs, inouts and read wires have
 //   a driver, and three-state gates drive only outputs that nothing reads, and inouts.
-// By the contract of `find_driver_fault` and a law function.
+// By the contract of `find_driver_fault` and its law function.
 #![tactic(auto)]
 
 ghost use Rattle.std.specs.Prelude.{◌≡◌, IfOk, length};

@@ -13,7 +13,7 @@
 // - A law: bytes spell one plan, or have one fault, and not both.
 // - A law: a text whose first line is `plan 1` spells exactly the plans of version 1 by itself (specs/First.antt): its
 //   lines, its seven instructions and its rules, with version 1 and no usercode.
-// By the contracts of `read_plan`, `write_plan`, `print_plan` and three law functions.
+// By the contract of `read_plan`, `write_plan`, `print_plan` and its law functions.
 #![tactic(auto)]
 
 mod fault;

@@ -7,7 +7,7 @@
 // - In every well-formed netlist that contains the cells: where TRST is 0 the bits are cleared, or preset; a
 //   rising edge of TCK captures, shifts or keeps, a falling edge loads or keeps, as the nets that steer say; a
 //   chain moves as its list does, with TDI at the end.
-// By the contract of these calls and three law functions.
+// By the contract of these calls and its law functions.
 #![tactic(auto)]
 
 ghost use Rattle.std.specs.Prelude.{◌≡◌, ◌+◌, ◌<◌, ◌≤◌, ◌^◌, length};

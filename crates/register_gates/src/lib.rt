@@ -11,7 +11,7 @@
 //   USERCODE is in effect, and else the code.
 // - A register of any length captures what it is fed, shifts or keeps (`data_registers_follow`).
 // - A falling edge of TCK in Test-Logic-Reset lets TDO go, whatever the registers hold (`tdo_lets_go`).
-// By the contract of the three calls and their laws.
+// By the contract of the four calls, `constants_of` and its law functions.
 #![tactic(auto)]
 
 ghost use Rattle.std.specs.Prelude.{◌≡◌, ◌+◌, ◌*◌, ◌<◌, ◌≤◌, length};

@@ -6,7 +6,7 @@
 // - The nets and ports of the test access port, the nets between the core and its cells, the controller with the
 //   registers beside the boundary register, the boundary register from TDI to TDO, and TDO: each is exactly the
 //   list of `stitch_model`, on the nets that follow, and the room shrinks by as much. None takes memory.
-// By the contract of `add_port_nets`, `add_sides`, `add_test_logic`, `add_ports`.
+// By the contract of `add_port_nets`, `add_sides`, `add_logic`, `add_rows`, `add_test_logic`, `add_ports`.
 #![tactic(auto)]
 
 mod logic;

@@ -9,7 +9,7 @@
 //   spells: each pin is a word, and there are at most 1,000,000.
 // - A law, of every device (`programs_are_met`): whatever the core gives the boundary cells at each moment, a run
 //   of the device's test logic by the sets of its program meets each expectation at its moment.
-// By the contract of `program` and a law function.
+// By the contract of `program` and its law function.
 #![tactic(auto)]
 
 mod bench;

@@ -14,7 +14,7 @@
 // - The lines that some text spells are exactly those whose pins are words and that aren't too many. The canonical
 //   text of such lines spells them, numbered from 2 (`canonical_texts_spell_their_lines`): so lines that were made
 //   and not read are lines that some text spells.
-// By the contract of `read_events`, `print_events` and two law functions.
+// By the contract of `read_events`, `print_events` and its law functions.
 #![tactic(auto)]
 
 mod event_text;

@@ -11,7 +11,7 @@
 // - Drivers may be joined in any order and grouping; an equal or an idle one adds nothing
 //   (`join_is_a_meeting_of_drivers`).
 // - The letter of a value reads back as that value (`letters_read_back`).
-// By the contract of its functions and four law functions.
+// By the contract of its functions, the law functions among them.
 #![tactic(auto)]
 
 ghost use Rattle.std.specs.Prelude.{◌≡◌};

@@ -4,7 +4,7 @@
 //
 // - At its end the text of the events' run was put, and the status tells whether an expectation isn't met; a fault
 //   stands in the texts, or a front of that text was put.
-// By the contract of `simulate` and a law function.
+// By the contract of `simulate` and its law function.
 #![tactic(auto)]
 
 mod laws;

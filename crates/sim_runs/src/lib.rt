@@ -2,7 +2,7 @@
 // The contract of `play` cites specs/Outputs.antt, which stands on the runs of netlist_model.
 // Own: no chapter of a standard speaks of it.
 //
-// Proved: of its one public call `play`:
+// Proved, of `play`:
 // - Where it ends well, what it gave to the sink is the text of a run of the netlist from the script's starts by
 //   its sets, in which every flip-flop begins unknown: the readings of all output and inout bits in the order of
 //   the ports, bits from the left; after each set its line's number and the readings that changed; each

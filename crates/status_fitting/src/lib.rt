@@ -10,7 +10,7 @@
 // - Wires are found by a table of names and indexes, made in one pass over the nets; drivers are flagged in one pass over the
 //   cells; names and opcodes that were given before are found by tables.
 // - Laws: in a well-named netlist a word names one net at most, and what is fitted or the first fault is one answer.
-// By the contract of `fit_status` and a law function.
+// By the contract of `fit_status` and its law function.
 #![tactic(auto)]
 
 // Keys of tables, and the wires of a netlist.

@@ -8,7 +8,7 @@
 //   none with that line too; where the text ends too early, it is the line after the last.
 // - What the words name is looked at where the registers are fitted to a netlist: any bytes may be an instruction or a wire.
 // - A law: bytes spell registers once, or have one fault, and not both.
-// By the contract of `read_status` and a law function.
+// By the contract of `read_status` and its law function.
 #![tactic(auto)]
 
 mod fault;

@@ -10,7 +10,7 @@
 // - What the gates read and drive stands in proofs/, for any test of nets.
 // - The nets of the core keep their directions, those of the test access port have theirs, and no other net has
 //   one (`stitched_directions`).
-// By the contract of its two law functions.
+// By the contract of its law functions.
 #![tactic(auto)]
 
 ghost use Rattle.stitch_cells.specs.Sizes.{StitchedHasCounts};

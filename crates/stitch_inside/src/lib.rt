@@ -8,7 +8,7 @@
 // - The device's test logic stands around the core: ports, codes, controller, registers, and for each row of the
 //   plan what its cell takes from the core and gives to the pin or the core, whatever its kind
 //   (`built_in_surrounds`, `stitched_surrounds`).
-// By the contracts of law functions.
+// By the contract of its law functions.
 #![tactic(auto)]
 
 ghost use Rattle.stitch_inside.specs.Laws.{BuiltInNests, BuiltInSurrounds, StitchedNests, StitchedSurrounds};

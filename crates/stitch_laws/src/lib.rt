@@ -14,7 +14,7 @@
 // - All of this holds of every netlist with its library, its ports and its cells under their numbers, whatever else
 //   that holds, and whatever net its TDO takes for the bit of the bypass register (`extension_is_built_in`,
 //   `stitched_extends`, `stitched_is_built_in`).
-// By the contracts of law functions.
+// By the contract of its law functions.
 #![tactic(auto)]
 
 ghost use Rattle.stitch_laws.specs.Laws.{

@@ -6,7 +6,7 @@
 //   cones of its clocks, clears and presets hold input bits, constants and gates only (`stitched_has_cones`).
 // - It has the netlist's pins and those of the test access port, each on one net (`stitched_has_pins`), and its
 //   control ports are exactly the netlist's, TCK and TRST (`stitched_has_controls`).
-// By the contract of four law functions.
+// By the contract of its law functions.
 #![tactic(auto)]
 
 ghost use Rattle.stitch_ranks.specs.Laws.{StitchedIsOrdered, StitchedHasCones, StitchedHasControls, StitchedHasPins};

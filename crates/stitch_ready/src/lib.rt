@@ -1,7 +1,7 @@
 // A netlist that a plan fits is ready for its test logic. Its functions are laws; specs/Laws.antt has their statements.
 // IEEE Std 1149.1-2001: boundary-scan register.
 //
-// By the contract of two law functions.
+// By the contract of its law functions.
 #![tactic(auto)]
 
 mod laws;

@@ -6,7 +6,7 @@
 //   of an output or an inout that a three-state gate drives, or a control cell; a driver's row names a control
 //   cell, before which the core gives the driver's control operand (`rows_stand_somewhere`).
 // - No two rows stand at one net, and each net of a port bit has one (`rows_stand_once`, `nets_have_rows`).
-// By the contract of three law functions.
+// By the contract of its law functions.
 #![tactic(auto)]
 
 ghost use Rattle.stitch_rows.specs.Rows.{RowsStandSomewhere, RowsStandOnce, NetsHaveRows};

@@ -10,7 +10,7 @@
 //   (`fitting_plans_have_controls`).
 // - From whatever its test logic holds, each added flip-flop 0 or 1, five rising edges of TCK with TMS at 1 and a
 //   falling edge lead it to that chip in Test-Logic-Reset (`fitting_plans_find_home`).
-// By the contract of six law functions.
+// By the contract of its law functions.
 #![tactic(auto)]
 
 ghost use Rattle.stitch_runs.specs.Laws.{StitchedRealises, StitchedIsAlone, FittingPlansRealise, FittingPlansAreAlone};

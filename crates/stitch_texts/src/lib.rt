@@ -9,7 +9,7 @@
 //   and has five port bits more (`stitched_is_written`).
 // - That netlist is the stitched one with its nets numbered anew; each cell keeps its number
 //   (`stitched_is_renumbered`).
-// By the contract of four law functions.
+// By the contract of its law functions.
 #![tactic(auto)]
 
 ghost use Rattle.stitch_texts.specs.Laws.{StitchedCanBeWritten, StitchedIsRenumbered, StitchedIsWritten, StitchedKeepsLimits};

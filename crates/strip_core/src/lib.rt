@@ -6,7 +6,7 @@
 // - The gates of the boundary register, as they are written, tell those nets.
 // - Of the module that a netlist with test logic is written as, the last item tells the prefix, the gates the nets
 //   between, and what is left of the core is the module of the netlist.
-// By the contracts of four law functions.
+// By the contract of its law functions.
 #![tactic(auto)]
 
 ghost use Rattle.strip_core.specs.Chain.{ChainIsRead};

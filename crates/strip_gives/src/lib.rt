@@ -4,7 +4,7 @@
 // - The netlist is what some module denotes, some text spells the plan, which fits it, and there is room for the test
 //   logic; the module with test logic is the one that the netlist with it is written as, and the device is the plan's.
 // - It doesn't depend on how the netlist is kept; and a link view is laid out.
-// By the contracts of two law functions.
+// By the contract of its law functions.
 #![tactic(auto)]
 
 ghost use Rattle.strip_gives.specs.Gives.{GivesByTheView};

@@ -6,7 +6,7 @@
 // - So no two netlists with one library give the same; and where what is recovered doesn't give the two, nothing does.
 // - What is recovered of a module that can be written can be written, and a module that denotes what another does has its
 //   names and its link views. Pin lines name one list of bits.
-// By the contracts of ten law functions.
+// By the contract of its law functions.
 #![tactic(auto)]
 
 ghost use Rattle.strip_law.specs.Answer.{RecoveredGives, RefusedByAll};

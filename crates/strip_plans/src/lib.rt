@@ -5,7 +5,7 @@
 // - What the device tells is the plan with these three changed, and comes to the same cells, ports and codes.
 // - It fits the netlist as the plan did, and some text spells it: a plan with other words of bits, another kind of control
 //   cells and the version that its usercode wants is spelled where the plan is.
-// By the contracts of five law functions.
+// By the contract of its law functions.
 #![tactic(auto)]
 
 ghost use Rattle.strip_plans.specs.Again.{ToldPlanFits};

@@ -15,7 +15,7 @@
 // - With the bypass bit it realises the chip (`surrounded_core_realises`).
 // - Its proofs run from any moment at which the parts hold a machine: a power-up is one such moment
 //   (`surrounded_core_follows`, `surrounded_core_reads`), and the falling edge after five ones another (`surrounded_core_finds_home`).
-// By the contracts of law functions.
+// By the contract of its law functions.
 #![tactic(auto)]
 
 ghost use Rattle.surrounded_core.specs.Laws.{SurroundedStands, SurroundedReads, SurroundedRealises};

@@ -13,7 +13,8 @@
 //   `name_at`) answer what the list holds.
 // - `WordReader` is the words that are left: a look doesn't change it, and a take takes one word exactly where it
 //   is of the kind that was asked for.
-// By the contract of `reserved_of` and a law function, `Words`, `WordReader`.
+// By the contract of `reserved_of`, `Reserved::spelling`, `Symbol::byte`, `is_letter`, `is_name_byte`,
+// `is_simple_name`, `Words`, `WordReader` and its law function.
 #![tactic(auto)]
 
 pub mod keywords;

@@ -8,7 +8,7 @@
 //   its number, and the place of that word in the text, or the text's length where the end comes too soon.
 // - Any other refusal is want of memory.
 // - Two laws: words spell one module at most, and one list of modules.
-// By the contracts of the two and two law functions.
+// By the contract of `parse_module`, `parse_modules` and its law functions.
 #![tactic(auto)]
 
 mod cells;

@@ -8,7 +8,7 @@
 //   of at most nine digits, as many inputs as each gate takes, no wire that is a port's net), the text that it
 //   gives spells this tree.
 // - A tree that any text spells keeps these conditions.
-// By the contract of `print_module` and a law function.
+// By the contract of `print_module` and its law function.
 #![tactic(auto)]
 
 mod items;

@@ -11,7 +11,7 @@
 //   which no module goes on, and its place.
 // - Two laws: bytes spell at most one tree, and at most one list of trees.
 // - Any other refusal is want of memory. Faults of the parts become faults of the whole with the same places.
-// By the contracts of the two and two law functions.
+// By the contract of `read_module`, `read_modules` and its law functions.
 #![tactic(auto)]
 
 mod fault;

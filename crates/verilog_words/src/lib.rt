@@ -12,7 +12,7 @@
 // - After a refusal every later call answers that same refusal.
 // - So comments, attributes, the four directives, names of at most 255 bytes, escaped names, numbers of 1 to 9
 //   digits and one-bit constants are read exactly as the grammar has them.
-// By the contract of `Cutter::feed`, `Cutter::finish` and a law function.
+// By the contract of `Cutter::feed`, `Cutter::finish` and its law function.
 #![tactic(auto)]
 
 mod classes;
@@ -25,4 +25,3 @@ mod mode;
 pub use cutter::Cutter;
 pub use fault::WordFault;
 pub use laws::bytes_have_one_list_of_words;
-pub use verilog_lexicon::{Reserved, Spanned, Symbol, Word, WordReader, Words};

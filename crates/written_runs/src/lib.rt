@@ -10,7 +10,7 @@
 // - From whatever its test logic holds, each added flip-flop 0 or 1, five rising edges of TCK with TMS at 1 and a
 //   falling edge lead it to that chip in Test-Logic-Reset (`written_finds_home`), and it is the netlist alone from
 //   there on while a transparent instruction is in effect (`written_is_alone_from_home`).
-// By the contract of five law functions.
+// By the contract of its law functions.
 #![tactic(auto)]
 
 ghost use Rattle.written_runs.specs.Laws.{WrittenRealises, WrittenIsAlone, WrittenHasControls, WrittenFindsHome, WrittenIsAloneFromHome};
