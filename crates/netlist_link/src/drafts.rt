@@ -1,6 +1,6 @@
 // How a linked netlist is rewritten: room and names first, then a draft, which takes no memory.
 
-ghost use Rattle.std.specs.Prelude.{◌≡◌, ◌+◌, ◌↔◌, ◌≤◌, length, Some, None, IfOk, IsOkUnless, OnErr, OnOk, MatchOption, vec_capacity};
+ghost use Rattle.std.specs.Prelude.{◌≡◌, ◌+◌, ◌↔◌, ◌≤◌, [], length, Some, None, IfOk, IsOkUnless, OnErr, OnOk, MatchOption, vec_capacity};
 ghost use Rattle.std.specs.Borrow.{sem};
 ghost use Rattle.link_names.specs.verilog_tree.IsTree.{IsTreeName};
 ghost use Rattle.link_names.specs.netlist_model.declared.Name.{Name as NameNumber};
@@ -84,6 +84,7 @@ impl Linked {
     pub fn begin_draft(&mut self) -> Draft
         ensures draft { result.netlist ≡ self.old.arena }
         ensures empty { IsEmpty self.new.arena.lists }
+        ensures library { self.new.arena.lists.library ≡ [] }
         ensures names { self.new.names ≡ self.old.names }
         ensures module_name { self.new.module_name ≡ self.old.module_name }
         ensures room { self.new.room ≡ self.old.room }

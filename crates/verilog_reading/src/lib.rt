@@ -12,7 +12,7 @@
 // - A tree that any text spells keeps the conditions of a tree that can be spelled: names of 1 to 255 printing
 //   bytes, numbers of at most nine digits, as many inputs as each gate takes, no wire that is a port's net.
 // - So it is of texts of several modules, one after another: what is read, where a fault stands, the conditions.
-// By the contract of nine law functions.
+// By the contract of `dir_of`, `item_head_of` and its law functions.
 #![tactic(auto)]
 
 pub mod heads;
