@@ -54,7 +54,8 @@ abbrev pub bidir_cells : ℕ → ℕ → ScanNets → Feed → Feed → Bool →
 bidir_cells first number scan core enable active_high pin into next =
     cells_onto (bidir_table active_high) UPDATES (bidir_given scan next core enable pin) first number into
 
--- own: what stands at a control cell: the level that disables its drivers, the update bit on this net, and what the core gives
+-- own: what stands at a control cell: the level that disables its drivers, the update bit on this net, and
+-- what the core gives
 pub record StandsAtControl (active_high : Bool) (update : ℕ) (core : Feed) (value : ℕ → Sig) (j : ControlAt) : Type 0 where
   pub disable : j.disable ≡ not active_high
   pub upd : j.upd ≡ value update

@@ -1,5 +1,7 @@
-// Boundary cells as gates: a shift bit, the update bit behind it, and the multiplexer that gives the core or the pin its value.
-// Contracts cite specs/Cells.antt for the cells, and specs/Laws.antt for what they do in every netlist that contains them.
+// Boundary cells as gates: a shift bit, the update bit behind it, and the multiplexer that gives the core or
+// the pin its value.
+// Contracts cite specs/Cells.antt for the cells, and specs/Laws.antt for what they do in every netlist
+// that contains them.
 // IEEE Std 1149.1-2001: boundary-scan register, the annex on BSDL (the cells BC_1, BC_2, BC_4 and BC_7).
 //
 // - `add_observe_cell`, `add_input_cell`, `add_output_cell`, `add_control_cell`, `add_bidir_cell` append exactly
@@ -74,8 +76,8 @@ pub fn add_observe_cell(netlist: &mut Netlist, scan: &ScanNets, pin: NetId, scan
     add_shift_bit(netlist, &steering, Feed::Net(pin), scan_in)
 }
 
-/// Adds a BC_1 cell of an input to a dense netlist, which gives `into` what the core gets, and answers the net of its shift bit.
-/// The update bit is on the third net after it. Nothing drives `into` before.
+/// Adds a BC_1 cell of an input to a dense netlist, which gives `into` what the core gets, and answers the net of its
+/// shift bit. The update bit is on the third net after it. Nothing drives `into` before.
 pub fn add_input_cell(
     netlist: &mut Netlist,
     scan: &ScanNets,
@@ -112,8 +114,8 @@ pub fn add_input_cell(
     add_cell_onto(netlist, &BC_1, UPDATES, &given, into)
 }
 
-/// Adds a cell of an output to a dense netlist, a BC_2 or else a BC_1, which gives `into` the pin's data, and answers the net of its
-/// shift bit. The update bit is on the third net after it. Nothing drives `into` before.
+/// Adds a cell of an output to a dense netlist, a BC_2 or else a BC_1, which gives `into` the pin's data, and answers
+/// the net of its shift bit. The update bit is on the third net after it. Nothing drives `into` before.
 pub fn add_output_cell(
     netlist: &mut Netlist,
     scan: &ScanNets,

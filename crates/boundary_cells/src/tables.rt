@@ -85,8 +85,8 @@ const CORE_WHERE_LOW: Gate = Gate {
     pins: Pins::Three(Pin::Given(6), Pin::Given(9), Pin::Given(10)),
 };
 
-/// The two bits of a cell that captures what it is handed. Handed in are TCK, TRST, capture, shift, update, the next bit towards TDI,
-/// the core's value or the pin's, EXTEST, and the cell's mode.
+/// The two bits of a cell that captures what it is handed. Handed in are TCK, TRST, capture, shift, update, the next
+/// bit towards TDI, the core's value or the pin's, EXTEST, and the cell's mode.
 pub const BC_1: [Gate; 5] = [SHIFT_FLOP, TAKES_GIVEN, SHIFTS, UPDATE_FLOP, TAKES_SHIFT];
 
 /// Those of a cell that captures its update bit under EXTEST. Handed in is what `BC_1` is handed.
@@ -99,8 +99,8 @@ pub const BC_2: [Gate; 6] = [
     UPDATE_UNDER_EXTEST,
 ];
 
-/// Those of a control cell, with its level while outputs are active. Handed in are besides the inactive level, and whether outputs
-/// are inactive.
+/// Those of a control cell, with its level while outputs are active. Handed in are besides the inactive level, and
+/// whether outputs are inactive.
 pub const BC_1_CONTROL: [Gate; 6] = [
     SHIFT_FLOP,
     TAKES_GIVEN,

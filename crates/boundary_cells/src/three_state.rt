@@ -16,9 +16,9 @@ use register_bits::lower_netlist_arena::Netlist;
 use register_bits::lower_netlist_model::{Feed, NetId};
 use register_bits::lower_test_logic::ScanNets;
 
-/// Adds a control cell to a dense netlist, a BC_2 or else a BC_1, which gives `into` the control of a three-state driver that is
-/// enabled by 1 where it is active high, and else by 0. It answers the net of the cell's shift bit; the update bit is on the third net
-/// after it. Nothing drives `into` before.
+/// Adds a control cell to a dense netlist, a BC_2 or else a BC_1, which gives `into` the control of a three-state
+/// driver that is enabled by 1 where it is active high, and else by 0. It answers the net of the cell's shift bit; the
+/// update bit is on the third net after it. Nothing drives `into` before.
 pub fn add_control_cell(
     netlist: &mut Netlist,
     scan: &ScanNets,
@@ -62,9 +62,9 @@ pub fn add_control_cell(
     }
 }
 
-/// Adds a BC_7 cell of an inout to a dense netlist, which gives `into` the data of the inout's driver. `enable` is the core's control of
-/// that driver, which 1 enables where it is active high, and else 0. It answers the net of the cell's shift bit; the update bit is on
-/// the third net after it. Nothing drives `into` before.
+/// Adds a BC_7 cell of an inout to a dense netlist, which gives `into` the data of the inout's driver. `enable` is the
+/// core's control of that driver, which 1 enables where it is active high, and else 0. It answers the net of the cell's
+/// shift bit; the update bit is on the third net after it. Nothing drives `into` before.
 pub fn add_bidir_cell(
     netlist: &mut Netlist,
     scan: &ScanNets,

@@ -33,7 +33,8 @@ pub record RowLaws (row : BoundaryRow) (first number : ℕ) (scan : ScanNets) (n
   -- where TRST is 0 at a start, it holds what the test logic has in reset
   pub start : (N : NetlistView) (given : ℕ → Sig) (levels : Levels) (m : Moment) (L : TestLogic) (place : ℕ) → IsWellFormed N → HasCells N (row_cells row first number scan next)
       → IsStart N given m → Carries scan.tck scan.trst levels m → levels.trst ≡ false → IsRowOf L place row → HoldsRow row first place (reset L) m.value
-  -- an event takes it to what the test logic has next, where this list of what the cells capture has the row's in its place
+  -- an event takes it to what the test logic has next, where this list of what the cells capture has the
+  -- row's in its place
   pub step : (N : NetlistView) (event : PinEvent) (before after : Levels) (m m' : Moment) (L : TestLogic) (captured : List Sig) (machine : Machine) (place : ℕ) (c : CellAt)
       → IsWellFormed N → HasCells N (row_cells row first number scan next) → IsSettled N m.pins m.state m.value → IsStep N event m m'
       → IsRowOf L place row → place < length machine.boundary
@@ -43,7 +44,8 @@ pub record RowLaws (row : BoundaryRow) (first number : ℕ) (scan : ScanNets) (n
   pub gives : (N : NetlistView) (rule : (ℕ → Sig) → ℕ → Sig) (state value : ℕ → Sig) (instruction : Instr) (upd : Sig) (c : CellAt)
       → IsWellFormed N → HasCells N (row_cells row first number scan next) → Meets N rule state value → CarriesMode scan instruction value
       → StandsAtRow row (mode_of instruction) upd value c → HoldsUpdate row first upd value → Gives row (mode_of instruction) value c
-  -- at every moment of a run up to which it is served, it holds what the test logic has in its place, and gives the row's value
+  -- at every moment of a run up to which it is served, it holds what the test logic has in its place, and
+  -- gives the row's value
   pub whole_run : (N : NetlistView) (given : ℕ → Sig) (events : List PinEvent) (moment : ℕ → Moment) → IsWellFormed N → HasCells N (row_cells row first number scan next)
       → IsRun N given events moment
       → (L : TestLogic) (levels : ℕ → Levels) (captured : ℕ → List Sig) (machine : ℕ → Machine) → IsHistory L levels captured (length events) machine

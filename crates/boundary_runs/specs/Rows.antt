@@ -70,8 +70,8 @@ row_function (bidir_row core enable active_high pin into) = Bidir
 abbrev pub IsRowOf : TestLogic → ℕ → BoundaryRow → Type 0
 IsRowOf L place row = slice_get L.kinds place ≡ Some (row_kind row)
 
--- own: what steers the row carries what the test logic says: TCK and TRST, what the register does on the next edges, what the
--- instruction in effect makes of the cells, and the bit that is shifted into this place
+-- own: what steers the row carries what the test logic says: TCK and TRST, what the register does on the next edges,
+-- what the instruction in effect makes of the cells, and the bit that is shifted into this place
 pub record IsSteered (scan : ScanNets) (next : NetId) (L : TestLogic) (levels : Levels) (machine : Machine) (place : ℕ) (m : Moment) : Type 0 where
   pub carries : Carries scan.tck scan.trst levels m
   pub steers : Steers (steering_of scan) (boundary_action L machine) m
@@ -118,7 +118,8 @@ pub record HoldsRow (row : BoundaryRow) (first place : ℕ) (machine : Machine) 
 abbrev pub control_of : Bool → CellAt → ControlAt
 control_of active_high c = record { disable = not active_high; upd = c.upd; core = c.core }
 
--- what the row gives: the core its value of an input, where a BC_4 leaves the pin; an output's driver its data; drivers their control
+-- what the row gives: the core its value of an input, where a BC_4 leaves the pin; an output's driver its data;
+-- drivers their control
 abbrev pub Gives : BoundaryRow → Mode → (ℕ → Sig) → CellAt → Type 0
 Gives (observe_row pin) mode value c = value pin.0 ≡ input_into Bc4 mode c
 Gives (input_row pin into) mode value c = value into.0 ≡ input_into Bc1 mode c

@@ -13,7 +13,8 @@ use Rattle.boundary_cells.specs.MachineRows.{bit_at}
 use Rattle.instruction_gates.specs.Selections.{Selected}
 use Rattle.boundary_runs.specs.Rows.{IsSteered}
 
--- own: where these nets tell what the instruction in effect selects, and the bit that is shifted in is on the next net, they steer the row
+-- own: where these nets tell what the instruction in effect selects, and the bit that is shifted in is on the next net,
+-- they steer the row
 abbrev pub SelectedSteers : Type 0
 SelectedSteers = (nets : InstrNets) (next : NetId) (L : TestLogic) (levels : Levels) (machine : Machine) (place : ℕ) (m : Moment)
     → Carries nets.scan.tck nets.scan.trst levels m → Selected nets (in_effect L machine) machine.state m

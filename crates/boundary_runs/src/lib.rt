@@ -1,5 +1,7 @@
-// Rows of the boundary register as gates, over whole runs: at every moment they carry what the test logic has in their places.
-// Laws only, of the cells of boundary_cells. specs/Rows.antt has what a row is handed and gives, specs/Laws.antt what it does.
+// Rows of the boundary register as gates, over whole runs: at every moment they carry what the test logic has
+// in their places.
+// Laws only, of the cells of boundary_cells. specs/Rows.antt has what a row is handed and gives,
+// specs/Laws.antt what it does.
 // IEEE Std 1149.1-2001: boundary-scan register, the annex on BSDL (the cells BC_1, BC_2, BC_4 and BC_7).
 //
 // - A row is one of five kinds, with the nets and values that it is handed (`BoundaryRow`), and one law speaks of
@@ -31,8 +33,8 @@ use boundary_cells::{
 pub use instruction_gates::lower_register_gates;
 use netlist_laws::moments_of_a_run;
 
-/// In every well-formed netlist that contains a row's cells, at every moment of every run, they carry the test logic's bits of that
-/// row, and give the core or the pin's driver the row's value.
+/// In every well-formed netlist that contains a row's cells, at every moment of every run, they carry the test logic's
+/// bits of that row, and give the core or the pin's driver the row's value.
 pub fn rows_follow()
     ensures { RowsFollow }
 {

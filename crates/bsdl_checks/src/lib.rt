@@ -1,4 +1,5 @@
-// The meaning checks of a BSDL file: the eleven rules in their order, and the device that a file describes where it breaks none.
+// The meaning checks of a BSDL file: the eleven rules in their order, and the device that a file describes
+// where it breaks none.
 // Contracts cite the rules of bsdl_device's specs/Checks.antt and RowRules.antt, `first_meaning_fault` and `device_of`.
 // IEEE Std 1149.1-2001: the annex on BSDL; instruction register; device identification register;
 // boundary-scan register. The order of the rules and the limits are own.

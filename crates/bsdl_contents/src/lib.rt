@@ -1,5 +1,6 @@
 // What the strings of a BSDL file's sections hold, read into entries.
-// The contract of `read_contents` cites `HasContents` and `IsContentsFault` of bsdl_device; specs/Reader.antt reads each section.
+// The contract of `read_contents` cites `HasContents` and `IsContentsFault` of bsdl_device; specs/Reader.antt
+// reads each section.
 // IEEE Std 1149.1-2001: the annex on BSDL.
 //
 // - `read_contents`: on success the strings of each section, joined, hold the contents that are given, and no

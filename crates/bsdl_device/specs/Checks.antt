@@ -1,4 +1,5 @@
--- When a file that is rightly written can't be meant: one test for each rule, and one for each kind of fault. Rules on rows stand apart.
+-- When a file that is rightly written can't be meant: one test for each rule, and one for each kind of fault. Rules on
+-- rows stand apart.
 -- IEEE Std 1149.1-2001: the annex on BSDL; instruction register; device identification register. The limits are own.
 use Rattle.std.specs.Prelude.{ℕ, ◌-◌, ◌/◌, ◌%◌, ◌^◌, ◌==◌, ◌&&◌, ◌||◌, not, nat_lt, Bool, true, false, List, [], ◌∷◌, ◌++◌, length, map, count_by, Option, Some, None, is_none}
 use Rattle.std.specs.List.{flat_map, list_any}

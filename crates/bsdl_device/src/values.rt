@@ -66,7 +66,8 @@ pub struct CellRow {
     pub disable: Option<Disable>,
 }
 
-/// A device with test logic. The pins of the test logic are places in `ports`, and a cell's number is its place in `cells`.
+/// A device with test logic. The pins of the test logic are places in `ports`, and a cell's number is its
+/// place in `cells`.
 #[derive(Drop)]
 pub struct Device {
     pub entity: Text,

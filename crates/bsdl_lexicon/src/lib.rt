@@ -1,6 +1,7 @@
 // The words of a BSDL text: their kinds, names and reserved words, and lists of words as a parser reads them.
 // The contracts cite `same_name` and `is_reserved` (specs/Names.antt, specs/Reserved.antt), `plain` and `front`
-// (specs/Words.antt); specs/Pieces.antt is the word grammar. IEEE Std 1149.1-2001, the annex on BSDL; VHDL-93, lexical elements.
+// (specs/Words.antt); specs/Pieces.antt is the word grammar. IEEE Std 1149.1-2001, the annex on BSDL; VHDL-93,
+// lexical elements.
 //
 // - `same_name` says yes exactly where two names have the same bytes, but for the case of ASCII letters; `lower`
 //   is the byte in lower case.
@@ -13,8 +14,8 @@
 //   is none.
 // - `BsdlReader` is the list of words that are left: each `peek_…` sees the first, each `take_…` takes it exactly
 //   where it is what was asked for, and leaves the rest as it was.
-// By the contract of `same_name`, `lower`, `is_reserved`, `BsdlToken`, `BsdlSymbol`, `BsdlWords`, `BsdlReader` and its law
-// function.
+// By the contract of `same_name`, `lower`, `is_reserved`, `BsdlToken`, `BsdlSymbol`, `BsdlWords`, `BsdlReader` and
+// its law function.
 #![tactic(auto)]
 
 mod laws;

@@ -1,5 +1,7 @@
-// The rules of a BSDL file on its ports, pins, instructions and registers, and what they are looked up by: tables of names and of keys.
-// Contracts cite specs/Checks.antt, Ports.antt and Instructions.antt of bsdl_device; of keys that come once or twice specs/Keys.antt.
+// The rules of a BSDL file on its ports, pins, instructions and registers, and what they are looked up by: tables of
+// names and of keys.
+// Contracts cite specs/Checks.antt, Ports.antt and Instructions.antt of bsdl_device; of keys that come once or twice
+// specs/Keys.antt.
 // IEEE Std 1149.1-2001: the annex on BSDL; instruction register; device identification register. The limits are own.
 //
 // - `name_fails`, `pin_map_fails`, `tap_fails`, `length_fails`, `opcode_fails`, `capture_fails`, `idcode_fails`,

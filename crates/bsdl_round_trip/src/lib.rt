@@ -1,4 +1,5 @@
-// The devices that texts spell are those that keep the conditions on devices, and each is spelled by its canonical text.
+// The devices that texts spell are those that keep the conditions on devices, and each is spelled by
+// its canonical text.
 // The contracts of the laws cite specs/Laws.antt, over `IsDevice`, `SpellsText` and `canonical_device` of bsdl_device.
 // IEEE Std 1149.1-2001: the annex on BSDL; the layout is own.
 //

@@ -10,7 +10,8 @@ use Rattle.bsdl_device.specs.Faults.{IsSyntaxFault, IsMeaningFault}
 use Rattle.bsdl_device.specs.declared.fault.DeviceFault.{DeviceFault}
 use Rattle.bsdl_device.specs.declared.fault.DeviceFault.TheVariants.{BsdlSyntax, BsdlMeaning, OutOfMemory}
 
--- The words spell no device: they are no file's, or strings hold what they can't, and this is the word, at its place in the text.
+-- The words spell no device: they are no file's, or strings hold what they can't, and this is the word, at its
+-- place in the text.
 pub record IsBsdlSyntax (words : BsdlWords) (place word : ℕ) : Type 0 where
   pub unspelled : (device : Device) → SpellsDevice words.list device → ⊥
   pub fault : IsSyntaxFault (plain words.list) word

@@ -1,5 +1,6 @@
 // From the words, or the bytes, of a BSDL text to the device that they describe.
-// The contracts of `parse_device` and `read_device` cite specs/DeviceFaults.antt and specs/TextOutcome.antt, and `SpellsDevice`, `SpellsText` of bsdl_device.
+// The contracts of `parse_device` and `read_device` cite specs/DeviceFaults.antt and specs/TextOutcome.antt, and
+// `SpellsDevice`, `SpellsText` of bsdl_device.
 // IEEE Std 1149.1-2001: the annex on BSDL. Which fault comes first is own.
 //
 // - `parse_device`: on success the words spell the device that is given, and no other.

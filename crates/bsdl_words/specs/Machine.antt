@@ -13,7 +13,8 @@ use Rattle.bsdl_words.specs.declared.mode.Mode.TheVariants as in_
 
 -- A machine that takes a text byte by byte (own). It says how the cutter goes; what it gives is stated by pieces alone.
 
--- the words so far, what was begun of the next piece, its offset where the piece is a word, and its bytes where they are needed
+-- the words so far, what was begun of the next piece, its offset where the piece is a word, and its bytes
+-- where they are needed
 pub record State : Type 0 where
   pub words : List BsdlSpanned
   pub mode : Mode

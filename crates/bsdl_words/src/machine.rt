@@ -277,7 +277,8 @@ impl BsdlMachine {
         self.keep(byte, Mode::Name)
     }
 
-    // A digit more of those that an integer or a real number begins with: 30 of them leave room for a point and a digit.
+    // A digit more of those that an integer or a real number begins with: 30 of them leave room for a
+    // point and a digit.
     #[tactic(auto, using(list_laws::proofs::Lists::push_all))]
     fn digits_go(&mut self, at: u64, byte: u8) -> Result<(), CutFault>
         requires digits { self.old.mode ≡ Mode.Digits }

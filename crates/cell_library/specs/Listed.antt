@@ -23,7 +23,8 @@ abbrev pub body_flop : Body → Option FlopKind
 body_flop (body.Gate steps) = None
 body_flop (body.Flop kind) = Some kind
 
--- The values that stand after steps, the last one first. Where a step lacks a value it takes 0, which no body of a library does.
+-- The values that stand after steps, the last one first. Where a step lacks a value it takes 0, which no body
+-- of a library does.
 
 abbrev pub top : List Sig → Sig
 top [] = Zero

@@ -17,7 +17,8 @@ abbrev pub AreApart : List (List ℕ) → Type 0
 AreApart [] = ⊤
 AreApart (name ∷ names) = IsNoneOf name names × AreApart names
 
--- own: a cell of this kind has an output's port and a port for each operand; no two are the same, and each is found at its place
+-- own: a cell of this kind has an output's port and a port for each operand; no two are the same, and each is
+-- found at its place
 pub record HasPorts (library : List ListedCell) (kind : Kind) : Type 0 where
   pub output : List ℕ
   pub output_is : output_port library kind ≡ Some output

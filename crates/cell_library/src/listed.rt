@@ -15,7 +15,8 @@ use std::alloc::Global;
 use std::marker::Model;
 use verilog_lexicon::lower_texts::{OutOfMemory, Row, Text};
 
-/// A step of a gate: it puts a value on top of those that stand, or takes one, two or three from there and puts one in their place.
+/// A step of a gate: it puts a value on top of those that stand, or takes one, two or three from there and puts
+/// one in their place.
 #[derive(Clone, Copy, Drop)]
 pub enum Step {
     /// The operand of this number.
@@ -36,7 +37,8 @@ pub enum Body {
     Flop(FlopKind),
 }
 
-/// A cell with a name, ports and a body of its own. The inputs of a flip-flop are D, CK and, where there is one, RN or SN.
+/// A cell with a name, ports and a body of its own. The inputs of a flip-flop are D, CK and, where there
+/// is one, RN or SN.
 #[derive(Drop)]
 pub struct ListedCell {
     pub name: Text,

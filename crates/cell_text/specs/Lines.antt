@@ -6,7 +6,8 @@ use Rattle.cell_library.specs.declared.FlopKind.{FlopKind}
 use Rattle.cell_library.specs.Gates.{flop_operand_count}
 use Rattle.cell_text.specs.Words.{Words, is_colon, is_step_count, flop_named}
 
--- The words before and behind the first colon that has at most 16 before it and 1 to 64 behind it, where `front` came before.
+-- The words before and behind the first colon that has at most 16 before it and 1 to 64 behind it, where
+-- `front` came before.
 abbrev pub parted : Words → Words → Option (Words × Words)
 parted front [] = None
 parted front (word ∷ words) =

@@ -1,6 +1,6 @@
 -- What `check` makes of the bytes of a netlist, of a BSDL text and of events.
--- IEEE Std 1364-2001 for the netlist; IEEE Std 1149.1-2001 for the device: test access port, the annex on BSDL. The texts of events and
--- what a check puts are own.
+-- IEEE Std 1364-2001 for the netlist; IEEE Std 1149.1-2001 for the device: test access port, the annex on BSDL. The
+-- texts of events and what a check puts are own.
 use Rattle.std.specs.Prelude.{◌≡◌, ℕ, List}
 use Rattle.verilog_tree.specs.declared.tree.Module.{Module}
 use Rattle.verilog_tree.specs.Texts as verilog
@@ -32,8 +32,9 @@ pub record SpellsOneDevice (text : List ℕ) (device : Device) : Type 0 where
   pub spells : bsdl.SpellsText text device
   pub only : (other : Device) → bsdl.SpellsText text other → other ≡ device
 
--- The netlist's bytes spell one netlist with the library, and the device's one device, whose ports are the netlist's; the events' bytes spell lines
--- that are legal for both; and the text is that of the check, in which so many expectations aren't met.
+-- The netlist's bytes spell one netlist with the library, and the device's one device, whose ports are the netlist's;
+-- the events' bytes spell lines that are legal for both; and the text is that of the check, in which so many
+-- expectations aren't met.
 pub record IsCheck (library : List ListedCell) (net text events put : List ℕ) (missed : ℕ) : Type 0 where
   pub linked : LinkedView
   pub netlist : SpellsLinked library net linked

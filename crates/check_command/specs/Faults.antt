@@ -1,5 +1,5 @@
--- When each fault stands in the texts of a netlist, of a device and of events: the netlist is looked at first, then the device, then
--- whether their ports agree, then the events. Own.
+-- When each fault stands in the texts of a netlist, of a device and of events: the netlist is looked at first, then the
+-- device, then whether their ports agree, then the events. Own.
 use Rattle.std.specs.Prelude.{◌≡◌, ℕ, List}
 use Rattle.verilog_texts.specs.TextFaults.{IsTextFault}
 use Rattle.cell_library.specs.declared.listed.ListedCell.{ListedCell}

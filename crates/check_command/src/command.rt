@@ -24,8 +24,9 @@ fn status_after(missed: usize) -> Status
     }
 }
 
-/// Checks the netlist that lies under one name by the device whose BSDL text lies under another and the events that lie under a third,
-/// with the library that lies under a fourth if there is one, and puts what comes of it. The status is `Done`, or `Missed` where an expectation isn't met.
+/// Checks the netlist that lies under one name by the device whose BSDL text lies under another and the events that lie
+/// under a third, with the library that lies under a fourth if there is one, and puts what comes of it. The status is
+/// `Done`, or `Missed` where an expectation isn't met.
 #[derive(Clone, Copy)]
 pub struct Check<'a> {
     pub netlist: &'a str,

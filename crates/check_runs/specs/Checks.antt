@@ -28,8 +28,8 @@ miss_text lines miss = missed_line miss.line (word_in lines.numbers lines.list m
 abbrev pub check_text : Lines → Verdict → List ℕ
 check_text lines verdict = flat_map (miss_text lines) verdict.missed ++ done_line verdict.sets (length verdict.missed)
 
--- The lines are legal for the netlist, and none breaks the rule of the device's test access port; the text is that of the verdict on
--- their run, in which so many expectations aren't met.
+-- The lines are legal for the netlist, and none breaks the rule of the device's test access port; the text is that of
+-- the verdict on their run, in which so many expectations aren't met.
 pub record IsChecked (L : LinkedView) (d : Device) (lines : Lines) (text : List ℕ) (missed : ℕ) : Type 0 where
   pub script : List ScriptLine
   pub resolved : IsResolved L lines script

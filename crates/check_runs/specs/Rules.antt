@@ -60,8 +60,8 @@ pub record IsFirstWrong (L : LinkedView) (d : Device) (lines : List Line) (place
   pub here : IsWrong L d lines place
   pub first : (earlier : ℕ) → earlier < place → IsWrong L d lines earlier → ⊥
 
--- own: the lines are illegal at the one with this number, which is the first that is wrong; or, where none is and they end before each
--- input and inout bit has its start, at the line after the last
+-- own: the lines are illegal at the one with this number, which is the first that is wrong; or, where none is and they
+-- end before each input and inout bit has its start, at the line after the last
 pub data IsIllegalAt (L : LinkedView) (d : Device) (lines : Lines) : ℕ → Type 0 where
   wrong : {place number : ℕ} → IsFirstWrong L d lines.list place → slice_get lines.numbers place ≡ Some number → IsIllegalAt L d lines number
   unstarted : ((place : ℕ) → IsWrong L d lines.list place → ⊥) → LacksStart L lines.list → IsIllegalAt L d lines lines.end

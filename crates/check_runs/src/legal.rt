@@ -11,8 +11,8 @@ use netlist_link::Linked;
 use scan_vectors::Lines;
 use std::alloc::Global;
 
-/// The script of event lines that are legal for a netlist and keep the rule of a device's test access port, or the first line that
-/// is illegal.
+/// The script of event lines that are legal for a netlist and keep the rule of a device's test access port, or the
+/// first line that is illegal.
 pub fn resolve_both(
     alloc: Global,
     linked: &Linked,

@@ -21,8 +21,9 @@ pub struct Checked {
     pub missed: usize,
 }
 
-/// Plays event lines on a netlist with a device's test logic, in which every flip-flop begins unknown, and tells which expectations
-/// aren't met; or the first line that is illegal for the netlist, or breaks the rule of the device's test access port.
+/// Plays event lines on a netlist with a device's test logic, in which every flip-flop begins unknown, and tells
+/// which expectations aren't met; or the first line that is illegal for the netlist, or breaks the rule of the
+/// device's test access port.
 pub fn check_lines(
     alloc: Global,
     linked: &Linked,

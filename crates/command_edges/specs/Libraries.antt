@@ -17,7 +17,8 @@ abbrev pub names_if : Option (List ℕ) → List (List ℕ)
 names_if None = []
 names_if (Some name) = name ∷ []
 
--- what the texts behind the others come to: the library that the first of them spells; without one there are no listed cells
+-- what the texts behind the others come to: the library that the first of them spells; without one there
+-- are no listed cells
 abbrev pub IsLibraryOf : List (List ℕ) → List ListedCell → Type 0
 IsLibraryOf [] library = library ≡ []
 IsLibraryOf (text ∷ more) library = SpellsLibrary text library

@@ -2,7 +2,8 @@
 use Rattle.std.specs.Prelude.{◌≡◌, ℕ, ◌⊎◌, List, take, Bool, Option}
 use Rattle.edge_io.specs.Shelf.{Access, Rose, RoseAt, told_if}
 
--- What is held under each name; what was written there, where the shelf tells it; and the counts of faults of reads and of writes.
+-- What is held under each name; what was written there, where the shelf tells it; and the counts of faults of
+-- reads and of writes.
 pub record ShelfSeen : Type 0 where
   pub tells : Bool
   pub held : List ℕ → Option (List ℕ)

@@ -1,4 +1,5 @@
--- What a command is to do, as a task, and what comes of it: its end, the fault that stands, and when it comes to its end. Own.
+-- What a command is to do, as a task, and what comes of it: its end, the fault that stands, and when it comes
+-- to its end. Own.
 use Rattle.std.specs.Prelude.{◌≡◌, ℕ, ◌≤◌, ◌⊎◌, List, take, Bool, true, false, Option}
 use Rattle.edge_io.specs.Shelf.{Access, NoneFell, SameTold, appended}
 use Rattle.command_faults.specs.declared.fault.Fault.{Fault}
@@ -8,8 +9,9 @@ use Rattle.command_edges.specs.Seen.{ShelfSeen, SinkSeen, SinkRose}
 use Rattle.command_edges.specs.EdgeFaults.{StandsInPutting}
 use Rattle.command_edges.specs.Texts.{AreRead, AreHeld, StandsInReadings, AreWritten, StandsInWritings, NoneRose}
 
--- The names of the texts that a command reads, in order, and of those that it writes, in order; whether it puts a text; and of the texts
--- that it reads: what is written and put of them and with which status it then ends, which faults stand in them, and that none does.
+-- The names of the texts that a command reads, in order, and of those that it writes, in order; whether it puts a text;
+-- and of the texts that it reads: what is written and put of them and with which status it then ends, which faults
+-- stand in them, and that none does.
 pub record Task : Type 1 where
   pub reads : List (List ℕ)
   pub writes : List (List ℕ)
@@ -67,14 +69,14 @@ pub record StandsInOutput (t : Task) (shelf : ShelfSeen) (sink : SinkSeen) (f : 
   pub made : AreMade t shelf outputs put end
   pub stands : StandsInGiving t.writes outputs t.puts put shelf sink f given
 
--- The fault stands in the command: in reading the texts or in texts that were read, and nothing was done; or in writing or putting what
--- comes of them. And then so much was given.
+-- The fault stands in the command: in reading the texts or in texts that were read, and nothing was done; or in writing
+-- or putting what comes of them. And then so much was given.
 abbrev pub Stands : Task → ShelfSeen → SinkSeen → Fault → Option (List ℕ) → Type 0
 Stands t shelf sink f given =
     ((StandsInReadings t.reads shelf f ⊎ StandsInTexts t shelf f) × NothingDone shelf sink given) ⊎ StandsInOutput t shelf sink f given
 
--- A refusal with this status, where no fault stands in the texts and no count of reads of these, of writes of the outputs or of the sink,
--- if it puts a text, rises, is want of memory.
+-- A refusal with this status, where no fault stands in the texts and no count of reads of these, of writes of the
+-- outputs or of the sink, if it puts a text, rises, is want of memory.
 abbrev pub Completes : Task → ShelfSeen → SinkSeen → Status → Type 0
 Completes t shelf sink end = (texts : List (List ℕ)) → AreHeld shelf.held t.reads texts → t.AreFree texts
     → NoneRose Access.reading t.reads shelf → NoneRose Access.writing t.writes shelf → (t.puts ≡ true → SinkRose sink → ⊥)

@@ -1,6 +1,7 @@
-// How commands read, write and put whole texts, and their faults of it; and how a command runs that makes texts of texts.
-// Contracts cite specs/EdgeFaults.antt and specs/Texts.antt, over specs/Seen.antt: what a command saw of its shelf and its sink. That of
-// `run_task` cites specs/Tasks.antt: what any command comes to.
+// How commands read, write and put whole texts, and their faults of it; and how a command runs that
+// makes texts of texts.
+// Contracts cite specs/EdgeFaults.antt and specs/Texts.antt, over specs/Seen.antt: what a command saw of its shelf and
+// its sink. That of `run_task` cites specs/Tasks.antt: what any command comes to.
 // Commands cite specs/Spelled.antt and specs/Ends.antt too.
 // Own: no chapter of a standard speaks of it.
 //

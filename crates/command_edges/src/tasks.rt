@@ -16,8 +16,8 @@ use edge_io::sink::Sink;
 use edge_io::{Row, Text};
 use std::alloc::Global;
 
-/// What a command makes of the texts that it reads: those to be written, in order, the one to be put, if it puts one, and the
-/// status with which it then ends.
+/// What a command makes of the texts that it reads: those to be written, in order, the one to be put, if it puts one,
+/// and the status with which it then ends.
 #[derive(Drop)]
 pub struct Made {
     pub outputs: Row<Text>,
@@ -30,7 +30,8 @@ pub trait TextCommand: Drop {
     /// What it is to do.
     ghost task: { Self → Task };
 
-    /// Makes its texts of those that it read, which stand in the order of their names. It may let go what it has no more use for.
+    /// Makes its texts of those that it read, which stand in the order of their names. It may let go what it has
+    /// no more use for.
     fn make<'a>(self, alloc: Global, texts: &mut [Text]) -> Result<Made, Fault<'a>>
         requires { length texts.old ≡ length (task self).reads }
         ensures made { IfOk result (λ made. (task self).Makes texts.old made.outputs made.put made.status) }
@@ -87,8 +88,8 @@ fn give<'a, S: Shelf, O: Sink>(
     Ok(made.status)
 }
 
-/// Runs a command on its files, whose names are those of its task: reads the texts, makes what is to be written and put, writes it, and
-/// puts it, if it puts a text.
+/// Runs a command on its files, whose names are those of its task: reads the texts, makes what is to be written and
+/// put, writes it, and puts it, if it puts a text.
 pub fn run_task<'a, C: TextCommand, S: Shelf, O: Sink>(
     alloc: Global,
     shelf: &mut S,

@@ -42,7 +42,8 @@ pub record Judges (more : List Missed) (old new : Verdict) : Type 0 where
   pub met : new.met ≡ old.met + length (filter is_met more)
   pub missed : new.missed ≡ old.missed ++ filter is_missed more
 
--- The verdict is that of the script's run: how many sets it has, how many expectations are met, and the others in order.
+-- The verdict is that of the script's run: how many sets it has, how many expectations are met, and the
+-- others in order.
 pub record IsVerdict (N : NetlistView) (script : List ScriptLine) (verdict : Verdict) : Type 0 where
   pub moment : ℕ → Moment
   pub run : IsRunOf N script moment

@@ -19,7 +19,8 @@ use std::marker::Brand;
 use std::sync::ledger::{Blank, Ledger};
 use texts::{OutOfMemory, Row};
 
-/// Plays a script on a linked netlist, in which every flip-flop begins unknown, and tells which of its expectations are met.
+/// Plays a script on a linked netlist, in which every flip-flop begins unknown, and tells which of its
+/// expectations are met.
 pub fn judge(alloc: Global, linked: &Linked, script: &Script) -> Result<Verdict, OutOfMemory>
     requires { IsPlayable linked.now.arena.lists script.now.list }
     ensures { IfOk result (IsVerdict linked.now.arena.lists script.now.list) }

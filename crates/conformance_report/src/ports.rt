@@ -9,8 +9,8 @@ use bsdl_device::{DevPort, Device, PortMode, PortRange};
 use netlist_link::Linked;
 use netlist_model::{Dir, PortId, Range};
 
-/// Whether the ports of the netlist are the device's but for linkage, in any order: with the same names, byte for byte, directions
-/// and ranges. It takes no memory. Where both have them in one order, each is looked at once.
+/// Whether the ports of the netlist are the device's but for linkage, in any order: with the same names, byte for byte,
+/// directions and ranges. It takes no memory. Where both have them in one order, each is looked at once.
 pub fn ports_agree(linked: &Linked, device: &Device) -> bool
     ensures { IsTrue result ↔ PortsAgree linked.now device.now }
 {

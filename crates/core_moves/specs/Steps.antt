@@ -22,8 +22,8 @@ with_driver_feeds net feeds cell = if is_output cell.output net.0 then record ce
 abbrev pub fed_driver : NetId → List Feed → NetlistView → NetlistView
 fed_driver net feeds N = record N { cells = map (option_map (with_driver_feeds net feeds)) N.cells }
 
--- own: what a cell at this site makes of the netlist, where its bit has this net: `side` is the first net between the core and it,
--- and `level` that of its control
+-- own: what a cell at this site makes of the netlist, where its bit has this net: `side` is the first net between the
+-- core and it, and `level` that of its control
 abbrev pub stood_at : Site → NetId → NetId → NetId → NetlistView → NetlistView
 stood_at site.Observed side level net N = N
 stood_at site.Input side level net N = moved_readers net side N

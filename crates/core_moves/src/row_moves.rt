@@ -63,7 +63,8 @@ fn stand_row(netlist: &mut Netlist, rows: &[FitRow], first: NetId, row: &FitRow,
     }
 }
 
-/// Puts the core behind the cells of these rows. The nets between it and them are there from `first` on, and nothing drives them.
+/// Puts the core behind the cells of these rows. The nets between it and them are there from `first` on, and
+/// nothing drives them.
 pub fn stand_behind(netlist: &mut Netlist, rows: &[FitRow], first: NetId)
     requires { CanStandBehind netlist.old.lists rows.now first.0 }
     ensures lists { netlist.new.lists ≡ with_core_behind

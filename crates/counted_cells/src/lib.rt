@@ -6,7 +6,8 @@
 // - `eval_pair_step` gives the value of `eval` for two operands of a kind that takes several, and raises the counter
 //   by one.
 // - Nothing else raises a counter `Steps`, which takes no bytes.
-// By the contract of the three calls, of `pair_of` and of `Steps::new`; that nothing else raises it, since its field is private.
+// By the contract of the three calls, of `pair_of` and of `Steps::new`; that nothing else raises it, since its
+// field is private.
 #![tactic(auto)]
 
 ghost use Rattle.std.specs.Prelude.{◌≡◌, ◌+◌, ◌∷◌, [], List, length, IsTrue};

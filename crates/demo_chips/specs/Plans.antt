@@ -1,5 +1,6 @@
 -- The plan of the demonstration netlists.
--- IEEE Std 1149.1-2001: test access port, instructions, device identification register, boundary-scan register; the plan is own.
+-- IEEE Std 1149.1-2001: test access port, instructions, device identification register, boundary-scan register;
+-- the plan is own.
 use Rattle.std.specs.Prelude.{ℕ, ◌+◌, ◌-◌, ◌^◌, List, [], ◌∷◌, ◌++◌, map, codes, Some, None}
 use Rattle.std.specs.Fmt.{decimal}
 use Rattle.cell_library.specs.declared.codes.BoundaryKind.{BoundaryKind}

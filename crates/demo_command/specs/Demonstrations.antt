@@ -23,8 +23,8 @@ kept_cells number = gate_count number + 48
 abbrev pub demo_line : ℕ → List ℕ
 demo_line number = words_line (codes "demo") (decimal number ∷ codes "kept" ∷ decimal (kept_cells number) ∷ codes "boundary" ∷ decimal boundary_cells ∷ [])
 
--- These two texts come of inserting the demonstration plan's test logic into the netlist of the number, and its line tells the cells of
--- that netlist and the boundary cells of the device.
+-- These two texts come of inserting the demonstration plan's test logic into the netlist of the number, and its line
+-- tells the cells of that netlist and the boundary cells of the device.
 pub record IsDemo (number : ℕ) (verilog bsdl : List ℕ) : Type 0 where
   pub report : List ℕ
   pub insertion : IsInsertionText [] (canonical (demo_module number)) (canonical_plan demo_plan) verilog bsdl report
@@ -36,7 +36,8 @@ abbrev pub AreDemo : ℕ → List (List ℕ) → List (List ℕ) → List ℕ �
 AreDemo number [] (verilog ∷ bsdl ∷ []) line end = IsDemo number verilog bsdl × (line ≡ demo_line number) × (end ≡ status.Done)
 AreDemo number _ _ line end = ⊥
 
--- The texts of the demonstration are written, and its line is put. It is refused only where memory is short, or a write fails.
+-- The texts of the demonstration are written, and its line is put. It is refused only where memory is short,
+-- or a write fails.
 abbrev pub demo_task : ℕ → List ℕ → List ℕ → Task
 demo_task number outnet outbsdl = record {
   reads = [];

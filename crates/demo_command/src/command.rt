@@ -9,8 +9,8 @@ use edge_io::Text;
 use insert_command::written_and_put;
 use std::alloc::Global;
 
-/// Makes the demonstration netlist of a number, builds the test logic of the demonstration plan into it, writes the netlist's text and
-/// the device's, and puts one line.
+/// Makes the demonstration netlist of a number, builds the test logic of the demonstration plan into it, writes the
+/// netlist's text and the device's, and puts one line.
 #[derive(Clone, Copy)]
 pub struct Demo<'a> {
     pub number: u32,

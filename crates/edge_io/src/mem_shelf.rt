@@ -12,8 +12,8 @@ use std::alloc::Global;
 use std::marker::Model;
 use texts::{OutOfMemory, Text};
 
-/// A shelf in memory, whose faults its owner chooses. Its calls as a [`Shelf`] take no memory, and the faults of all names
-/// are counted together.
+/// A shelf in memory, whose faults its owner chooses. Its calls as a [`Shelf`] take no memory, and the faults of all
+/// names are counted together.
 ///
 /// Such a call fails exactly where its number is listed, a read has a name under which nothing was placed,
 /// a start has a name for which no room was made, an append has a name that wasn't started, or no byte of a

@@ -23,9 +23,9 @@ pub trait Shelf {
     /// Whether the shelf tells what was written.
     ghost tells: { Bool };
 
-    /// How many faults there were of reads under a name, and of writes: those of several names, and of both kinds, may be
-    /// counted together. None is left out but of appends to a name that wasn't started. A count stays at its last value,
-    /// `u64::MAX`.
+    /// How many faults there were of reads under a name, and of writes: those of several names, and of both kinds, may
+    /// be counted together. None is left out but of appends to a name that wasn't started. A count stays at its last
+    /// value, `u64::MAX`.
     ghost faults: { Self → Access → List ℕ → ℕ };
 
     /// Reads what lies under the name from byte `at` on. `Ok(n)` filled the first `n` bytes of `into`, and

@@ -5,7 +5,8 @@ use Rattle.cell_library.specs.declared.listed.ListedCell.{ListedCell}
 use Rattle.cell_library.specs.Gates.{is_flop}
 use Rattle.netlist_model.specs.Lists.{CellView, NetlistView, cell_at, Drives, Reads}
 
--- own: a gate waits on each operand; a flip-flop on its clock, which is 1, and its clear or preset, which is 2, and not on D, which is 0
+-- own: a gate waits on each operand; a flip-flop on its clock, which is 1, and its clear or preset, which is 2, and not
+-- on D, which is 0
 abbrev pub IsTrigger : List ListedCell → Kind → ℕ → Type 0
 IsTrigger library kind place = (is_flop library kind ≡ false) ⊎ ((place ≡ 1) ⊎ (place ≡ 2))
 

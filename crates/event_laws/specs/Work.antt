@@ -35,7 +35,8 @@ pub record IsWaiting (N : NetlistView) (turn : ℕ → ℕ) (e : Event) (value :
   pub there : turn number ≡ t
   pub later : from ≤ t
 
--- own: `queued` is 1 at the turns that are queued; each cell whose turn isn't agrees; nets and flip-flops whose turn is to come are as before; and what is queued has its reason
+-- own: `queued` is 1 at the turns that are queued; each cell whose turn isn't agrees; nets and flip-flops whose turn is
+-- to come are as before; and what is queued has its reason
 pub record IsPending (N : NetlistView) (turn : ℕ → ℕ) (e : Event) (value state : ℕ → Sig) (drive : ℕ → PinSig) (queued : ℕ → ℕ) (from : ℕ) : Type 0 where
   pub done : (number : ℕ) (cell : CellView) → cell_at N number ≡ Some cell → (queued (turn number) ≡ 1 → ⊥) → IsDone N e value state drive number cell
   pub free : (net : ℕ) → IsUndriven N net → value net ≡ undriven_value (direction N.ports net) (e.pins net)

@@ -1,13 +1,13 @@
 // Laws of events that evaluate only what waits on a net that changed: each function has nothing to do, and its contract
 // is the law.
-// Contracts cite specs/Laws.antt over specs/Turns.antt (on what a cell waits, and when its turn is) and specs/Work.antt (how far
-// an event is); specs/Counts.antt counts gates.
+// Contracts cite specs/Laws.antt over specs/Turns.antt (on what a cell waits, and when its turn is) and specs/Work.antt
+// (how far an event is); specs/Counts.antt counts gates.
 // Own: IEEE Std 1364-2001, the chapter on scheduling, leaves the order open.
 //
 // - A start is at rest; from rest an event queues what waits on its net; each turn leaves only what waits on what it
 //   changed; with an empty queue the event is the step of the definition, and at rest (the first four functions).
-// - Each evaluation is that of a gate with an operand on a net that changed, and none has two; these are never more than
-//   the gates, and none where nothing changed (the next five).
+// - Each evaluation is that of a gate with an operand on a net that changed, and none has two; these are never more
+//   than the gates, and none where nothing changed (the next five).
 // - At rest what a bit reads is had from the values of nets and what is kept of three-state gates (`rest_reads`).
 #![tactic(auto)]
 

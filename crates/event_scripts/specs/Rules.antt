@@ -91,8 +91,8 @@ pub record IsFirstBroken (L : LinkedView) (lines : List Line) (place : ℕ) : Ty
   pub here : IsBroken L lines place
   pub first : (earlier : ℕ) → earlier < place → IsBroken L lines earlier → ⊥
 
--- own: the lines are illegal at the one with this number, which is the first that breaks a rule; or, where they end before
--- each input and inout bit has its start, at the line after the last
+-- own: the lines are illegal at the one with this number, which is the first that breaks a rule; or, where they end
+-- before each input and inout bit has its start, at the line after the last
 pub data AreIllegalAt (L : LinkedView) (lines : Lines) : ℕ → Type 0 where
   broken : {place number : ℕ} → IsFirstBroken L lines.list place → slice_get lines.numbers place ≡ Some number → AreIllegalAt L lines number
   unstarted : IsUnbroken L lines.list → LacksStart L lines.list → AreIllegalAt L lines lines.end

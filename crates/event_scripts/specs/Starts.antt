@@ -22,7 +22,8 @@ use Rattle.event_scripts.specs.Scripts.{IsFound}
 
 -- What a line does with a bit.
 
--- own: the word names this bit and no other, and these are its net, which no other bit has, and its side, and whether it is a control port
+-- own: the word names this bit and no other, and these are its net, which no other bit has, and its side, and whether
+-- it is a control port
 pub record IsWordBit (L : LinkedView) (word : List ℕ) (bit : Bit) : Type 0 where
   pub named : Names L word bit.pin
   pub only : (other : PinBit) → Names L word other → other ≡ bit.pin

@@ -9,7 +9,8 @@ use Rattle.signal_values.specs.declared.PinSig.{PinSig}
 use Rattle.netlist_settling.specs.Values.{value_at, pin_at}
 use Rattle.turn_queue.specs.Queues.{IsIn}
 
--- own: a net that isn't logged has what it had, and so has what is kept of its driver; only numbers of nets are logged, and what was logged stays
+-- own: a net that isn't logged has what it had, and so has what is kept of its driver; only numbers of nets are logged,
+-- and what was logged stays
 pub record Logs (count : ℕ) (values values' : List Sig) (drives drives' : List PinSig) (words words' : List ℕ) : Type 0 where
   pub long : length words' ≡ length words
   pub kept : (net : ℕ) → IsIn words net → IsIn words' net

@@ -78,7 +78,8 @@ pub record AreTurned (N : NetlistView) (order : List CellId) (turns firsts : Lis
 
 -- What waits.
 
--- own: the net on which a cell waits by an operand, if it is a net: a flip-flop by its clock and its clear or preset alone
+-- own: the net on which a cell waits by an operand, if it is a net: a flip-flop by its clock and its
+-- clear or preset alone
 abbrev pub waited : Bool → ℕ → Feed → Option ℕ
 waited flop operand (Net net) = if not flop || (operand == 1 || operand == 2) then Some net.0 else None
 waited flop operand (Const b) = None
@@ -89,7 +90,8 @@ pub record HasKey (keys : List (Option ℕ)) (owners : List ℕ) (net turn : ℕ
   pub is : IsKey keys place net
   pub owner : slice_index owners place ≡ turn
 
--- own: the operand of a cell of the order was noted: those of the first so many cells, and the first so many of the next
+-- own: the operand of a cell of the order was noted: those of the first so many cells, and the first so
+-- many of the next
 abbrev pub IsNoted : ℕ → ℕ → ℕ → ℕ → Type 0
 IsNoted count upto place operand = (place < count) ⊎ ((place ≡ count) × (operand < upto))
 

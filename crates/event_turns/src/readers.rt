@@ -101,7 +101,8 @@ fn add_waits(
     Ok(())
 }
 
-// The net on which a cell waits by an operand: a flip-flop by its clock, which is 1, and its clear or preset, which is 2.
+// The net on which a cell waits by an operand: a flip-flop by its clock, which is 1, and its clear or
+// preset, which is 2.
 fn waited(flop: bool, operand: u32, feed: Feed) -> Option<u32>
     ensures { result ≡ waited flop operand feed }
 {

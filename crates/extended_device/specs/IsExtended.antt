@@ -13,7 +13,8 @@ use Rattle.extended_device.specs.declared.values.TestRegister.{TestRegister}
 use Rattle.extended_device.specs.declared.values.Extended.{Extended}
 use Rattle.extended_device.specs.Rules.{names_register, names_profile}
 
--- names that aren't the profile's, an opcode of the device's length that the device has for no instruction, and 1 to 256 bits
+-- names that aren't the profile's, an opcode of the device's length that the device has for no instruction,
+-- and 1 to 256 bits
 pub record IsTestRegister (d : Device) (r : TestRegister) : Type 0 where
   pub name : IsDeviceName r.name
   pub apart : IsFalse (names_register r.name)

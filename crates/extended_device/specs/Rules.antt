@@ -1,5 +1,6 @@
 -- The base of a file with registers of its own, and the rules on these registers.
--- IEEE Std 1149.1-2001: the annex on BSDL (register access); instruction register; test data registers. The limits are own.
+-- IEEE Std 1149.1-2001: the annex on BSDL (register access); instruction register; test data registers.
+-- The limits are own.
 use Rattle.std.specs.Prelude.{ℕ, ◌==◌, ◌||◌, not, nat_lt, Bool, List, [], ◌∷◌, length, filter, count_by}
 use Rattle.std.specs.List.{list_any}
 use Rattle.bsdl_lexicon.specs.Names.{is_same_name}

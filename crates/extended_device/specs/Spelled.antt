@@ -19,7 +19,8 @@ use Rattle.extended_device.specs.declared.values.Extended.{Extended}
 use Rattle.extended_device.specs.Entries.{HasExtendedContents}
 use Rattle.extended_device.specs.Rules.{base_contents, own_opcodes, own_registers_fail}
 
--- the register of an entry, with its instruction as INSTRUCTION_OPCODE spells it; none where that has no opcode, which is a fault
+-- the register of an entry, with its instruction as INSTRUCTION_OPCODE spells it; none where that has no opcode,
+-- which is a fault
 abbrev pub register_of : List OpcodeEntry → RegisterEntry → Option TestRegister
 register_of opcodes e =
     option_map (λ (o : OpcodeEntry). let made : TestRegister = record { name = e.name; instr = o.name; bits = o.bits; length = e.length } in made)

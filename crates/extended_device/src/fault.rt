@@ -8,8 +8,8 @@ use thiserror::Error;
 /// Why words spell no device with registers of its own. Places are offsets in bytes, and words are counted from 0.
 #[derive(Clone, Copy, Debug, Drop, Error)]
 pub enum ExtendedFault {
-    /// The words are no file's, or strings hold what they can't; where it is the end that comes too soon, the text's length
-    /// and the count of words.
+    /// The words are no file's, or strings hold what they can't; where it is the end that comes too soon, the text's
+    /// length and the count of words.
     #[error("the words are no device, from word {word} at byte {place} on")]
     BsdlSyntax { place: u64, word: u64 },
     /// The first rule on the base device that is broken, and the place of the section at which it is told.

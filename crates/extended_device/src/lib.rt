@@ -1,5 +1,7 @@
-// Devices with read-only test data registers of the design's own: what a BSDL text says of them, beside what it says of the device.
-// Contracts above cite `SpellsExtended`, `IsExtended`, `own_registers_fail`, `IsExtendedFault` and `canonical_extended` of specs/.
+// Devices with read-only test data registers of the design's own: what a BSDL text says of them, beside what it
+// says of the device.
+// Contracts above cite `SpellsExtended`, `IsExtended`, `own_registers_fail`, `IsExtendedFault` and
+// `canonical_extended` of specs/.
 // IEEE Std 1149.1-2001: the annex on BSDL (REGISTER_ACCESS); test data registers. The limits and the layout are own.
 //
 // - The base of such a device is that of the text without the entries of these registers and without their

@@ -127,7 +127,8 @@ fn take_own(alloc: Global, file: &mut File) -> Result<Row<RegisterEntry>, OutOfM
     }
 }
 
-/// The file without the entries of the design's own registers. Where its strings hold what they can't, it is the file itself.
+/// The file without the entries of the design's own registers. Where its strings hold what they can't, it is
+/// the file itself.
 pub fn without_own(alloc: Global, mut file: File) -> Result<Parted, OutOfMemory>
     requires { 0 < length file.access.strings }
     ensures { IfOk result (λ made. parting.IsParted file made) }

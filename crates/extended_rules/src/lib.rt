@@ -1,6 +1,7 @@
 // The registers of a design's own: the opcodes of their instructions, the rules on them, and what a device has of them.
 // Contracts cite specs/Rules.antt and specs/Spelled.antt of extended_device.
-// IEEE Std 1149.1-2001: the annex on BSDL (register access); instruction register; test data registers. The limits are own.
+// IEEE Std 1149.1-2001: the annex on BSDL (register access); instruction register; test data registers.
+// The limits are own.
 //
 // - `part_contents` takes the opcodes of the design's own instructions out of a file's contents.
 // - `registers_fail` says yes exactly where a rule on these registers is broken.

@@ -1,4 +1,5 @@
-// The rules on the design's own registers. What is looked at pair by pair is short where what was looked at before is right.
+// The rules on the design's own registers. What is looked at pair by pair is short where what was looked at
+// before is right.
 ghost use Rattle.std.specs.Prelude.{◌≡◌};
 ghost use Rattle.std.specs.List.{list_any};
 ghost use Rattle.bsdl_device.specs.Checks as checks;

@@ -14,7 +14,8 @@ use Rattle.hier_flatten.specs.Flattened.{IsFlat, IsHierFault}
 use Rattle.command_faults.specs.declared.fault.Fault.{Fault}
 use Rattle.command_faults.specs.declared.fault.Fault.TheVariants as fault
 
--- The bytes spell one list of modules; without a fault, this is the flat module of the one of the name, which some text spells.
+-- The bytes spell one list of modules; without a fault, this is the flat module of the one of the name, which
+-- some text spells.
 pub record IsFlatOfText (library : List ListedCell) (top bytes : List ℕ) (made : Module) : Type 0 where
   pub modules : List Module
   pub spells : SpellsTrees bytes modules

@@ -23,7 +23,8 @@ abbrev pub AreFlattenable : List ℕ → List (List ℕ) → Type 0
 AreFlattenable top (bytes ∷ more) = (library : List ListedCell) × (IsLibraryOf more library × CanBeFlat library top bytes)
 AreFlattenable top _ = ⊥
 
--- The flat module of the module of a name is written; a library of cells may stand behind the modules. The name is no file's.
+-- The flat module of the module of a name is written; a library of cells may stand behind the modules. The
+-- name is no file's.
 abbrev pub flatten_task : List ℕ → List ℕ → List ℕ → Option (List ℕ) → Task
 flatten_task input top output library = record {
   reads = input ∷ names_if library;

@@ -67,8 +67,9 @@ pub struct Gate {
     pub pins: Pins,
 }
 
-/// Adds the gates of a table to a dense netlist, each with the net that it drives, and answers the first of these nets. The new nets
-/// and cells follow those that are there, in the order of the gates, under their numbers as names. Nets that were free stay so.
+/// Adds the gates of a table to a dense netlist, each with the net that it drives, and answers the first of these nets.
+/// The new nets and cells follow those that are there, in the order of the gates, under their numbers as names. Nets
+/// that were free stay so.
 pub fn add_part(netlist: &mut Netlist, gates: &[Gate], given: &[Feed]) -> NetId
     requires dense { IsDense netlist.old.lists }
     requires nets { length gates.now ≤ netlist.old.spare.nets }
@@ -91,8 +92,8 @@ pub fn add_part(netlist: &mut Netlist, gates: &[Gate], given: &[Feed]) -> NetId
     NetId(first)
 }
 
-/// Adds one cell to a dense netlist, on a net that is there and that nothing drives, as an output's. The cell has its number as
-/// name. Other nets that were free stay so.
+/// Adds one cell to a dense netlist, on a net that is there and that nothing drives, as an output's. The cell has its
+/// number as name. Other nets that were free stay so.
 pub fn add_driver(netlist: &mut Netlist, kind: Kind, feeds: &[Feed], output: NetId)
     requires dense { IsDense netlist.old.lists }
     requires cells { 0 < netlist.old.spare.cells }

@@ -1,4 +1,5 @@
-// Counts of a hierarchy, level by level: as many rounds as it may have levels, each of which looks once at each instance.
+// Counts of a hierarchy, level by level: as many rounds as it may have levels, each of which looks once
+// at each instance.
 ghost use Rattle.std.specs.Prelude.{◌≡◌, ◌<◌, ℕ, map, length, Some, None, slice_get, IfOk};
 ghost use Rattle.std.specs.Option.{option_map};
 ghost use Rattle.hier_model.specs.Entries.{level_limit};
@@ -13,8 +14,8 @@ use texts::OutOfMemory;
 /// The most levels that a hierarchy may have.
 pub const LEVEL_LIMIT: u64 = 64;
 
-/// What a module comes to through some levels: whether they suffice, and how many cells and nets there are, each up to its limit and
-/// one.
+/// What a module comes to through some levels: whether they suffice, and how many cells and nets there are, each up to
+/// its limit and one.
 #[derive(Clone, Copy, Drop)]
 pub struct Counts {
     pub fits: bool,

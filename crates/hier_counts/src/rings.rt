@@ -1,5 +1,5 @@
-// Numbers by which most places of a graph are seen to stand in no ring. Nothing is claimed of the numbers themselves: that they never
-// rise is looked at, and a place that isn't cleared by them is searched.
+// Numbers by which most places of a graph are seen to stand in no ring. Nothing is claimed of the numbers themselves:
+// that they never rise is looked at, and a place that isn't cleared by them is searched.
 ghost use Rattle.std.specs.Prelude.{◌≡◌, ◌≢◌, ◌≤◌, ℕ, true, IfOk};
 ghost use Rattle.hier_counts.specs.Graph.{IsIn};
 ghost use Rattle.hier_counts.specs.Rings.{number, NeverRises};
@@ -30,7 +30,8 @@ struct Standing {
     next: usize,
 }
 
-// A search in depth for groups of places that lead to one another. 0 stands for a place that is unseen, or in no group yet.
+// A search in depth for groups of places that lead to one another. 0 stands for a place that is unseen, or
+// in no group yet.
 #[derive(Drop)]
 struct GroupSearch {
     entered: Vec<u32>,

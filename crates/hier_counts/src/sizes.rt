@@ -20,7 +20,8 @@ pub struct Held {
     pub joined: u64,
 }
 
-/// A module by itself: how many items it has, how many bits, up to the limit of nets and one, and the modules that it holds.
+/// A module by itself: how many items it has, how many bits, up to the limit of nets and one, and the
+/// modules that it holds.
 #[derive(Drop)]
 pub struct Size {
     pub items: usize,

@@ -154,7 +154,8 @@ fn operand_at(
     }
 }
 
-/// The two sides of a link: where the instance stands and what its module declares, and where it leads and to which module.
+/// The two sides of a link: where the instance stands and what its module declares, and where it leads and
+/// to which module.
 #[derive(Clone, Copy)]
 pub struct Sides<'a, 'b> {
     pub outer: &'a [&'b [u8]],

@@ -2,8 +2,8 @@
 // The law is specs/Laws.antt, over hier_solutions' Solves.antt and netlist_link's Links.antt.
 // IEEE Std 1364-2001: hierarchical structures, ports and port connections; values are those of one flat netlist.
 //
-// - Where modules can be made flat and the flat module links with the library, the settled valuations of its nets are those that solve
-//   the hierarchy, read at (occurrence, net, bit); and each valuation can be read so.
+// - Where modules can be made flat and the flat module links with the library, the settled valuations of its nets are
+//   those that solve the hierarchy, read at (occurrence, net, bit); and each valuation can be read so.
 // By the contract of its law function.
 #![tactic(auto)]
 

@@ -9,8 +9,8 @@ pub enum HierWhat {
     Nets,
 }
 
-/// Why modules aren't made flat: one variant a cause. Of several that stand the first is told, in the order of the variants; under
-/// one variant, the first in the text or in flat order.
+/// Why modules aren't made flat: one variant a cause. Of several that stand the first is told, in the order of the
+/// variants; under one variant, the first in the text or in flat order.
 #[derive(Debug, Drop, Error)]
 pub enum HierFault {
     #[error("a module's name came before, or is that of a cell")]

@@ -1,6 +1,7 @@
 // What the modules of a text come to as one flat module, and when they can't be made flat: definitions.
 // Contracts above cite specs/Flat.antt and specs/Faults.antt. Nothing runs here but the fault's type.
-// IEEE Std 1364-2001: hierarchical structures and names, ports and port connections; the flat module, its order and limits are own.
+// IEEE Std 1364-2001: hierarchical structures and names, ports and port connections; the flat module, its order
+// and limits are own.
 #![tactic(auto)]
 
 mod fault;

@@ -67,8 +67,8 @@ bits_before [] k = 0
 bits_before (p ∷ ps) zero = 0
 bits_before (p ∷ ps) (suc k) = bits_in (declared_nets p.here) + bits_before ps k
 
--- own: where no name stands twice among the ports and wires of the flat module, its net of a bit that is declared at a place has the
--- number of the bit there, behind the bits of the places before
+-- own: where no name stands twice among the ports and wires of the flat module, its net of a bit that is declared at a
+-- place has the number of the bit there, behind the bits of the places before
 abbrev pub PlacesResolve : Type 0
 PlacesResolve = (modules : List Module) (top : Module) → repeated (map (λ (n : NetDeclaration). n.name) (declared_nets (flat modules top))) ≡ None
     → (k : ℕ) (p : Place) (b : Bit) (d : Declared) → slice_get (places modules top) k ≡ Some p → declared_as (declared_names p.here) b.net ≡ Some d
@@ -96,20 +96,22 @@ SettledMeets = (modules : List Module) (top : Module) (table : List (List ℕ)) 
     → IsFlatNetlist modules top table N → IsReading modules top flat_value value → IsSettled N pins state flat_value
     → (k : ℕ) (e : Entry) → slice_get (entries modules top) k ≡ Some e → EntryMeets N.library pins value (state k) e
 
--- own: and where each equation of the hierarchy is met, each cell of the flat netlist gives its net the value of its equation
+-- own: and where each equation of the hierarchy is met, each cell of the flat netlist gives its net the
+-- value of its equation
 abbrev pub SolvedCellsMeet : Type 0
 SolvedCellsMeet = (modules : List Module) (top : Module) (table : List (List ℕ)) (N : NetlistView) (pins : ℕ → PinSig) (state flat_value : ℕ → Sig) (value : Valuation)
     → IsFlatNetlist modules top table N → IsReading modules top flat_value value → ((k : ℕ) (e : Entry) → slice_get (entries modules top) k ≡ Some e → EntryMeets N.library pins value (state k) e)
     → (i : ℕ) (cell : CellView) (net : ℕ) → Drives N i cell net → follows_pin (direction N.ports net) ≡ false → flat_value net ≡ cell_value N.library cell.kind (feed_values flat_value cell.feeds) (state i)
 
--- The valuations of the nets of the flat netlist that are settled are those that, read at (occurrence, net, bit), solve the hierarchy.
+-- The valuations of the nets of the flat netlist that are settled are those that, read at (occurrence, net, bit),
+-- solve the hierarchy.
 abbrev pub SettledWhereSolved : Type 0
 SettledWhereSolved = (modules : List Module) (top : Module) (table : List (List ℕ)) (N : NetlistView) (pins : ℕ → PinSig) (state flat_value : ℕ → Sig) (value : Valuation)
     → IsFlatNetlist modules top table N → IsReading modules top flat_value value → ((net : ℕ) → length N.nets ≤ net → flat_value net ≡ Unknown)
     → IsSettled N pins state flat_value ↔ Solves N.library modules top pins state value
 
--- own: where linking finds no unknown name and no index outside, and no flat name is at fault, each bit that an item names is one of its
--- own module
+-- own: where linking finds no unknown name and no index outside, and no flat name is at fault, each bit that an item
+-- names is one of its own module
 abbrev pub StaysOwnBits : Type 0
 StaysOwnBits = (modules : List Module) (top : Module) → repeated (map (λ (n : NetDeclaration). n.name) (declared_nets (flat modules top))) ≡ None
     → first_bit name_unknown (flat modules top) ≡ None → first_bit bit_outside (flat modules top) ≡ None → bad_name_in modules top ≡ None

@@ -59,8 +59,8 @@ abbrev pub EntryDrives : List ListedCell → Entry → Place → ℕ → Type 0
 EntryDrives library (stays q i) p net = (q ≡ p) × ((cell_of library (declared_names q.here) i).output ≡ Some (record { 0 = net }))
 EntryDrives library (carries q b r o) p net = (q ≡ p) × (own_net q.here b ≡ net)
 
--- The valuation solves the hierarchy for these pins, by the number of their net among the top's, and these values of flip-flops,
--- by the number of their entry in flat order.
+-- The valuation solves the hierarchy for these pins, by the number of their net among the top's, and these values of
+-- flip-flops, by the number of their entry in flat order.
 pub record Solves (library : List ListedCell) (modules : List Module) (top : Module) (pins : ℕ → PinSig) (state : ℕ → Sig) (value : Valuation) : Type 0 where
   -- each item and each link meets its equation
   pub meets : (k : ℕ) (e : Entry) → slice_get (entries modules top) k ≡ Some e → EntryMeets library pins value (state k) e

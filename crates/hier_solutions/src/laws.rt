@@ -30,7 +30,8 @@ pub fn settled_where_solved()
     ensures { SettledWhereSolved }
 {}
 
-/// A law: each bit that an item names is one of its own module, where linking and the flat names are without that fault.
+/// A law: each bit that an item names is one of its own module, where linking and the flat names are
+/// without that fault.
 pub fn stays_own_bits()
     ensures { StaysOwnBits }
 {}

@@ -1,10 +1,11 @@
 // The hierarchy of a module in flat order, gone through by a list of what is left to do.
-// Contracts cite specs/Visits.antt: the flat order as a recursion over the hierarchy. specs/Walks.antt ties the list to it.
+// Contracts cite specs/Visits.antt: the flat order as a recursion over the hierarchy. specs/Walks.antt
+// ties the list to it.
 // IEEE Std 1364-2001: modules, module instances, hierarchical names; the flat order is own.
 //
 // - `ModuleTable` finds the first module of a name, and where it stands, in one look into a table.
-// - `Walk` gives what comes next in flat order, and the occurrence where it stands: a new walk has the whole order left, and each
-//   call of `next` takes the first that is left, or tells that nothing is.
+// - `Walk` gives what comes next in flat order, and the occurrence where it stands: a new walk has the whole order
+//   left, and each call of `next` takes the first that is left, or tells that nothing is.
 // - It needs as many levels as the hierarchy has; its list of what is left is the only thing that grows with them.
 // By the contract of `ModuleTable` and `Walk`.
 #![tactic(auto)]

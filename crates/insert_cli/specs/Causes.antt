@@ -53,7 +53,7 @@ pub record Fails (words : List (List ℕ)) (shelf : ShelfSeen) (sink : SinkSeen)
   pub stands : Stands words shelf sink fault before
   pub line : PutsLine (line_of fault) before sink
 
--- A refusal with this status, where no fault stands in the words and in what the command reads, and no count of reads of its inputs,
--- of writes of its outputs or of the sink rises, is want of memory.
+-- A refusal with this status, where no fault stands in the words and in what the command reads, and no count of reads
+-- of its inputs, of writes of its outputs or of the sink rises, is want of memory.
 abbrev pub Completes : List (List ℕ) → ShelfSeen → SinkSeen → Status → Type 0
 Completes words shelf sink end = (form : Form) → Runs words form → tasks.Completes (task_of form) shelf sink end

@@ -32,9 +32,10 @@ pub record IsNumeral (digits : List ℕ) (number : ℕ) : Type 0 where
   pub are_digits : IsTrue (list_all is_digit digits)
   pub value : number ≡ value_after 10 0 digits
 
--- `canon IN OUT`, `showbsdl IN OUT`, `statusbsdl IN OUT`, `sim NET EVENTS`, `insert NET PLAN OUTNET OUTBSDL`, `strip NET BSDL OUTNET OUTPLAN`,
--- `vectors BSDL OUT`, `check NET BSDL EVENTS`, `flatten IN TOP OUT`, where TOP is a module's name and no file, and
--- `demo NUMBER OUTNET OUTBSDL`; behind those of `flatten`, `sim`, `insert`, `strip` and `check` the word LIB may stand
+-- `canon IN OUT`, `showbsdl IN OUT`, `statusbsdl IN OUT`, `sim NET EVENTS`, `insert NET PLAN OUTNET OUTBSDL`,
+-- `strip NET BSDL OUTNET OUTPLAN`, `vectors BSDL OUT`, `check NET BSDL EVENTS`, `flatten IN TOP OUT`, where TOP is a
+-- module's name and no file, and `demo NUMBER OUTNET OUTBSDL`; behind those of `flatten`, `sim`, `insert`, `strip` and
+-- `check` the word LIB may stand
 abbrev pub HasWords : List (List ℕ) → Form → Type 0
 HasWords words (Form.Converts c input output) = words ≡ conversion_word c ∷ input ∷ output ∷ []
 HasWords words (Form.ShowsStatus input output) = words ≡ codes "statusbsdl" ∷ input ∷ output ∷ []

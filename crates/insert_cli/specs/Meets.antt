@@ -10,9 +10,9 @@ use Rattle.program_checks.specs.Texts.{BelongTogether, SpellsProgram}
 use Rattle.insert_cli.specs.Forms.{Form}
 use Rattle.insert_cli.specs.Names.{Runs}
 
--- The netlist's text spells, with the library, a netlist that keeps the ports and cells of one that some plan fits and realises the chip that the plan's
--- device makes of it; the BSDL text spells that device, and the events its program. Each is in any spelling, and what an insertion
--- wrote is one case.
+-- The netlist's text spells, with the library, a netlist that keeps the ports and cells of one that some plan fits and
+-- realises the chip that the plan's device makes of it; the BSDL text spells that device, and the events its program.
+-- Each is in any spelling, and what an insertion wrote is one case.
 pub record AreOfChip (library : List ListedCell) (netlist bsdl events : List ℕ) : Type 0 where
   pub together : BelongTogether library netlist bsdl
   pub program : SpellsProgram bsdl events

@@ -43,8 +43,8 @@ pub enum Command<'a> {
         outbsdl: &'a str,
         library: Option<&'a str>,
     },
-    /// Writes the netlist and a plan that a netlist with test logic and its BSDL text were made from, with the library of a third text if
-    /// there is one.
+    /// Writes the netlist and a plan that a netlist with test logic and its BSDL text were made from, with the library
+    /// of a third text if there is one.
     Strip {
         netlist: &'a str,
         bsdl: &'a str,

@@ -1,7 +1,8 @@
 // The tool's top call: the words of a command, run over any shelf of texts and any sink.
-// The contract of `run_tool` cites specs/Causes.antt, which stands on Forms.antt (the words of each command), Tasks.antt (its task, as the
-// crate of the command says) and Names.antt (that its outputs have names of their own).
-// IEEE Std 1364-2001 and IEEE Std 1149.1-2001 for the texts that are read and written; commands, faults and statuses are own.
+// The contract of `run_tool` cites specs/Causes.antt, which stands on Forms.antt (the words of each command),
+// Tasks.antt (its task, as the crate of the command says) and Names.antt (that its outputs have names of their own).
+// IEEE Std 1364-2001 and IEEE Std 1149.1-2001 for the texts that are read and written; commands, faults and
+// statuses are own.
 //
 // Proved, of `run_tool`:
 // - **Done.** With status 0, or 6, the words are a command of a table, no word begins with `-`, no output has the

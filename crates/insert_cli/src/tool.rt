@@ -61,10 +61,11 @@ pub fn run_tool<S: Shelf, O: Sink>(
     // At status 0 a conversion's output is the canonical text of the one tree or device that the input spells, of
     // `statusbsdl` of the one device with its registers; that of `flatten` is the canonical text of the flat module of
     // one of those that the input spells, that of `vectors` is the text of the program of the device, and those of
-    // `strip` are the canonical texts of a netlist and a plan from which the two inputs come; nothing is put. At status 0 or 6 a simulation put the text of the
-    // events' run, or a check its misses and its last line, and the status is 6 where an expectation isn't met. At
-    // status 0 an insertion wrote the netlist with the plan's test logic and the BSDL text of its device, and put its
-    // report; and a demonstration did so for the netlist of its number, and put its line.
+    // `strip` are the canonical texts of a netlist and a plan from which the two inputs come; nothing is put. At
+    // status 0 or 6 a simulation put the text of the events' run, or a check its misses and its last line, and the
+    // status is 6 where an expectation isn't met. At status 0 an insertion wrote the netlist with the plan's test
+    // logic and the BSDL text of its device, and put its report; and a demonstration did so for the netlist of its
+    // number, and put its line.
     ensures done { IsEnd result → Finishes words.now
         (shelf_seen S.tells S.held S.written S.faults shelf.old shelf.new)
         (sink_seen O.given O.faults out.old out.new) result }
@@ -88,8 +89,8 @@ pub fn run_tool<S: Shelf, O: Sink>(
         (shelf_seen S.tells S.held S.written S.faults shelf.old shelf.new)
         (sink_seen O.given O.faults out.old out.new) result }
 
-    // A check of a netlist that keeps another's ports and cells and realises its chip, by the program of that chip's device,
-    // never misses, however the texts are spelled; the library is the one that the word LIB names, or none.
+    // A check of a netlist that keeps another's ports and cells and realises its chip, by the program of that chip's
+    // device, never misses, however the texts are spelled; the library is the one that the word LIB names, or none.
     ensures meets { MissesNothing words.now
         (shelf_seen S.tells S.held S.written S.faults shelf.old shelf.new) result }
 {

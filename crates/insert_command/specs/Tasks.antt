@@ -28,8 +28,8 @@ abbrev pub AreInsertable : List (List ℕ) → Type 0
 AreInsertable (net ∷ plan ∷ more) = (library : List ListedCell) × (IsLibraryOf more library × IsInsertable library net plan)
 AreInsertable _ = ⊥
 
--- The netlist with the test logic and the BSDL text of its device are written, and the report is put; a library of cells may stand behind
--- the netlist and the plan.
+-- The netlist with the test logic and the BSDL text of its device are written, and the report is put; a library of
+-- cells may stand behind the netlist and the plan.
 abbrev pub insert_task : List ℕ → List ℕ → List ℕ → List ℕ → Option (List ℕ) → Task
 insert_task netlist plan outnet outbsdl library = record {
   reads = netlist ∷ plan ∷ names_if library;

@@ -8,9 +8,8 @@ use command_faults::Fault;
 use edge_io::Text;
 use std::alloc::Global;
 
-/// Builds the test logic of the plan that lies under one name into the netlist that lies under another, with the library that
-/// lies under a third if there is one; writes the netlist's text
-/// and the device's, and puts the report.
+/// Builds the test logic of the plan that lies under one name into the netlist that lies under another, with the
+/// library that lies under a third if there is one; writes the netlist's text and the device's, and puts the report.
 #[derive(Clone, Copy)]
 pub struct Insert<'a> {
     pub netlist: &'a str,

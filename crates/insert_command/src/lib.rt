@@ -1,4 +1,5 @@
-// The command that inserts: reads a netlist and a plan, and writes the netlist with the test logic built in, its BSDL file and a report.
+// The command that inserts: reads a netlist and a plan, and writes the netlist with the test logic built in, its BSDL
+// file and a report.
 // Its task stands in specs/Tasks.antt, which stands on insertions' specs/Insertions.antt.
 // Own: no chapter of a standard speaks of it.
 //

@@ -6,6 +6,7 @@ use Rattle.stitch_model.specs.declared.TapNames.{TapNames}
 use Rattle.stitch_model.specs.Stitched.{stitched}
 use Rattle.stitch_names.specs.Prepared.{with_tap_names}
 
--- own: a linked netlist with the test logic of what was fitted built in, by these names of the test access port; the module's name stays
+-- own: a linked netlist with the test logic of what was fitted built in, by these names of the test access port; the
+-- module's name stays
 abbrev pub with_test_logic : LinkedView → TapNames → Fitted → LinkedView
 with_test_logic L names f = record L { arena = record L.arena { lists = stitched L.arena.lists names f }; names = with_tap_names f L.names }

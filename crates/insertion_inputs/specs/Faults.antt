@@ -1,4 +1,5 @@
--- When each fault of an insertion stands: in the netlist's text, the module, the plan's text, how it fits, and the room. Own.
+-- When each fault of an insertion stands: in the netlist's text, the module, the plan's text, how it fits,
+-- and the room. Own.
 use Rattle.std.specs.Prelude.{◌≡◌, ℕ, List, Some}
 use Rattle.verilog_texts.specs.TextFaults.{IsTextFault}
 use Rattle.cell_library.specs.declared.listed.ListedCell.{ListedCell}

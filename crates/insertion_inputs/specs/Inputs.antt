@@ -39,7 +39,8 @@ pub record IsLinkedTree (linked : LinkedView) : Type 0 where
 abbrev pub HasRoomFor : LinkedView → Fitted → Type 0
 HasRoomFor linked f = too_many linked.arena.lists (room_of f) (room_of f) (ports_of f) ≡ None
 
--- own: the plan fits the netlist as this; what is fitted is small, the names of its test access port can be written, and its bits lie within the ports
+-- own: the plan fits the netlist as this; what is fitted is small, the names of its test access port can be written,
+-- and its bits lie within the ports
 pub record IsReadyAs (before : LinkedView) (p : Plan) (f : Fitted) : Type 0 where
   pub fits : IsFitted before p f
   pub small : IsSmall f

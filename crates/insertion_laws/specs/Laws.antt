@@ -19,12 +19,14 @@ abbrev pub InsertionGives : Type 0
 InsertionGives = (library : List ListedCell) (net plan verilog bsdl report : List ℕ) (i : IsInsertionText library net plan verilog bsdl report)
     → Gives i.is.tree i.is.linked i.is.wanted i.is.written_tree (device_of i.is.linked i.is.wanted i.is.fits.seen)
 
--- own: so they are recovered: the answer denotes the netlist's tree, and its netlist is the one that the written netlist behaves as
+-- own: so they are recovered: the answer denotes the netlist's tree, and its netlist is the one that the written
+-- netlist behaves as
 abbrev pub InsertionIsStripped : Type 0
 InsertionIsStripped = (library : List ListedCell) (net plan verilog bsdl report : List ℕ) (i : IsInsertionText library net plan verilog bsdl report)
     → IsAnswer i.is.tree i.is.linked i.is.written_tree (device_of i.is.linked i.is.wanted i.is.fits.seen)
 
--- own: and no other netlist with the library, with whatever plan, gives them: so what `strip` answers has the netlist's ports, nets, cells and names
+-- own: and no other netlist with the library, with whatever plan, gives them: so what `strip` answers has the netlist's
+-- ports, nets, cells and names
 abbrev pub InsertionComesBack : Type 0
 InsertionComesBack = (library : List ListedCell) (net plan verilog bsdl report : List ℕ) (i : IsInsertionText library net plan verilog bsdl report)
     → (m : Module) (L : LinkedView) (p : Plan) → L.arena.lists.library ≡ library → Gives m L p i.is.written_tree (device_of i.is.linked i.is.wanted i.is.fits.seen)

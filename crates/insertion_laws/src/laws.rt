@@ -4,7 +4,8 @@ use plan_devices::fitted_is_fitting;
 use strip_law::{one_netlist_gives, recovered_gives};
 use verilog_reading::spelled_trees_keep_the_conditions;
 
-/// A law: what an insertion wrote is given by the netlist and the plan that it read; so it is stripped, and no other netlist comes back.
+/// A law: what an insertion wrote is given by the netlist and the plan that it read; so it is stripped, and no other
+/// netlist comes back.
 pub fn insertions_are_stripped()
     ensures gives { InsertionGives }
     ensures stripped { InsertionIsStripped }

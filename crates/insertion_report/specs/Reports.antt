@@ -1,4 +1,5 @@
--- The report of an insertion: the entity, the bits of the ports, the cells of the core, the instructions and the registers. Own.
+-- The report of an insertion: the entity, the bits of the ports, the cells of the core, the instructions and
+-- the registers. Own.
 use Rattle.std.specs.Prelude.{ℕ, List, [], ◌∷◌, ◌++◌, map, length, codes, Option, Some, None}
 use Rattle.std.specs.Fmt.{decimal}
 use Rattle.output_lines.specs.Lines.{words_line}

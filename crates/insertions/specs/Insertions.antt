@@ -1,5 +1,6 @@
 -- What inserting makes of the bytes of a netlist and of a plan.
--- IEEE Std 1149.1-2001: test logic architecture, the annex on BSDL; IEEE Std 1364-2001 for the netlists; plans and reports are own.
+-- IEEE Std 1149.1-2001: test logic architecture, the annex on BSDL; IEEE Std 1364-2001 for the netlists; plans and
+-- reports are own.
 use Rattle.std.specs.Prelude.{◌≡◌, ℕ, List, None}
 use Rattle.verilog_tree.specs.declared.tree.Module.{Module}
 use Rattle.verilog_tree.specs.Texts.{SpellsText}
@@ -52,12 +53,13 @@ pub record IsDeviceText (device : Device) (text : List ℕ) : Type 0 where
 
 -- The whole.
 
--- The netlist's bytes spell one tree, which is linked with the library to this netlist, and the plan's bytes spell one plan, which fits it. The
--- written text is the canonical text of a tree, which it spells alone; no fault stands in that tree, which has one netlist with the same library, and
--- that keeps the first one's ports and cells, with the test access port. The BSDL text is the canonical text of the plan's device,
--- which it spells alone. The report is on that device. The written netlist behaves as the first one wrapped in that device's test
--- logic, and as the first one alone while a transparent instruction is in effect; its control ports are the first one's, TCK and TRST.
--- Five ones on TMS lead it there from whatever its test logic holds.
+-- The netlist's bytes spell one tree, which is linked with the library to this netlist, and the plan's bytes spell one
+-- plan, which fits it. The written text is the canonical text of a tree, which it spells alone; no fault stands in that
+-- tree, which has one netlist with the same library, and that keeps the first one's ports and cells, with the test
+-- access port. The BSDL text is the canonical text of the plan's device, which it spells alone. The report is on that
+-- device. The written netlist behaves as the first one wrapped in that device's test logic, and as the first one alone
+-- while a transparent instruction is in effect; its control ports are the first one's, TCK and TRST. Five ones on TMS
+-- lead it there from whatever its test logic holds.
 pub record IsInsertion (library : List ListedCell) (net plan verilog bsdl report : List ℕ) : Type 0 where
   pub tree : Module
   pub spells : SpellsText net tree
@@ -82,16 +84,17 @@ pub record IsInsertion (library : List ListedCell) (net plan verilog bsdl report
   pub keeps : Keeps written.arena.lists linked.arena.lists (spelt written.names) (spelt linked.names) (tap_of wanted)
   pub device : IsDeviceText (device_of linked wanted fits.seen) bsdl
   pub report_is : report ≡ report_of (bit_count written.arena.lists.ports) (cell_count linked.arena.lists) (device_of linked wanted fits.seen)
-  -- through any legal events every pin of the written netlist reads as the netlist's wrapped in the device's test logic, and as the
-  -- netlist's alone while a transparent instruction is in effect
+  -- through any legal events every pin of the written netlist reads as the netlist's wrapped in the device's test
+  -- logic, and as the netlist's alone while a transparent instruction is in effect
   pub realises : Realises written.arena.lists (device_of linked wanted fits.seen) linked.arena.lists
   pub alone : Alone written.arena.lists (device_of linked wanted fits.seen) linked.arena.lists
-  -- and it takes events where the netlist and the test access port do; what clocks, clears or presets in it are the netlist's own control
-  -- ports, TCK and TRST
+  -- and it takes events where the netlist and the test access port do; what clocks, clears or presets in it are the
+  -- netlist's own control ports, TCK and TRST
   pub controls : HasControls written.arena.lists linked.arena.lists
-  -- and from whatever its test logic holds, each added flip-flop 0 or 1, it finds home, with TRST at any level: once TCK has risen five
-  -- times with TMS at 1 and falls, every pin reads as the netlist's wrapped in the device's test logic, from Test-Logic-Reset on with what
-  -- the registers then hold, and as the netlist's alone while a transparent instruction is in effect
+  -- and from whatever its test logic holds, each added flip-flop 0 or 1, it finds home, with TRST at any level: once
+  -- TCK has risen five times with TMS at 1 and falls, every pin reads as the netlist's wrapped in the device's test
+  -- logic, from Test-Logic-Reset on with what the registers then hold, and as the netlist's alone while a transparent
+  -- instruction is in effect
   pub finds_home : FindsHome written.arena.lists (device_of linked wanted fits.seen) linked.arena.lists
   pub alone_from_home : AloneFromHome written.arena.lists (device_of linked wanted fits.seen) linked.arena.lists
 
@@ -101,9 +104,9 @@ pub record IsInsertion (library : List ListedCell) (net plan verilog bsdl report
 abbrev pub fitted_in : {library : List ListedCell} {net plan verilog bsdl report : List ℕ} → IsInsertion library net plan verilog bsdl report → Fitted
 fitted_in i = fitted_of i.linked i.wanted i.fits.seen
 
--- The insertion, of which the written text tells the gates of the test logic one by one: it is the canonical text of the tree of the
--- netlist with the test logic built in, under the module's own name, where added nets and cells have the plan's prefix. There was room for
--- the test logic.
+-- The insertion, of which the written text tells the gates of the test logic one by one: it is the canonical text of
+-- the tree of the netlist with the test logic built in, under the module's own name, where added nets and cells have
+-- the plan's prefix. There was room for the test logic.
 pub record IsInsertionText (library : List ListedCell) (net plan verilog bsdl report : List ℕ) : Type 0 where
   pub is : IsInsertion library net plan verilog bsdl report
   pub room : too_many is.linked.arena.lists (room_of (fitted_in is)) (room_of (fitted_in is)) (ports_of (fitted_in is)) ≡ None

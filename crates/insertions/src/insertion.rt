@@ -63,8 +63,8 @@ fn insert_into(alloc: Global, linked: &mut Linked, plan: &[u8]) -> Result<Insert
     Ok(write_stitched(alloc, linked, &fitting)?)
 }
 
-/// Builds the test logic of the plan that one text spells into the netlist that the other spells with this library. The netlist's
-/// text is let go before the netlist is made.
+/// Builds the test logic of the plan that one text spells into the netlist that the other spells with this library. The
+/// netlist's text is let go before the netlist is made.
 pub fn insert_texts(
     alloc: Global,
     net: Text,

@@ -1,4 +1,5 @@
--- The latched opcode on nets one behind another: the cells, and that they carry it in every well-formed netlist that contains them.
+-- The latched opcode on nets one behind another: the cells, and that they carry it in every well-formed netlist
+-- that contains them.
 -- Own: what reads the opcode needs no knowledge of how it is latched.
 use Rattle.std.specs.Prelude.{◌≡◌, ℕ, zero, suc, ◌+◌, ◌*◌, List, [], ◌∷◌, ◌++◌, length}
 use Rattle.signal_values.specs.declared.Sig.{Sig}

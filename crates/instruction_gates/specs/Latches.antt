@@ -61,7 +61,8 @@ pub record LatchesLaws (first number : ℕ) (by : Latching) (shifts : ℕ) (pres
   -- where TRST is 0 at a start, the opcode that reset latches
   pub start : (N : NetlistView) (given : ℕ → Sig) (levels : Levels) (m : Moment) → IsWellFormed N → HasCells N (latches_cells first number by shifts presets)
       → IsStart N given m → Carries by.tck by.trst levels m → levels.trst ≡ false → latch_values m.value first presets ≡ bits_in presets
-  -- a falling edge latches what the shift stage holds, or the opcode of reset, or nothing; TRST at 0 the opcode of reset
+  -- a falling edge latches what the shift stage holds, or the opcode of reset, or nothing; TRST at 0
+  -- the opcode of reset
   pub step : (N : NetlistView) (event : PinEvent) (w : TapState) (before after : Levels) (m m' : Moment) → IsWellFormed N
       → HasCells N (latches_cells first number by shifts presets) → IsSettled N m.pins m.state m.value → IsStep N event m m'
       → Carries by.tck by.trst before m → Carries by.tck by.trst after m' → Latches by w m

@@ -1,4 +1,5 @@
--- Whether an opcode is latched: the cells that tell it, and that they do in every well-formed netlist that contains them.
+-- Whether an opcode is latched: the cells that tell it, and that they do in every well-formed netlist
+-- that contains them.
 -- IEEE Std 1149.1-2001: instruction register; the gates are own.
 use Rattle.std.specs.Prelude.{◌≡◌, ℕ, zero, suc, ◌+◌, ◌*◌, true, List, [], ◌∷◌, length, ⊤}
 use Rattle.signal_values.specs.declared.Sig.{Sig}

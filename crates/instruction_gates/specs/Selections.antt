@@ -82,7 +82,8 @@ may_share i j = is_instruction i j || (is_sampling i && is_sampling j)
 pub record AreApart (opcodes : List Opcode) : Type 0 where
   pub each : (i j : Instr) (a b : Bits) → opcode_of opcodes i ≡ Some a → opcode_of opcodes j ≡ Some b → pattern a ≡ pattern b → IsTrue (may_share i j)
 
--- own: the nets tell what this instruction selects, and its mode; the boundary register's are 1 only while it is selected
+-- own: the nets tell what this instruction selects, and its mode; the boundary register's are 1 only
+-- while it is selected
 pub record Selected (nets : InstrNets) (i : Instr) (w : TapState) (m : Moment) : Type 0 where
   pub bypass_on : m.value nets.bypass_on.0 ≡ bit (is_register register.Bypass (selected_register i))
   pub ident_on : m.value nets.ident_on.0 ≡ bit (is_register register.DeviceId (selected_register i))

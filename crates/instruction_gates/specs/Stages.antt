@@ -51,7 +51,8 @@ shift_list value first captured = chain_values value (first + 1) captured
 abbrev pub latched_list : (ℕ → Sig) → ℕ → List Feed → List Feed → List Sig
 latched_list value first captured presets = latch_values value (first + (1 + 3 * length captured)) presets
 
--- own: at a moment of a run, what is handed in carries the controller's state, the levels, and the pattern that is captured
+-- own: at a moment of a run, what is handed in carries the controller's state, the levels, and the pattern
+-- that is captured
 pub record Feeds (tap : TapNets) (tdi : NetId) (captured : List Feed) (L : TestLogic) (levels : Levels) (machine : Machine) (m : Moment) : Type 0 where
   pub carries : Carries tap.tck tap.trst levels m
   pub shows : ShowsState tap machine.state m

@@ -20,7 +20,8 @@ pub const COPY: [Gate; 1] = [
     }, // 0: the same
 ];
 
-/// Adds to a dense netlist copies of so many latched bits on nets from `latches` on, one behind another, the bit nearest TDO first.
+/// Adds to a dense netlist copies of so many latched bits on nets from `latches` on, one behind another, the bit
+/// nearest TDO first.
 pub fn add_copies(netlist: &mut Netlist, latches: NetId, count: u32)
     requires dense { IsDense netlist.old.lists }
     requires nets { count ≤ netlist.old.spare.nets }

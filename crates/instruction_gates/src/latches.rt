@@ -15,8 +15,8 @@ use register_gates::lower_gate_parts::{Gate, Pin, Pins, add_part, appended_count
 use register_gates::lower_netlist_arena::Netlist;
 use register_gates::lower_register_bits::{Holding, add_held_bit};
 
-/// What steers the latched bits: TCK, TRST, a net that is 1 exactly in Update-IR and Test-Logic-Reset, and one that is so in
-/// Test-Logic-Reset.
+/// What steers the latched bits: TCK, TRST, a net that is 1 exactly in Update-IR and Test-Logic-Reset, and one that is
+/// so in Test-Logic-Reset.
 #[derive(Clone, Copy)]
 pub struct Latching {
     pub tck: NetId,
@@ -25,7 +25,8 @@ pub struct Latching {
     pub in_reset: NetId,
 }
 
-/// What a latched bit loads. Handed in are the bit of the shift stage, the bit of the opcode that reset latches, and Test-Logic-Reset.
+/// What a latched bit loads. Handed in are the bit of the shift stage, the bit of the opcode that reset latches, and
+/// Test-Logic-Reset.
 pub const LOADED: [Gate; 1] = [
     Gate {
         kind: Kind::Mux2,
@@ -63,8 +64,8 @@ fn add_latch(netlist: &mut Netlist, latching: &Latching, shift: NetId, preset: F
     let _bit = add_held_bit(netlist, &holding, is_preset, Feed::Net(loaded));
 }
 
-/// Adds a latched bit for each constant of the opcode that reset latches, behind a shift stage of as many bits on nets from `shifts`
-/// on, to a dense netlist. It answers the first of the new nets; in both the bit nearest TDI comes first.
+/// Adds a latched bit for each constant of the opcode that reset latches, behind a shift stage of as many bits on nets
+/// from `shifts` on, to a dense netlist. It answers the first of the new nets; in both the bit nearest TDI comes first.
 pub fn add_latches(
     netlist: &mut Netlist,
     latching: &Latching,

@@ -34,7 +34,8 @@ pub fn copies_tell()
     contained_part_meets();
 }
 
-/// What is selected is what the instruction in effect selects, where no two instructions have one opcode but SAMPLE and PRELOAD.
+/// What is selected is what the instruction in effect selects, where no two instructions have one opcode but
+/// SAMPLE and PRELOAD.
 pub fn selections_tell()
     ensures { SelectionsTell }
 {

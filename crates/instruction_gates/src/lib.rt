@@ -1,5 +1,6 @@
 // The instruction register as gates: the opcode that is latched, whether it is an instruction's, and what is selected.
-// Contracts cite specs/: Latches, Matches and Selections have the cells, and what they do in every netlist that contains them.
+// Contracts cite specs/: Latches, Matches and Selections have the cells, and what they do in every netlist
+// that contains them.
 // IEEE Std 1149.1-2001: instruction register.
 //
 // - `add_stages`, `add_latches`, `add_match`, `add_selections` and `add_copies` append exactly their cells: 1 + 6n,

@@ -14,8 +14,8 @@ use register_gates::added_in_turn;
 use register_gates::lower_gate_parts::{Gate, Pin, Pins, add_part, appended_count, appended_none};
 use register_gates::lower_netlist_arena::Netlist;
 
-/// Whether a latched bit and those behind it are those of an opcode. Handed in are whether those behind it are, the latched bit, and
-/// the opcode's bit.
+/// Whether a latched bit and those behind it are those of an opcode. Handed in are whether those behind it are, the
+/// latched bit, and the opcode's bit.
 pub const EQUAL_BIT: [Gate; 2] = [
     Gate {
         kind: Kind::And,

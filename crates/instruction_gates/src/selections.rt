@@ -13,8 +13,8 @@ use register_gates::lower_gate_parts::{Gate, Pin, Pins, add_part};
 use register_gates::lower_netlist_arena::Netlist;
 use register_gates::lower_test_logic::{InstrNets, ScanNets, TapNets};
 
-/// What tells of each instruction whether its opcode is latched; 0 of one that has none. BYPASS isn't asked for: it is in effect where
-/// no other is.
+/// What tells of each instruction whether its opcode is latched; 0 of one that has none. BYPASS isn't asked for: it is
+/// in effect where no other is.
 #[derive(Clone, Copy)]
 pub struct Matched {
     pub extest: Feed,
@@ -26,8 +26,8 @@ pub struct Matched {
     pub usercode: Feed,
 }
 
-/// What is selected. Handed in are whether the opcodes of EXTEST, SAMPLE, PRELOAD, IDCODE, HIGHZ, CLAMP and USERCODE are latched, and
-/// Capture-DR, Shift-DR and Update-DR.
+/// What is selected. Handed in are whether the opcodes of EXTEST, SAMPLE, PRELOAD, IDCODE, HIGHZ, CLAMP and USERCODE
+/// are latched, and Capture-DR, Shift-DR and Update-DR.
 pub const SELECTIONS: [Gate; 10] = [
     Gate {
         kind: Kind::Or,
@@ -71,8 +71,9 @@ pub const SELECTIONS: [Gate; 10] = [
     }, // 9: USERCODE
 ];
 
-/// Adds to a dense netlist what the instruction in effect selects, and answers its nets, with the bit of the shift stage nearest TDO.
-/// It takes 10 cells and nets of the room that is there; the nets of the opcode are those behind them, for `add_copies`.
+/// Adds to a dense netlist what the instruction in effect selects, and answers its nets, with the bit of the shift
+/// stage nearest TDO. It takes 10 cells and nets of the room that is there; the nets of the opcode are those behind
+/// them, for `add_copies`.
 pub fn add_selections(
     netlist: &mut Netlist,
     tap: &TapNets,

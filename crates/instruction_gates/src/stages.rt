@@ -33,8 +33,8 @@ pub const LOADS: [Gate; 1] = [
     }, // 0: they load
 ];
 
-/// Adds the instruction register to a dense netlist, by the constants that its shift stage captures and those of the opcode that reset
-/// latches, which are as many. For n bits it takes 1 + 6 n cells and nets of the room that is there.
+/// Adds the instruction register to a dense netlist, by the constants that its shift stage captures and those of the
+/// opcode that reset latches, which are as many. For n bits it takes 1 + 6 n cells and nets of the room that is there.
 pub fn add_stages(
     netlist: &mut Netlist,
     tap: &TapNets,

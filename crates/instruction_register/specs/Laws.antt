@@ -24,7 +24,8 @@ use Rattle.instruction_gates.specs.Copies.{row_values}
 use Rattle.instruction_gates.specs.Selections.{AreApart, Selected}
 use Rattle.instruction_register.specs.Register.{instruction_cells, instruction_nets, held_shift, held_opcode}
 
--- the register has a bit at least, each pattern is as long as it is, and no two instructions have one opcode but SAMPLE and PRELOAD
+-- the register has a bit at least, each pattern is as long as it is, and no two instructions have one opcode but
+-- SAMPLE and PRELOAD
 pub record FitTheRegister (codes : Codes) : Type 0 where
   pub some : 1 ≤ codes.length
   pub capture : codes.capture.len ≡ codes.length
@@ -42,7 +43,8 @@ pub record IsFed (tap : TapNets) (tdi : NetId) (levels : Levels) (w : TapState) 
   pub shows : ShowsState tap w m
   pub data_in : m.value tdi.0 ≡ bit levels.tdi
 
--- own: its two stages hold what the test logic holds, and its nets carry the latched opcode and tell what the instruction in effect selects
+-- own: its two stages hold what the test logic holds, and its nets carry the latched opcode and tell what the
+-- instruction in effect selects
 pub record Follows (first : ℕ) (tap : TapNets) (tdi : NetId) (codes : Codes) (L : TestLogic) (machine : Machine) (m : Moment) : Type 0 where
   pub shift : held_shift m.value first codes ≡ machine.shift
   pub latched : held_opcode m.value first codes ≡ machine.latched

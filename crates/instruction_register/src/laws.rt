@@ -6,8 +6,8 @@ use instruction_gates::lower_tap_gates::step_is_the_machines;
 use instruction_gates::{copies_tell, matches_tell, selections_tell, stages_follow, stages_step};
 use netlist_laws::{contained_parts, moments_of_a_run};
 
-/// In every well-formed netlist that contains its cells, the instruction register is that of the test logic, and so is what the
-/// instruction in effect selects.
+/// In every well-formed netlist that contains its cells, the instruction register is that of the test logic, and so is
+/// what the instruction in effect selects.
 pub fn instruction_follows()
     ensures { InstructionFollows }
 {

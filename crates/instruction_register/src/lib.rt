@@ -1,6 +1,7 @@
-// The instruction register as one call: its stages, what tells each opcode that is latched, and what the instruction in effect selects.
-// Contracts cite specs/Register.antt for the cells and the nets, and specs/Laws.antt for what they do in every netlist that contains
-// them.
+// The instruction register as one call: its stages, what tells each opcode that is latched, and what the instruction
+// in effect selects.
+// Contracts cite specs/Register.antt for the cells and the nets, and specs/Laws.antt for what they do in every netlist
+// that contains them.
 // IEEE Std 1149.1-2001: instruction register, instructions.
 //
 // - `add_instruction` appends exactly the register's cells and answers its nets, by definitions over the codes;
@@ -49,8 +50,8 @@ use netlist_model::NetId;
 use opcodes::add_opcodes;
 use stages::add_coded_stages;
 
-/// Adds the instruction register with these codes to a dense netlist, and answers its nets. For n bits it takes at most 11 + 21 n cells
-/// and nets of the room that is there: 11 + 7 n, and 2 n for each opcode but that of BYPASS.
+/// Adds the instruction register with these codes to a dense netlist, and answers its nets. For n bits it takes at most
+/// 11 + 21 n cells and nets of the room that is there: 11 + 7 n, and 2 n for each opcode but that of BYPASS.
 pub fn add_instruction(netlist: &mut Netlist, tap: &TapNets, tdi: NetId, codes: &Codes) -> InstrNets
     requires dense { IsDense netlist.old.lists }
     requires bits { codes.now.length ≤ 32 }

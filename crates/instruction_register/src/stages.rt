@@ -16,8 +16,8 @@ use instruction_gates::lower_test_logic::{Codes, TapNets};
 use instruction_gates::{Stages, add_stages};
 use netlist_model::NetId;
 
-/// Adds the two stages of the instruction register to a dense netlist: the first captures the codes' pattern, the second latches the
-/// opcode of reset.
+/// Adds the two stages of the instruction register to a dense netlist: the first captures the codes' pattern, the
+/// second latches the opcode of reset.
 pub fn add_coded_stages(netlist: &mut Netlist, tap: &TapNets, tdi: NetId, codes: &Codes) -> Stages
     requires dense { IsDense netlist.old.lists }
     requires bits { codes.now.length ≤ 32 }

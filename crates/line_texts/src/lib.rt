@@ -1,5 +1,7 @@
-// Texts of lines: the lines of a text, the words of a line, and the lines that are skipped, read from the front and written.
-// Contracts cite specs/Words.antt (lines, words, kept lines), specs/Forms.antt (lines by their words) and specs/Rows.antt.
+// Texts of lines: the lines of a text, the words of a line, and the lines that are skipped, read from the
+// front and written.
+// Contracts cite specs/Words.antt (lines, words, kept lines), specs/Forms.antt (lines by their words) and
+// specs/Rows.antt.
 // Own: no chapter of a standard speaks of it.
 //
 // - `LineReader` goes through the kept lines of a text with their numbers; `after_key` and `one_word` to

@@ -11,7 +11,8 @@ use std::marker::Model;
 pub struct LineReader<'a> {
     /// The text from this line on.
     text: &'a [u8],
-    /// The number of this line, or of the line after the text's last; lines are counted from 1, those that are skipped too.
+    /// The number of this line, or of the line after the text's last; lines are counted from 1, those that
+    /// are skipped too.
     number: u64,
 }
 

@@ -1,5 +1,5 @@
-// The cells of a library by their names. A netlist may have many instances and its library many cells, so they are found in a
-// table.
+// The cells of a library by their names. A netlist may have many instances and its library many cells, so they are
+// found in a table.
 ghost use Rattle.std.specs.Prelude.{◌≡◌, ◌++◌, ◌∷◌, [], false, position, IfOk, OnOk};
 ghost use Rattle.std.specs.Map.{keys_of};
 ghost use Rattle.std.specs.Str.{bytes_eq};

@@ -34,7 +34,8 @@ pub record Stands (list : List Reader) (reader : Reader) : Type 0 where
   pub back : List Reader
   pub is : list ≡ front ++ reader ∷ back
 
--- own: for each net the links from its first reader visit exactly the slots on it, and the links back undo the links forward
+-- own: for each net the links from its first reader visit exactly the slots on it, and the links back undo
+-- the links forward
 pub record AreThreaded (slots : Slots) (first : ℕ → Option Reader) (walk : ℕ → List Reader) : Type 0 where
   pub starts : (net : ℕ) → first net ≡ first_or (walk net) None
   pub linked : (net : ℕ) → Chain slots net None (walk net) None

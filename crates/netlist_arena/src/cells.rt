@@ -38,8 +38,8 @@ impl Netlist {
         }
     }
 
-    /// Adds a cell of any count of operands up to 256, which takes one spare cell and, past four operands, memory. Without
-    /// memory nothing changes.
+    /// Adds a cell of any count of operands up to 256, which takes one spare cell and, past four operands, memory.
+    /// Without memory nothing changes.
     pub fn add_wide_cell(
         &mut self,
         kind: Kind,

@@ -16,8 +16,8 @@
 //   cell is, by its kind and the library.
 // - `driver` says what drives a net. `first_reader` and `next_reader` visit each operand on the net once and no
 //   other. The other looking calls answer what the lists hold.
-// - `copy`, where Ok, has the same library, lists and spare numbers. A walk that was begun goes on after a `reserve`, and
-//   in a copy.
+// - `copy`, where Ok, has the same library, lists and spare numbers. A walk that was begun goes on after a
+//   `reserve`, and in a copy.
 // - At all times each port has a net for each bit, each named net is there, and no net has two drivers
 //   (`is_laid_out`). A net names the cell that drives it, and the links from its first reader visit exactly the
 //   operands on it.

@@ -1,4 +1,5 @@
--- A start and a list of legal events have exactly one run, and an event that repeats the present value changes nothing in it.
+-- A start and a list of legal events have exactly one run, and an event that repeats the present value
+-- changes nothing in it.
 use Rattle.std.specs.Prelude.{◌≡◌, ℕ, suc, ◌≤◌, List, length, slice_get, Option, Some, None, All}
 use Rattle.netlist_model.specs.signal_values.declared.Sig.{Sig}
 use Rattle.netlist_model.specs.signal_values.declared.PinSig.{PinSig}
@@ -18,7 +19,8 @@ use Rattle.netlist_laws.specs.Settle.{SamePins, SameFlops}
 abbrev pub SameControlNets : NetlistView → (ℕ → Sig) → (ℕ → Sig) → Type 0
 SameControlNets N v v' = (net : ℕ) → IsControlNet N net → v net ≡ v' net
 
--- own: what a cell holds at a start, where the nets have these values: a flip-flop its start value, and a gate what is given
+-- own: what a cell holds at a start, where the nets have these values: a flip-flop its start value, and a
+-- gate what is given
 abbrev pub start_if : Option FlopKind → List Sig → Sig → Sig
 start_if None inputs given = given
 start_if (Some kind) inputs given = flop_start kind inputs given

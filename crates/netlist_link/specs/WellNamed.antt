@@ -40,7 +40,8 @@ pub record IsWireNet (N : NetlistView) (net : ℕ) (name : Name) : Type 0 where
   pub outside : direction N.ports net ≡ None
   pub named : view.name ≡ name
 
--- own: the nets of a wire stand in a row, with its name and the indexes of its range from the left; no other net has the name
+-- own: the nets of a wire stand in a row, with its name and the indexes of its range from the left; no other
+-- net has the name
 pub record IsWire (N : NetlistView) (number first : ℕ) (range : Option Range) : Type 0 where
   pub bits : (place : ℕ) → place < width_of range → slice_get N.nets (first + place) ≡ Some (record { name = Original number; index = index_from range place })
   pub outside : (place : ℕ) → place < width_of range → direction N.ports (first + place) ≡ None

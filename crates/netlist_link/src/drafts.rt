@@ -40,8 +40,9 @@ impl Draft {
 }
 
 impl Linked {
-    /// Makes room for so many more cells, nets and port bits, in the netlist and in what is kept beside it, so that a draft
-    /// takes no memory. The limits and their order are those of `Netlist::reserve`. After a refusal nothing has changed.
+    /// Makes room for so many more cells, nets and port bits, in the netlist and in what is kept beside it, so
+    /// that a draft takes no memory. The limits and their order are those of `Netlist::reserve`. After a refusal
+    /// nothing has changed.
     pub fn reserve(&mut self, cells: u32, nets: u32, ports: u32) -> Result<(), ReserveFault>
         ensures answer { MatchOption (too_many self.old.arena.lists cells nets ports)
             (IsOkUnless result ReserveFault.OutOfMemory) (λ fault. result ≡ Err fault) }
@@ -79,8 +80,8 @@ impl Linked {
         }
     }
 
-    /// The netlist with its spare numbers, to be rewritten. No netlist is left here; the names and the module's name stay.
-    /// It takes no memory.
+    /// The netlist with its spare numbers, to be rewritten. No netlist is left here; the names and the module's name
+    /// stay. It takes no memory.
     pub fn begin_draft(&mut self) -> Draft
         ensures draft { result.netlist ≡ self.old.arena }
         ensures empty { IsEmpty self.new.arena.lists }
@@ -96,8 +97,8 @@ impl Linked {
         Draft { netlist }
     }
 
-    /// Ends a draft: its netlist with its spare numbers is the linked one, with an order and its control and clock ports.
-    /// It takes no memory.
+    /// Ends a draft: its netlist with its spare numbers is the linked one, with an order and its control and clock
+    /// ports. It takes no memory.
     pub fn close(&mut self, draft: Draft)
         requires empty { IsEmpty self.old.arena.lists }
         requires formed { IsWellFormed draft.netlist.lists }

@@ -1,4 +1,5 @@
--- A netlist as contracts see it: its lists of ports, nets and cells, each by rising number, and the ways to look into them.
+-- A netlist as contracts see it: its lists of ports, nets and cells, each by rising number, and the ways
+-- to look into them.
 use Rattle.std.specs.Prelude.{◌≡◌, ◌≢◌, ℕ, ◌==◌, ◌||◌, Bool, false, List, [], ◌∷◌, slice_get, count_by, is_some, Option, Some, None, option_and_then, if◌then◌else◌}
 use Rattle.cell_library.specs.declared.Kind.{Kind}
 use Rattle.cell_library.specs.declared.listed.ListedCell.{ListedCell}
@@ -21,7 +22,8 @@ pub record NetView : Type 0 where
   pub name : Name
   pub index : Option ℕ
 
--- gate and module instances: a cell with its operands in the order of its kind, and the net that it drives, if it is connected
+-- gate and module instances: a cell with its operands in the order of its kind, and the net that it drives,
+-- if it is connected
 pub record CellView : Type 0 where
   pub kind : Kind
   pub name : Option Name

@@ -47,7 +47,8 @@ fn core_wires(alloc: Global, prefix: &[u8], wires: &[Wire]) -> Result<Row<Wire>,
     Ok(core)
 }
 
-/// The module without its test logic, by the prefix of what was added and the nets between the core and its boundary cells.
+/// The module without its test logic, by the prefix of what was added and the nets between the core and
+/// its boundary cells.
 pub fn core_module(
     alloc: Global,
     prefix: &[u8],

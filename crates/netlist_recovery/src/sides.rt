@@ -210,8 +210,8 @@ fn push_side(found: &mut Row<Side>, side: Option<Side>) -> Result<(), OutOfMemor
     }
 }
 
-// The nets between the core and these rows, whose gates are the last of these items, the first row last; none where a gate isn't
-// what it should be.
+// The nets between the core and these rows, whose gates are the last of these items, the first row last; none where a
+// gate isn't what it should be.
 fn sides_before(
     alloc: Global,
     rows: &[CellRow],

@@ -1,5 +1,6 @@
 -- The netlist that a written tree denotes: the argument's, with its nets and cells numbered anew.
--- IEEE Std 1364-2001: modules and ports, data types, gate-level modelling; the order of nets and the names of added ones are own.
+-- IEEE Std 1364-2001: modules and ports, data types, gate-level modelling; the order of nets and the names of
+-- added ones are own.
 use Rattle.std.specs.Prelude.{◌≡◌, ℕ, suc, ◌+◌, ◌<◌, ◌==◌, Bool, true, false, List, [], ◌∷◌, ◌++◌, length, map, slice_get, Option, Some, None, if◌then◌else◌}
 use Rattle.std.specs.List.{flat_map}
 use Rattle.std.specs.Option.{option_map}
@@ -127,7 +128,8 @@ passed_limit N =
     (or_else (too_many what.Nets 524288 (length N.nets))
     (too_many what.Ports 4096 (length (port_numbers N.ports))))
 
--- own: the tree denotes the netlist with its nets and cells numbered anew; no fault of its text stands but that there is too much, and without that it can be linked
+-- own: the tree denotes the netlist with its nets and cells numbered anew; no fault of its text stands but that there
+-- is too much, and without that it can be linked
 pub record IsWritten (naming : Naming) (N : NetlistView) (tree : Module) : Type 0 where
   pub fault : text_fault N.library tree ≡ passed_limit N
   pub links : passed_limit N ≡ None → IsLinkable N.library tree

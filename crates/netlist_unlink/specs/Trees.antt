@@ -1,5 +1,6 @@
 -- The tree that a linked netlist is written as.
--- IEEE Std 1364-2001: modules and ports, data types, gate-level modelling, continuous assignments, module instances; the names of added nets and cells are own.
+-- IEEE Std 1364-2001: modules and ports, data types, gate-level modelling, continuous assignments, module instances;
+-- the names of added nets and cells are own.
 use Rattle.std.specs.Prelude.{ℕ, ◌+◌, false, List, [], ◌∷◌, ◌++◌, map, slice_get, unwrap_or, Option, Some, None}
 use Rattle.std.specs.Option.{option_map}
 use Rattle.std.specs.Fmt.{decimal}

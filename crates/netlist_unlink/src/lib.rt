@@ -1,5 +1,6 @@
 // Writes a linked netlist as the tree of a module.
-// Contracts cite specs/Trees.antt, specs/Rows.antt and specs/Prefixes.antt, and specs/Renumbered.antt for what the tree denotes.
+// Contracts cite specs/Trees.antt, specs/Rows.antt and specs/Prefixes.antt, and specs/Renumbered.antt for what
+// the tree denotes.
 // IEEE Std 1364-2001: modules and ports, data types, gate-level modelling; the names of added nets and cells are own.
 //
 // - `is_free_prefix` says exactly whether bytes are a letter or `_` and then letters, digits and `_`, 1 to 32 in

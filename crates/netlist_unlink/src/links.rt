@@ -14,7 +14,8 @@ use std::alloc::Global;
 use texts::{OutOfMemory, Row, Text};
 use verilog_tree::{Link, Operand};
 
-/// The links of a library cell or a listed one in the order of its operands, and then that of its output if it is connected.
+/// The links of a library cell or a listed one in the order of its operands, and then that of its output if
+/// it is connected.
 pub fn cell_links(
     alloc: Global,
     linked: &Linked,

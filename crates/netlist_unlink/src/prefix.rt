@@ -13,8 +13,8 @@ use netlist_link::Linked;
 use netlist_model::{CellId, Name, NetId, PortId};
 use verilog_lexicon::keywords::is_letter;
 
-/// Whether the bytes can begin the names of added nets and cells: a letter or `_`, then letters, digits and `_`, 1 to 32 in
-/// all, with which no original name of a port, net or cell begins. Time is linear in the netlist.
+/// Whether the bytes can begin the names of added nets and cells: a letter or `_`, then letters, digits and `_`, 1 to
+/// 32 in all, with which no original name of a port, net or cell begins. Time is linear in the netlist.
 pub fn is_free_prefix(linked: &Linked, prefix: &[u8]) -> bool
     ensures { IsTrue result ↔ IsFreePrefix linked.now prefix.now }
 {

@@ -18,8 +18,8 @@ use std::alloc::Global;
 use texts::{OutOfMemory, Text};
 use verilog_tree::Module;
 
-/// The module that a netlist is written as: added nets are called `<prefix>n<number>` and added cells `<prefix>c<number>`,
-/// by their numbers in the netlist. Time and memory are linear in the netlist.
+/// The module that a netlist is written as: added nets are called `<prefix>n<number>` and added cells
+/// `<prefix>c<number>`, by their numbers in the netlist. Time and memory are linear in the netlist.
 pub fn unlink(alloc: Global, linked: &Linked, prefix: &[u8]) -> Result<Module, OutOfMemory>
     requires { IsFreePrefix linked.now prefix.now }
     ensures written { IfOk result (λ tree. tree ≡ tree_of linked.now prefix.now) }
@@ -40,8 +40,8 @@ pub fn items_keep_their_cells(linked: &Linked, prefix: &[u8])
     let _length = prefix.len();
 }
 
-/// A law: what is written of a netlist that was just linked denotes what the linked tree denotes, and can be linked as that:
-/// nothing was added, so nets and cells keep their numbers.
+/// A law: what is written of a netlist that was just linked denotes what the linked tree denotes, and can be linked as
+/// that: nothing was added, so nets and cells keep their numbers.
 pub fn unlink_undoes_link(tree: &Module, linked: &Linked, prefix: &[u8])
     requires linked { IsLinkOf tree.now linked.now }
     requires free { IsFreePrefix linked.now prefix.now }

@@ -1,5 +1,5 @@
--- Nets are numbered so that each gate's net stands above those that it reads: what that is for a list of cells, and a table of levels
--- that shows it by one computation.
+-- Nets are numbered so that each gate's net stands above those that it reads: what that is for a list of cells, and a
+-- table of levels that shows it by one computation.
 use Rattle.std.specs.Prelude.{◌≡◌, ℕ, suc, ◌+◌, ◌<◌, ◌≤◌, ◌&&◌, ◌||◌, nat_lt, Bool, true, false, List, [], ◌∷◌, ◌++◌, length, slice_get, slice_index, Option, Some, None, ⊤}
 use Rattle.std.specs.List.{list_all}
 use Rattle.cell_library.specs.declared.listed.ListedCell.{ListedCell}
@@ -55,7 +55,8 @@ fits_from count levels k (gate ∷ gates) =
 abbrev pub fits : List ℕ → List Gate → Bool
 fits levels gates = fits_from (length gates) levels 0 gates
 
--- own: the nets of a table, from `first` on, are numbered by its levels above the base; a flip-flop's may have any number up to that
+-- own: the nets of a table, from `first` on, are numbered by its levels above the base; a flip-flop's may have any
+-- number up to that
 pub record AreRanked (rank : ℕ → ℕ) (first base : ℕ) (levels : List ℕ) (gates : List Gate) : Type 0 where
   pub up_to : (j : ℕ) → j < length gates → rank (first + j) ≤ base + slice_index levels j
   pub from : (k : ℕ) (gate : Gate) → slice_get gates k ≡ Some gate → is_flop_kind gate.kind ≡ false → base + slice_index levels k ≤ rank (first + k)

@@ -1,4 +1,5 @@
--- own: what the code keeps of the bits that pin lines name: of a driver only that it is a three-state gate, with its operands.
+-- own: what the code keeps of the bits that pin lines name: of a driver only that it is a three-state gate,
+-- with its operands.
 use Rattle.std.specs.Prelude.{◌≡◌, ℕ, List, [], ◌∷◌, map, Option, None, if◌then◌else◌, ⊤}
 use Rattle.std.specs.Option.{option_map}
 use Rattle.cell_library.specs.declared.Kind.TheVariants.{Bufif0, Bufif1}

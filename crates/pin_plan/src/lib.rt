@@ -1,6 +1,8 @@
 // Fits a pin plan to a linked netlist: the boundary cells and the ports of the device, or the first fault.
-// Contracts cite plan_fitting: specs/Fits.antt (what stands against a plan), Rows.antt (boundary cells) and Devices.antt (what fitting gives).
-// IEEE Std 1149.1-2001: boundary-scan register, the annex on BSDL; VHDL-93, lexical elements. The order of faults and cells is own.
+// Contracts cite plan_fitting: specs/Fits.antt (what stands against a plan), Rows.antt (boundary cells) and
+// Devices.antt (what fitting gives).
+// IEEE Std 1149.1-2001: boundary-scan register, the annex on BSDL; VHDL-93, lexical elements. The order of faults
+// and cells is own.
 //
 // - `fit` answers what fitting gives (`IsFitted`) only where each pin line names a bit and no fault stands:
 //   exactly the plan's boundary cells, in their order and with their control cells, the netlist's ports with their

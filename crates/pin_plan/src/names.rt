@@ -97,8 +97,8 @@ fn line_names<'a>(alloc: Global, lines: &'a [TapLine]) -> Result<Vec<&'a [u8]>, 
     Ok(names)
 }
 
-/// The first name that can't stand in the device, where these are the names of the netlist's ports, and those of its nets,
-/// gates and instances.
+/// The first name that can't stand in the device, where these are the names of the netlist's ports, and those of its
+/// nets, gates and instances.
 pub fn find_name_fault<'a>(
     alloc: Global,
     plan: &'a Plan,

@@ -13,8 +13,8 @@ use std::alloc::Global;
 use std::marker::Model;
 use texts::{OutOfMemory, Text};
 
-/// A bit of a port: its net, its port's direction, whether it clocks, and clocks, clears or presets, flip-flops, and the
-/// three-state gate that drives it.
+/// A bit of a port: its net, its port's direction, whether it clocks, and clocks, clears or presets, flip-flops, and
+/// the three-state gate that drives it.
 #[derive(Drop)]
 pub struct PinAt {
     pub pin: PinBit,

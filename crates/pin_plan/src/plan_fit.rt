@@ -160,8 +160,8 @@ fn fitted(
     Ok(put_together(plan, kept, parts, texts, tap, codes, linkage))
 }
 
-/// Fits a plan to a netlist, in time linear in both: its boundary cells and ports where no fault stands, else the first fault
-/// in the order of `FitFault`. It says `OutOfMemory` also for 2^32 - 1 boundary cells.
+/// Fits a plan to a netlist, in time linear in both: its boundary cells and ports where no fault stands, else the first
+/// fault in the order of `FitFault`. It says `OutOfMemory` also for 2^32 - 1 boundary cells.
 pub fn fit(alloc: Global, plan: &Plan, linked: &Linked) -> Result<Fitted, FitFault>
     ensures fitted { IfOk result (IsFitted linked.now plan.now) }
     ensures count { IfOk result (λ fitted. length fitted.rows < 2 ^ 32) }

@@ -29,8 +29,8 @@ fn find_begun(
     Ok(None)
 }
 
-/// The first name that begins with the prefix, where these are the names of the netlist's ports, and those of its nets, gates
-/// and instances.
+/// The first name that begins with the prefix, where these are the names of the netlist's ports, and those of its nets,
+/// gates and instances.
 pub fn find_prefix_fault(
     alloc: Global,
     plan: &Plan,

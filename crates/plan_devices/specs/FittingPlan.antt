@@ -15,7 +15,8 @@ use Rattle.plan_fitting.specs.Fits.{fault_with}
 abbrev pub HasWidths : NetlistView → Type 0
 HasWidths N = (number : ℕ) (port : PortView) → slice_get N.ports number ≡ Some port → length port.nets ≡ width_of port.range
 
--- the netlist is well formed and well named, some text spells the plan, its pin lines are of these bits, and no fault stands
+-- the netlist is well formed and well named, some text spells the plan, its pin lines are of these bits,
+-- and no fault stands
 pub record IsFitting (L : LinkedView) (p : Plan) (seen : List PinSeen) : Type 0 where
   pub formed : IsWellFormed L.arena.lists
   pub wide : HasWidths L.arena.lists

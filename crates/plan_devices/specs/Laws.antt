@@ -1,5 +1,6 @@
 -- Laws on the devices of plans that fit.
--- IEEE Std 1149.1-2001: boundary-scan register, the annex on BSDL; IEEE Std 1364-2001: lexical conventions (simple names).
+-- IEEE Std 1149.1-2001: boundary-scan register, the annex on BSDL; IEEE Std 1364-2001: lexical
+-- conventions (simple names).
 use Rattle.std.specs.Prelude.{◌≡◌, ℕ, ◌+◌, List, ◌++◌, All, length, slice_get, Option, Some, None}
 use Rattle.std.specs.Option.{option_map, option_map_or}
 use Rattle.signal_values.specs.declared.Sig.{Sig}

@@ -6,7 +6,8 @@ use plan_fitting::{
     control_cells_are_there, drivers_agree, highz_disables_all, opcodes_keep_the_rules,
 };
 
-/// A law: the device of a plan that some text spells and that fits is one that some text spells, where its port bits are few enough.
+/// A law: the device of a plan that some text spells and that fits is one that some text spells, where its port
+/// bits are few enough.
 pub fn plans_make_devices()
     ensures { PlansMakeDevices }
 {

@@ -12,8 +12,8 @@ pub fn texts_of_plans_are_spelled_or_at_fault()
     ensures fault { AtFaultOnce }
 {}
 
-/// A law: a text whose first line is `plan 1` spells exactly the plans of version 1 by itself: its lines, its seven instructions and its
-/// rules.
+/// A law: a text whose first line is `plan 1` spells exactly the plans of version 1 by itself: its lines, its seven
+/// instructions and its rules.
 pub fn first_version_stays()
     ensures { FirstVersionStays }
 {}

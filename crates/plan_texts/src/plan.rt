@@ -16,7 +16,8 @@ pub struct PinLine {
     pub cell: BoundaryKind,
 }
 
-/// What is to be built into a netlist: the device's names and pins, its instructions, and a boundary cell for each pin line.
+/// What is to be built into a netlist: the device's names and pins, its instructions, and a boundary cell
+/// for each pin line.
 #[derive(Drop)]
 pub struct Plan {
     /// 1 or 2; version 2 has USERCODE besides.

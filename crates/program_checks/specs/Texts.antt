@@ -1,5 +1,6 @@
 -- A netlist and a BSDL text that belong together, and the events of the device's program.
--- IEEE Std 1149.1-2001: test access port, the annex on BSDL; IEEE Std 1364-2001 for the netlist. Plans and programs are own.
+-- IEEE Std 1149.1-2001: test access port, the annex on BSDL; IEEE Std 1364-2001 for the netlist. Plans and
+-- programs are own.
 use Rattle.std.specs.Prelude.{◌≡◌, ℕ, List}
 use Rattle.verilog_tree.specs.declared.tree.Module.{Module}
 use Rattle.verilog_tree.specs.Texts.{SpellsText}
@@ -27,8 +28,8 @@ pub record IsRead (library : List ListedCell) (text : List ℕ) (linked : Linked
   pub library_is : linked.arena.lists.library ≡ library
   pub links : IsLinkOf tree linked
 
--- The netlist keeps the ports and the cells of one that a plan fits, with the plan's test access port behind the ports, and it behaves as
--- that one wrapped in the test logic of the plan's device. What else it holds is free.
+-- The netlist keeps the ports and the cells of one that a plan fits, with the plan's test access port behind the ports,
+-- and it behaves as that one wrapped in the test logic of the plan's device. What else it holds is free.
 pub record KeepsAndRealises (linked : LinkedView) (device : Device) : Type 0 where
   pub core : LinkedView
   pub plan : Plan

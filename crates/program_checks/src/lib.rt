@@ -1,4 +1,5 @@
-// A netlist that keeps another's ports and cells and realises its chip, checked by the program of the device: no expectation is missed.
+// A netlist that keeps another's ports and cells and realises its chip, checked by the program of the device: no
+// expectation is missed.
 // specs/Laws.antt has the statements, specs/Texts.antt what they speak of. Its functions are laws.
 // IEEE Std 1149.1-2001: test access port, the annex on BSDL; plans and programs are own.
 //
@@ -30,7 +31,8 @@ use scan_vectors::texts_of_events_are_spelled_or_at_fault;
 use verilog_reading::spelled_trees_keep_the_conditions;
 use verilog_texts::bytes_spell_one_tree;
 
-/// A link view that keeps another netlist's ports and cells and realises it has the chip that its device makes of that netlist.
+/// A link view that keeps another netlist's ports and cells and realises it has the chip that its device makes
+/// of that netlist.
 pub fn netlists_have_chips()
     ensures { NetlistsHaveChips }
 {

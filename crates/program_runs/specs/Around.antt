@@ -1,6 +1,6 @@
 -- When a device's boundary cells and test access port stand around a netlist.
--- IEEE Std 1149.1-2001: boundary-scan register; the annex on BSDL (logical port description, boundary register description).
--- That the device's first ports are the netlist's is own.
+-- IEEE Std 1149.1-2001: boundary-scan register; the annex on BSDL (logical port description, boundary register
+-- description). That the device's first ports are the netlist's is own.
 use Rattle.std.specs.Prelude.{◌≡◌, ◌⊎◌, ℕ, slice_get, Some, None}
 use Rattle.cell_library.specs.declared.codes.Function.TheVariants as function
 use Rattle.netlist_model.specs.declared.NetId.{NetId}

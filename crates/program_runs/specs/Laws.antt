@@ -1,4 +1,5 @@
--- The chip that a device makes of a netlist meets the device's program, and so does each netlist that realises the chip.
+-- The chip that a device makes of a netlist meets the device's program, and so does each netlist that
+-- realises the chip.
 -- IEEE Std 1149.1-2001: test access port, boundary-scan register. The program is own.
 use Rattle.std.specs.Prelude.{◌≡◌, ℕ, List}
 use Rattle.signal_values.specs.declared.Sig.{Sig}
@@ -57,7 +58,8 @@ pub record HasRunBeside (M : NetlistView) (B : Device) (N : NetlistView) (start 
 abbrev pub RunBesideProgramExists : Type 0
 RunBesideProgramExists = (M : NetlistView) (B : Device) (N : NetlistView) → IsWellFormed N → Realises M B N → (start : ℕ → Sig) → HasRunBeside M B N start
 
--- in each run by the program of a netlist that realises the chip, from any flip-flops, each expectation reads its value at its moment
+-- in each run by the program of a netlist that realises the chip, from any flip-flops, each expectation reads its
+-- value at its moment
 abbrev pub NetlistMeetsProgram : Type 0
 NetlistMeetsProgram = (M : NetlistView) (B : Device) (N : NetlistView) → IsWellFormed N → Suits B N → StandsAround B N → Realises M B N
     → (start : ℕ → Sig) (events : List PinEvent) (moment : ℕ → Moment) → IsProgramRunThere M B N start events moment → AreReadFrom (λ t. ReadsThere M B N (moment t)) 0 (program_of B)

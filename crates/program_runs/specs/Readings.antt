@@ -1,4 +1,5 @@
--- What the expectations of lines are of, and when each is read at its moment, on the wrapped chip and on a netlist beside it.
+-- What the expectations of lines are of, and when each is read at its moment, on the wrapped chip and on a
+-- netlist beside it.
 -- IEEE Std 1149.1-2001: test access port (TDO), boundary-scan register. The lines are own.
 use Rattle.std.specs.Prelude.{◌≡◌, ◌⊎◌, ℕ, suc, List, [], ◌∷◌, slice_get, Option, Some, ⊤}
 use Rattle.signal_values.specs.declared.PinSig.{PinSig}

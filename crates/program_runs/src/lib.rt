@@ -1,4 +1,5 @@
-// The chip that a device's test logic makes of a netlist meets the device's program, and so does each netlist that realises the chip.
+// The chip that a device's test logic makes of a netlist meets the device's program, and so does each netlist that
+// realises the chip.
 // specs/Laws.antt has the statements, over the definitions of wrapped_chip and scan_programs. Its functions are laws.
 // IEEE Std 1149.1-2001: test access port, boundary-scan register; programs are own.
 //

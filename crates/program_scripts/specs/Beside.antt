@@ -1,5 +1,6 @@
 -- When a linked netlist has the ports of a chip that a device describes.
--- IEEE Std 1149.1-2001: test access port; the annex on BSDL (logical port description). That both have them in one order is own.
+-- IEEE Std 1149.1-2001: test access port; the annex on BSDL (logical port description). That both have them in
+-- one order is own.
 use Rattle.std.specs.Prelude.{◌≡◌, ◌≢◌, ℕ, ◌+◌, length, slice_get, Some, None}
 use Rattle.netlist_model.specs.Lists.{PortView, NetlistView}
 use Rattle.netlist_model.specs.Formed.{IsWellFormed}

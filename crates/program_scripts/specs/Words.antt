@@ -1,5 +1,6 @@
 -- The words of a device's bits, in a netlist whose ports have plain names.
--- IEEE Std 1364-2001: bit-selects; the annex of IEEE Std 1149.1-2001 on BSDL (logical port description). The words are own.
+-- IEEE Std 1364-2001: bit-selects; the annex of IEEE Std 1149.1-2001 on BSDL (logical port description).
+-- The words are own.
 use Rattle.std.specs.Prelude.{◌≡◌, ℕ, ◌==◌, ◌<◌, List, Option}
 use Rattle.std.specs.Bool.{IsFalse}
 use Rattle.std.specs.List.{AllByRecursion}

@@ -1,4 +1,5 @@
-// The program of a device, resolved on a linked netlist that realises the device's chip: no expectation of it is missed.
+// The program of a device, resolved on a linked netlist that realises the device's chip: no expectation
+// of it is missed.
 // specs/Laws.antt has the statements. Its functions are laws.
 // IEEE Std 1149.1-2001: test access port; programs and scripts are own.
 //

@@ -1,4 +1,5 @@
--- A netlist that behaves as a wrapped chip does so with its nets and cells numbered anew, and has the control ports that it had.
+-- A netlist that behaves as a wrapped chip does so with its nets and cells numbered anew, and has the control
+-- ports that it had.
 -- Own. For IEEE Std 1149.1-2001 see wrapped_chip.
 use Rattle.std.specs.Prelude.{◌≡◌, ℕ, Some}
 use Rattle.netlist_model.specs.Lists.{CellView, NetlistView, cell_at}

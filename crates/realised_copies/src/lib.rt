@@ -1,9 +1,10 @@
-// A netlist with its nets and cells numbered anew, or with the same ports and live cells, behaves as the wrapped chip where the netlist
-// itself does (wrapped_chip). Laws only.
+// A netlist with its nets and cells numbered anew, or with the same ports and live cells, behaves as the wrapped chip
+// where the netlist itself does (wrapped_chip). Laws only.
 // Own. For IEEE Std 1149.1-2001 see wrapped_chip.
 //
-// - With its nets and cells numbered anew, the numbers of the chip's cells apart, it owes what it owed (`renumbered_realises`,
-//   `renumbered_is_alone`, `renumbered_finds_home`), and has the control ports that it had (`renumbered_has_controls`).
+// - With its nets and cells numbered anew, the numbers of the chip's cells apart, it owes what it owed
+//   (`renumbered_realises`, `renumbered_is_alone`, `renumbered_finds_home`), and has the control ports that it had
+//   (`renumbered_has_controls`).
 // - So does a netlist with the same ports and, by their numbers, the same live cells (`same_realises`, `same_is_alone`,
 //   `same_finds_home`).
 // By the contract of its law functions.

@@ -1,5 +1,6 @@
 -- What the bits do, in every well-formed netlist that contains their cells.
--- IEEE Std 1149.1-2001: TAP controller (what acts on which edge of TCK, and TRST), instruction register, test data registers.
+-- IEEE Std 1149.1-2001: TAP controller (what acts on which edge of TCK, and TRST), instruction register,
+-- test data registers.
 use Rattle.std.specs.Prelude.{◌≡◌, ℕ, Bool, true, false, Option, Some, None, if◌then◌else◌}
 use Rattle.signal_values.specs.declared.Sig.{Sig}
 use Rattle.signal_values.specs.declared.Sig.TheVariants.{Zero}

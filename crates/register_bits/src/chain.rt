@@ -10,8 +10,8 @@ use crate::{Steering, add_shift_bit};
 use gate_parts::{Netlist, appended_count, appended_more, appended_none};
 use test_logic::lower_netlist_model::{Feed, NetId};
 
-/// Adds a shift stage to a dense netlist, with a bit for each operand that it captures, the first of which is nearest TDO. It answers
-/// the net of that bit, and TDI's where there is none.
+/// Adds a shift stage to a dense netlist, with a bit for each operand that it captures, the first of which is nearest
+/// TDO. It answers the net of that bit, and TDI's where there is none.
 pub fn add_shift_chain(
     netlist: &mut Netlist,
     steering: &Steering,

@@ -3,7 +3,8 @@ ghost use Rattle.register_bits.specs.Chains.{ChainsFollow};
 
 use gate_parts::{contained_part_has_flops, contained_part_meets, flop_starts, flop_steps};
 
-/// In every well-formed netlist that contains its cells, a bit of a shift stage captures, shifts and keeps as the stage does.
+/// In every well-formed netlist that contains its cells, a bit of a shift stage captures, shifts and keeps
+/// as the stage does.
 pub fn shift_bits_follow()
     ensures { ShiftBitsFollow }
 {

@@ -1,5 +1,6 @@
 // One bit of a register as gates: a bit of a shift stage, and one that is held behind it.
-// Contracts cite specs/Bits.antt for the cells and specs/Laws.antt for what they do in every netlist that contains them.
+// Contracts cite specs/Bits.antt for the cells and specs/Laws.antt for what they do in every netlist
+// that contains them.
 // IEEE Std 1149.1-2001: instruction register, test data registers.
 //
 // - `add_shift_bit`, `add_held_bit` and `add_shift_chain` append exactly their cells and use just so much room: 3,
@@ -32,8 +33,8 @@ pub use laws::{chains_follow, held_bits_follow, shift_bits_follow};
 use test_logic::lower_cell_library::{Edge, FlopKind, Kind, ResetTo};
 use test_logic::lower_netlist_model::{Feed, NetId};
 
-/// What steers the bits of a shift stage: TCK, TRST, and nets that are 1 exactly where the register captures, and where it shifts, on
-/// the next rising edge of TCK.
+/// What steers the bits of a shift stage: TCK, TRST, and nets that are 1 exactly where the register captures, and where
+/// it shifts, on the next rising edge of TCK.
 #[derive(Clone, Copy)]
 pub struct Steering {
     pub tck: NetId,
@@ -42,7 +43,8 @@ pub struct Steering {
     pub shift: NetId,
 }
 
-/// What steers bits that are held: TCK, TRST, and a net that is 1 exactly where they load on the next falling edge of TCK.
+/// What steers bits that are held: TCK, TRST, and a net that is 1 exactly where they load on the next
+/// falling edge of TCK.
 #[derive(Clone, Copy)]
 pub struct Holding {
     pub tck: NetId,

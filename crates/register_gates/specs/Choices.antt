@@ -1,4 +1,5 @@
--- What the bits of the identification register capture, of the code and the usercode, bit 0 first, as it is nearest TDO.
+-- What the bits of the identification register capture, of the code and the usercode, bit 0 first, as
+-- it is nearest TDO.
 -- IEEE Std 1149.1-2001: device identification register (IDCODE, USERCODE); the gates are own.
 use Rattle.std.specs.Prelude.{◌≡◌, ℕ, zero, suc, ◌/◌, ◌%◌, ◌==◌, ◌<◌, Bool, true, false, not, List, [], ◌∷◌, length, if◌then◌else◌}
 use Rattle.signal_values.specs.declared.Sig.{Sig}

@@ -23,7 +23,8 @@ use Rattle.tap_gates.specs.Laws.{ShowsState}
 use Rattle.register_bits.specs.Laws.{Carries, bit_after}
 use Rattle.register_gates.specs.Registers.{bypass_cells, data_cells, data_values, data_last, captured_feeds, ident_cells, ident_values, ident_last}
 
--- own: the nets that are handed to a test data register carry the controller's state, whether it is selected, and the levels
+-- own: the nets that are handed to a test data register carry the controller's state, whether it is
+-- selected, and the levels
 pub record Directs (tap : TapNets) (on tdi : NetId) (levels : Levels) (w : TapState) (selected : Bool) (m : Moment) : Type 0 where
   pub carries : Carries tap.tck tap.trst levels m
   pub shows : ShowsState tap w m
@@ -72,7 +73,8 @@ pub record DataLaws (first number : ℕ) (tap : TapNets) (on tdi : NetId) (captu
 abbrev pub DataFollows : Type 0
 DataFollows = (first number : ℕ) (tap : TapNets) (on tdi : NetId) (captured : List Feed) → DataLaws first number tap on tdi captured
 
--- what the identification register captures: the usercode while USERCODE is in effect, else the code; without a usercode the code
+-- what the identification register captures: the usercode while USERCODE is in effect, else the code; without a
+-- usercode the code
 abbrev pub captured_bits : Option ℕ → ℕ → Bool → List Sig
 captured_bits user code using = if using then bits_of 32 (unwrap_or user code) else bits_of 32 code
 

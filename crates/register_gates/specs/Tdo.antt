@@ -70,7 +70,8 @@ data_bit register.Boundary bypass ident boundary m = m.value boundary.0
 data_bit register.Bypass bypass ident boundary m = m.value bypass.0
 data_bit register.DeviceId bypass ident boundary m = feed_value m.value (ident_feed ident)
 
--- own: what is handed in carries the controller's state, the register that is selected, and the bits nearest TDO of it and of the instruction register
+-- own: what is handed in carries the controller's state, the register that is selected, and the bits nearest TDO of it
+-- and of the instruction register
 pub record Presents (tap : TapNets) (instruction : InstrNets) (bypass : NetId) (ident : Option NetId) (boundary : NetId) (levels : Levels) (w : TapState) (selected : Register)
     (selected_bit instruction_bit : Sig) (m : Moment) : Type 0 where
   pub carries : Carries tap.tck tap.trst levels m

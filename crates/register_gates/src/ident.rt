@@ -37,8 +37,9 @@ fn add_inverse(netlist: &mut Netlist, user_on: NetId, user: u32) -> NetId
     add_part(netlist, &INVERSE, &[Feed::Net(user_on)])
 }
 
-/// Adds the identification register with this code, and a usercode or none, to a dense netlist, and answers the net of bit 0, which is
-/// nearest TDO. It takes 98 cells and nets of the room that is there, and 1 more where there is a usercode.
+/// Adds the identification register with this code, and a usercode or none, to a dense netlist, and answers the
+/// net of bit 0, which is nearest TDO. It takes 98 cells and nets of the room that is there, and 1 more where
+/// there is a usercode.
 pub fn add_ident(
     netlist: &mut Netlist,
     tap: &TapNets,

@@ -1,5 +1,6 @@
 // The bypass register, the identification register and TDO as gates.
-// Contracts cite specs/Registers.antt for the cells and specs/Laws.antt for what they do in every netlist that contains them.
+// Contracts cite specs/Registers.antt for the cells and specs/Laws.antt for what they do in every netlist
+// that contains them.
 // IEEE Std 1149.1-2001: test data registers, bypass register, device identification register, test access port.
 //
 // - `add_bypass` (5 cells), `add_data` (2 + 3n for n bits), `add_ident` (98, and 1 more where there is a usercode) and
@@ -84,7 +85,8 @@ fn add_selection(netlist: &mut Netlist, tap: &TapNets, on: NetId) -> Steering
     }
 }
 
-/// Adds the bypass register to a dense netlist, and answers the net of its bit. It takes 5 cells and nets of the room that is there.
+/// Adds the bypass register to a dense netlist, and answers the net of its bit. It takes 5 cells and nets of the
+/// room that is there.
 pub fn add_bypass(
     netlist: &mut Netlist,
     tap: &TapNets,
@@ -109,8 +111,8 @@ pub fn add_bypass(
     add_shift_bit(netlist, &steering, Feed::Const(false), tdi)
 }
 
-/// Adds a register to a dense netlist that captures these, the first of which is nearest TDO, while this net is 1, and answers the net
-/// of the bit nearest TDO. For n bits it takes 2 + 3 n cells and nets of the room that is there.
+/// Adds a register to a dense netlist that captures these, the first of which is nearest TDO, while this net is 1, and
+/// answers the net of the bit nearest TDO. For n bits it takes 2 + 3 n cells and nets of the room that is there.
 pub fn add_data(
     netlist: &mut Netlist,
     tap: &TapNets,

@@ -21,8 +21,8 @@ const CLEARED: FlopKind = FlopKind {
     reset: ResetTo::Zero,
 };
 
-/// What TDO gives. Handed in are TCK, TRST, Shift-DR, Shift-IR, the bit of the instruction register, whether the bypass register and
-/// the identification register are selected, and the bits of these two and of the boundary register.
+/// What TDO gives. Handed in are TCK, TRST, Shift-DR, Shift-IR, the bit of the instruction register, whether the bypass
+/// register and the identification register are selected, and the bits of these two and of the boundary register.
 pub const TDO: [Gate; 6] = [
     Gate {
         kind: Kind::Flop(CLEARED),
@@ -60,8 +60,9 @@ fn feed_of_ident(ident: Option<NetId>) -> Feed
     }
 }
 
-/// Adds what drives TDO to a dense netlist, on a net that nothing drives, from the bits of the registers that are nearest it. A device
-/// without an identification register hands in none. It takes 7 cells and 6 nets of the room that is there.
+/// Adds what drives TDO to a dense netlist, on a net that nothing drives, from the bits of the registers that
+/// are nearest it. A device without an identification register hands in none. It takes 7 cells and 6 nets of the
+/// room that is there.
 pub fn add_tdo(
     netlist: &mut Netlist,
     tap: &TapNets,

@@ -9,8 +9,8 @@ use Rattle.plan_fitting.specs.declared.fitted.Fitted.{Fitted}
 use Rattle.scan_sides.specs.stitch_model.declared.TapPort.{TapPort}
 use Rattle.scan_sides.specs.stitch_model.declared.Logic.{Logic}
 
--- own: so many nets and cells suffice: 49 for the controller, 11 and 21 for each bit for the instruction register, 5 for the bypass
--- register, and 99 for the identification register
+-- own: so many nets and cells suffice: 49 for the controller, 11 and 21 for each bit for the instruction register, 5
+-- for the bypass register, and 99 for the identification register
 abbrev pub logic_room : Fitted → ℕ
 logic_room f = 164 + 21 * f.codes.length
 

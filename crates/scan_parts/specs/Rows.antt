@@ -56,7 +56,8 @@ pub record IsBoundary (B : Boundary) : Type 0 where
   pub pins : ArePinsThere B.ports B.rows
   pub fits : B.first + 2 * length B.rows < 2 ^ 32
 
--- own: what the cell of a row reads is among the first so many nets, and a control cell that it names is there, as an inout names one
+-- own: what the cell of a row reads is among the first so many nets, and a control cell that it names is there, as
+-- an inout names one
 pub record IsReady (B : Boundary) (nets : ℕ) (row : FitRow) : Type 0 where
   pub net : (net_at B row).0 < nets
   pub core : IsFeedBelow nets (core_feed B row)

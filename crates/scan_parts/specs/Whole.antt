@@ -10,14 +10,16 @@ use Rattle.scan_sides.specs.stitch_model.Sites.{Boundary, sides_of}
 use Rattle.scan_parts.specs.Logic.{logic_room, IsPortBelow}
 use Rattle.scan_parts.specs.Rows.{into_from, IsApart, AreApart, AreFree, IsBoundary, IsReady}
 
--- own: so many nets and cells suffice: at most seven nets and eight cells for each row, six nets and seven cells for TDO
+-- own: so many nets and cells suffice: at most seven nets and eight cells for each row, six nets and
+-- seven cells for TDO
 abbrev pub net_room : Fitted → ℕ
 net_room f = logic_room f + 8 * length f.rows + 6
 
 abbrev pub cell_room : Fitted → ℕ
 cell_room f = logic_room f + 8 * length f.rows + 7
 
--- own: room, the nets of the port and those between, what the cells read, and nets for the cells and for TDO that nothing drives
+-- own: room, the nets of the port and those between, what the cells read, and nets for the cells and for TDO
+-- that nothing drives
 pub record CanTakeLogic (arena : ArenaView) (B : Boundary) (f : Fitted) (port : TapPort) : Type 0 where
   pub dense : IsDense arena.lists
   pub bits : f.codes.length ≤ 32

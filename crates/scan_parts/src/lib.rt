@@ -1,5 +1,5 @@
-// The parts of the test logic, one behind the other: the nets of the test access port and those between the core and its cells, the
-// controller and the registers, the boundary register, the ports.
+// The parts of the test logic, one behind the other: the nets of the test access port and those between the core and
+// its cells, the controller and the registers, the boundary register, the ports.
 // Contracts cite stitch_model's specs/Stitched.antt, and specs/Whole.antt for what a netlist needs.
 // IEEE Std 1149.1-2001: test logic architecture, test access port, boundary-scan register.
 //

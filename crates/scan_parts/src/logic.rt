@@ -56,8 +56,8 @@ fn add_code(
     }
 }
 
-/// Adds the controller, the instruction register, the bypass register, and the identification register of a device that has one, to a
-/// dense netlist. Nets that were free stay so.
+/// Adds the controller, the instruction register, the bypass register, and the identification register of a device that
+/// has one, to a dense netlist. Nets that were free stay so.
 pub fn add_logic(netlist: &mut Netlist, port: &TapPort, fitted: &Fitted) -> Logic
     requires dense { IsDense netlist.old.lists }
     requires bits { fitted.now.codes.length ≤ 32 }

@@ -25,7 +25,8 @@ use scan_sides::lower_stitch_model::Site;
 use scan_sides::{core_feed, level_net, row_net, side_count, site_of};
 use test_logic::ScanNets;
 
-// What stands at the cell of a row: the net of its bit, the first net between the core and the cell, and the next bit towards TDI.
+// What stands at the cell of a row: the net of its bit, the first net between the core and the cell, and the next
+// bit towards TDI.
 #[derive(Clone, Copy)]
 struct Place {
     net: NetId,
@@ -190,8 +191,9 @@ fn add_row(
     }
 }
 
-/// Adds the cells of all rows to a dense netlist, the one nearest TDI first, and answers the net of the shift bit nearest TDO. The
-/// nets between the core and the cells run from `first` up to `end`. Other nets that were free stay so.
+/// Adds the cells of all rows to a dense netlist, the one nearest TDI first, and answers the net of the shift
+/// bit nearest TDO. The nets between the core and the cells run from `first` up to `end`. Other nets that
+/// were free stay so.
 pub fn add_rows(
     netlist: &mut Netlist,
     rows: &[FitRow],

@@ -1,6 +1,7 @@
 // The program of a device: events that work its test access port, with what must be read after them.
-// Contracts cite specs/Program.antt (the list of lines), specs/Scans.antt (the cycles of TCK), specs/Pins.antt (words and cells of pins)
-// and specs/Cells.antt (what the boundary cells capture and pins read); specs/Met.antt says when a device meets lines.
+// Contracts cite specs/Program.antt (the list of lines), specs/Scans.antt (the cycles of TCK), specs/Pins.antt (words
+// and cells of pins) and specs/Cells.antt (what the boundary cells capture and pins read); specs/Met.antt says when a
+// device meets lines.
 // IEEE Std 1149.1-2001: test access port, TAP controller, boundary-scan register; which scans a program makes is own.
 //
 // - `program`, for a device that some text spells, answers exactly the program's lines, numbered as in their

@@ -25,7 +25,8 @@ pub record CanStitch (linked : LinkedView) (f : Fitted) : Type 0 where
   pub small : IsSmall f
   pub few : too_many before.arena.lists (room_of f) (room_of f) (ports_of f) ≡ None
 
--- the netlist is that with the test logic built in, by the names that were entered, and it is linked; the names and the module's name stay
+-- the netlist is that with the test logic built in, by the names that were entered, and it is linked; the names and the
+-- module's name stay
 pub record IsStitched (before after : LinkedView) (f : Fitted) : Type 0 where
   pub tap : TapNames
   pub tap_is : AreTapNames before.names f tap

@@ -23,7 +23,8 @@ use Rattle.scan_stitch.specs.Ready.{IsSmall}
 abbrev pub nets_around : NetlistView → TapNames → List FitRow → List NetView
 nets_around N names rows = tap_net_views names ++ added_nets (length N.nets + 5) (sides_of N.ports rows)
 
--- own: the netlist with the nets of the test access port, and those between the core and its boundary cells, behind which it stands
+-- own: the netlist with the nets of the test access port, and those between the core and its boundary cells,
+-- behind which it stands
 abbrev pub surrounded : NetlistView → TapNames → List FitRow → NetlistView
 surrounded N names rows = record {
   library = N.library;
@@ -34,7 +35,8 @@ surrounded N names rows = record {
 
 -- What is needed.
 
--- own: of a row: one without a bit is a control cell; what the core gives is a net that is there; an inout names a control cell
+-- own: of a row: one without a bit is a control cell; what the core gives is a net that is there; an inout
+-- names a control cell
 pub record IsRowFit (N : NetlistView) (row : FitRow) : Type 0 where
   pub placed : row.pin ≡ None → row.function ≡ function.Control
   pub core : MatchOption row.core ⊤ (IsFeedBelow (length N.nets))

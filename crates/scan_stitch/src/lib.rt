@@ -1,5 +1,6 @@
 // Builds the test logic of a plan into the netlist that it fits.
-// Contracts cite stitch_model's specs/Stitched.antt for the netlist, and plan_fitting's specs/Devices.antt for the device.
+// Contracts cite stitch_model's specs/Stitched.antt for the netlist, and plan_fitting's
+// specs/Devices.antt for the device.
 // IEEE Std 1149.1-2001: test logic architecture, boundary-scan register.
 //
 // - `device_of_fit` gives the device of what was fitted.

@@ -27,8 +27,8 @@ fn port_room(fitted: &Fitted) -> u32
     5 + fitted.linkage.len() as u32
 }
 
-/// Makes the room, and enters the names of the test access port, so that stitching takes no memory. The netlist stays as it is, also
-/// after a refusal.
+/// Makes the room, and enters the names of the test access port, so that stitching takes no memory. The netlist stays
+/// as it is, also after a refusal.
 pub fn prepare(linked: &mut Linked, fitted: &Fitted) -> Result<(), ReserveFault>
     requires small { IsSmall fitted.now }
     requires names { HasTapNames fitted.now }

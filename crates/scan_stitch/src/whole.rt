@@ -24,11 +24,12 @@ use wrapped_chip::home_is_alone;
 pub fn stitch(linked: &mut Linked, fitted: &Fitted)
     requires { CanStitch linked.old fitted.now }
     ensures stitched { IsStitched linked.old linked.new fitted.now }
-    // Through any legal events it behaves as the netlist before, wrapped in the device's test logic; and as the netlist before alone
-    // while a transparent instruction is in effect.
+    // Through any legal events it behaves as the netlist before, wrapped in the device's test logic; and as the netlist
+    // before alone while a transparent instruction is in effect.
     ensures realises { Realises linked.new.arena.lists (device_of_fitted fitted.now) linked.old.arena.lists }
     ensures alone { Alone linked.new.arena.lists (device_of_fitted fitted.now) linked.old.arena.lists }
-    // From whatever the flip-flops of its test logic hold, 0 or 1 each, five ones on TMS lead it there, with TRST at any level.
+    // From whatever the flip-flops of its test logic hold, 0 or 1 each, five ones on TMS lead it there, with
+    // TRST at any level.
     ensures finds_home { FindsHome linked.new.arena.lists (device_of_fitted fitted.now) linked.old.arena.lists }
     ensures alone_from_home { AloneFromHome linked.new.arena.lists (device_of_fitted fitted.now) linked.old.arena.lists }
 {

@@ -17,8 +17,8 @@ use Rattle.insertion_inputs.specs.Inputs.{IsFittingAs, IsLinkedTree}
 use Rattle.strip_model.specs.Recovered.{recovered}
 use Rattle.strip_gives.specs.Gives.{GivesAt, Gives}
 
--- The module and the plan that are recovered give the module with test logic and the device; this is the plan, and the netlist that
--- the module denotes with this library.
+-- The module and the plan that are recovered give the module with test logic and the device; this is the plan, and the
+-- netlist that the module denotes with this library.
 pub record IsStripped (library : List ListedCell) (inserted : Module) (d : Device) (L : LinkedView) (p : Plan) : Type 0 where
   pub tree : Module
   pub found : recovered inserted d ≡ Some (tree, p)

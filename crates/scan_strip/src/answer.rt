@@ -74,7 +74,8 @@ fn strip_found(
     Ok(Stripped { linked, plan })
 }
 
-/// The netlist and the plan that a module with test logic and its device were made from; the netlist is linked with this library.
+/// The netlist and the plan that a module with test logic and its device were made from; the netlist is linked
+/// with this library.
 pub fn strip_tree(
     alloc: Global,
     inserted: &Module,
@@ -93,8 +94,8 @@ pub fn strip_tree(
     }
 }
 
-/// The netlist and the plan that a module with test logic and its device were made from; `linked` is the netlist of the module, with
-/// whose library the answer is linked.
+/// The netlist and the plan that a module with test logic and its device were made from; `linked` is the netlist of the
+/// module, with whose library the answer is linked.
 pub fn strip(
     alloc: Global,
     inserted: &Module,

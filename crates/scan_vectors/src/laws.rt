@@ -3,7 +3,8 @@ ghost use Rattle.scan_vectors.specs.Exactly.{CanonicalIsSpelled};
 
 use line_texts::{rows_of_texts_are_rows, texts_of_rows_read_back};
 
-/// A law: bytes spell one list of event lines, or have a first fault, and not both. What some bytes spell can be printed.
+/// A law: bytes spell one list of event lines, or have a first fault, and not both. What some bytes
+/// spell can be printed.
 pub fn texts_of_events_are_spelled_or_at_fault()
     ensures once { SpelledOnce }
     ensures faultless { SpelledIsFaultless }
@@ -14,8 +15,8 @@ pub fn texts_of_events_are_spelled_or_at_fault()
     texts_of_rows_read_back();
 }
 
-/// A law: the canonical text of lines that can be printed spells these lines, numbered from 2. So lines that were made, and not read, are
-/// lines that some text spells.
+/// A law: the canonical text of lines that can be printed spells these lines, numbered from 2. So lines that were made,
+/// and not read, are lines that some text spells.
 pub fn canonical_texts_spell_their_lines()
     ensures { CanonicalIsSpelled }
 {

@@ -9,7 +9,8 @@ use Rattle.netlist_link.specs.Links.{HasLinkFault}
 use Rattle.command_edges.specs.Spelled.{SpellsLinkable}
 use Rattle.sim_command.specs.Simulations.{HasScriptFault}
 
--- The fault stands in the texts of a netlist, with this library, and of events, of which the netlist is looked at first. Want of memory says nothing.
+-- The fault stands in the texts of a netlist, with this library, and of events, of which the netlist is looked at
+-- first. Want of memory says nothing.
 abbrev pub StandsInBoth : List ListedCell → List ℕ → List ℕ → Fault → Type 0
 StandsInBoth library net events (fault.Netlist f) = IsTextFault net f
 StandsInBoth library net events (fault.Link f) = HasLinkFault library f net

@@ -15,8 +15,8 @@ use Rattle.event_scripts.specs.Rules.{AreLegal}
 use Rattle.event_scripts.specs.Scripts.{IsResolved, IsScriptFault}
 use Rattle.sim_runs.specs.Outputs.{IsOutput}
 
--- The netlist's bytes spell one tree, which is linked with the library to this netlist; the events' bytes spell lines that are legal for it; and
--- the text is that of their run, in which so many expectations aren't met.
+-- The netlist's bytes spell one tree, which is linked with the library to this netlist; the events' bytes spell lines
+-- that are legal for it; and the text is that of their run, in which so many expectations aren't met.
 pub record IsSimulation (library : List ListedCell) (net events text : List ℕ) (missed : ℕ) : Type 0 where
   pub tree : Module
   pub spells : SpellsText net tree

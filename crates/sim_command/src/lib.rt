@@ -1,4 +1,5 @@
-// The command that simulates: reads a netlist and events, and a library of cells if there is one, and puts what the events' run on the netlist puts.
+// The command that simulates: reads a netlist and events, and a library of cells if there is one, and puts what the
+// events' run on the netlist puts.
 // Its task stands in specs/Tasks.antt, over specs/Simulations.antt and specs/Faults.antt.
 // IEEE Std 1364-2001 for the netlist; the texts of events and what a run puts are own.
 //

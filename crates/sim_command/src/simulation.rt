@@ -44,8 +44,8 @@ fn simulate_files<'a, S: Shelf, O: Sink>(
 }
 
 /// Plays the events that lie under one name on the netlist that lies under another, with the library that lies under a
-/// third if there is one, and puts what the run puts, as it goes. The status is `Done`, or `Missed` where an expectation
-/// isn't met.
+/// third if there is one, and puts what the run puts, as it goes. The status is `Done`, or `Missed` where an
+/// expectation isn't met.
 pub fn simulate<'a, S: Shelf, O: Sink>(
     alloc: Global,
     shelf: &mut S,

@@ -1,5 +1,5 @@
--- When registers of a design's own fit a plan and a netlist, and what they are refused for: names, then wires, then opcodes, each
--- along all lines.
+-- When registers of a design's own fit a plan and a netlist, and what they are refused for: names, then wires, then
+-- opcodes, each along all lines.
 -- IEEE Std 1149.1-2001: test data registers, instructions, the annex on BSDL. The order is own.
 use Rattle.std.specs.Prelude.{ℕ, List, flat_map}
 use Rattle.std.specs.List.{AllByRecursion}

@@ -1,14 +1,15 @@
 // Fits data registers of a design's own to a plan and a linked netlist: the nets that they capture, or the first fault.
 // Contracts cite specs/Faults.antt (what stands against registers) and specs/Fitted.antt (what fitting gives).
-// IEEE Std 1149.1-2001: test data registers, instructions, the annex on BSDL; VHDL-93, lexical elements. The order of faults is own.
+// IEEE Std 1149.1-2001: test data registers, instructions, the annex on BSDL; VHDL-93, lexical elements. The order
+// of faults is own.
 //
-// - `fit_status` answers what fitting gives (`IsFitted`) exactly where no fault stands, but for want of memory: each register
-//   with its name, its instruction, its opcode, and for each word the net of the wire's bit that it names.
+// - `fit_status` answers what fitting gives (`IsFitted`) exactly where no fault stands, but for want of memory: each
+//   register with its name, its instruction, its opcode, and for each word the net of the wire's bit that it names.
 // - It answers a fault only where that stands, and none before it (`IsFault`): a name that can't be a register's or an
-//   instruction's, a word that names no bit of a wire with a driver, an opcode that can't be its instruction's, each the
-//   first along all lines.
-// - Wires are found by a table of names and indexes, made in one pass over the nets; drivers are flagged in one pass over the
-//   cells; names and opcodes that were given before are found by tables.
+//   instruction's, a word that names no bit of a wire with a driver, an opcode that can't be its instruction's, each
+//   the first along all lines.
+// - Wires are found by a table of names and indexes, made in one pass over the nets; drivers are flagged in one pass
+//   over the cells; names and opcodes that were given before are found by tables.
 // - Laws: in a well-named netlist a word names one net at most, and what is fitted or the first fault is one answer.
 // By the contract of `fit_status` and its law function.
 #![tactic(auto)]

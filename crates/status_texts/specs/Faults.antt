@@ -17,8 +17,8 @@ pub record Begun (rows : List (List (List ℕ))) : Type 0 where
   pub more : List (List (List ℕ))
   pub begins : status_rows source ≡ rows ++ more
 
--- The first line that can't stand there: some text begins with the kept lines before it, and none with it too. Where the text
--- ends too early, it is the line after the last.
+-- The first line that can't stand there: some text begins with the kept lines before it, and none with it too. Where
+-- the text ends too early, it is the line after the last.
 pub record IsLineFault (bytes : List ℕ) (line : ℕ) : Type 0 where
   pub unwritten : (s : List RegisterWords) → AreRegisters s → kept_words bytes ≡ status_rows s → ⊥
   pub count : ℕ

@@ -49,7 +49,8 @@ abbrev pub status_at : Rows → Read
 status_at [] = (None, [])
 status_at (row ∷ rows) = if is_first row.1 then plan_at (few_at 16 rows) else (None, row ∷ rows)
 
--- what a reader answers: what was read and the rows after it; at a fault the rows from there on; nothing where memory was refused
+-- what a reader answers: what was read and the rows after it; at a fault the rows from there on; nothing where
+-- memory was refused
 abbrev pub Gives : Result StatusPlan LineFault → Rows → Read → Type 0
 Gives (Ok plan) left read = read ≡ (Some plan, left)
 Gives (Err fault.Line) left read = read ≡ (None, left)

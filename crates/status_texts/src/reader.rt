@@ -79,7 +79,8 @@ fn read_lines(alloc: Global, reader: &mut LineReader<'_>) -> Result<StatusPlan, 
     read_registers(alloc, reader)
 }
 
-/// The registers that the bytes spell, or the first line that can't stand there. No more than 16 lines of registers are kept.
+/// The registers that the bytes spell, or the first line that can't stand there. No more than 16 lines of
+/// registers are kept.
 pub fn read_status(alloc: Global, bytes: &[u8]) -> Result<StatusPlan, StatusFault>
     ensures spelled { IfOk result (SpellsStatus bytes.now) }
     ensures faultless { IfOk result (λ _. HasNoFault bytes.now) }

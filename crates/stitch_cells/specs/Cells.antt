@@ -27,7 +27,8 @@ driver_number N f k row = row_number N f k + length (gates_of_row N f k row)
 abbrev pub drivers_of_row : NetlistView → Fitted → ℕ → FitRow → List CellView
 drivers_of_row N f k row = added_drivers (boundary_at N f) (driver_number N f k row) (row_side N f k) row
 
--- own: a cell of the core behind its boundary cells, or one of the controller, a register, a row of the boundary register, or TDO
+-- own: a cell of the core behind its boundary cells, or one of the controller, a register, a row of the boundary
+-- register, or TDO
 pub data CellOf (N : NetlistView) (f : Fitted) (number : ℕ) (cell : CellView) : Type 0 where
   of_core : (old : CellView) → cell_at N number ≡ Some old → core_cell (boundary_at N f) old ≡ cell → CellOf N f number cell
   of_controller : IsAt number (cell_count N) (controller_part (first_net N f) (port_of N) (cell_count N)) cell → CellOf N f number cell

@@ -39,7 +39,8 @@ may_keep (Flop kind) = true
 may_keep (Listed number) = true
 may_keep _ = false
 
--- own: a gate or flip-flop with as many operands as its kind takes under any library, all of them such nets, which TCK clocks and TRST clears or presets
+-- own: a gate or flip-flop with as many operands as its kind takes under any library, all of them such nets, which TCK
+-- clocks and TRST clears or presets
 pub record IsLogicCell (tck trst : NetId) (P : ℕ → Type 0) (cell : CellView) : Type 0 where
   pub takes : (library : List ListedCell) → Takes library cell.kind (length cell.feeds)
   pub two_state : is_three_state cell.kind ≡ false

@@ -1,5 +1,6 @@
 -- What the cells of each part of the test logic read and drive.
--- IEEE Std 1149.1-2001: TAP controller, instruction register, test data registers, boundary-scan register; the order of nets is own.
+-- IEEE Std 1149.1-2001: TAP controller, instruction register, test data registers, boundary-scan register; the
+-- order of nets is own.
 use Rattle.std.specs.Prelude.{◌≡◌, ℕ, ◌+◌, ◌<◌, ◌≤◌, slice_get, Some}
 use Rattle.netlist_model.specs.declared.NetId.{NetId}
 use Rattle.netlist_model.specs.Lists.{CellView, NetlistView}
@@ -48,7 +49,8 @@ into_at B side row site.Output = net_at B row
 into_at B side row site.AddedDriver = record { 0 = side + 1 }
 into_at B side row _ = record { 0 = side }
 
--- own: the gates of a row drive its nets in turn, then the net that it gives its value; the driver that is added drives the pin
+-- own: the gates of a row drive its nets in turn, then the net that it gives its value; the driver that is
+-- added drives the pin
 pub record RowDrives (N : NetlistView) (f : Fitted) (k : ℕ) (row : FitRow) : Type 0 where
   pub own : (j : ℕ) (cell : CellView) → slice_get (gates_of_row N f k row) j ≡ Some cell → j < row_nets N.ports row → cell.output ≡ Some (record { 0 = row_first N f k + j })
   pub into : (cell : CellView) → slice_get (gates_of_row N f k row) (row_nets N.ports row) ≡ Some cell

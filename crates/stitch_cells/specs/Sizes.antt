@@ -1,5 +1,6 @@
 -- How many cells and nets the parts of the test logic have, and so where each begins.
--- IEEE Std 1149.1-2001: TAP controller, instruction register, test data registers, boundary-scan register; the counts are own.
+-- IEEE Std 1149.1-2001: TAP controller, instruction register, test data registers, boundary-scan register;
+-- the counts are own.
 use Rattle.std.specs.Prelude.{◌≡◌, ℕ, ◌+◌, List, length, sum_by}
 use Rattle.netlist_model.specs.Lists.{PortView, NetlistView, cell_count}
 use Rattle.netlist_model.specs.Contained.{IsDense}
@@ -40,7 +41,8 @@ cells_of_rows ports rows = sum_by (row_size ports) rows
 
 -- The parts.
 
--- own: the controller and the registers beside the boundary register have as many cells as nets, wherever they are numbered
+-- own: the controller and the registers beside the boundary register have as many cells as nets, wherever
+-- they are numbered
 pub record LogicLengths (first : ℕ) (port : TapPort) (f : Fitted) (number : ℕ) : Type 0 where
   pub controller : length (controller_part first port number) ≡ instruction_from
   pub instruction : length (instruction_part first port f number) ≡ instruction_size f.codes

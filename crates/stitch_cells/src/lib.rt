@@ -1,6 +1,7 @@
-// Each cell of the netlist with the test logic built in (stitch_model): what it is, how many there are, which nets they drive and
-// which they read, and the directions of nets. Laws only: specs/Cells.antt, specs/Sizes.antt, specs/Logic.antt and
-// specs/Directions.antt have the statements; what each part's cells read stands for any test of nets in proofs/.
+// Each cell of the netlist with the test logic built in (stitch_model): what it is, how many there are, which nets they
+// drive and which they read, and the directions of nets. Laws only: specs/Cells.antt, specs/Sizes.antt,
+// specs/Logic.antt and specs/Directions.antt have the statements; what each part's cells read stands for any test of
+// nets in proofs/.
 // IEEE Std 1149.1-2001: test logic architecture; the laws are own.
 //
 // - Each live cell is one of the core behind its boundary cells, under its own number, or one of a part of the

@@ -41,7 +41,8 @@ abbrev pub StitchedIsFormed : Type 0
 StitchedIsFormed = (L : LinkedView) (p : Plan) (seen : List PinSeen) (names : TapNames) → IsFitting L p seen → IsLaidOut L.arena.lists → IsDense L.arena.lists
     → IsWellFormed (stitched L.arena.lists names (fitted_of L p seen))
 
--- the cells on the nets of the controller and of the registers beside the boundary register are none of the netlist's own
+-- the cells on the nets of the controller and of the registers beside the boundary register are none of
+-- the netlist's own
 abbrev pub StitchedLogicIsAdded : Type 0
 StitchedLogicIsAdded = (L : LinkedView) (p : Plan) (seen : List PinSeen) (names : TapNames) → IsFitting L p seen → IsLaidOut L.arena.lists → IsDense L.arena.lists
     → (i j : ℕ) (cell : CellView) → j < logic_size (fitted_of L p seen)

@@ -1,5 +1,5 @@
-// The netlist with the test logic built in (stitch_model) is well formed, where a plan fits a netlist without gaps. Laws only;
-// specs/Laws.antt has the statements.
+// The netlist with the test logic built in (stitch_model) is well formed, where a plan fits a netlist without gaps.
+// Laws only; specs/Laws.antt has the statements.
 // IEEE Std 1149.1-2001: test logic architecture; the laws are own.
 //
 // - Its ports, drivers and readers are those of a well-formed netlist: counts of operands, one driver for each net
@@ -37,7 +37,8 @@ pub fn stitched_is_formed()
     stitched_has_cones();
 }
 
-/// What drives the nets of the controller and of the registers beside the boundary register is none of the netlist's own cells.
+/// What drives the nets of the controller and of the registers beside the boundary register is none of the
+/// netlist's own cells.
 pub fn stitched_logic_is_added()
     ensures { StitchedLogicIsAdded }
 {

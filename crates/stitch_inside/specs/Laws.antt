@@ -31,7 +31,8 @@ StitchedSurrounds = (L : LinkedView) (p : Plan) (seen : List PinSeen) (names : T
     → IsWellFormed (stitched L.arena.lists names (fitted_of L p seen)) → HasPins (stitched L.arena.lists names (fitted_of L p seen)) L.arena.lists
     → Surrounds (stitched L.arena.lists names (fitted_of L p seen)) L.arena.lists (device_of L p seen) (places_of L.arena.lists names (fitted_of L p seen))
 
--- own: so it is in every netlist into which the test logic is built, whatever its TDO takes for the bit of the bypass register
+-- own: so it is in every netlist into which the test logic is built, whatever its TDO takes for the bit of
+-- the bypass register
 abbrev pub BuiltInNests : Type 0
 BuiltInNests = (L : LinkedView) (p : Plan) (seen : List PinSeen) (names : TapNames) (M : NetlistView) (shown : NetId) → IsFitting L p seen → IsLaidOut L.arena.lists
     → HasBuiltIn M L.arena.lists names (fitted_of L p seen) shown

@@ -1,6 +1,7 @@
-// A netlist into which the test logic is built, inside: the core nests in it behind its boundary cells, and the device's test logic stands
-// around the core. The stitched netlist is one.
-// specs/Inner.antt says which net stands for a net of the core, specs/Places.antt where the parts stand, specs/Laws.antt that they do.
+// A netlist into which the test logic is built, inside: the core nests in it behind its boundary cells, and the
+// device's test logic stands around the core. The stitched netlist is one.
+// specs/Inner.antt says which net stands for a net of the core, specs/Places.antt where the parts stand,
+// specs/Laws.antt that they do.
 // IEEE Std 1149.1-2001: test logic architecture, boundary-scan register; the laws are own.
 //
 // - The core nests in it with its drivers behind boundary cells; a net to which nothing gives a value, and which

@@ -19,7 +19,8 @@ use Rattle.stitch_laws.specs.Places.{port_of, scan_of, instruction_number, bypas
 abbrev pub StitchedKeeps : Type 0
 StitchedKeeps = (N : NetlistView) (names : TapNames) (f : Fitted) → IsDense N → Keeps N (stitched N names f) (tap_ports names (port_of N))
 
--- own: the gates of row k of the boundary register are there, as those of a row of its kind, and the driver that is added behind it
+-- own: the gates of row k of the boundary register are there, as those of a row of its kind, and the driver that
+-- is added behind it
 pub record HoldsRow (M N : NetlistView) (f : Fitted) (k : ℕ) (row : FitRow) : Type 0 where
   pub gates : HasCells M (row_cells (boundary_row (boundary_at N f) (row_side N f k) row) (row_first N f k) (row_number N f k) (scan_of N f) (row_next N f k))
   pub driver : HasCells M
@@ -61,15 +62,16 @@ pub record IsInside (M N : NetlistView) (f : Fitted) : Type 0 where
 abbrev pub StitchedHoldsTheCore : Type 0
 StitchedHoldsTheCore = (N : NetlistView) (names : TapNames) (f : Fitted) → IsDense N → IsInside (stitched N names f) N f
 
--- own: M is a netlist into which the test logic is built: it has N's library, the ports, the core behind its boundary cells, and each part
+-- own: M is a netlist into which the test logic is built: it has N's library, the ports, the core behind its boundary
+-- cells, and each part
 pub record HasBuiltIn (M N : NetlistView) (names : TapNames) (f : Fitted) (shown : NetId) : Type 0 where
   pub library : M.library ≡ N.library
   pub ports : M.ports ≡ N.ports ++ tap_ports names (port_of N)
   pub core : IsInside M N f
   pub parts : HoldsPartsBy M N f shown
 
--- own: M has the stitched netlist's library, its ports and, under their numbers, its cells, but that TDO's take this net for the bit of the
--- bypass register; whatever else M holds is free
+-- own: M has the stitched netlist's library, its ports and, under their numbers, its cells, but that TDO's take this
+-- net for the bit of the bypass register; whatever else M holds is free
 pub record ExtendsStitched (M N : NetlistView) (names : TapNames) (f : Fitted) (shown : NetId) : Type 0 where
   pub library : M.library ≡ N.library
   pub ports : M.ports ≡ N.ports ++ tap_ports names (port_of N)

@@ -1,4 +1,5 @@
-// Laws of the netlist with the test logic built in (stitch_model): what it keeps of the core, and where its parts stand.
+// Laws of the netlist with the test logic built in (stitch_model): what it keeps of the core, and where
+// its parts stand.
 // Each function has nothing to do; specs/Laws.antt has the statements.
 // IEEE Std 1149.1-2001: test logic architecture, boundary-scan register; the laws are own.
 //
@@ -53,7 +54,8 @@ pub fn stitched_is_built_in()
     stitched_holds_the_core();
 }
 
-/// So it is into every netlist that has its library, its ports and its cells under their numbers, whatever else that holds.
+/// So it is into every netlist that has its library, its ports and its cells under their numbers, whatever
+/// else that holds.
 pub fn extension_is_built_in()
     ensures { ExtensionIsBuiltIn }
 {

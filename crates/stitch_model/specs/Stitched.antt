@@ -94,7 +94,8 @@ boundary_at N f = boundary_of N f.rows
 abbrev pub first_net : NetlistView → Fitted → ℕ
 first_net N f = (boundary_at N f).first + sides_of N.ports f.rows
 
--- the cells of the core, and those of the test logic behind them; TDO's take this net for the bit of the bypass register
+-- the cells of the core, and those of the test logic behind them; TDO's take this net for the bit of
+-- the bypass register
 abbrev pub stitched_cells_by : NetId → NetlistView → Fitted → List CellView
 stitched_cells_by shown N f =
     map (core_cell (boundary_at N f)) (live_cells N) ++ test_logic_cells_by shown (boundary_at N f) (first_net N f) (cell_count N) (tap_port (length N.nets)) f

@@ -1,4 +1,5 @@
-// What numbers the nets of the netlist with the test logic built in (stitch_model), and what clocks, clears and presets there.
+// What numbers the nets of the netlist with the test logic built in (stitch_model), and what clocks, clears
+// and presets there.
 // Each function has nothing to do; specs/Laws.antt has the statements.
 // IEEE Std 1149.1-2001: test logic architecture, boundary-scan register; the laws are own.
 //

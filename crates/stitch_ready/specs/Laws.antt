@@ -18,8 +18,8 @@ use Rattle.core_moves.specs.Ready.{CanStandBehind}
 abbrev pub FittedAreFew : Type 0
 FittedAreFew = (L : LinkedView) (p : Plan) (seen : List PinSeen) → IsFitting L p seen → bit_count L.arena.lists.ports ≤ 4096 → AreFew (rows p seen)
 
--- with the five nets of the test access port and those between the core and its boundary cells, its core can stand behind these cells,
--- if there are few and the nets can be counted
+-- with the five nets of the test access port and those between the core and its boundary cells, its core can stand
+-- behind these cells, if there are few and the nets can be counted
 abbrev pub FittedCanStandBehind : Type 0
 FittedCanStandBehind = (L : LinkedView) (p : Plan) (seen : List PinSeen) (more : List NetView) → IsFitting L p seen → IsLaidOut L.arena.lists
     → AreFew (rows p seen) → 5 + sides_of L.arena.lists.ports (rows p seen) ≤ length more

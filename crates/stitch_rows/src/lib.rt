@@ -1,5 +1,5 @@
-// What stands at each row of the boundary register of a plan that fits: the net of its bit and that net's direction, its driver, and
-// its control cell. Laws only; specs/Rows.antt has the statements.
+// What stands at each row of the boundary register of a plan that fits: the net of its bit and that net's direction,
+// its driver, and its control cell. Laws only; specs/Rows.antt has the statements.
 // IEEE Std 1149.1-2001: boundary-scan register (provision of cells, control cells); the laws are own.
 //
 // - Each row is that of an input, of an output that is always driven (with or without a driver that HIGHZ adds),

@@ -1,6 +1,7 @@
--- The stitched netlist behaves as the wrapped chip of the plan's device, and as the netlist alone; TCK and TRST are the control ports
--- that it has more.
--- Own. For IEEE Std 1149.1-2001 (normal operation of the system logic under BYPASS, IDCODE, USERCODE, SAMPLE and PRELOAD) see `Alone`.
+-- The stitched netlist behaves as the wrapped chip of the plan's device, and as the netlist alone; TCK and TRST are the
+-- control ports that it has more.
+-- Own. For IEEE Std 1149.1-2001 (normal operation of the system logic under BYPASS, IDCODE, USERCODE, SAMPLE and
+-- PRELOAD) see `Alone`.
 use Rattle.std.specs.Prelude.{List}
 use Rattle.netlist_model.specs.Formed.{IsLaidOut, IsWellFormed}
 use Rattle.netlist_model.specs.Contained.{IsDense}
@@ -16,8 +17,8 @@ use Rattle.stitch_inside.specs.plan_devices.FittingPlan.{IsFitting}
 use Rattle.stitch_inside.specs.stitch_model.declared.TapNames.{TapNames}
 use Rattle.stitch_inside.specs.stitch_model.Stitched.{stitched}
 
--- of each plan that fits a netlist without gaps: through any events that are legal in the chip every pin reads as the chip's, and the
--- core's flip-flops hold what the chip's hold
+-- of each plan that fits a netlist without gaps: through any events that are legal in the chip every pin reads as the
+-- chip's, and the core's flip-flops hold what the chip's hold
 abbrev pub StitchedRealises : Type 0
 StitchedRealises = (L : LinkedView) (p : Plan) (seen : List PinSeen) (names : TapNames) → IsFitting L p seen → IsLaidOut L.arena.lists → IsDense L.arena.lists
     → IsWellFormed (stitched L.arena.lists names (fitted_of L p seen)) → HasPins (stitched L.arena.lists names (fitted_of L p seen)) L.arena.lists

@@ -1,4 +1,5 @@
-// The law of the insertion: the stitched netlist behaves as the original wrapped in the plan's device, and as the original alone.
+// The law of the insertion: the stitched netlist behaves as the original wrapped in the plan's device, and as
+// the original alone.
 // specs/Laws.antt has the statements, over the definitions of stitch_model and wrapped_chip.
 // IEEE Std 1149.1-2001: test logic architecture, instructions; the laws are own.
 //

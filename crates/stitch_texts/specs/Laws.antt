@@ -16,7 +16,8 @@ use Rattle.plan_fitting.specs.Devices.{IsFitted}
 use Rattle.stitch_names.specs.stitch_model.Stitched.{stitched}
 use Rattle.stitch_texts.specs.Written.{IsStitchedOf, HasStitchRoom, WritesStitched, IsNumberedAnew}
 
--- own: a netlist that a text tells, and a plan that some text spells, fits it and finds room, with the test logic built in
+-- own: a netlist that a text tells, and a plan that some text spells, fits it and finds room, with the
+-- test logic built in
 pub record IsStitching (m : Module) (L : LinkedView) (p : Plan) (f : Fitted) (after : LinkedView) : Type 0 where
   pub tree : IsTree m
   pub listed : IsLibrary L.arena.lists.library

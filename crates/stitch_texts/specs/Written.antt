@@ -55,7 +55,8 @@ pub record WritesStitched (L : LinkedView) (p : Plan) (tree : Module) : Type 0 w
   pub linked : (written : LinkedView) × (written.arena.lists.library ≡ L.arena.lists.library) × IsLinkOf tree written
   pub one : (written other : LinkedView) → written.arena.lists.library ≡ L.arena.lists.library → other.arena.lists.library ≡ L.arena.lists.library
       → IsLinkOf tree written → IsLinkOf tree other → IsSameView written other
-  -- which has the ports and the cells of the netlist without the test logic, under their names, and the test access port
+  -- which has the ports and the cells of the netlist without the test logic, under their names, and the
+  -- test access port
   pub keeps : (written : LinkedView) → written.arena.lists.library ≡ L.arena.lists.library → IsLinkOf tree written
       → Keeps written.arena.lists L.arena.lists (spelt written.names) (spelt L.names) (tap_of p)
   -- with five port bits more

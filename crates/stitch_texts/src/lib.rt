@@ -1,5 +1,5 @@
-// The netlist with the test logic built in, written as Verilog: laws that tie the text to the netlist. Each function has nothing
-// to do, and its contract cites a statement in specs/Laws.antt.
+// The netlist with the test logic built in, written as Verilog: laws that tie the text to the netlist. Each function
+// has nothing to do, and its contract cites a statement in specs/Laws.antt.
 // IEEE Std 1364-2001: modules and ports, hierarchical names.
 //
 // - It can be written with the plan's prefix (`stitched_can_be_written`). Where preparing found room, it has no
@@ -38,7 +38,8 @@ pub fn stitched_keeps_limits()
     stitched_has_counts();
 }
 
-/// The text spells one module, the module tells one netlist, and that keeps the ports and cells of the netlist without the test logic.
+/// The text spells one module, the module tells one netlist, and that keeps the ports and cells of the netlist
+/// without the test logic.
 pub fn stitched_is_written()
     ensures { StitchedIsWritten }
 {

@@ -1,5 +1,5 @@
--- When each fault of the texts of a netlist with test logic and of a device stands: the netlist is looked at first, then the device, and then
--- whether any netlist and plan give them. Own.
+-- When each fault of the texts of a netlist with test logic and of a device stands: the netlist is looked at first,
+-- then the device, and then whether any netlist and plan give them. Own.
 use Rattle.std.specs.Prelude.{ℕ, List}
 use Rattle.verilog_tree.specs.declared.tree.Module.{Module}
 use Rattle.verilog_tree.specs.Texts as verilog

@@ -25,8 +25,8 @@ pub record Tells (library : List ListedCell) (net text : List ℕ) : Type 0 wher
   pub spells_device : bsdl.SpellsText text device
   pub only_device : (other : Device) → bsdl.SpellsText text other → other ≡ device
 
--- What is recovered of the two gives them: the plan, and the netlist that is linked with the library; and these are the canonical texts of
--- the module that the netlist is written as, and of the plan.
+-- What is recovered of the two gives them: the plan, and the netlist that is linked with the library; and these are the
+-- canonical texts of the module that the netlist is written as, and of the plan.
 pub record IsStripping (library : List ListedCell) (net text outnet outplan : List ℕ) : Type 0 where
   pub tells : Tells library net text
   pub linked : LinkedView
@@ -40,7 +40,8 @@ pub record IsOther (library : List ListedCell) (net text : List ℕ) : Type 0 wh
   pub tells : Tells library net text
   pub none : IsNotInserted library tells.tree tells.device
 
--- own: no fault stands in the bytes of the netlist, with this library, and of the device, and some netlist and plan give the two
+-- own: no fault stands in the bytes of the netlist, with this library, and of the device, and some netlist and
+-- plan give the two
 pub record IsStrippable (library : List ListedCell) (net text : List ℕ) : Type 0 where
   pub tells : Tells library net text
   pub given : IsNotInserted library tells.tree tells.device → ⊥

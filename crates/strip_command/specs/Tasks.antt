@@ -27,7 +27,8 @@ abbrev pub AreStrippable : List (List ℕ) → Type 0
 AreStrippable (net ∷ text ∷ more) = (library : List ListedCell) × (IsLibraryOf more library × IsStrippable library net text)
 AreStrippable _ = ⊥
 
--- The texts of the netlist and of the plan are written, the netlist's first; a library of cells may stand behind the netlist and the BSDL text.
+-- The texts of the netlist and of the plan are written, the netlist's first; a library of cells may stand behind the
+-- netlist and the BSDL text.
 abbrev pub strip_task : List ℕ → List ℕ → List ℕ → List ℕ → Option (List ℕ) → Task
 strip_task netlist bsdl outnet outplan library = record {
   reads = netlist ∷ bsdl ∷ names_if library;

@@ -8,8 +8,9 @@ use command_faults::Fault;
 use edge_io::Text;
 use std::alloc::Global;
 
-/// Takes the netlist with test logic that lies under one name and the BSDL text that lies under another, with the library that lies
-/// under a third if there is one; writes the texts of the netlist and of a plan that they were made from.
+/// Takes the netlist with test logic that lies under one name and the BSDL text that lies under another, with
+/// the library that lies under a third if there is one; writes the texts of the netlist and of a plan that
+/// they were made from.
 #[derive(Clone, Copy)]
 pub struct Strip<'a> {
     pub netlist: &'a str,

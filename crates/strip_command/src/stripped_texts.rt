@@ -33,7 +33,8 @@ fn can_be_linked<'a>(alloc: Global, tree: &Module, library: Library) -> Result<(
     }
 }
 
-// The texts of the netlist and of the plan that a module with test logic and a device were made from, with the cells of this library.
+// The texts of the netlist and of the plan that a module with test logic and a device were made from, with the cells
+// of this library.
 fn strip_both<'a>(
     alloc: Global,
     tree: &Module,

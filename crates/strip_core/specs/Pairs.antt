@@ -1,4 +1,5 @@
--- The nets between the core and its boundary cells by their numbers, each with what the core had in its place, and the core undone by them.
+-- The nets between the core and its boundary cells by their numbers, each with what the core had in its place, and the
+-- core undone by them.
 -- IEEE Std 1149.1-2001: boundary-scan register; the numbers are own.
 use Rattle.std.specs.Prelude.{◌≡◌, ℕ, ◌+◌, ◌==◌, ◌<◌, true, List, [], ◌∷◌, ◌++◌, map, slice_get, Option, Some, None, unwrap_or, if◌then◌else◌, ⊤}
 use Rattle.std.specs.Option.{option_map}
@@ -64,8 +65,8 @@ abbrev pub IsFeedUnder : ℕ → Feed → Type 0
 IsFeedUnder first (Net net) = net.0 < first
 IsFeedUnder first (Const value) = ⊤
 
--- own: where the row is of the driver that the cell is, these are the cell's operands: what the core gives the row, and what it gives
--- the control cell that the row names
+-- own: where the row is of the driver that the cell is, these are the cell's operands: what the core gives the row, and
+-- what it gives the control cell that the row names
 pub record IsDriverOf (B : Boundary) (row : FitRow) (cell : CellView) : Type 0 where
   pub datum : Feed
   pub operand : Feed

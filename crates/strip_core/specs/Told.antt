@@ -1,5 +1,7 @@
--- That the module that a netlist with test logic is written as tells the netlist: the prefix, the nets between, and the module of the core.
--- IEEE Std 1149.1-2001: boundary-scan register, test access port; IEEE Std 1364-2001: modules and ports; the statement is own.
+-- That the module that a netlist with test logic is written as tells the netlist: the prefix, the nets between, and the
+-- module of the core.
+-- IEEE Std 1149.1-2001: boundary-scan register, test access port; IEEE Std 1364-2001: modules and ports; the
+-- statement is own.
 use Rattle.std.specs.Prelude.{◌≡◌, ℕ, ◌<◌, ◌^◌, false, List, map, length, slice_get, Some}
 use Rattle.verilog_tree.specs.declared.tree.Module.{Module}
 use Rattle.netlist_model.specs.declared.Name.{Name}
@@ -31,7 +33,8 @@ pub record IsNewTap (N : NetlistView) (table : List (List ℕ)) (prefix : List �
   pub own : IsOwn table prefix name
   pub new : (net : ℕ) (view : NetView) → slice_get N.nets net ≡ Some view → view.name ≡ name → ⊥
 
--- own: the names of the netlist are original ones and none begins with the prefix; those of the test access port are new ones; each cell can be undone
+-- own: the names of the netlist are original ones and none begins with the prefix; those of the test access port are
+-- new ones; each cell can be undone
 pub record CanBeTold (L : LinkedView) (table : List (List ℕ)) (names : TapNames) (f : Fitted) (prefix : List ℕ) : Type 0 where
   pub kept : (number : ℕ) (bytes : List ℕ) → slice_get L.names number ≡ Some bytes → slice_get table number ≡ Some bytes
   pub ports : (p : ℕ) (port : PortView) → slice_get L.arena.lists.ports p ≡ Some port → IsOwn L.names prefix port.name

@@ -18,7 +18,8 @@ use Rattle.stitch_model.specs.declared.TapNames.{TapNames}
 use Rattle.stitch_names.specs.Prepared.{room_of, ports_of, with_tap_names, AreTapNames}
 use Rattle.inserted_netlists.specs.Inserted.{with_test_logic}
 
--- own: the plan fits the netlist, in which there is room; the netlist with the test logic is written as this module, and this is the plan's device
+-- own: the plan fits the netlist, in which there is room; the netlist with the test logic is written as this module,
+-- and this is the plan's device
 pub record GivesAt (L : LinkedView) (p : Plan) (inserted : Module) (d : Device) : Type 0 where
   pub fits : Fits L p
   pub room : too_many L.arena.lists (room_of (fitted_of L p fits.seen)) (room_of (fitted_of L p fits.seen)) (ports_of (fitted_of L p fits.seen)) ≡ None
@@ -27,7 +28,8 @@ pub record GivesAt (L : LinkedView) (p : Plan) (inserted : Module) (d : Device) 
   pub inserted_is : inserted ≡ tree_of (with_test_logic L names (fitted_of L p fits.seen)) p.prefix
   pub device_is : d ≡ device_of L p fits.seen
 
--- own: the netlist is what the module denotes with its library, some text spells the plan, and they give the module with test logic and the device
+-- own: the netlist is what the module denotes with its library, some text spells the plan, and they give the module
+-- with test logic and the device
 pub record Gives (tree : Module) (L : LinkedView) (p : Plan) (inserted : Module) (d : Device) : Type 0 where
   pub is : IsTree tree
   pub listed : IsLibrary L.arena.lists.library

@@ -27,7 +27,9 @@ FittedCanBeTold = (m : Module) (L : LinkedView) (p : Plan) (seen : List PinSeen)
     → AreTapNames (with_tap_names (fitted_of L p seen) L.names) (fitted_of L p seen) names → length (stitched L.arena.lists names (fitted_of L p seen)).nets < 2 ^ 32
     → CanBeTold L (with_tap_names (fitted_of L p seen) L.names) names (fitted_of L p seen) p.prefix
 
--- own: the netlist and the plan that a module with test logic and a device come from are recovered: the netlist as it is written, and the plan but for the spelling of words, the kind of control cells that aren't there, and version 2 without a user code
+-- own: the netlist and the plan that a module with test logic and a device come from are recovered: the netlist as it
+-- is written, and the plan but for the spelling of words, the kind of control cells that aren't there, and version 2
+-- without a user code
 abbrev pub RecoveredIsTheNetlist : Type 0
 RecoveredIsTheNetlist = (m : Module) (L : LinkedView) (p : Plan) (inserted : Module) (d : Device) → (g : Gives m L p inserted d)
     → recovered inserted d ≡ Some (tree_of L p.prefix, told_plan L p g.at.fits.seen)
@@ -44,7 +46,8 @@ pub record Recovers (m : Module) (L : LinkedView) (inserted : Module) (d : Devic
 abbrev pub LawOfStripping : Type 0
 LawOfStripping = (m : Module) (L : LinkedView) (p : Plan) (inserted : Module) (d : Device) → Gives m L p inserted d → Recovers m L inserted d
 
--- own: no two netlists with one library give the same module and device: they have the same ports, nets and cells, under the same names
+-- own: no two netlists with one library give the same module and device: they have the same ports, nets and cells,
+-- under the same names
 abbrev pub OneNetlistGives : Type 0
 OneNetlistGives = (m n : Module) (L M : LinkedView) (p q : Plan) (inserted : Module) (d : Device) → L.arena.lists.library ≡ M.arena.lists.library → Gives m L p inserted d → Gives n M q inserted d
     → denoted L.arena.lists.library m ≡ denoted M.arena.lists.library n

@@ -4,8 +4,8 @@
 // - Where a netlist and a plan give a module with test logic and a device, what is recovered of these is a module that
 //   denotes the netlist, and a plan that gives the same with it.
 // - So no two netlists with one library give the same; and where what is recovered doesn't give the two, nothing does.
-// - What is recovered of a module that can be written can be written, and a module that denotes what another does has its
-//   names and its link views. Pin lines name one list of bits.
+// - What is recovered of a module that can be written can be written, and a module that denotes what another does has
+//   its names and its link views. Pin lines name one list of bits.
 // By the contract of its law functions.
 #![tactic(auto)]
 

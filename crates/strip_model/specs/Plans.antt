@@ -102,8 +102,8 @@ plan_with prefix d clock taps pins linkage = record {
   linkage = linkage;
 }
 
--- the clock's digits stand before `.0e6`, a pin line for each cell at a bit, and the ports behind TRST are linkage; the version is 2 where
--- there is a usercode
+-- the clock's digits stand before `.0e6`, a pin line for each cell at a bit, and the ports behind TRST are linkage; the
+-- version is 2 where there is a usercode
 abbrev pub plan_of : List ℕ → Device → Option Plan
 plan_of prefix d =
     option_and_then (λ (clock : List ℕ).

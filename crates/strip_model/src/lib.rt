@@ -1,4 +1,5 @@
-// What a netlist with test logic and its device come from: a module and a plan, as a function of both. specs/Recovered.antt has the whole.
+// What a netlist with test logic and its device come from: a module and a plan, as a function of both.
+// specs/Recovered.antt has the whole.
 // IEEE Std 1149.1-2001: boundary-scan register, the annex on BSDL; the places of gates are own.
 #![tactic(auto)]
 

@@ -1,5 +1,5 @@
--- That the device of a plan tells the plan, but for what doesn't matter: the spelling of words that name bits, the kind of control cells
--- where there are none, and version 2 where there is no usercode.
+-- That the device of a plan tells the plan, but for what doesn't matter: the spelling of words that name bits, the kind
+-- of control cells where there are none, and version 2 where there is no usercode.
 -- IEEE Std 1149.1-2001: the annex on BSDL; the statements are own.
 use Rattle.std.specs.Prelude.{◌≡◌, ℕ, List, [], ◌∷◌, ◌++◌, map, slice_get, Some}
 use Rattle.std.specs.Option.{option_map_or}
@@ -26,7 +26,8 @@ told_lines L [] seen = []
 told_lines L (line ∷ lines) [] = []
 told_lines L (line ∷ lines) (one ∷ seen) = record { port = word_at L one.pin; pin = line.pin; cell = line.cell } ∷ told_lines L lines seen
 
--- the plan with these words, with the kind of its control cells, if it has any, and with the version that its usercode wants
+-- the plan with these words, with the kind of its control cells, if it has any, and with the version that
+-- its usercode wants
 abbrev pub told_plan : LinkedView → Plan → List PinSeen → Plan
 told_plan L p seen = with_lines p (control_of (map (cell_row (fitted_of L p seen)) (rows p seen))) (told_lines L p.pins seen)
 

@@ -3,8 +3,8 @@
 // IEEE Std 1149.1-2001: the annex on BSDL.
 //
 // - What the device tells is the plan with these three changed, and comes to the same cells, ports and codes.
-// - It fits the netlist as the plan did, and some text spells it: a plan with other words of bits, another kind of control
-//   cells and the version that its usercode wants is spelled where the plan is.
+// - It fits the netlist as the plan did, and some text spells it: a plan with other words of bits, another kind of
+//   control cells and the version that its usercode wants is spelled where the plan is.
 // By the contract of its law functions.
 #![tactic(auto)]
 
@@ -16,8 +16,8 @@ ghost use Rattle.strip_plans.specs.Told.{PlanIsTold, SameIsFitted};
 use line_texts::{rows_of_texts_are_rows, texts_of_rows_read_back};
 use netlist_laws::{direction_of_a_bit, driver_is_found};
 
-/// A law: a plan with other words of bits, another kind of control cells and the version that its usercode wants is spelled by some
-/// bytes, where the plan is.
+/// A law: a plan with other words of bits, another kind of control cells and the version that its usercode wants is
+/// spelled by some bytes, where the plan is.
 pub fn plans_with_other_lines_are_spelled()
     ensures { OtherLinesSpell }
 {

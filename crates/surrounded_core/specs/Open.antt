@@ -33,14 +33,14 @@ shown_bit register.Boundary shown m = first_bit m.boundary
 shown_bit register.Bypass shown m = shown
 shown_bit register.DeviceId shown m = first_bit m.ident
 
--- TDO after an event, by what the test logic holds and what is shown before it: a falling edge of TCK gives it a value in Shift-DR and
--- Shift-IR, and TRST at 0 turns it off
+-- TDO after an event, by what the test logic holds and what is shown before it: a falling edge of TCK gives it a value
+-- in Shift-DR and Shift-IR, and TRST at 0 turns it off
 abbrev pub tdo_step : TestLogic → Levels → Levels → Machine → Sig → PinSig → PinSig
 tdo_step L before after m shown tdo =
     bit_after before after HighZ tdo (tdo_after m.state (shown_bit (selected_register (in_effect L m)) shown m) (first_bit m.shift)) tdo
 
--- own: at a moment M reads as the chip but for TDO, its first flip-flops hold the core's, and its nets carry the core's values and the test
--- logic, whatever is shown in the place of the bypass bit
+-- own: at a moment M reads as the chip but for TDO, its first flip-flops hold the core's, and its nets carry the core's
+-- values and the test logic, whatever is shown in the place of the bypass bit
 pub record HoldsAsChip (M : NetlistView) (B : Device) (N : NetlistView) (S : Places) (m : Moment) (w : ChipMoment) : Type 0 where
   pub bits : (net : ℕ) → IsRead N net → ReadsBit M N m net (chip_reading B N w.machine w.pins w.value net)
   pub kept : SameFlops N m.state w.state

@@ -17,8 +17,9 @@ use Rattle.instruction_register.specs.register_gates.Tdo.{tdo_cells}
 use Rattle.instruction_register.specs.Register.{instruction_cells, instruction_nets}
 use Rattle.boundary_runs.specs.Rows.{BoundaryRow}
 
--- own: the nets of the test access port; of each part its first net and the number of its first cell; the boundary register's rows by
--- their places, with the next bit towards TDI of each, and its bit nearest TDO; and the net that a net of the core has
+-- own: the nets of the test access port; of each part its first net and the number of its first cell; the boundary
+-- register's rows by their places, with the next bit towards TDI of each, and its bit nearest TDO; and the net that a
+-- net of the core has
 pub record Places : Type 0 where
   pub tck : NetId
   pub tms : NetId
@@ -76,8 +77,8 @@ code_last S code = ident_last S.ident (selection_nets S).user_on S.tdi S.user co
 abbrev pub ident_bit : Places → Option NetId
 ident_bit S = option_map (code_last S) S.code
 
--- own: the cells of the controller, of the registers beside the boundary register, and of TDO are there; TDO's take this net for the bit
--- of the bypass register
+-- own: the cells of the controller, of the registers beside the boundary register, and of TDO are there; TDO's take
+-- this net for the bit of the bypass register
 pub record HasRegistersBy (M : NetlistView) (S : Places) (shown : NetId) : Type 0 where
   pub controller : HasCells M (tap_cells S.controller S.controller_number S.tck S.tms S.trst)
   pub instruction : HasCells M (instruction_cells S.instruction S.instruction_number (controller_nets S) S.tdi S.codes)

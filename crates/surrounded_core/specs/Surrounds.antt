@@ -34,7 +34,8 @@ pub record HasPorts (M N : NetlistView) (S : Places) : Type 0 where
   pub tdo : IsTapNet M N 3 S.tdo.0
   pub tdo_side : direction M.ports S.tdo.0 ≡ Some Output
 
--- own: the codes are the device's, and suit the instruction register; without a code no opcode selects an identification register
+-- own: the codes are the device's, and suit the instruction register; without a code no opcode selects an
+-- identification register
 pub record HasCodes (B : Device) (S : Places) : Type 0 where
   pub codes : AreCodes S.codes (test_logic_of B)
   pub fit : FitTheRegister S.codes
@@ -51,14 +52,16 @@ pub record HasRows (M N : NetlistView) (B : Device) (S : Places) : Type 0 where
   pub stands : (place : ℕ) (r : CellRow) → slice_get B.cells place ≡ Some r → StandsAround B N S place r (S.gates place)
   pub inner : (place : ℕ) (r : CellRow) → slice_get B.cells (suc place) ≡ Some r → S.next place ≡ record { 0 = S.row (suc place) }
   pub last : (place : ℕ) → slice_get B.cells (suc place) ≡ None → S.next place ≡ S.tdi
-  -- each bit has its row, which drives it where it is an output or an inout, and through which the core sees it where it is an input or an inout
+  -- each bit has its row, which drives it where it is an output or an inout, and through which the core sees it where
+  -- it is an input or an inout
   pub bits : (net : ℕ) (dir : Dir) → direction N.ports net ≡ Some dir → HasRowAt B N net
   pub driven : (place : ℕ) (r : CellRow) (net : NetId) → slice_get B.cells place ≡ Some r → net_of_row N r ≡ Some net → IsRead N net.0 → IsDrivenBy M N B S net.0 place r
   pub seen : (place : ℕ) (r : CellRow) (net : NetId) → slice_get B.cells place ≡ Some r → net_of_row N r ≡ Some net → follows_pin (direction N.ports net.0) ≡ true
       → IsSeenOn (S.gates place) net.0 (S.to net.0)
   pub nearest : S.nearest ≡ record { 0 = S.row 0 }
 
--- own: M has N as its core, with the device's test logic around it, whose TDO takes the value of this net for the bit of the bypass register
+-- own: M has N as its core, with the device's test logic around it, whose TDO takes the value of this net for the bit
+-- of the bypass register
 pub record SurroundsBy (M N : NetlistView) (B : Device) (S : Places) (shown : NetId) : Type 0 where
   pub formed : IsWellFormed M
   pub core_formed : IsWellFormed N

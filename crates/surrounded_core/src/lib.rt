@@ -1,6 +1,7 @@
-// A core with a device's test logic around it: specs/Places.antt and specs/Surrounds.antt say where each part stands in the netlist,
-// specs/Sites.antt what each row of the boundary register takes and gives, specs/Laws.antt that the whole behaves as the wrapped chip,
-// specs/Open.antt how, where TDO takes another net's value for the bypass bit, and specs/Home.antt that it finds home.
+// A core with a device's test logic around it: specs/Places.antt and specs/Surrounds.antt say where each part stands in
+// the netlist, specs/Sites.antt what each row of the boundary register takes and gives, specs/Laws.antt that the whole
+// behaves as the wrapped chip, specs/Open.antt how, where TDO takes another net's value for the bypass bit, and
+// specs/Home.antt that it finds home.
 // IEEE Std 1149.1-2001: test logic architecture, boundary-scan register; the laws are own.
 //
 // - At a moment at which each row holds what the test logic has in its place, the core's own values are the chip's
@@ -14,7 +15,8 @@
 //   moves by that value (`surrounded_core_follows`).
 // - With the bypass bit it realises the chip (`surrounded_core_realises`).
 // - Its proofs run from any moment at which the parts hold a machine: a power-up is one such moment
-//   (`surrounded_core_follows`, `surrounded_core_reads`), and the falling edge after five ones another (`surrounded_core_finds_home`).
+//   (`surrounded_core_follows`, `surrounded_core_reads`), and the falling edge after five ones another
+//   (`surrounded_core_finds_home`).
 // By the contract of its law functions.
 #![tactic(auto)]
 
@@ -37,7 +39,8 @@ use netlist_laws::{bit_of_a_direction, direction_of_a_bit, found_driver_drives};
 use tap_gates::{step_is_the_machines, tap_finds_home, tap_follows};
 use wrapped_chip::{one_chip_run, outside_goes_on, some_run_beside};
 
-/// At a moment at which the rows hold what the test logic has in their places, the core's values, the rows and the readings are the chip's.
+/// At a moment at which the rows hold what the test logic has in their places, the core's values, the rows and the
+/// readings are the chip's.
 pub fn surrounded_core_stands()
     ensures { SurroundedStands }
 {
@@ -51,8 +54,8 @@ pub fn surrounded_core_stands()
     direction_of_a_bit();
 }
 
-/// Beside each run of the chip, each run of the netlist reads as the chip at each output and inout bit, its nets carry the test logic and the
-/// core's values, and TDO moves by what is shown in the place of the bypass bit.
+/// Beside each run of the chip, each run of the netlist reads as the chip at each output and inout bit, its nets carry
+/// the test logic and the core's values, and TDO moves by what is shown in the place of the bypass bit.
 pub fn surrounded_core_follows()
     ensures { SurroundedFollows }
 {

@@ -1,5 +1,6 @@
 -- With TMS at 1 the controller comes to Test-Logic-Reset from whatever its flip-flops hold.
--- IEEE Std 1149.1-2001: TAP controller (five rising edges of TCK with TMS at 1); what sixteen flip-flops may hold is own.
+-- IEEE Std 1149.1-2001: TAP controller (five rising edges of TCK with TMS at 1); what sixteen flip-flops
+-- may hold is own.
 use Rattle.std.specs.Prelude.{◌≡◌, ℕ, suc, ◌≤◌, true, false, List, length, slice_get, Some}
 use Rattle.signal_values.specs.declared.Sig.{Sig}
 use Rattle.signal_values.specs.declared.Sig.TheVariants.{Zero}

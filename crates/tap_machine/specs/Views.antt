@@ -49,7 +49,8 @@ latched_and_updated L selected m = record m {
   update = updated_after (is_register register.Boundary selected) L.kinds m.state m.boundary m.update;
 }
 
--- the opcode kept for reset is the right one, and as long as the instruction register; the usercode is as long as the code
+-- the opcode kept for reset is the right one, and as long as the instruction register; the usercode is as
+-- long as the code
 pub record IsLogic (l : Logic) : Type 0 where
   pub reset_is : l.reset_opcode.items ≡ reset_opcode l.opcodes.items
   pub reset_fits : length l.reset_opcode.items ≡ length l.capture.items

@@ -4,8 +4,8 @@ use crate::text::OutOfMemory;
 use std::alloc::Global;
 use std::marker::Model;
 
-/// A list in a public record: a `Vec` that contracts see as a list. It takes 24 bytes, and room for two items at the first push,
-/// for four at the third; from there it doubles.
+/// A list in a public record: a `Vec` that contracts see as a list. It takes 24 bytes, and room for two items at the
+/// first push, for four at the third; from there it doubles.
 #[derive(Debug, Drop)]
 pub struct Row<T> {
     items: Vec<T>,

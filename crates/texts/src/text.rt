@@ -26,7 +26,8 @@ impl<T: Drop> From<AllocFailed<T>> for OutOfMemory {
 
 /// A text: a list of bytes, which need not be UTF-8.
 ///
-/// It takes 16 bytes: up to 14 bytes lie in the value itself; more lie in an allocation, where they grow as a `Vec` does.
+/// It takes 16 bytes: up to 14 bytes lie in the value itself; more lie in an allocation, where they grow
+/// as a `Vec` does.
 pub struct Text {
     alloc: Global,
     place: Place,

@@ -30,8 +30,8 @@ fn walk(machine: &mut Machine, captured: &[Sig], levels: &[bool])
     }
 }
 
-// So many bits of a number are shifted in, bit 0 first, and the shift state is left with the last. What TDO shows meanwhile, unless a
-// bit of it is neither 0 nor 1.
+// So many bits of a number are shifted in, bit 0 first, and the shift state is left with the last. What TDO shows
+// meanwhile, unless a bit of it is neither 0 nor 1.
 fn scan(machine: &mut Machine, captured: &[Sig], count: u32, sent: u32) -> Option<u32>
     requires { length captured.now ≡ length machine.old.logic.kinds }
     ensures { machine.new.logic ≡ machine.old.logic }

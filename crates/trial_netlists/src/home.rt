@@ -1,5 +1,5 @@
-// The controller comes to Test-Logic-Reset by five ones on TMS, from each of the 65,536 values of its flip-flops. 64 of these values are
-// worked at once, one in each bit of a word.
+// The controller comes to Test-Logic-Reset by five ones on TMS, from each of the 65,536 values of its flip-flops. 64 of
+// these values are worked at once, one in each bit of a word.
 use crate::netlists::operand;
 use cell_library::{Kind, Library};
 use netlist_arena::Netlist;

@@ -16,7 +16,8 @@ use std::process::Abort;
 use std::sync::ledger::{Blank, Ledger};
 use std::test::Fail;
 
-// Steps by the event of this number, if it is legal, and answers whether q, the one bit that is shown, is told to have changed.
+// Steps by the event of this number, if it is legal, and answers whether q, the one bit that is shown, is told
+// to have changed.
 fn step_by_event<L: Ledger>(
     linked: &Linked,
     sim: &mut EventSim,

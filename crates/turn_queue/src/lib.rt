@@ -3,8 +3,8 @@
 // Own: no chapter of a standard speaks of it.
 //
 // - `TurnQueue::new`, where Ok, is empty and has room for each number below the bound.
-// - `push` has the queue hold one number more, where it isn't there; `pop` takes out the least, and answers None exactly
-//   where the queue is empty. Neither takes memory, and each looks at a few words.
+// - `push` has the queue hold one number more, where it isn't there; `pop` takes out the least, and answers None
+//   exactly where the queue is empty. Neither takes memory, and each looks at a few words.
 // By the contract of `new`, `push` and `pop`.
 #![tactic(auto)]
 

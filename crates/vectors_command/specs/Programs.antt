@@ -8,7 +8,8 @@ use Rattle.scan_vectors.specs.Grammar.{SpellsLines}
 use Rattle.scan_vectors.specs.Canonical.{canonical_lines, canonical_text}
 use Rattle.scan_programs.specs.Program.{program_of}
 
--- The bytes spell one device; the text is the canonical text of its program, which spells the lines of this program and no others.
+-- The bytes spell one device; the text is the canonical text of its program, which spells the lines of this
+-- program and no others.
 pub record IsProgramText (bytes text : List ℕ) : Type 0 where
   pub device : Device
   pub spells : SpellsText bytes device

@@ -9,7 +9,8 @@ use Rattle.verilog_lexicon.specs.Keywords.{name_word}
 use Rattle.verilog_lexicon.specs.Bytes.{is_blank, is_letter, is_digit, is_name_byte, clings, is_escaped_byte, is_base}
 use Rattle.verilog_lexicon.specs.Words.{spanned, symbol_byte}
 
--- The word grammar (IEEE Std 1364-2001, lexical conventions and compiler directives, of which the profile takes a part).
+-- The word grammar (IEEE Std 1364-2001, lexical conventions and compiler directives, of which the
+-- profile takes a part).
 
 -- what a text is cut into
 pub data Piece : Type 0 where

@@ -1,6 +1,7 @@
 // The words of structural Verilog: their kinds, their spelling, and lists of them as a parser reads them.
-// The contracts cite `WordText` and `front` (specs/Words.antt), and `reserved_of` and `spelling_of` (specs/Keywords.antt);
-// specs/Pieces.antt is the word grammar. IEEE Std 1364-2001: lexical conventions, and the annex on key words.
+// The contracts cite `WordText` and `front` (specs/Words.antt), and `reserved_of` and `spelling_of`
+// (specs/Keywords.antt); specs/Pieces.antt is the word grammar. IEEE Std 1364-2001: lexical conventions, and the
+// annex on key words.
 //
 // - `reserved_of` gives the key word that a table in the definitions gives for these bytes; `Reserved::spelling`
 //   and `Symbol::byte` give the bytes of the tables.

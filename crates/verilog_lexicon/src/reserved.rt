@@ -1,5 +1,5 @@
-/// A reserved word: one variant for each key word of IEEE Std 1364-2001 (the annex on key words) that the profile bars as a
-/// simple name.
+/// A reserved word: one variant for each key word of IEEE Std 1364-2001 (the annex on key words) that the profile bars
+/// as a simple name.
 #[derive(Clone, Copy, Drop, PartialEq, Eq)]
 pub enum Reserved {
     Always,

@@ -5,7 +5,8 @@ use texts::Text;
 /// A word of a text (IEEE Std 1364-2001, lexical conventions).
 #[derive(Drop)]
 pub enum Word {
-    /// A simple name that isn't reserved, or an escaped name without its backslash and blank: the same bytes are the same name.
+    /// A simple name that isn't reserved, or an escaped name without its backslash and blank: the same bytes
+    /// are the same name.
     Name(Text),
     Reserved(Reserved),
     /// A decimal number of 1 to 9 digits, by its value.

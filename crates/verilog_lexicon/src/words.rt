@@ -14,8 +14,8 @@ use std::marker::Model;
 use std::mem::size_of;
 use texts::OutOfMemory;
 
-// What a word is, and its length in the text where its kind doesn't say it. Of a name stand the offset and the count of its
-// bytes among those of all names; an escaped one takes two bytes more in the text.
+// What a word is, and its length in the text where its kind doesn't say it. Of a name stand the offset and the count of
+// its bytes among those of all names; an escaped one takes two bytes more in the text.
 #[derive(Clone, Copy, Drop)]
 enum Mark {
     Name { count: u16, from: u32 },
@@ -35,9 +35,9 @@ struct Entry {
 // An entry takes 12 bytes.
 const _: () = prove!(size_of::<Entry>() == 12);
 
-/// The words of a text in order, with their places, and the text's length. It takes 12 bytes a word beside the bytes of the
-/// names. Words that begin past the first 4 GiB of a text, that have more than 65,535 bytes, or whose names take more than
-/// 4 GiB, aren't kept: they are answered with `OutOfMemory`.
+/// The words of a text in order, with their places, and the text's length. It takes 12 bytes a word beside the bytes of
+/// the names. Words that begin past the first 4 GiB of a text, that have more than 65,535 bytes, or whose names take
+/// more than 4 GiB, aren't kept: they are answered with `OutOfMemory`.
 #[derive(Drop)]
 pub struct Words {
     names: Vec<u8>,

@@ -1,5 +1,6 @@
 // From the words of structural Verilog to trees: of one module, or of several one after another.
-// The contract of `parse_module` cites `SpellsModule`, the trees that words spell; that of `parse_modules` specs/Texts.antt.
+// The contract of `parse_module` cites `SpellsModule`, the trees that words spell; that of `parse_modules`
+// specs/Texts.antt.
 // IEEE Std 1364-2001: modules and ports, data types, gate-level modelling, continuous assignments.
 //
 // Proved of `parse_module`, and alike of `parse_modules` with the trees of a text of modules:

@@ -172,8 +172,8 @@ pub fn words_spell_one_module()
     spells_one_source();
 }
 
-/// The trees of the modules that the words spell, one after another. The words are refused exactly where they spell none, or
-/// memory is.
+/// The trees of the modules that the words spell, one after another. The words are refused exactly where they spell
+/// none, or memory is.
 pub fn parse_modules(alloc: Global, words: &Words) -> Result<Row<Module>, SyntaxFault>
     ensures spelled { IfOk result (λ trees. SpellsModules words.now.list trees) }
     ensures only { IfOk result (λ trees. (others : List ModuleTree)

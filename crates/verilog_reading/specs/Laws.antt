@@ -23,15 +23,16 @@ SpellsOneSource = (s t : Source) → IsSource s → IsSource t → source_words 
 abbrev pub FaultsSpellNothing : Type 0
 FaultsSpellNothing = (ws left : List Word) (s : Source) → source_at ws ≡ (None, left) → IsSource s → ws ≡ source_words s → ⊥
 
--- a module's words that begin with these; its names and numbers may be such as no text spells, which matters for no words that come from a text
+-- a module's words that begin with these; its names and numbers may be such as no text spells, which matters for no
+-- words that come from a text
 pub record Begun (ws : List Word) : Type 0 where
   pub source : Source
   pub keeps : IsSource source
   pub more : List Word
   pub begins : source_words source ≡ ws ++ more
 
--- The word of a syntax fault, by its number: some module's words begin with the words before it, and no module's go on with it.
--- Past the last word, it is the count of words.
+-- The word of a syntax fault, by its number: some module's words begin with the words before it, and no module's go on
+-- with it. Past the last word, it is the count of words.
 pub record IsFaultWord (ws : List Word) (u : ℕ) : Type 0 where
   pub within : u ≤ length ws
   pub begun : Begun (take u ws)
@@ -63,8 +64,8 @@ pub record BegunText (ws : List Word) : Type 0 where
   pub more : List Word
   pub begins : text_words first others ≡ ws ++ more
 
--- The word of a syntax fault in a text of several modules, by its number: the words before it begin such a text, and no such text
--- goes on with it. Past the last word, it is the count of words.
+-- The word of a syntax fault in a text of several modules, by its number: the words before it begin such a text, and no
+-- such text goes on with it. Past the last word, it is the count of words.
 pub record IsTextFaultWord (ws : List Word) (u : ℕ) : Type 0 where
   pub within : u ≤ length ws
   pub begun : BegunText (take u ws)

@@ -1,5 +1,5 @@
-// How a module is read from its words: reading functions on lists, the laws that tie them to the words of written modules, and
-// one on the trees that texts spell. The parser's contracts cite `source_at` and the laws of specs/.
+// How a module is read from its words: reading functions on lists, the laws that tie them to the words of written
+// modules, and one on the trees that texts spell. The parser's contracts cite `source_at` and the laws of specs/.
 // IEEE Std 1364-2001: modules and ports, gate-level modelling, continuous assignments.
 //
 // - The words of each written module that keeps the rules are read as that module, with no word left.

@@ -1,5 +1,6 @@
 // From the bytes of a text to the tree of the module that they spell, or to the trees of several modules.
-// The contract of `read_module` cites specs/TextOutcome.antt and specs/TextFaults.antt, and `SpellsText`, `IsTree` of verilog_tree.
+// The contract of `read_module` cites specs/TextOutcome.antt and specs/TextFaults.antt, and `SpellsText`, `IsTree`
+// of verilog_tree.
 // IEEE Std 1364-2001: lexical conventions, modules and ports, gate-level modelling.
 //
 // Proved of `read_module`, and alike of `read_modules` with the trees of a text of several modules:

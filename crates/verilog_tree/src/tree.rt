@@ -59,7 +59,8 @@ pub enum Operand {
     Const(bool),
 }
 
-/// A primitive gate: one input for `buf` and `not`, data and control for `bufif0` and `bufif1`, one or more for the others.
+/// A primitive gate: one input for `buf` and `not`, data and control for `bufif0` and `bufif1`, one or
+/// more for the others.
 #[derive(Drop)]
 pub struct Gate {
     pub kind: GateKind,

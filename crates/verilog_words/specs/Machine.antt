@@ -18,7 +18,8 @@ use Rattle.verilog_words.specs.declared.mode.Directive.TheVariants.{Timescale, D
 
 -- A machine that takes a text byte by byte (own). It says how the cutter goes; what it gives is stated by pieces alone.
 
--- the words so far, what was begun of the next piece, its offset where the piece is a word, and its bytes where they are needed
+-- the words so far, what was begun of the next piece, its offset where the piece is a word, and its bytes
+-- where they are needed
 pub record State : Type 0 where
   pub words : List Spanned
   pub mode : Mode

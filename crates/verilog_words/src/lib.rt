@@ -1,5 +1,6 @@
 // Cuts a text into Verilog words as its bytes come.
-// The contracts cite `words_of`, `Begins` and `IsPlace` (verilog_lexicon, specs/Pieces.antt), and `Fed` (specs/Fed.antt).
+// The contracts cite `words_of`, `Begins` and `IsPlace` (verilog_lexicon, specs/Pieces.antt), and `Fed`
+// (specs/Fed.antt).
 // IEEE Std 1364-2001: lexical conventions, and four compiler directives.
 //
 // - `Cutter::feed`: where it is `Ok`, some text of the word grammar begins with all the bytes fed so far.

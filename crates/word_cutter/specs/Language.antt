@@ -17,7 +17,8 @@ abbrev pub outcome : {S W : Type 0} → (ℕ → S → ℕ → Option S) → (S 
 outcome step end at s [] = end s
 outcome step end at s (b ∷ bytes) = option_and_then (λ t. outcome step end (at + 1) t bytes) (step at s b)
 
--- The machine cuts the language: it gives the words of each text, what it gives are words of the text, and every state comes to an end.
+-- The machine cuts the language: it gives the words of each text, what it gives are words of the text, and every state
+-- comes to an end.
 pub record Cuts {S W : Type 0} (step : ℕ → S → ℕ → Option S) (end : S → Option (List W)) (start : S) (WordsOf : List ℕ → List W → Type 0) : Type 0 where
   pub spelled : (bytes : List ℕ) (words : List W) → WordsOf bytes words → outcome step end 0 start bytes ≡ Some words
   pub sound : (bytes : List ℕ) (words : List W) → outcome step end 0 start bytes ≡ Some words → WordsOf bytes words

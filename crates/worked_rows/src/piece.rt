@@ -27,8 +27,8 @@ fn append_coded(text: &mut Text, coded: &str, before: u32) -> Result<(), LineFau
     Ok(())
 }
 
-// Adds what stands after a `~`, up to the next: two hexadecimal digits are a byte, `-` is how often the piece was added before,
-// and `#` is one more.
+// Adds what stands after a `~`, up to the next: two hexadecimal digits are a byte, `-` is how often the piece was added
+// before, and `#` is one more.
 fn append_part(text: &mut Text, part: &[u8], before: u32) -> Result<(), LineFault> {
     let plain = match part {
         [b'-', plain @ ..] => {

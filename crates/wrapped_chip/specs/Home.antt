@@ -1,5 +1,5 @@
--- A netlist that comes to a run of the wrapped chip by itself, whatever its test logic held: by five rising edges of TCK with TMS at 1,
--- and then a falling edge.
+-- A netlist that comes to a run of the wrapped chip by itself, whatever its test logic held: by five rising edges of
+-- TCK with TMS at 1, and then a falling edge.
 -- IEEE Std 1149.1-2001: TAP controller, test access port; what holds of the pins from there on is own.
 use Rattle.std.specs.Prelude.{◌≡◌, ◌≤◌, ℕ, suc, ◌+◌, true, List, length, drop, slice_get, Some, None}
 use Rattle.signal_values.specs.declared.Sig.{Sig}
@@ -24,7 +24,8 @@ use Rattle.wrapped_chip.specs.Realises.{SameOutside, SameEvents, ReadsAsChip, Re
 
 -- Runs from any machine.
 
--- moment 0 has this machine, whatever led there, and the netlist's flip-flops have any values but where RN or SN is 0; moment t + 1 follows by event t
+-- moment 0 has this machine, whatever led there, and the netlist's flip-flops have any values but where RN or SN is 0;
+-- moment t + 1 follows by event t
 pub record IsChipRunFrom (begun : Machine) (B : Device) (N : NetlistView) (given : ℕ → Sig) (events : List ChipEvent) (chip : ℕ → ChipMoment) : Type 0 where
   pub machine : (chip 0).machine ≡ begun
   pub controls : (net : ℕ) → IsControlPort N net → IsKnownPin ((chip 0).pins net)
@@ -72,7 +73,8 @@ OutsideGoesOn = (N : NetlistView) (events : List ChipEvent) (outside : ℕ → C
 abbrev pub AreBits : NetlistView → NetlistView → (ℕ → Sig) → Type 0
 AreBits M N start = (i : ℕ) (cell : CellView) (kind : FlopKind) → cell_at M i ≡ Some cell → flop_of M.library cell.kind ≡ Some kind → cell_at N i ≡ None → IsKnown (start i)
 
--- a run of M by these events from any level of TRST, in which each flip-flop that was added starts at 0 or 1, and each of the core at anything
+-- a run of M by these events from any level of TRST, in which each flip-flop that was added starts at 0 or 1, and each
+-- of the core at anything
 pub record IsRunFromBits (M N : NetlistView) (events : List ChipEvent) (outside : ℕ → ChipMoment) (moment : ℕ → Moment) : Type 0 where
   pub start : ℕ → Sig
   pub bits : AreBits M N start
@@ -87,7 +89,8 @@ pub record FallsHome (levels : ℕ → Levels) (t : ℕ) : Type 0 where
   pub five : 5 ≤ rises levels t
   pub falls : edge_of (levels t).tck (levels (suc t)).tck ≡ Some Fall
 
--- Test-Logic-Reset with its opcode latched and TDO let go; each register holds as many bits as it has, whatever they are
+-- Test-Logic-Reset with its opcode latched and TDO let go; each register holds as many bits as it has,
+-- whatever they are
 pub record IsHome (L : TestLogic) (machine : Machine) : Type 0 where
   pub state : machine.state ≡ TestLogicReset
   pub latched : machine.latched ≡ reset_opcode L.opcodes
@@ -97,7 +100,8 @@ pub record IsHome (L : TestLogic) (machine : Machine) : Type 0 where
   pub boundary : length machine.boundary ≡ length L.kinds
   pub update : length machine.update ≡ length L.kinds
 
--- from this moment on M reads as the chip does in a run from such a machine, by the events that are left and with what is then outside
+-- from this moment on M reads as the chip does in a run from such a machine, by the events that are left and with
+-- what is then outside
 pub record ReadsFromHome (M : NetlistView) (B : Device) (N : NetlistView) (events : List ChipEvent) (outside : ℕ → ChipMoment) (moment : ℕ → Moment) (home : ℕ) : Type 0 where
   pub machine : Machine
   pub is_home : IsHome (test_logic_of B) machine

@@ -1,5 +1,6 @@
 -- A netlist keeps another's ports and cells, and behaves as it does in a device's test logic, or alone.
--- Own. For IEEE Std 1149.1-2001 (normal operation of the system logic under BYPASS, IDCODE, USERCODE, SAMPLE and PRELOAD) see `Alone`.
+-- Own. For IEEE Std 1149.1-2001 (normal operation of the system logic under BYPASS, IDCODE, USERCODE, SAMPLE and
+-- PRELOAD) see `Alone`.
 use Rattle.std.specs.Prelude.{◌≡◌, ◌≤◌, ℕ, ◌+◌, true, List, [], ◌∷◌, ◌++◌, map, length, slice_get, slice_range, filter_map, Option, Some, None, option_map}
 use Rattle.signal_values.specs.declared.Sig.{Sig}
 use Rattle.signal_values.specs.declared.PinSig.{PinSig}
@@ -45,7 +46,8 @@ pub record IsCalled (M : NetlistView) (spelt : Name → List ℕ) (i : ℕ) (kin
   pub kinds : cell.kind ≡ kind
   pub names : option_map spelt cell.name ≡ name
 
--- M has N's library; its ports are N's and then TCK, TMS, TDI, TDO and TRST, and its first cells have the kinds and names of N's
+-- M has N's library; its ports are N's and then TCK, TMS, TDI, TDO and TRST, and its first cells have the kinds
+-- and names of N's
 pub record Keeps (M N : NetlistView) (spelt_in_M spelt_in_N : Name → List ℕ) (tap : TapNames) : Type 0 where
   pub library : M.library ≡ N.library
   pub ports : map (port_text spelt_in_M) M.ports ≡ map (port_text spelt_in_N) N.ports ++ tap_ports tap

@@ -1,6 +1,7 @@
--- The netlist that is written with its test logic behaves as the wrapped chip of the plan's device, and as the netlist alone; TCK and
--- TRST are the control ports that it has more.
--- Own. For IEEE Std 1149.1-2001 (normal operation of the system logic under BYPASS, IDCODE, USERCODE, SAMPLE and PRELOAD) see `Alone`.
+-- The netlist that is written with its test logic behaves as the wrapped chip of the plan's device, and as the netlist
+-- alone; TCK and TRST are the control ports that it has more.
+-- Own. For IEEE Std 1149.1-2001 (normal operation of the system logic under BYPASS, IDCODE, USERCODE, SAMPLE and
+-- PRELOAD) see `Alone`.
 use Rattle.std.specs.Prelude.{◌≡◌}
 use Rattle.verilog_tree.specs.declared.tree.Module.{Module}
 use Rattle.netlist_model.specs.Formed.{IsLaidOut}
@@ -15,7 +16,8 @@ use Rattle.plan_fitting.specs.declared.fitted.Fitted.{Fitted}
 use Rattle.plan_fitting.specs.Devices.{device_of}
 use Rattle.stitch_texts.specs.Laws.{IsStitching}
 
--- through any events that are legal in the chip every pin reads as the chip's, and the core's flip-flops hold what the chip's hold
+-- through any events that are legal in the chip every pin reads as the chip's, and the core's flip-flops hold
+-- what the chip's hold
 abbrev pub WrittenRealises : Type 0
 WrittenRealises = (m : Module) (L : LinkedView) (p : Plan) (f : Fitted) (after : LinkedView) (s : IsStitching m L p f after) → IsLaidOut after.arena.lists
     → (tree : Module) → IsWrittenAs after p.prefix tree → (written : LinkedView) → written.arena.lists.library ≡ L.arena.lists.library → IsLinkOf tree written

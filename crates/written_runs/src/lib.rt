@@ -1,4 +1,5 @@
-// How the netlist behaves that is written with its test logic: as the wrapped chip of the plan's device, and as the netlist alone.
+// How the netlist behaves that is written with its test logic: as the wrapped chip of the plan's device, and as
+// the netlist alone.
 // Each function has nothing to do, and its contract cites a statement in specs/Laws.antt.
 // IEEE Std 1149.1-2001: test logic architecture.
 //
