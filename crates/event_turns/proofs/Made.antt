@@ -4,6 +4,8 @@ use Rattle.std.specs.Prelude.{slice_get}
 use Rattle.std.proofs.lemmas.Option.{slice_get_within}
 use Rattle.list_laws.proofs.Lists.{slice_get_there}
 use Rattle.list_laws.proofs.Options.{some_same, some_there}
+use Rattle.signal_values.specs.declared.Sig.{Sig}
+use Rattle.counted_cells.specs.Pairs.{AreTables}
 use Rattle.netlist_model.specs.declared.CellId.{CellId}
 use Rattle.netlist_model.specs.declared.Dir.{Dir}
 use Rattle.netlist_model.specs.declared.Feed.{Feed}
@@ -68,10 +70,10 @@ live_gate N order gates feeds ordered placed place gate at =
     } in
     rw same at own
 
-pub is_circuit : (N : NetlistView) (order : List CellId) (sides : List (Option Dir)) (firsts : List ℕ) (gates : List Gate) (feeds : List Feed) (rows : List Row) (turns starts readers : List ℕ) → IsWellFormed N → IsLaidOut N → IsCellOrder N order
-    → AreSides N sides → length order < 2 ^ 30 → AreGates N order (length order) gates feeds → AreRows feeds sides gates rows → AreTurned N order turns firsts → AreReaders N turns starts readers
-    → IsCircuit (record { lists = N; sides = sides; firsts = firsts; gates = gates; feeds = feeds; rows = rows; turns = turns; starts = starts; readers = readers })
-is_circuit N order sides firsts gates feeds rows turns starts readers formed laid ordered directed few placed paired turned waiting = record {
+pub is_circuit : (N : NetlistView) (order : List CellId) (sides : List (Option Dir)) (firsts : List ℕ) (gates : List Gate) (feeds : List Feed) (rows : List Row) (tables : List Sig) (turns starts readers : List ℕ) → IsWellFormed N → IsLaidOut N → IsCellOrder N order
+    → AreSides N sides → length order < 2 ^ 30 → AreGates N order (length order) gates feeds → AreRows N.library feeds sides gates rows → AreTables N.library tables → AreTurned N order turns firsts → AreReaders N turns starts readers
+    → IsCircuit (record { lists = N; sides = sides; firsts = firsts; gates = gates; feeds = feeds; rows = rows; tables = tables; turns = turns; starts = starts; readers = readers })
+is_circuit N order sides firsts gates feeds rows tables turns starts readers formed laid ordered directed few placed paired tabled turned waiting = record {
   formed = formed;
   laid = laid;
   sides = directed;
@@ -79,6 +81,7 @@ is_circuit N order sides firsts gates feeds rows turns starts readers formed lai
   gates = λ number cell live. stands number cell live (ordered.each number (rw live refl));
   live = live_gate N order gates feeds ordered placed;
   rows = paired;
+  tables = tabled;
   firsts = turned.firsts_are;
   few = (let long = placed.long in omega arith);
   readers = waiting;

@@ -2,8 +2,9 @@
 use Rattle.std.specs.Prelude.{◌≡◌, ◌≢◌, ◌↔◌, ◌⊎◌, ℕ, ◌+◌, ◌-◌, ◌*◌, ◌<◌, ◌≤◌, ◌^◌, ◌∷◌, [], Bool, true, false, nat_lt, List, length, slice_get, slice_index, slice_range, Option, Some, None, if◌then◌else◌}
 use Rattle.signal_values.specs.declared.Sig.{Sig}
 use Rattle.signal_values.specs.declared.PinSig.{PinSig}
+use Rattle.cell_library.specs.declared.listed.ListedCell.{ListedCell}
 use Rattle.counted_cells.specs.declared.pairs.Pair.{Pair}
-use Rattle.counted_cells.specs.Pairs.{kind_of}
+use Rattle.counted_cells.specs.Pairs.{AreTables, IsPair}
 use Rattle.netlist_model.specs.declared.Dir.{Dir}
 use Rattle.netlist_model.specs.declared.Dir.TheVariants.{Input, Output, Inout}
 use Rattle.netlist_model.specs.declared.Feed.{Feed}
@@ -62,20 +63,20 @@ is_plain (Some Output) = true
 is_plain None = true
 
 -- own: the gate is this pair of two nets, and drives a net that has its value from it alone
-pub record IsPairOf (feeds : List Feed) (sides : List (Option Dir)) (gate : Gate) (row : Row) (pair : Pair) : Type 0 where
-  pub kind_is : gate.kind ≡ kind_of pair
+pub record IsPairOf (library : List ListedCell) (feeds : List Feed) (sides : List (Option Dir)) (gate : Gate) (row : Row) (pair : Pair) : Type 0 where
+  pub kind_is : IsPair library gate.kind pair
   pub feeds_are : feeds_in feeds gate ≡ Net row.a ∷ Net row.b ∷ []
   pub output_is : gate.output ≡ Some row.net
   pub plain : is_plain (side_at sides row.net.0) ≡ true
 
 -- own: this is kept of the gate, where a pair is
-abbrev pub IsRowOf : List Feed → List (Option Dir) → Gate → Row → Type 0
-IsRowOf feeds sides gate row = (pair : Pair) → row.pair ≡ Some pair → IsPairOf feeds sides gate row pair
+abbrev pub IsRowOf : List ListedCell → List Feed → List (Option Dir) → Gate → Row → Type 0
+IsRowOf library feeds sides gate row = (pair : Pair) → row.pair ≡ Some pair → IsPairOf library feeds sides gate row pair
 
 -- own: what is kept of each gate that is a pair, in its place
-pub record AreRows (feeds : List Feed) (sides : List (Option Dir)) (gates : List Gate) (rows : List Row) : Type 0 where
+pub record AreRows (library : List ListedCell) (feeds : List Feed) (sides : List (Option Dir)) (gates : List Gate) (rows : List Row) : Type 0 where
   pub long : length rows ≡ length gates
-  pub each : (place : ℕ) (gate : Gate) (row : Row) → slice_get gates place ≡ Some gate → slice_get rows place ≡ Some row → IsRowOf feeds sides gate row
+  pub each : (place : ℕ) (gate : Gate) (row : Row) → slice_get gates place ≡ Some gate → slice_get rows place ≡ Some row → IsRowOf library feeds sides gate row
 
 -- own: of each net the turn after that of its driver, and 0 where it has none
 pub record AreFirsts (N : NetlistView) (turns firsts : List ℕ) : Type 0 where
@@ -110,6 +111,7 @@ pub record CircuitView : Type 0 where
   pub gates : List Gate
   pub feeds : List Feed
   pub rows : List Row
+  pub tables : List Sig
   pub turns : List ℕ
   pub starts : List ℕ
   pub readers : List ℕ
@@ -122,7 +124,8 @@ pub record IsCircuit (c : CircuitView) : Type 0 where
   pub turns : AreTurns c.lists (turn_at c.turns)
   pub gates : (number : ℕ) (cell : CellView) → cell_at c.lists number ≡ Some cell → StandsInPlace c.turns c.gates c.feeds number cell
   pub live : (place : ℕ) (gate : Gate) → slice_get c.gates place ≡ Some gate → IsLiveGate c.lists c.feeds gate
-  pub rows : AreRows c.feeds c.sides c.gates c.rows
+  pub rows : AreRows c.lists.library c.feeds c.sides c.gates c.rows
+  pub tables : AreTables c.lists.library c.tables
   pub firsts : AreFirsts c.lists c.turns c.firsts
   pub few : 3 * length c.gates < 2 ^ 32
   pub readers : AreReaders c.lists c.turns c.starts c.readers

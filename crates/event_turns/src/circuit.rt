@@ -10,7 +10,7 @@ use crate::readers::readers_of;
 use crate::rows::rows_of;
 use crate::tables::turns_of;
 use cell_library::Kind;
-use counted_cells::Pair;
+use counted_cells::{Pair, PairTables};
 use netlist_arena::Netlist;
 use netlist_model::{CellId, Dir, Feed, NetId};
 use std::alloc::Global;
@@ -51,6 +51,8 @@ pub struct Circuit<'a> {
     pub(crate) gates: Vec<Gate>,
     pub(crate) feeds: Vec<Feed>,
     pub(crate) rows: Vec<Row>,
+    // What pairs give.
+    pub(crate) tables: PairTables,
     // The turn of each cell, by its number.
     pub(crate) turns: Vec<u32>,
     // The turns of what waits on net n are those from starts[n] to starts[n + 1].
@@ -70,6 +72,7 @@ impl<'a> Model for Circuit<'a> {
       gates = c.gates.items;
       feeds = c.feeds.items;
       rows = c.rows.items;
+      tables = c.tables;
       turns = c.turns.items;
       starts = c.starts.items;
       readers = c.readers.items;
@@ -82,6 +85,7 @@ impl<'a> Model for Circuit<'a> {
       gates = c.gates.items;
       feeds = c.feeds.items;
       rows = c.rows.items;
+      tables = c.tables;
       turns = c.turns.items;
       starts = c.starts.items;
       readers = c.readers.items;
@@ -117,10 +121,12 @@ impl<'a> Circuit<'a> {
         )?;
         let rows = rows_of(
             alloc,
+            netlist.library(),
             placed.gates.as_slice(),
             placed.feeds.as_slice(),
             sides.as_slice(),
         )?;
+        let tables = PairTables::new(alloc, netlist.library())?;
         let waiting = readers_of(alloc, netlist, order, turned.turns.as_slice())?;
         Ok(Circuit {
             netlist,
@@ -129,6 +135,7 @@ impl<'a> Circuit<'a> {
             gates: placed.gates,
             feeds: placed.feeds,
             rows,
+            tables,
             turns: turned.turns,
             starts: waiting.starts,
             readers: waiting.readers,

@@ -2,8 +2,9 @@
 
 ghost use Rattle.std.specs.Prelude.{◌≡◌, ◌≤◌, ◌<◌, ◌+◌, ◌*◌, ◌∷◌, [], List, length, slice_get, Some};
 ghost use Rattle.signal_values.specs.declared.PinSig.{PinSig};
+ghost use Rattle.cell_library.specs.declared.Kind.{Kind};
 ghost use Rattle.cell_library.specs.Gates.{gate_output};
-ghost use Rattle.counted_cells.specs.Pairs.{kind_of};
+ghost use Rattle.counted_cells.specs.Pairs.{IsPair};
 ghost use Rattle.netlist_model.specs.Lists.{CellView, cell_at};
 ghost use Rattle.netlist_settling.specs.Values.{value_at};
 ghost use Rattle.event_turns.specs.declared.circuit.Gate.{Gate};
@@ -70,7 +71,8 @@ fn take_pair<L: Ledger>(
     requires values { length values.old ≡ length circuit.now.lists.nets }
     requires room { 3 * length circuit.now.gates ≤ 64 * length queue.old }
     requires log { length circuit.now.lists.nets ≤ 64 * length log.old }
-    ensures taken { TakesValue circuit.now row.net.0 (gate_output circuit.now.lists.library (kind_of pair)
+    ensures taken { (kind : Kind) → IsPair circuit.now.lists.library kind pair
+        → TakesValue circuit.now row.net.0 (gate_output circuit.now.lists.library kind
         (value_at values.old row.a.0 ∷ value_at values.old row.b.0 ∷ [])) values.old values.new
         queue.old queue.new }
     ensures logs { (drives : List PinSig) → Logs (length circuit.now.lists.nets) values.old values.new
@@ -79,6 +81,6 @@ fn take_pair<L: Ledger>(
 {
     let a = value_at(values, row.a.0 as usize);
     let b = value_at(values, row.b.0 as usize);
-    let value = eval_pair_step(pair, a, b, steps);
+    let value = eval_pair_step(&circuit.tables, pair, a, b, steps);
     give(circuit, row.net, value, values, queue, log);
 }

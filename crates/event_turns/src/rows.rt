@@ -6,6 +6,7 @@ ghost use Rattle.event_turns.specs.declared.circuit.Gate.{Gate};
 ghost use Rattle.event_turns.specs.Circuits.{AreRows, IsRowOf, is_plain};
 
 use crate::circuit::{Gate, Row};
+use cell_library::Library;
 use counted_cells::pair_of;
 use netlist_model::{Dir, Feed, NetId};
 use std::alloc::Global;
@@ -14,28 +15,29 @@ use texts::OutOfMemory;
 /// What is kept of each gate of two nets.
 pub(crate) fn rows_of(
     alloc: Global,
+    library: &Library,
     gates: &[Gate],
     feeds: &[Feed],
     sides: &[Option<Dir>],
 ) -> Result<Vec<Row>, OutOfMemory>
     requires { (place : ℕ) (gate : Gate) → slice_get gates.now place ≡ Some gate
         → gate.first + gate.count ≤ length feeds.now }
-    ensures { IfOk result (λ rows. AreRows feeds.now sides.now gates.now rows.items) }
+    ensures { IfOk result (λ rows. AreRows library.now feeds.now sides.now gates.now rows.items) }
 {
     let mut rows = Vec::new(alloc);
     for gate in gates {
-        rows.push(row_of(*gate, feeds, sides))?;
+        rows.push(row_of(library, *gate, feeds, sides))?;
     }
     Ok(rows)
 }
 
 // What is kept of a gate.
-fn row_of(gate: Gate, feeds: &[Feed], sides: &[Option<Dir>]) -> Row
+fn row_of(library: &Library, gate: Gate, feeds: &[Feed], sides: &[Option<Dir>]) -> Row
     requires { gate.first + gate.count ≤ length feeds.now }
-    ensures { IsRowOf feeds.now sides.now gate result }
+    ensures { IsRowOf library.now feeds.now sides.now gate result }
 {
     let operands = &feeds[gate.first..gate.first + gate.count as usize];
-    match (pair_of(gate.kind), operands, gate.output) {
+    match (pair_of(library, gate.kind), operands, gate.output) {
         (Some(pair), [Feed::Net(a), Feed::Net(b)], Some(net)) if is_plain(sides, net) => Row {
             pair: Some(pair),
             a: *a,

@@ -1,4 +1,4 @@
-use Rattle.std.proofs.Common.{◌≡◌, ◌∙◌, arith}
+use Rattle.std.proofs.Common.{◌≡◌, ◌∙◌}
 use Rattle.std.proofs.lemmas.Option.{get_or_from_slice_get}
 use Rattle.event_turns.proofs.TurnPairs.{pair_net, pair_turn}
 use Rattle.event_turns.proofs.pairs.take_place.Goals as goal

@@ -1,4 +1,4 @@
-use Rattle.std.proofs.Common.{◌≡◌, Some, length, refl, sym, ap, ◌∙◌, arith}
+use Rattle.std.proofs.Common.{ap, ◌∙◌, arith}
 use Rattle.std.specs.Prelude.{slice_get}
 use Rattle.std.proofs.lemmas.Option.{slice_get-get_or}
 use Rattle.event_turns.proofs.TurnPairs.{rows_pushed}
@@ -14,7 +14,7 @@ loop-gate-preserved c =
     record {
       long = (let long = i.long in let pushed = c.in_ok-push.ensures.len in omega arith);
       upto = omega (arith, c.loop-gate-test.true);
-      each = rows_pushed c.args.feeds.now c.args.sides.now c.args.gates.now c.loop-gate.rows.items c.push.new.self.items _ c.row_of.result (ap (slice_get c.args.gates.now) i.long ∙ stands) c.in_ok-push.ensures.items c.row_of.ensures i.each;
+      each = rows_pushed c.args.library.now c.args.feeds.now c.args.sides.now c.args.gates.now c.loop-gate.rows.items c.push.new.self.items _ c.row_of.result (ap (slice_get c.args.gates.now) i.long ∙ stands) c.in_ok-push.ensures.items c.row_of.ensures i.each;
     }
 
 pub returns : goal.returns

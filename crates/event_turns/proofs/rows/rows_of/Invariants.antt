@@ -9,5 +9,5 @@ abbrev pub invariant-loop-gate : goal.invariant-loop-gate
 invariant-loop-gate l = record {
   long : length l.rows.items ≡ l.gate-index;
   upto : l.gate-index ≤ length l.gates;
-  each : (place : ℕ) (gate : Gate) (row : Row) → slice_get l.gates place ≡ Some gate → slice_get l.rows.items place ≡ Some row → IsRowOf l.feeds l.sides gate row;
+  each : (place : ℕ) (gate : Gate) (row : Row) → slice_get l.gates place ≡ Some gate → slice_get l.rows.items place ≡ Some row → IsRowOf l.library l.feeds l.sides gate row;
 }

@@ -18,6 +18,7 @@ readers_of-requires-clause-turns c = λ number live.
 
 pub invariant_of-result : goal.invariant_of-result
 invariant_of-result c =
-    let paired = rw (c.as_slice-3.ensures.value, c.as_slice-4.ensures.value, c.as_slice-5.ensures.value) at c.in_ok-rows.ensures in
+    let paired = rw (c.as_slice-3.ensures.value, c.as_slice-4.ensures.value, c.as_slice-5.ensures.value, c.library.ensures) at c.in_ok-rows.ensures in
+    let tabled = rw c.library-2.ensures at c.in_ok-tables.ensures in
     let waiting = rw c.as_slice-6.ensures.value at c.in_ok-waiting.ensures in
-    is_circuit _ c.args.order.now _ _ _ _ _ _ _ _ c.requires.formed c.is_laid_out.ensures.laid_out c.requires.order c.requires.sides (omega (arith, c.if-order-ge-MOST_CELLS.false)) c.in_ok-placed.ensures paired c.in_ok-turned.ensures waiting
+    is_circuit _ c.args.order.now _ _ _ _ _ _ _ _ _ c.requires.formed c.is_laid_out.ensures.laid_out c.requires.order c.requires.sides (omega (arith, c.if-order-ge-MOST_CELLS.false)) c.in_ok-placed.ensures paired tabled c.in_ok-turned.ensures waiting
