@@ -47,7 +47,6 @@ def spoiled_usercode(text):
 
 def spoiled_without_code(text):
     """So the file of a chip without an identification code."""
-    yield "a row (BC_2 for BC_1 at same)", text.replace("(BC_1, same", "(BC_2, same")
     yield "an opcode", text.replace("EXTEST (000)", "EXTEST (011)")
     yield "what the instruction register captures", text.replace('entity is "001";', 'entity is "101";')
     yield "a code that isn't there", with_code(text)
