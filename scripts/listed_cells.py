@@ -28,7 +28,8 @@ def expression(steps):
     for step in steps:
         taken = [values.pop() for _ in range(STEPS.get(step, 0))][::-1]
         if step == "not":
-            values.append(f"~{taken[0]}")
+            # (Verilog has no two `~` behind one another)
+            values.append(f"~({taken[0]})" if taken[0].startswith("~") else f"~{taken[0]}")
         elif step == "mux":
             values.append(f"({taken[1]} & ~{taken[0]} | {taken[2]} & {taken[0]})")
         elif taken:
