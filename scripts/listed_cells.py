@@ -22,15 +22,20 @@ def is_name(word):
     return is_simple(word) and len(word) <= LONGEST
 
 
+def inverse(value):
+    """The inverse of an expression; Verilog has no two `~` behind one another."""
+    return f"~({value})" if value.startswith("~") else f"~{value}"
+
+
 def expression(steps):
     """Steps as an expression of Verilog."""
     values = []
     for step in steps:
         taken = [values.pop() for _ in range(STEPS.get(step, 0))][::-1]
         if step == "not":
-            values.append(f"~{taken[0]}")
+            values.append(inverse(taken[0]))
         elif step == "mux":
-            values.append(f"({taken[1]} & ~{taken[0]} | {taken[2]} & {taken[0]})")
+            values.append(f"({taken[1]} & {inverse(taken[0])} | {taken[2]} & {taken[0]})")
         elif taken:
             values.append(f"({taken[0]} {dict(zip(('and', 'or', 'xor'), '&|^'))[step]} {taken[1]})")
         else:

@@ -49,7 +49,8 @@ def keep(path, text):
 
 
 def chips_of(folder):
-    """The names of the chips of a folder: each has NAME.v, NAME.plan and event texts NAME.events or NAME.*.events."""
+    """The names of the chips of a folder: each has NAME.v, NAME.plan and event texts NAME.events or NAME.*.events; and a
+    library NAME.lib or NAME.cells, where it has listed cells."""
     return sorted(name[:-5] for name in os.listdir(folder) if name.endswith(".plan"))
 
 
@@ -59,10 +60,29 @@ def events_of(folder, name):
     return [os.path.join(folder, file) for file in found]
 
 
+def library_of(folder, name):
+    """The library of a chip's cells, in a list that is empty where it has none: NAME.lib or NAME.cells."""
+    paths = [os.path.join(folder, name + end) for end in (".lib", ".cells")]
+    return [path for path in paths if os.path.exists(path)][:1]
+
+
+def cells_of(library):
+    """The cells of a library, which is given in such a list."""
+    sys.path.append(os.path.join(TOP, "scripts"))
+    from listed_cells import read_cells
+
+    return [cell for path in library for cell in read_cells(path)]
+
+
+def models_of(room, library):
+    """Models of a library's cells, as the path of a text, in such a list."""
+    return [keep(os.path.join(room, "models.v"), "".join(cell.model() for cell in cells_of(library)))] if library else []
+
+
 def inserted(program, folder, name, room):
     """The written netlist and BSDL file of a chip, as paths."""
     paths = [os.path.join(room, name + end) for end in (".out.v", ".out.bsd")]
-    run([program, "insert", *(os.path.join(folder, name + end) for end in (".v", ".plan")), *paths])
+    run([program, "insert", *(os.path.join(folder, name + end) for end in (".v", ".plan")), *paths, *library_of(folder, name)])
     return paths
 
 

@@ -32,7 +32,7 @@ SPOILED = (
     ("HIGHZ (0011)", "HIGHZ (0X11)", STRING, "`0X11` stands where 1 to 32 of 0 and 1 belongs"),
     ("q:(5,6,7,8,9,10,11,12)", "q:(5,6,7,8,9,10,11.12)", STRING, "`.` stands where `)` belongs"),
     ("BYPASS (BYPASS", "OWN (BYPASS", STRING, "`OWN` stands where one of BOUNDARY, BYPASS, DEVICE_ID"),
-    ("DEVICE_ID (IDCODE)", "DEVICE_ID[32] (IDCODE)", STRING, "`[` stands where `(` belongs"),
+    ("DEVICE_ID (IDCODE)", "DEVICE_ID[32] (IDCODE)", STRING, "DEVICE_ID is a register of the design's own, which `statusbsdl` alone takes"),
     ("q:(5,6,7,8,9,10,11,12)", "q:(5,6,7,8,9,10,11)", "BsdlMeaning PinMap", "q has 8 bits and 7 pins"),
     ("oe:4,", "oe:3,", "BsdlMeaning PinMap", "the pin 3 stands twice"),
     ("en:3,", "ex:3,", "BsdlMeaning PinMap", "ex is no port of the entity"),

@@ -37,6 +37,33 @@ def spoiled(text):
     yield "what the instruction register captures", text.replace('entity is "0001";', 'entity is "0101";')
 
 
+def spoiled_usercode(text):
+    """So the file of the chip with a user code."""
+    usercode = re.search(r"USERCODE_REGISTER of \w+ : entity is\n    (.*);", text)[1]
+    yield "the first bit of the user code", text.replace(usercode, '"0' + usercode[2:])
+    yield "its last bit", text.replace(usercode, usercode[:-2] + '1"')
+    yield "their opcodes exchanged", text.replace("(01011)", "@").replace("(01010)", "(01011)").replace("@", "(01010)")
+
+
+def spoiled_without_code(text):
+    """So the file of a chip without an identification code."""
+    yield "an opcode", text.replace("EXTEST (000)", "EXTEST (011)")
+    yield "what the instruction register captures", text.replace('entity is "001";', 'entity is "101";')
+    yield "a code that isn't there", with_code(text)
+
+
+def with_code(text):
+    """The file with IDCODE, by a free opcode."""
+    text = text.replace('"BYPASS (111)," &', '"BYPASS (111)," &\n    "IDCODE (110)," &')
+    code = '\n    "0001" & "0000000000000001" & "00000000001" & "1";\n'
+    text = re.sub(r"(?m)^(  attribute )REGISTER_ACCESS( of \w+ : entity is)$", lambda found: f"{found[1]}IDCODE_REGISTER{found[2]}{code}{found[0]}", text)
+    return re.sub(r'(BYPASS \([\w, ]*\))";', r'\1," &\n    "DEVICE_ID (IDCODE)";', text)
+
+
+# The chips whose files are changed.
+SPOILED = {"counter8": spoiled, "two_codes": spoiled_usercode, "both_ways": spoiled_without_code}
+
+
 PAIR = """module pair (input TCK, input TMS, input TDI, output TDO, input TRST);
   wire between;
   wire [7:0] q;
@@ -102,28 +129,40 @@ def net_test(room, chips):
     return "a net between two counters on a board: no mismatch where it is whole, and one where it is broken, stuck or wired to another pin"
 
 
+def tap_of(text):
+    """The ports of the test access port, and the length of the instruction register, by the file."""
+    tap = {what: re.search(rf"TAP_SCAN_{what} of (\w+) :", text)[1] for what in TAP}
+    return tap, int(re.search(r"INSTRUCTION_LENGTH of \w+ : entity is (\d+)", text)[1])
+
+
+def spoiled_files(program, room, name, netlist, bsdl):
+    """A chip with one thing changed in its file: a mismatch must come each time."""
+    svf, told = os.path.join(room, "changed.svf"), []
+    tap, length = tap_of(text_of(bsdl))
+    for what, text in SPOILED[name](text_of(bsdl)):
+        if text == text_of(bsdl):
+            sys.exit(f"nothing is changed: {what}")
+        script("svf", keep(os.path.join(room, "changed.bsd"), text), svf, "--program", program)
+        if plays(room, Module(text_of(netlist)), tap, [netlist], svf, (length,)):
+            sys.exit(f"{name}: {what} changed: no mismatch")
+        told.append(what)
+    return f"{name} with one thing changed in its file: a mismatch each time ({'; '.join(told)})"
+
+
 def tried(program, room):
     chips = list(small_chips(program, room))
     svf = os.path.join(room, "chip.svf")
     for name, netlist, bsdl in chips:
         counts = script("svf", bsdl, svf, "--program", program).strip()
-        text = text_of(bsdl)
-        tap = {what: re.search(rf"TAP_SCAN_{what} of (\w+) :", text)[1] for what in TAP}
-        length = int(re.search(r"INSTRUCTION_LENGTH of \w+ : entity is (\d+)", text)[1])
+        tap, length = tap_of(text_of(bsdl))
         if not plays(room, Module(text_of(netlist)), tap, [netlist], svf, (length,)):
             sys.exit(f"{name}: a mismatch")
-        yield f"{name}: OpenOCD finds no mismatch ({counts})"
-    name, netlist, bsdl = chips[0]
-    told = []
-    for what, text in spoiled(text_of(bsdl)):
-        if text == text_of(bsdl):
-            sys.exit(f"nothing is changed: {what}")
-        changed = keep(os.path.join(room, "changed.bsd"), text)
-        script("svf", changed, svf, "--program", program)
-        if plays(room, Module(text_of(netlist)), TAP, [netlist], svf):
-            sys.exit(f"{what} changed: no mismatch")
-        told.append(what)
-    yield f"the counter with one thing changed in its file: a mismatch each time ({'; '.join(told)})"
+        codes = [word for word in ("IDCODE", "USERCODE") if f"{word}_REGISTER" in text_of(bsdl)]
+        yield f"{name}, {' and '.join(codes) or 'without IDCODE'}: OpenOCD finds no mismatch ({counts})"
+    for name, netlist, bsdl in chips:
+        if name in SPOILED:
+            yield spoiled_files(program, room, name, netlist, bsdl)
+    _, netlist, bsdl = chips[0]
     yield chain(program, room, chips)
     yield net_test(room, chips)
     netlist, demo_bsdl = demo(program, room, 999)
