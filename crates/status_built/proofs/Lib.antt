@@ -1,0 +1,4 @@
+pub mod Connected
+pub mod Formed
+pub mod Named
+pub mod Built

@@ -1,0 +1,23 @@
+// Where the gates of data registers of a design's own stand in a netlist, a gate before TDO may read what they show in
+// the place of the bypass bit. Laws only; specs/Laws.antt has the statement.
+// Own.
+//
+// - What the registers show hangs on flip-flops and on nets that the gate doesn't drive; so the nets can be numbered
+//   anew where the gate reads it, and the netlist stays well formed.
+// By the contract of its law function.
+#![tactic(auto)]
+
+ghost use Rattle.status_order.specs.Laws.{ShownIsFormed};
+
+use netlist_laws::contained_parts;
+use reconnected::reconnected_to_low;
+use register_gates::constants_are_bits;
+
+/// A well-formed netlist stays so where a gate that reads a flip-flop reads what the registers show.
+pub fn shown_is_formed()
+    ensures { ShownIsFormed }
+{
+    contained_parts();
+    reconnected_to_low();
+    constants_are_bits();
+}

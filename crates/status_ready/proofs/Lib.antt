@@ -1,0 +1,3 @@
+mod Wires
+mod Registers
+mod Untaken
