@@ -22,6 +22,8 @@ use Rattle.plan_texts.specs.declared.fault.PlanFault.{PlanFault}
 use Rattle.plan_texts.specs.declared.fault.PlanFault.TheVariants as plan
 use Rattle.plan_fitting.specs.declared.fault.FitFault.{FitFault}
 use Rattle.plan_fitting.specs.declared.fault.FitFault.TheVariants as fit
+use Rattle.status_texts.specs.declared.fault.StatusFault.{StatusFault}
+use Rattle.status_texts.specs.declared.fault.StatusFault.TheVariants as registers
 use Rattle.output_lines.specs.Lines.{bit_text, words_line}
 use Rattle.command_faults.specs.declared.fault.Fault.{Fault}
 use Rattle.command_faults.specs.declared.fault.Fault.TheVariants as fault
@@ -135,6 +137,13 @@ fit_line (fit.PlanName word) = named_line (codes "PlanName") word
 fit_line (fit.PrefixTaken word) = named_line (codes "PrefixTaken") word
 fit_line fit.OutOfMemory = memory_line
 
+abbrev pub registers_line : StatusFault → List ℕ
+registers_line (registers.StatusLine line) = place_line (codes "StatusLine") line
+registers_line (registers.StatusName word) = named_line (codes "StatusName") word
+registers_line (registers.StatusNet word) = named_line (codes "StatusNet") word
+registers_line (registers.StatusOpcode word) = named_line (codes "StatusOpcode") word
+registers_line registers.OutOfMemory = memory_line
+
 abbrev pub line_of : Fault → List ℕ
 line_of fault.Usage = words_line (codes "Usage") []
 line_of (fault.SameName name) = named_line (codes "SameName") name.now
@@ -150,6 +159,7 @@ line_of (fault.Device f) = device_line f
 line_of (fault.Extended f) = extended_line f
 line_of (fault.Plan f) = plan_line f
 line_of (fault.Fit f) = fit_line f
+line_of (fault.Registers f) = registers_line f
 line_of (fault.TooMany what count limit) = many_line (what_word what) count limit
 line_of fault.NotInserted = words_line (codes "NotInserted") []
 line_of fault.OutOfMemory = memory_line

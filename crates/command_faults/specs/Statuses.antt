@@ -24,6 +24,8 @@ use Rattle.plan_texts.specs.declared.fault.PlanFault.{PlanFault}
 use Rattle.plan_texts.specs.declared.fault.PlanFault.TheVariants as plan
 use Rattle.plan_fitting.specs.declared.fault.FitFault.{FitFault}
 use Rattle.plan_fitting.specs.declared.fault.FitFault.TheVariants as fit
+use Rattle.status_texts.specs.declared.fault.StatusFault.{StatusFault}
+use Rattle.status_texts.specs.declared.fault.StatusFault.TheVariants as registers
 
 abbrev pub text_status : TextFault → Status
 text_status text.OutOfMemory = status.Memory
@@ -65,6 +67,10 @@ abbrev pub fit_status : FitFault → Status
 fit_status fit.OutOfMemory = status.Memory
 fit_status f = status.Refused
 
+abbrev pub registers_status : StatusFault → Status
+registers_status registers.OutOfMemory = status.Memory
+registers_status f = status.Refused
+
 abbrev pub status_of : Fault → Status
 status_of fault.Usage = status.Usage
 status_of (fault.SameName name) = status.Usage
@@ -80,6 +86,7 @@ status_of (fault.Device f) = device_status f
 status_of (fault.Extended f) = extended_status f
 status_of (fault.Plan f) = plan_status f
 status_of (fault.Fit f) = fit_status f
+status_of (fault.Registers f) = registers_status f
 status_of (fault.TooMany what count limit) = status.Refused
 status_of fault.NotInserted = status.Refused
 status_of fault.OutOfMemory = status.Memory

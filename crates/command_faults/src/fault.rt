@@ -14,6 +14,7 @@ use netlist_model::What;
 use plan_fitting::FitFault;
 use plan_texts::PlanFault;
 use scan_vectors::EventFault;
+use status_texts::StatusFault;
 use thiserror::Error;
 use verilog_texts::TextFault;
 
@@ -58,6 +59,9 @@ pub enum Fault<'a> {
     /// A plan doesn't fit a netlist.
     #[error("{0}")]
     Fit(FitFault),
+    /// A text is none of data registers, or they don't fit a plan and a netlist.
+    #[error("{0}")]
+    Registers(StatusFault),
     /// With the test logic a netlist would have too many of something.
     #[error("{count} where {limit} is the limit")]
     TooMany { what: What, count: u64, limit: u64 },
@@ -161,6 +165,7 @@ impl Fault<'_> {
             | Fault::Extended(ExtendedTextFault::OutOfMemory)
             | Fault::Plan(PlanFault::OutOfMemory)
             | Fault::Fit(FitFault::OutOfMemory)
+            | Fault::Registers(StatusFault::OutOfMemory)
             | Fault::OutOfMemory => Status::Memory,
             Fault::Netlist(_)
             | Fault::Hier(_)
@@ -172,6 +177,7 @@ impl Fault<'_> {
             | Fault::Extended(_)
             | Fault::Plan(_)
             | Fault::Fit(_)
+            | Fault::Registers(_)
             | Fault::TooMany { .. }
             | Fault::NotInserted => Status::Refused,
             Fault::WriteFault { .. } => Status::WriteFault,

@@ -5,7 +5,7 @@ use crate::fault::Fault;
 use crate::hier_lines::put_hier_fault;
 use crate::library_lines::put_library_fault;
 use crate::link_lines::{put_link_fault, put_named};
-use crate::plan_lines::{put_fit_fault, put_plan_fault};
+use crate::plan_lines::{put_fit_fault, put_plan_fault, put_registers_fault};
 use crate::text_lines::{
     put_device_fault, put_event_fault, put_extended_fault, put_many, put_memory, put_script_fault,
     put_text_fault,
@@ -34,6 +34,7 @@ pub fn put_fault<O: Sink>(out: &mut O, fault: &Fault) -> Result<(), WriteFault>
         Fault::Extended(fault) => put_extended_fault(out, fault),
         Fault::Plan(fault) => put_plan_fault(out, fault),
         Fault::Fit(fault) => put_fit_fault(out, fault),
+        Fault::Registers(fault) => put_registers_fault(out, fault),
         Fault::TooMany { what, count, limit } => put_many(out, *what, *count, *limit),
         Fault::NotInserted => put_line(out, &Field::Word(b"NotInserted"), &[]),
         Fault::OutOfMemory => put_memory(out),

@@ -1,4 +1,4 @@
-// Lines of the faults of plans.
+// Lines of the faults of plans, and of data registers of a design's own.
 ghost use Rattle.output_lines.specs.Puts.{Puts};
 ghost use Rattle.command_faults.specs.Lines as lines;
 
@@ -9,6 +9,7 @@ use edge_io::whole::WriteFault;
 use output_lines::{Field, put_line};
 use plan_fitting::FitFault;
 use plan_texts::PlanFault;
+use status_texts::StatusFault;
 
 /// Puts the line of a text that is no plan.
 pub fn put_plan_fault<O: Sink>(out: &mut O, fault: &PlanFault) -> Result<(), WriteFault>
@@ -37,5 +38,18 @@ pub fn put_fit_fault<O: Sink>(out: &mut O, fault: &FitFault) -> Result<(), Write
         FitFault::PlanName { word } => put_named(out, b"PlanName", word.as_bytes()),
         FitFault::PrefixTaken { word } => put_named(out, b"PrefixTaken", word.as_bytes()),
         FitFault::OutOfMemory => put_memory(out),
+    }
+}
+
+/// Puts the line of a text that is none of registers, or of registers that don't fit a plan and a netlist.
+pub fn put_registers_fault<O: Sink>(out: &mut O, fault: &StatusFault) -> Result<(), WriteFault>
+    ensures { Puts O.given O.faults out.old out.new (lines.registers_line fault.now) result }
+{
+    match fault {
+        StatusFault::StatusLine { line } => put_place(out, b"StatusLine", *line),
+        StatusFault::StatusName { word } => put_named(out, b"StatusName", word.as_bytes()),
+        StatusFault::StatusNet { word } => put_named(out, b"StatusNet", word.as_bytes()),
+        StatusFault::StatusOpcode { word } => put_named(out, b"StatusOpcode", word.as_bytes()),
+        StatusFault::OutOfMemory => put_memory(out),
     }
 }

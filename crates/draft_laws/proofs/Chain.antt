@@ -1,5 +1,5 @@
 -- Parts that are appended one behind another keep a netlist well formed.
-use Rattle.std.proofs.Common.{◌≡◌, ◌≢◌, ℕ, zero, suc, ◌+◌, ◌-◌, ◌<◌, ◌≤◌, ◌⊎◌, false, List, [], ◌∷◌, ◌++◌, length, Option, Some, None, IsTrue, refl, sym, ap, subst, ◌∙◌, arith, inl, inr}
+use Rattle.std.proofs.Common.{◌≡◌, ◌≢◌, ℕ, suc, ◌+◌, ◌-◌, ◌<◌, ◌≤◌, ◌⊎◌, false, List, [], ◌∷◌, ◌++◌, length, Some, IsTrue, refl, sym, ap, subst, ◌∙◌, arith, inl, inr}
 use Rattle.std.specs.Prelude.{slice_get}
 use Rattle.std.specs.List.{list_all, All}
 use Rattle.std.proofs.lemmas.Bool.{cases_lt}
@@ -8,12 +8,11 @@ use Rattle.std.proofs.lemmas.Option.{slice_get_within}
 use Rattle.list_laws.proofs.Tests.{both_hold}
 use Rattle.cell_library.specs.declared.listed.ListedCell.{ListedCell}
 use Rattle.cell_library.specs.Gates.{is_three_state, is_flop}
-use Rattle.netlist_model.specs.declared.NetId.{NetId}
 use Rattle.netlist_model.specs.declared.Feed.{Feed}
 use Rattle.netlist_model.specs.declared.Feed.TheVariants.{Net, Const}
 use Rattle.netlist_model.specs.Below.{IsFeedBelow, AreFeedsBelow}
-use Rattle.netlist_model.specs.Lists.{PortView, CellView, NetlistView, bit_net, cell_at, cell_count, Drives}
-use Rattle.netlist_model.specs.Formed.{IsLaidOut, IsNumbered, IsWellFormed, width_of}
+use Rattle.netlist_model.specs.Lists.{PortView, CellView, NetlistView, bit_net, cell_at, cell_count}
+use Rattle.netlist_model.specs.Formed.{IsLaidOut, IsNumbered, IsWellFormed}
 use Rattle.netlist_laws.specs.Settle.{IsDrivenOnce}
 use Rattle.netlist_laws.specs.Ports.{DirectionHasBit}
 use Rattle.netlist_arena.specs.Arena.{ArenaView}
@@ -28,10 +27,10 @@ use Rattle.gate_parts.specs.Laws.{AppendedGrows}
 use Rattle.gate_parts.proofs.Steps.{appended_count}
 use Rattle.draft_laws.specs.Readable.{CanBeRead, IsPure}
 use Rattle.draft_laws.specs.Grown.{IsOneOf, AddsCells}
-use Rattle.draft_laws.specs.Tables.{IsControl, CanBeGiven}
+use Rattle.draft_laws.specs.Tables.{CanBeGiven}
 use Rattle.draft_laws.specs.Parts.{Part, parts_size, parts_cells, IsThere, IsHanded, AreHanded, IsGrown, PartsAreFormed}
 use Rattle.draft_laws.proofs.Growth.{grown_formed, pure_stays_so, readable_stays_so}
-use Rattle.draft_laws.proofs.Parts.{IsAppendedPart, IsPinAt, adds_appended, appended_part, part_of, gate_of, output_of, own_net, given_at, pin_at, all_at, two_state_of, wires_of_part, own_readable, part_formed_by}
+use Rattle.draft_laws.proofs.Parts.{IsAppendedPart, adds_appended, appended_part, part_of, gate_of, output_of, own_net, given_at, pin_at, all_at, two_state_of, wires_of_part, own_readable, part_formed_by}
 use Rattle.draft_laws.proofs.Split.{middle_of, middle_count, middle_nets, first_appended, rest_appended}
 
 -- the laws that it stands on

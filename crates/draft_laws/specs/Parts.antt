@@ -27,11 +27,13 @@ abbrev pub parts_cells : ℕ → ℕ → List Part → List CellView
 parts_cells first number [] = []
 parts_cells first number (p ∷ ps) = part_cells p.gates p.given first number ++ parts_cells (first + length p.gates) (number + length p.gates) ps
 
--- own: a net that a part may be handed whose nets begin at `at`: one of the netlist's that can be read, or one of a part before it
+-- own: a net that a part may be handed whose nets begin at `at`: one of the netlist's that can be read, or one of a
+-- part before it
 abbrev pub IsThere : NetlistView → ℕ → ℕ → Type 0
 IsThere N at net = ((net < length N.nets) × CanBeRead N net) ⊎ ((length N.nets ≤ net) × (net < at))
 
--- own: the part's table can be appended, and it is handed nets that are there, and pure ones of the netlist where they control flip-flops
+-- own: the part's table can be appended, and it is handed nets that are there, and pure ones of the netlist where they
+-- control flip-flops
 pub record IsHanded (N : NetlistView) (at : ℕ) (p : Part) : Type 0 where
   pub table : IsPartTable p.gates p.levels (length p.given)
   pub read : (k net : ℕ) → slice_get p.given k ≡ Some (Net (record { 0 = net })) → IsThere N at net

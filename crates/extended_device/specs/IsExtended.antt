@@ -11,7 +11,7 @@ use Rattle.bsdl_device.specs.Checks.{any_pair}
 use Rattle.bsdl_device.specs.IsDevice.{IsDevice, IsDeviceName, IsBits}
 use Rattle.extended_device.specs.declared.values.TestRegister.{TestRegister}
 use Rattle.extended_device.specs.declared.values.Extended.{Extended}
-use Rattle.extended_device.specs.Rules.{names_register, names_profile}
+use Rattle.extended_device.specs.Rules.{names_register, names_some_instruction}
 
 -- names that aren't the profile's, an opcode of the device's length that the device has for no instruction,
 -- and 1 to 256 bits
@@ -19,7 +19,7 @@ pub record IsTestRegister (d : Device) (r : TestRegister) : Type 0 where
   pub name : IsDeviceName r.name
   pub apart : IsFalse (names_register r.name)
   pub instr : IsIdentifier r.instr
-  pub own : IsFalse (names_profile r.instr)
+  pub own : IsFalse (names_some_instruction r.instr)
   pub bits : IsBits r.bits
   pub fits : r.bits.len ≡ d.length
   pub free : IsFalse (list_any (λ (o : Opcode). same_bits r.bits o.bits) d.opcodes)

@@ -41,13 +41,13 @@ abbrev pub names_register : List ℕ → Bool
 names_register name = list_any (λ r. is_same_name name (register_word r)) (register.Boundary ∷ register.Bypass ∷ register.DeviceId ∷ [])
 
 -- the name is one of the profile's instructions
-abbrev pub names_profile : List ℕ → Bool
-names_profile name = list_any (λ i. names_instruction i name) all_instructions
+abbrev pub names_some_instruction : List ℕ → Bool
+names_some_instruction name = list_any (λ i. names_instruction i name) all_instructions
 
 -- a name or an instruction of the profile, an instruction without one opcode, or a length that isn't 1 to 256
 abbrev pub entry_fails : List OpcodeEntry → RegisterEntry → Bool
 entry_fails own e =
-    names_register e.name || names_profile e.instruction || not (count_by (λ (o : OpcodeEntry). is_same_name e.instruction o.name) own == 1)
+    names_register e.name || names_some_instruction e.instruction || not (count_by (λ (o : OpcodeEntry). is_same_name e.instruction o.name) own == 1)
     || e.length == 0 || nat_lt 256 e.length
 
 -- an opcode of another length, or that of another instruction

@@ -40,7 +40,7 @@ use Rattle.extended_device.specs.declared.values.RegisterEntry.{RegisterEntry}
 use Rattle.extended_device.specs.declared.values.TestRegister.{TestRegister}
 use Rattle.extended_device.specs.declared.values.Extended.{Extended}
 use Rattle.extended_device.specs.Entries.{entry_words, HoldExtended}
-use Rattle.extended_device.specs.Rules.{base_contents, own_opcodes, base_opcodes, names_register, names_profile, entry_fails, opcodes_fail, entries_fail, own_registers_fail}
+use Rattle.extended_device.specs.Rules.{base_contents, own_opcodes, base_opcodes, names_register, names_some_instruction, entry_fails, opcodes_fail, entries_fail, own_registers_fail}
 use Rattle.extended_device.specs.IsExtended.{IsTestRegister, IsExtended}
 use Rattle.extended_device.specs.Spelled.{register_of, extended_of, SpellsExtendedText}
 use Rattle.extended_round_trip.proofs.Rules.{pairs_map}
@@ -129,7 +129,7 @@ AreOf own (e ∷ es) (r ∷ rs) = IsOf own e r × AreOf own es rs
 -- an entry that breaks no rule
 record KeptEntry (own : List OpcodeEntry) (e : RegisterEntry) : Type 0 where
   apart : names_register e.name ≡ false
-  profile : names_profile e.instruction ≡ false
+  profile : names_some_instruction e.instruction ≡ false
   once : count_by (has_instruction e) own ≡ 1
   some : 1 ≤ e.length
   few : e.length ≤ 256
@@ -137,7 +137,7 @@ record KeptEntry (own : List OpcodeEntry) (e : RegisterEntry) : Type 0 where
 entry_kept : (own : List OpcodeEntry) (e : RegisterEntry) → entry_fails own e ≡ false → KeptEntry own e
 entry_kept own e h =
     let names = names_register e.name in
-    let profile = names_profile e.instruction in
+    let profile = names_some_instruction e.instruction in
     let many = not (count_by (has_instruction e) own == 1) in
     let four : (names || profile || many || e.length == 0) ≡ false = or_first (names || profile || many || e.length == 0) (nat_lt 256 e.length) h in
     let three : (names || profile || many) ≡ false = or_first (names || profile || many) (e.length == 0) four in

@@ -23,7 +23,7 @@ use Rattle.bsdl_round_trip.proofs.Names.{same_self}
 use Rattle.extended_device.specs.declared.values.RegisterEntry.{RegisterEntry}
 use Rattle.extended_device.specs.declared.values.TestRegister.{TestRegister}
 use Rattle.extended_device.specs.declared.values.Extended.{Extended}
-use Rattle.extended_device.specs.Rules.{is_own, own_opcodes, base_opcodes, names_register, names_profile, entry_fails, registers_fail}
+use Rattle.extended_device.specs.Rules.{is_own, own_opcodes, base_opcodes, names_register, names_some_instruction, entry_fails, registers_fail}
 use Rattle.extended_device.specs.IsExtended.{IsTestRegister, IsExtended}
 use Rattle.extended_device.specs.Spelled.{register_of}
 
@@ -39,9 +39,9 @@ entries_of rs = map entry_of rs
 -- The profile's instructions are none of the design's own.
 
 abbrev pub IsApart : TestRegister → Type 0
-IsApart r = names_profile r.instr ≡ false
+IsApart r = names_some_instruction r.instr ≡ false
 
-not_named : (i : Instr) (name : List ℕ) → names_profile name ≡ false → is_same_name (instruction_word i) name ≡ false
+not_named : (i : Instr) (name : List ℕ) → names_some_instruction name ≡ false → is_same_name (instruction_word i) name ≡ false
 not_named i name h = same_turned (instruction_word i) name ∙ by i (each_fails (λ (i : Instr). names_instruction i name) all_instructions h)
   where
     by : (i : Instr) → AllByRecursion (λ i. names_instruction i name ≡ false) all_instructions → names_instruction i name ≡ false
@@ -162,7 +162,7 @@ counted_from (b ∷ before) rs r all h =
 entry_right : (d : Device) (before rs : List TestRegister) (r : TestRegister) → IsTestRegister d r → AllByRecursion (λ (b : TestRegister). same_instr r b ≡ false) before → list_any (same_instr r) rs ≡ false → entry_fails (map own_entry (before ++ r ∷ rs)) (entry_of r) ≡ false
 entry_right d before rs r is all h =
     let names = names_register r.name in
-    let profile = names_profile r.instr in
+    let profile = names_some_instruction r.instr in
     let many = not (count_by (λ (o : OpcodeEntry). is_same_name r.instr o.name) (map own_entry (before ++ r ∷ rs)) == 1) in
     neither (names || profile || many || r.length == 0) (nat_lt 256 r.length)
     (neither (names || profile || many) (r.length == 0) (neither (names || profile) many (neither names profile is.apart is.own) (ap not (eq-eqb (count_by (λ (o : OpcodeEntry). is_same_name r.instr o.name) (map own_entry (before ++ r ∷ rs))) 1 (counted_from before rs r all h))))

@@ -4,7 +4,8 @@
 // The limits are own.
 //
 // - `part_contents` takes the opcodes of the design's own instructions out of a file's contents.
-// - `registers_fail` says yes exactly where a rule on these registers is broken.
+// - `registers_fail` says yes exactly where a rule on these registers is broken; `names_register` and
+//   `names_some_instruction` where a name is one of the profile's.
 // - `registers_of` gives the registers of the entries that have an opcode.
 // By the contract of these calls.
 #![tactic(auto)]
@@ -15,4 +16,4 @@ mod rules;
 
 pub use opcodes::{PartedContents, part_contents};
 pub use registers::registers_of;
-pub use rules::registers_fail;
+pub use rules::{names_register, names_some_instruction, registers_fail};

@@ -12,16 +12,16 @@ use bsdl_lexicon::same_name;
 use bsdl_runs::opcodes::{has_other_length, names_instruction};
 use extended_device::RegisterEntry;
 
-// The name is that of one of the profile's registers.
-fn names_register(name: &[u8]) -> bool
+/// Whether a name is that of one of the profile's registers.
+pub fn names_register(name: &[u8]) -> bool
     ensures { result ≡ rule.names_register name.now }
 {
     same_name(name, b"BOUNDARY") || same_name(name, b"BYPASS") || same_name(name, b"DEVICE_ID")
 }
 
-// The name is that of one of the profile's instructions.
-fn names_some_instruction(name: &[u8]) -> bool
-    ensures { result ≡ rule.names_profile name.now }
+/// Whether a name is that of one of the profile's instructions.
+pub fn names_some_instruction(name: &[u8]) -> bool
+    ensures { result ≡ rule.names_some_instruction name.now }
 {
     INSTRUCTIONS
         .iter()

@@ -9,6 +9,7 @@ pub mod LinkWalks
 pub mod Listed
 pub mod NameLaws
 pub mod NetLaws
+pub mod OperandWalks
 pub mod ReferLaws
 pub mod StepChecks
 pub mod Told

@@ -3,3 +3,4 @@ pub mod NameChecks
 pub mod Visited
 pub mod Joins
 pub mod Flattened
+pub mod Operands

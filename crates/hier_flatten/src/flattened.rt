@@ -11,7 +11,7 @@ use crate::flat::flat_module;
 use crate::links::find_bad_link;
 use crate::name_checks::find_bad_name;
 use crate::nets::NetTables;
-use crate::operands::check_operands;
+use crate::operands::has_few_operands;
 use cell_library::Library;
 use hier_counts::{CellNames, find_early_fault};
 use hier_model::HierFault;
@@ -67,7 +67,9 @@ fn flatten_counted(alloc: Global, table: &ModuleTable, top: &Module) -> Result<M
         Some(fault) => return Err(fault),
         None => {}
     }
-    check_operands(alloc, table, top)?;
+    if !has_few_operands(alloc, table, top)? {
+        return Err(HierFault::OutOfMemory);
+    }
     Ok(flat_module(alloc, &tables, top)?)
 }
 

@@ -6,7 +6,7 @@
 //   of the whole text.
 // - `flatten` gives the flat module of the module of a name exactly where no fault stands; a refusal names the first
 //   fault, or memory was wanted.
-// By the contract of `parse_hier` and `flatten`. What no clause says: memory is wanted too where the flat module would
+// By the contract of `parse_hier` and `flatten`. What no clause says: memory is wanted too where the items that stay
 // have more than 2^26 operands and links; no prefix of names is kept for an occurrence, a name is joined where it is
 // needed; what is left to do is a list, and nothing calls itself.
 #![tactic(auto)]

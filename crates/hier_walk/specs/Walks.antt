@@ -80,3 +80,8 @@ pub record Begins (modules : List Module) (top : Module) (w : Walk) : Type 0 whe
   pub modules_are : w.modules.now ≡ modules
   pub walks : (levels : ℕ) → IsTrue (has_levels levels modules top) → Walks levels w
   pub all : (levels : ℕ) → IsTrue (has_levels levels modules top) → left_in levels w ≡ visits levels modules [] top
+
+-- own: a step of every walk that has these modules, this path, and these frames with one more behind them
+abbrev pub GoesFrom : Walk → Frame → Walk → Option Step → Type 0
+GoesFrom before frame after step = (levels : ℕ) (old : Walk) → Walks levels old → old.modules.now ≡ before.modules.now → old.path.items ≡ before.path.items
+    → old.frames.items ≡ before.frames.items ++ frame ∷ [] → Goes levels old after step

@@ -3,11 +3,12 @@
 // ties the list to it.
 // IEEE Std 1364-2001: modules, module instances, hierarchical names; the flat order is own.
 //
-// - `ModuleTable` finds the first module of a name, and where it stands, in one look into a table.
+// - `ModuleTable` finds the first module of a name, and where it stands.
 // - `Walk` gives what comes next in flat order, and the occurrence where it stands: a new walk has the whole order
 //   left, and each call of `next` takes the first that is left, or tells that nothing is.
-// - It needs as many levels as the hierarchy has; its list of what is left is the only thing that grows with them.
-// By the contract of `ModuleTable` and `Walk`.
+// - It needs as many levels as the hierarchy has.
+// By the contract of `ModuleTable` and `Walk`. What no clause says: a name is found in one look into a table, and only
+// the path and the list of what is left grow with the levels.
 #![tactic(auto)]
 
 mod modules;

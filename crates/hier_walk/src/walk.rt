@@ -1,4 +1,4 @@
-ghost use Rattle.std.specs.Prelude.{◌≡◌, ℕ, List, [], ◌∷◌, ◌++◌, IfOk, OnOk};
+ghost use Rattle.std.specs.Prelude.{◌≡◌, ℕ, List, [], ◌∷◌, ◌++◌, length, IfOk, OnOk};
 ghost use Rattle.hier_walk.specs.Visits.{opened_by};
 ghost use Rattle.hier_walk.specs.Found.{pair_of};
 
@@ -51,7 +51,7 @@ pub struct Walk<'a> {
 
 impl<'a> Walk<'a> {
     ghost use Rattle.hier_walk.specs.Visits.{visits};
-    ghost use Rattle.hier_walk.specs.Walks.{Begins, Goes, Walks};
+    ghost use Rattle.hier_walk.specs.Walks.{Begins, Goes, GoesFrom, Walks};
 
     /// A walk that stands before the first item of a module.
     pub fn new(
@@ -74,6 +74,23 @@ impl<'a> Walk<'a> {
         })
     }
 
+    // What comes behind the items of a frame, which was the last: its module closes, if an instance opened it.
+    fn close(&mut self, frame: Frame<'a>) -> Option<Step<'a>>
+        requires { length frame.left.now ≡ 0 }
+        ensures goes { GoesFrom self.old frame.entry self.new result }
+        ensures same { self.new.modules.now ≡ self.old.modules.now }
+    {
+        let Some(opened) = frame.opened else {
+            return None;
+        };
+        self.path.pop();
+        Some(Step {
+            depth: self.path.len(),
+            within: opened.parent,
+            turn: Turn::Closes(opened.instance, frame.within),
+        })
+    }
+
     /// What comes next; nothing at the end.
     pub fn next(&mut self) -> Result<Option<Step<'a>>, OutOfMemory>
         ensures goes { IfOk result (λ step. (levels : ℕ) → Walks levels self.old → Goes levels self.old self.new step) }
@@ -83,38 +100,28 @@ impl<'a> Walk<'a> {
             return Ok(None);
         };
         let Some((item, left)) = frame.left.split_first() else {
-            let Some(opened) = frame.opened else {
-                return Ok(None);
-            };
-            self.path.pop();
-            return Ok(Some(Step {
-                depth: self.path.len(),
-                within: opened.parent,
-                turn: Turn::Closes(opened.instance, frame.within),
-            }));
+            return Ok(self.close(frame));
         };
         let depth = self.path.len();
         self.frames.push(Frame { left, ..frame })?;
-        let Some(opened) = open(self.modules, item) else {
+        let Some((instance, child)) = open(self.modules, item) else {
             return Ok(Some(Step {
                 depth,
                 within: frame.within,
                 turn: Turn::Keeps(item),
             }));
         };
-        self.path.push(opened.0.name.as_bytes())?;
+        self.path.push(instance.name.as_bytes())?;
+        let parent = frame.within;
         self.frames.push(Frame {
-            opened: Some(Opened {
-                instance: opened.0,
-                parent: frame.within,
-            }),
-            within: opened.1,
-            left: opened.1.items.as_slice(),
+            opened: Some(Opened { instance, parent }),
+            within: child,
+            left: child.items.as_slice(),
         })?;
         Ok(Some(Step {
             depth,
-            within: frame.within,
-            turn: Turn::Opens(opened.0, opened.1),
+            within: parent,
+            turn: Turn::Opens(instance, child),
         }))
     }
 }

@@ -3,7 +3,7 @@ use Rattle.std.proofs.Common.{inl, inr}
 use Rattle.command_faults.specs.declared.fault.Fault.{Fault}
 use Rattle.command_faults.specs.declared.fault.Fault.TheVariants as fault
 use Rattle.command_faults.specs.declared.status.Status.TheVariants as status
-use Rattle.command_faults.specs.Statuses.{status_of, text_status, hier_status, link_status, library_status, event_status, script_status, device_status, extended_status, plan_status, fit_status}
+use Rattle.command_faults.specs.Statuses.{status_of, text_status, hier_status, link_status, library_status, event_status, script_status, device_status, extended_status, plan_status, fit_status, registers_status}
 use Rattle.verilog_texts.specs.declared.fault.TextFault.{TextFault}
 use Rattle.verilog_texts.specs.declared.fault.TextFault.TheVariants as text
 use Rattle.hier_model.specs.declared.fault.HierFault.{HierFault}
@@ -24,6 +24,8 @@ use Rattle.plan_texts.specs.declared.fault.PlanFault.{PlanFault}
 use Rattle.plan_texts.specs.declared.fault.PlanFault.TheVariants as plan
 use Rattle.plan_fitting.specs.declared.fault.FitFault.{FitFault}
 use Rattle.plan_fitting.specs.declared.fault.FitFault.TheVariants as fit
+use Rattle.status_texts.specs.declared.fault.StatusFault.{StatusFault}
+use Rattle.status_texts.specs.declared.fault.StatusFault.TheVariants as registers
 use Rattle.command_edges.specs.Ends.{IsEnd}
 
 memory_apart : IsEnd status.Memory → ⊥
@@ -86,6 +88,10 @@ fit_apart : (f : FitFault) → IsEnd (fit_status f) → ⊥
 fit_apart fit.OutOfMemory end = memory_apart end
 fit_apart f end = refused_apart end
 
+registers_apart : (f : StatusFault) → IsEnd (registers_status f) → ⊥
+registers_apart registers.OutOfMemory end = memory_apart end
+registers_apart f end = refused_apart end
+
 pub fault_apart : (f : Fault) → IsEnd (status_of f) → ⊥
 fault_apart fault.Usage end = usage_apart end
 fault_apart (fault.SameName name) end = usage_apart end
@@ -101,6 +107,7 @@ fault_apart (fault.Device f) end = device_apart f end
 fault_apart (fault.Extended f) end = extended_apart f end
 fault_apart (fault.Plan f) end = plan_apart f end
 fault_apart (fault.Fit f) end = fit_apart f end
+fault_apart (fault.Registers f) end = registers_apart f end
 fault_apart (fault.TooMany what count limit) end = refused_apart end
 fault_apart fault.NotInserted end = refused_apart end
 fault_apart fault.OutOfMemory end = memory_apart end

@@ -9,7 +9,7 @@ use Rattle.insert_cli.specs.declared.command.Command.{Command}
 use Rattle.insert_cli.specs.Forms.{Form, HasWords, HasForm, begins_with_dash}
 use Rattle.insert_cli.specs.Parsed.{IsPlainOf, IsCommandOf}
 
--- the command of two names, three, four or five, with this word
+-- the command of two names, three, four, five or six, with this word
 abbrev from_two : List ℕ → List ℕ → List ℕ → Option Form
 from_two word a b =
     if bytes_eq word (codes "canon") then Some (Form.Converts Canon a b)
@@ -33,7 +33,13 @@ from_four word a b c d =
     else Some (Form.Inserts a b c d None)
 
 abbrev from_five : List ℕ → List ℕ → List ℕ → List ℕ → List ℕ → List ℕ → Option Form
-from_five word a b c d e = if bytes_eq word (codes "strip") then Some (Form.Strips a b c d (Some e)) else Some (Form.Inserts a b c d (Some e))
+from_five word a b c d e =
+    if bytes_eq word (codes "strip") then Some (Form.Strips a b c d (Some e))
+    else if bytes_eq word (codes "status") then Some (Form.InsertsStatus a b c d e None)
+    else Some (Form.Inserts a b c d (Some e))
+
+abbrev from_six : List ℕ → List ℕ → List ℕ → List ℕ → List ℕ → List ℕ → Option Form
+from_six a b c d e f = Some (Form.InsertsStatus a b c d e (Some f))
 
 abbrev form_from : List (List ℕ) → Option Form
 form_from [] = None
@@ -43,7 +49,8 @@ form_from (word ∷ a ∷ b ∷ []) = from_two word a b
 form_from (word ∷ a ∷ b ∷ c ∷ []) = from_three word a b c
 form_from (word ∷ a ∷ b ∷ c ∷ d ∷ []) = from_four word a b c d
 form_from (word ∷ a ∷ b ∷ c ∷ d ∷ e ∷ []) = from_five word a b c d e
-form_from (word ∷ a ∷ b ∷ c ∷ d ∷ e ∷ f ∷ more) = None
+form_from (word ∷ a ∷ b ∷ c ∷ d ∷ e ∷ f ∷ []) = from_six a b c d e f
+form_from (word ∷ a ∷ b ∷ c ∷ d ∷ e ∷ f ∷ g ∷ more) = None
 
 from_words : (words : List (List ℕ)) (form : Form) → HasWords words form → form_from words ≡ Some form
 from_words words (Form.Converts Canon input output) are = ap form_from are
@@ -55,6 +62,8 @@ from_words words (Form.Simulates netlist events None) are = ap form_from are
 from_words words (Form.Simulates netlist events (Some library)) are = ap form_from are
 from_words words (Form.Inserts netlist plan outnet outbsdl None) are = ap form_from are
 from_words words (Form.Inserts netlist plan outnet outbsdl (Some library)) are = ap form_from are
+from_words words (Form.InsertsStatus netlist plan registers outnet outbsdl None) are = ap form_from are
+from_words words (Form.InsertsStatus netlist plan registers outnet outbsdl (Some library)) are = ap form_from are
 from_words words (Form.Strips netlist bsdl outnet outplan None) are = ap form_from are
 from_words words (Form.Strips netlist bsdl outnet outplan (Some library)) are = ap form_from are
 from_words words (Form.MakesVectors bsdl output) are = ap form_from are

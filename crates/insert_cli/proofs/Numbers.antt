@@ -48,6 +48,7 @@ small_number words (command.Convert conversion input output) has = tt
 small_number words (command.Flatten input top output library) has = tt
 small_number words (command.Sim netlist events library) has = tt
 small_number words (command.Insert netlist plan outnet outbsdl library) has = tt
+small_number words (command.InsertStatus netlist plan registers outnet outbsdl library) has = tt
 small_number words (command.Strip netlist bsdl outnet outplan library) has = tt
 small_number words (command.StatusBsdl input output) has = tt
 small_number words (command.Vectors bsdl output) has = tt

@@ -15,6 +15,7 @@ pub data Form : Type 0 where
   Flattens : (input top output : List ℕ) (library : Option (List ℕ)) → Form
   Simulates : (netlist events : List ℕ) (library : Option (List ℕ)) → Form
   Inserts : (netlist plan outnet outbsdl : List ℕ) (library : Option (List ℕ)) → Form
+  InsertsStatus : (netlist plan registers outnet outbsdl : List ℕ) (library : Option (List ℕ)) → Form
   Strips : (netlist bsdl outnet outplan : List ℕ) (library : Option (List ℕ)) → Form
   MakesVectors : (bsdl output : List ℕ) → Form
   Checks : (netlist bsdl events : List ℕ) (library : Option (List ℕ)) → Form
@@ -33,15 +34,17 @@ pub record IsNumeral (digits : List ℕ) (number : ℕ) : Type 0 where
   pub value : number ≡ value_after 10 0 digits
 
 -- `canon IN OUT`, `showbsdl IN OUT`, `statusbsdl IN OUT`, `sim NET EVENTS`, `insert NET PLAN OUTNET OUTBSDL`,
--- `strip NET BSDL OUTNET OUTPLAN`, `vectors BSDL OUT`, `check NET BSDL EVENTS`, `flatten IN TOP OUT`, where TOP is a
--- module's name and no file, and `demo NUMBER OUTNET OUTBSDL`; behind those of `flatten`, `sim`, `insert`, `strip` and
--- `check` the word LIB may stand
+-- `status NET PLAN REGS OUTNET OUTBSDL`, `strip NET BSDL OUTNET OUTPLAN`, `vectors BSDL OUT`, `check NET BSDL EVENTS`,
+-- `flatten IN TOP OUT`, where TOP is a module's name and no file, and `demo NUMBER OUTNET OUTBSDL`; behind those of
+-- `flatten`, `sim`, `insert`, `status`, `strip` and `check` the word LIB may stand
 abbrev pub HasWords : List (List ℕ) → Form → Type 0
 HasWords words (Form.Converts c input output) = words ≡ conversion_word c ∷ input ∷ output ∷ []
 HasWords words (Form.ShowsStatus input output) = words ≡ codes "statusbsdl" ∷ input ∷ output ∷ []
 HasWords words (Form.Flattens input top output library) = words ≡ codes "flatten" ∷ input ∷ top ∷ output ∷ names_if library
 HasWords words (Form.Simulates netlist events library) = words ≡ codes "sim" ∷ netlist ∷ events ∷ names_if library
 HasWords words (Form.Inserts netlist plan outnet outbsdl library) = words ≡ codes "insert" ∷ netlist ∷ plan ∷ outnet ∷ outbsdl ∷ names_if library
+HasWords words (Form.InsertsStatus netlist plan registers outnet outbsdl library) =
+    words ≡ codes "status" ∷ netlist ∷ plan ∷ registers ∷ outnet ∷ outbsdl ∷ names_if library
 HasWords words (Form.Strips netlist bsdl outnet outplan library) = words ≡ codes "strip" ∷ netlist ∷ bsdl ∷ outnet ∷ outplan ∷ names_if library
 HasWords words (Form.MakesVectors bsdl output) = words ≡ codes "vectors" ∷ bsdl ∷ output ∷ []
 HasWords words (Form.Checks netlist bsdl events library) = words ≡ codes "check" ∷ netlist ∷ bsdl ∷ events ∷ names_if library

@@ -11,6 +11,7 @@ form_of (command.StatusBsdl input output) = Form.ShowsStatus input.now output.no
 form_of (command.Flatten input top output library) = Form.Flattens input.now top.now output.now (name_of library)
 form_of (command.Sim netlist events library) = Form.Simulates netlist.now events.now (name_of library)
 form_of (command.Insert netlist plan outnet outbsdl library) = Form.Inserts netlist.now plan.now outnet.now outbsdl.now (name_of library)
+form_of (command.InsertStatus netlist plan registers outnet outbsdl library) = Form.InsertsStatus netlist.now plan.now registers.now outnet.now outbsdl.now (name_of library)
 form_of (command.Strip netlist bsdl outnet outplan library) = Form.Strips netlist.now bsdl.now outnet.now outplan.now (name_of library)
 form_of (command.Vectors bsdl output) = Form.MakesVectors bsdl.now output.now
 form_of (command.Check netlist bsdl events library) = Form.Checks netlist.now bsdl.now events.now (name_of library)

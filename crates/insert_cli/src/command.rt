@@ -43,6 +43,16 @@ pub enum Command<'a> {
         outbsdl: &'a str,
         library: Option<&'a str>,
     },
+    /// Builds the test logic of a plan, and registers of the design's own, into a netlist, and writes the netlist and
+    /// its BSDL file.
+    InsertStatus {
+        netlist: &'a str,
+        plan: &'a str,
+        registers: &'a str,
+        outnet: &'a str,
+        outbsdl: &'a str,
+        library: Option<&'a str>,
+    },
     /// Writes the netlist and a plan that a netlist with test logic and its BSDL text were made from, with the library
     /// of a third text if there is one.
     Strip {
@@ -238,6 +248,39 @@ fn of_five<'a>(
             outplan: fourth,
             library,
         }),
+        "status" => Some(Command::InsertStatus {
+            netlist: first,
+            plan: second,
+            registers: third,
+            outnet: fourth,
+            outbsdl: fifth,
+            library: None,
+        }),
+        _ => None,
+    }
+}
+
+// The command of six names.
+fn of_six<'a>(
+    word: &str,
+    first: &'a str,
+    second: &'a str,
+    third: &'a str,
+    fourth: &'a str,
+    fifth: &'a str,
+    sixth: &'a str,
+) -> Option<Command<'a>>
+    ensures { IsPlainOf (word.now ∷ first.now ∷ second.now ∷ third.now ∷ fourth.now ∷ fifth.now ∷ sixth.now ∷ []) result }
+{
+    match word {
+        "status" => Some(Command::InsertStatus {
+            netlist: first,
+            plan: second,
+            registers: third,
+            outnet: fourth,
+            outbsdl: fifth,
+            library: Some(sixth),
+        }),
         _ => None,
     }
 }
@@ -268,6 +311,15 @@ fn plain_command(words: &[String]) -> Option<Command<'_>>
             third.as_str(),
             fourth.as_str(),
             fifth.as_str(),
+        ),
+        [word, first, second, third, fourth, fifth, sixth] => of_six(
+            word.as_str(),
+            first.as_str(),
+            second.as_str(),
+            third.as_str(),
+            fourth.as_str(),
+            fifth.as_str(),
+            sixth.as_str(),
         ),
         _ => None,
     }

@@ -6,6 +6,7 @@ ghost use Rattle.command_edges.specs.Names.{IsOneOf, StandOnce};
 ghost use Rattle.check_command.specs.Tasks.{check_task};
 ghost use Rattle.demo_command.specs.InsertTasks.{insert_task};
 ghost use Rattle.flatten_command.specs.Tasks.{flatten_task};
+ghost use Rattle.status_command.specs.Tasks.{status_task};
 ghost use Rattle.strip_command.specs.Tasks.{strip_task};
 ghost use Rattle.command_edges.specs.Seen.{shelf_seen, sink_seen};
 ghost use Rattle.command_edges.specs.Tasks.{Completes, Finishes, Keeps, Stands};
@@ -24,6 +25,7 @@ use edge_io::sink::Sink;
 use extended_command::StatusBsdl;
 use flatten_command::Flatten;
 use sim_command::simulate;
+use status_command::InsertStatus;
 use std::alloc::Global;
 use strip_command::Strip;
 use vectors_command::Vectors;
@@ -111,6 +113,51 @@ fn run_insert<'a, S: Shelf, O: Sink>(
             out,
             insert,
             &[insert.netlist, insert.plan],
+            &outputs,
+            true,
+        ),
+    }
+}
+
+// Inserts with registers of the design's own, with a library if there is one.
+fn run_status<'a, S: Shelf, O: Sink>(
+    alloc: Global,
+    shelf: &mut S,
+    out: &mut O,
+    insert: InsertStatus<'a>,
+) -> Result<Status, Fault<'a>>
+    requires { StandOnce (insert.outnet.now ∷ insert.outbsdl.now ∷ []) }
+    ensures done { IfOk result (Finishes (status_task insert.entry.netlist.now insert.entry.plan.now insert.entry.registers.now insert.entry.outnet.now insert.entry.outbsdl.now (name_of insert.entry.library))
+        (shelf_seen S.tells S.held S.written S.faults shelf.old shelf.new)
+        (sink_seen O.given O.faults out.old out.new)) }
+    ensures ended { IfOk result IsEnd }
+    ensures fault { IfErr result (λ fault. Stands (status_task insert.entry.netlist.now insert.entry.plan.now insert.entry.registers.now insert.entry.outnet.now insert.entry.outbsdl.now (name_of insert.entry.library))
+        (shelf_seen S.tells S.held S.written S.faults shelf.old shelf.new)
+        (sink_seen O.given O.faults out.old out.new) fault (O.given out.new)) }
+    ensures complete { IfErr result (λ fault. Completes (status_task insert.entry.netlist.now insert.entry.plan.now insert.entry.registers.now insert.entry.outnet.now insert.entry.outbsdl.now (name_of insert.entry.library))
+        (shelf_seen S.tells S.held S.written S.faults shelf.old shelf.new)
+        (sink_seen O.given O.faults out.old out.new) (status_of fault)) }
+    ensures keeps { Keeps (λ name. IsOneOf name (status_task insert.entry.netlist.now insert.entry.plan.now insert.entry.registers.now insert.entry.outnet.now insert.entry.outbsdl.now (name_of insert.entry.library)).writes)
+        (shelf_seen S.tells S.held S.written S.faults shelf.old shelf.new)
+        (sink_seen O.given O.faults out.old out.new) }
+{
+    let outputs = [insert.outnet, insert.outbsdl];
+    match insert.library {
+        Some(library) => run_task(
+            alloc,
+            shelf,
+            out,
+            insert,
+            &[insert.netlist, insert.plan, insert.registers, library],
+            &outputs,
+            true,
+        ),
+        None => run_task(
+            alloc,
+            shelf,
+            out,
+            insert,
+            &[insert.netlist, insert.plan, insert.registers],
             &outputs,
             true,
         ),
@@ -279,6 +326,24 @@ pub fn run_command<'a, S: Shelf, O: Sink>(
                 library,
             };
             run_insert(alloc, shelf, out, insert)
+        }
+        Command::InsertStatus {
+            netlist,
+            plan,
+            registers,
+            outnet,
+            outbsdl,
+            library,
+        } => {
+            let insert = InsertStatus {
+                netlist,
+                plan,
+                registers,
+                outnet,
+                outbsdl,
+                library,
+            };
+            run_status(alloc, shelf, out, insert)
         }
         Command::Strip {
             netlist,

@@ -7,9 +7,9 @@
 // Proved, of `run_tool`:
 // - **Done.** With status 0, or 6, the words are a command of a table, no word begins with `-`, no output has the
 //   name of another file, and the command did what its own crate says: `convert_command`, `extended_command`,
-//   `flatten_command`, `sim_command`, `insert_command`, `strip_command`, `vectors_command`, `check_command`,
-//   `demo_command`. Conversions, `statusbsdl`, `flatten`, `strip` and `vectors` put nothing. Only `sim` and `check`
-//   end with 6, exactly where an expectation isn't met.
+//   `flatten_command`, `sim_command`, `insert_command`, `status_command`, `strip_command`, `vectors_command`,
+//   `check_command`, `demo_command`. Conversions, `statusbsdl`, `flatten`, `strip` and `vectors` put nothing. Only
+//   `sim` and `check` end with 6, exactly where an expectation isn't met.
 // - **Refused.** With any other status some fault stands that has this status: the words are no command, or an
 //   output has the name of another file (the first that has is told), or the fault stands in the command as its
 //   own crate says, with its place and words, and with no fault of an earlier check; and the sink got its line,

@@ -40,23 +40,52 @@ fn taken_of_two<'a>(netlist: &str, plan: &str, outnet: &'a str, outbsdl: &'a str
     None
 }
 
-// The first output of either with a library that has the name of another of its files.
-fn taken_beside_library<'a>(
+// The first output that has the name of another file: of either with a library, or of `status` without one, whose
+// registers' text stands in the library's place.
+fn taken_of_three<'a>(
     netlist: &str,
     plan: &str,
+    third: &str,
+    outnet: &'a str,
+    outbsdl: &'a str,
+) -> Option<&'a str>
+    ensures same { IfSome result (λ name. IsRepeated name.now
+        (netlist.now ∷ plan.now ∷ third.now ∷ []) (outnet.now ∷ outbsdl.now ∷ [])) }
+    ensures apart { result ≡ None → AreApart (netlist.now ∷ plan.now ∷ third.now ∷ [])
+        (outnet.now ∷ outbsdl.now ∷ []) }
+{
+    if outnet == netlist || outnet == plan || outnet == third || outnet == outbsdl {
+        return Some(outnet);
+    }
+    if outbsdl == netlist || outbsdl == plan || outbsdl == third {
+        return Some(outbsdl);
+    }
+    None
+}
+
+// The first output of `status` with a library that has the name of another of its files.
+fn taken_of_four<'a>(
+    netlist: &str,
+    plan: &str,
+    registers: &str,
     library: &str,
     outnet: &'a str,
     outbsdl: &'a str,
 ) -> Option<&'a str>
     ensures same { IfSome result (λ name. IsRepeated name.now
-        (netlist.now ∷ plan.now ∷ library.now ∷ []) (outnet.now ∷ outbsdl.now ∷ [])) }
-    ensures apart { result ≡ None → AreApart (netlist.now ∷ plan.now ∷ library.now ∷ [])
+        (netlist.now ∷ plan.now ∷ registers.now ∷ library.now ∷ []) (outnet.now ∷ outbsdl.now ∷ [])) }
+    ensures apart { result ≡ None → AreApart (netlist.now ∷ plan.now ∷ registers.now ∷ library.now ∷ [])
         (outnet.now ∷ outbsdl.now ∷ []) }
 {
-    if outnet == netlist || outnet == plan || outnet == library || outnet == outbsdl {
+    if outnet == netlist
+        || outnet == plan
+        || outnet == registers
+        || outnet == library
+        || outnet == outbsdl
+    {
         return Some(outnet);
     }
-    if outbsdl == netlist || outbsdl == plan || outbsdl == library {
+    if outbsdl == netlist || outbsdl == plan || outbsdl == registers || outbsdl == library {
         return Some(outbsdl);
     }
     None
@@ -98,7 +127,23 @@ pub fn same_name<'a>(command: Command<'a>) -> Option<&'a str>
             outnet,
             outbsdl,
             library: Some(library),
-        } => taken_beside_library(netlist, plan, library, outnet, outbsdl),
+        } => taken_of_three(netlist, plan, library, outnet, outbsdl),
+        Command::InsertStatus {
+            netlist,
+            plan,
+            registers,
+            outnet,
+            outbsdl,
+            library: None,
+        } => taken_of_three(netlist, plan, registers, outnet, outbsdl),
+        Command::InsertStatus {
+            netlist,
+            plan,
+            registers,
+            outnet,
+            outbsdl,
+            library: Some(library),
+        } => taken_of_four(netlist, plan, registers, library, outnet, outbsdl),
         Command::Strip {
             netlist,
             bsdl,
@@ -112,7 +157,7 @@ pub fn same_name<'a>(command: Command<'a>) -> Option<&'a str>
             outnet,
             outplan,
             library: Some(library),
-        } => taken_beside_library(netlist, bsdl, library, outnet, outplan),
+        } => taken_of_three(netlist, bsdl, library, outnet, outplan),
         Command::Vectors { bsdl, output } => taken(output, bsdl),
         Command::Check { .. } => None,
         Command::Demo {

@@ -64,8 +64,8 @@ pub fn run_tool<S: Shelf, O: Sink>(
     // `strip` are the canonical texts of a netlist and a plan from which the two inputs come; nothing is put. At
     // status 0 or 6 a simulation put the text of the events' run, or a check its misses and its last line, and the
     // status is 6 where an expectation isn't met. At status 0 an insertion wrote the netlist with the plan's test
-    // logic and the BSDL text of its device, and put its report; and a demonstration did so for the netlist of its
-    // number, and put its line.
+    // logic and the BSDL text of its device, and put its report; `status` did so with registers of the design's own;
+    // and a demonstration did so for the netlist of its number, and put its line.
     ensures done { IsEnd result → Finishes words.now
         (shelf_seen S.tells S.held S.written S.faults shelf.old shelf.new)
         (sink_seen O.given O.faults out.old out.new) result }

@@ -38,7 +38,7 @@ pub record Laws : Type 0 where
 
 -- The plan.
 
-plan_memory : SpelledIsFaultless → (bytes : List ℕ) (p : Plan) (f : PlanFault) → SpellsPlan bytes p → plans.IsFault bytes f → plan_status f ≡ status.Memory
+pub plan_memory : SpelledIsFaultless → (bytes : List ℕ) (p : Plan) (f : PlanFault) → SpellsPlan bytes p → plans.IsFault bytes f → plan_status f ≡ status.Memory
 plan_memory law bytes p (plan.PlanLine line) spells bad = absurd (law bytes p spells (plan.PlanLine line) bad)
 plan_memory law bytes p (plan.PlanTwice word) spells bad = absurd (law bytes p spells (plan.PlanTwice word) bad)
 plan_memory law bytes p (plan.PlanOpcode word) spells bad = absurd (law bytes p spells (plan.PlanOpcode word) bad)

@@ -1,3 +1,5 @@
+pub use Rattle.command_faults.specs as command_faults
+pub use Rattle.command_edges.specs as command_edges
 pub use Rattle.insertions.specs.Insertions
 pub use Rattle.insertions.specs.Inputs
 pub use Rattle.insertions.specs.Faults as InputFaults

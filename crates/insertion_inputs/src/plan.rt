@@ -1,5 +1,6 @@
 // The plan of a text, fitted to a netlist.
 ghost use Rattle.std.specs.Prelude.{IfErr, IfOk};
+ghost use Rattle.plan_fitting.specs.Fits as fits;
 ghost use Rattle.plan_texts.specs.Canonical.{IsPlan};
 ghost use Rattle.insertion_inputs.specs.Inputs.{IsFittingAs, IsLinkedTree, IsPreparedAs, IsReadyAs};
 ghost use Rattle.insertion_inputs.specs.Faults.{StandsInFit, StandsInPlan};
@@ -9,7 +10,7 @@ use bsdl_device::Device;
 use netlist_laws::{direction_of_a_bit, driver_is_found};
 use netlist_link::Linked;
 use pin_plan::fit;
-use plan_fitting::Fitted;
+use plan_fitting::{FitFault, Fitted};
 use plan_texts::{Plan, read_plan};
 use scan_stitch::lower_plan_devices::{fitted_is_fitting, plans_make_devices, tap_names_are_new};
 use scan_stitch::{device_of_fit, fitted_bits_are_there, prepare};
@@ -26,12 +27,12 @@ pub struct Fitting {
 // As many linkage lines as can be counted.
 const MOST_LINES: usize = 4_294_967_290;
 
-// What a plan comes to for a netlist. It says `OutOfMemory` also for 2^32 linkage lines.
-fn fit_plan(alloc: Global, plan: &Plan, linked: &Linked) -> Result<Fitted, InsertFault>
+/// What a plan comes to for a netlist. It says `OutOfMemory` also for 2^32 linkage lines.
+pub fn fit_plan(alloc: Global, plan: &Plan, linked: &Linked) -> Result<Fitted, FitFault>
     requires plan { IsPlan plan.now }
     requires linked { IsLinkedTree linked.now }
     ensures ready { IfOk result (IsReadyAs linked.now plan.now) }
-    ensures fault { IfErr result (StandsInFit linked.now plan.now) }
+    ensures fault { IfErr result (fits.IsFault linked.now plan.now) }
 {
     direction_of_a_bit();
     driver_is_found();
@@ -41,7 +42,7 @@ fn fit_plan(alloc: Global, plan: &Plan, linked: &Linked) -> Result<Fitted, Inser
     linked.netlist().is_laid_out();
     let fitted = fit(alloc, plan, linked)?;
     if fitted.linkage.len() > MOST_LINES {
-        return Err(InsertFault::OutOfMemory);
+        return Err(FitFault::OutOfMemory);
     }
     Ok(fitted)
 }

@@ -5,7 +5,7 @@ use strip_law::{one_netlist_gives, recovered_gives};
 use verilog_reading::spelled_trees_keep_the_conditions;
 
 /// A law: what an insertion wrote is given by the netlist and the plan that it read; so it is stripped, and no other
-/// netlist comes back.
+/// netlist with the library comes back.
 pub fn insertions_are_stripped()
     ensures gives { InsertionGives }
     ensures stripped { InsertionIsStripped }

@@ -12,7 +12,7 @@
 // - The module is exactly the tree of the netlist with the test logic built in, gate by gate as `stitch_model`
 //   says, under the module's own name; added nets and cells are named by the plan's prefix.
 // - Else it tells the first fault that stands in the two texts.
-// By the contract of `insert_texts`.
+// By the contract of `insert_texts` and `netlist_text`.
 #![tactic(auto)]
 
 mod insertion;
@@ -20,4 +20,4 @@ mod written_texts;
 
 pub use insertion::insert_texts;
 pub use insertion_inputs::InsertFault;
-pub use written_texts::Inserted;
+pub use written_texts::{Inserted, netlist_text};

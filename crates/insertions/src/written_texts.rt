@@ -25,8 +25,8 @@ pub struct Inserted {
     pub report: Text,
 }
 
-// The canonical text of the module that a netlist is written as.
-fn netlist_text(alloc: Global, linked: &Linked, prefix: &[u8]) -> Result<Text, OutOfMemory>
+/// The canonical text of the module that a netlist is written as.
+pub fn netlist_text(alloc: Global, linked: &Linked, prefix: &[u8]) -> Result<Text, OutOfMemory>
     requires { IsFreePrefix linked.now prefix.now }
     ensures { IfOk result (IsNetlistText linked.now prefix.now) }
 {

@@ -14,11 +14,13 @@
 //   are those of the instruction in effect, for any history; and the latched opcode is on nets one behind another.
 // - The codes of each device that some BSDL text describes fit the register (`registers_fit`): patterns as long as
 //   it is, and no opcode twice but that of SAMPLE and PRELOAD.
-// - So it is of the whole register, step by step, from whatever its stages hold (`instruction_steps`); from Test-
-//   Logic-Reset with reset's opcode on the latched bits are 0 or 1, whatever the shift stage holds there, since it
+// - So it is of the whole register, step by step, from whatever its stages hold (`instruction_steps`); from
+//   Test-Logic-Reset with reset's opcode on the latched bits are 0 or 1, whatever the shift stage holds there, since it
 //   captures before it is latched (`instructions_stay_legible`).
 // By the contract of `add_instruction` and its law functions.
-// What the test logic's gates take, for n bits of the instruction register, and what is set aside for them:
+//
+// What the test logic's gates take, for n bits of the instruction register, by the contracts of these calls, and what
+// `room_of` of stitch_names sets aside for them:
 // - `add_tap`: 49 cells and nets; set aside 140;
 // - `add_instruction`: at most 11 + 21n; set aside 100 + 64n;
 // - `add_bypass`: 5; set aside 10;

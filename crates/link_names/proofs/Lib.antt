@@ -8,3 +8,4 @@ pub mod Fits
 pub mod PortPlaces
 pub mod Modules
 pub mod Clear
+pub mod Gathered

@@ -80,8 +80,8 @@ impl Linked {
         }
     }
 
-    /// The netlist with its spare numbers, to be rewritten. No netlist is left here; the names and the module's name
-    /// stay. It takes no memory.
+    /// The netlist with its spare numbers, to be rewritten. The empty netlist with the empty library is left here; the
+    /// names and the module's name stay. It takes no memory.
     pub fn begin_draft(&mut self) -> Draft
         ensures draft { result.netlist ≡ self.old.arena }
         ensures empty { IsEmpty self.new.arena.lists }

@@ -8,13 +8,13 @@ use Rattle.netlist_model.specs.declared.NetId.{NetId}
 use Rattle.netlist_model.specs.declared.Feed.TheVariants.{Net}
 use Rattle.netlist_model.specs.Lists.{CellView, NetlistView, cell_at, cell_count}
 use Rattle.plan_fitting.specs.declared.fitted.Fitted.{Fitted}
-use Rattle.stitch_model.specs.declared.TapPort.{TapPort}
-use Rattle.stitch_model.specs.Sites.{Boundary}
-use Rattle.stitch_model.specs.Sides.{core_cell}
-use Rattle.stitch_model.specs.Rows.{nets_of_rows, behind}
-use Rattle.stitch_model.specs.Logic.{logic_size, instruction_at, bypass_at, logic_cells}
-use Rattle.stitch_model.specs.Stitched.{live_cells, boundary_at, first_net, rows_part, boundary_last, tdo_part_by, tdo_part, stitched_cells_by, stitched_cells}
-use Rattle.stitch_laws.specs.Places.{port_of}
+use Rattle.stitch_inside.specs.stitch_model.declared.TapPort.{TapPort}
+use Rattle.stitch_inside.specs.stitch_model.Sites.{Boundary}
+use Rattle.stitch_inside.specs.stitch_model.Sides.{core_cell}
+use Rattle.stitch_inside.specs.stitch_model.Rows.{nets_of_rows, behind}
+use Rattle.stitch_inside.specs.stitch_model.Logic.{logic_size, instruction_at, bypass_at, logic_cells}
+use Rattle.stitch_inside.specs.stitch_model.Stitched.{live_cells, boundary_at, first_net, rows_part, boundary_last, tdo_part_by, tdo_part, stitched_cells_by, stitched_cells}
+use Rattle.stitch_inside.specs.stitch_laws.Places.{port_of}
 use Rattle.open_runs.specs.Connected.{shows, ConnectedExtends}
 
 same_or_not : (a b : ℕ) → (a ≡ b) ⊎ (a ≢ b)

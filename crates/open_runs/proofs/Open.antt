@@ -10,11 +10,11 @@ use Rattle.netlist_laws.specs.Ports.{BitHasDirection}
 use Rattle.wrapped_chip.specs.Realises.{SameBit, tap_place}
 use Rattle.plan_fitting.specs.declared.fitted.FitRow.{FitRow}
 use Rattle.plan_fitting.specs.Devices.{fitted_of, device_of}
-use Rattle.surrounded_core.specs.Open.{SurroundedFollows}
-use Rattle.stitch_model.specs.Sites.{Boundary, pin_net, row_net, site_of, row_sides}
-use Rattle.stitch_model.specs.Sides.{is_moved, moves, side_from}
-use Rattle.stitch_model.specs.Stitched.{boundary_at}
-use Rattle.stitch_laws.specs.Laws.{ExtensionIsBuiltIn}
+use Rattle.status_runs.specs.surrounded_core.Open.{SurroundedFollows}
+use Rattle.stitch_inside.specs.stitch_model.Sites.{Boundary, pin_net, row_net, site_of, row_sides}
+use Rattle.stitch_inside.specs.stitch_model.Sides.{is_moved, moves, side_from}
+use Rattle.stitch_inside.specs.stitch_model.Stitched.{boundary_at}
+use Rattle.stitch_inside.specs.stitch_laws.Laws.{ExtensionIsBuiltIn}
 use Rattle.stitch_inside.specs.Places.{places_in}
 use Rattle.stitch_inside.specs.Laws.{BuiltInSurrounds}
 use Rattle.stitch_inside.proofs.Nests.{inner_given, given_by_driver}

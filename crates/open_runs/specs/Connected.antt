@@ -5,16 +5,18 @@ use Rattle.netlist_model.specs.declared.NetId.{NetId}
 use Rattle.netlist_model.specs.declared.Feed.TheVariants.{Net}
 use Rattle.netlist_model.specs.Lists.{CellView, NetlistView, cell_at}
 use Rattle.plan_fitting.specs.declared.fitted.Fitted.{Fitted}
-use Rattle.stitch_model.specs.declared.TapNames.{TapNames}
-use Rattle.stitch_model.specs.Stitched.{tap_ports, stitched_cells}
-use Rattle.stitch_laws.specs.Places.{port_of}
-use Rattle.stitch_laws.specs.Laws.{ExtendsStitched}
+use Rattle.stitch_inside.specs.stitch_model.declared.TapNames.{TapNames}
+use Rattle.stitch_inside.specs.stitch_model.Stitched.{tap_ports, stitched_cells}
+use Rattle.stitch_inside.specs.stitch_laws.Places.{port_of}
+use Rattle.stitch_inside.specs.stitch_laws.Laws.{ExtendsStitched}
 
--- own: the gate that chooses between the boundary register's bit and the bypass register's, with this net for the latter
+-- own: the gate that chooses between the boundary register's bit and the bypass register's, with this net for the
+-- latter
 abbrev pub shows : NetId → CellView → CellView
 shows shown cell = record cell { feeds = slice_set cell.feeds 1 (Net shown) }
 
--- own: M has the stitched netlist's ports and its cells under their numbers, but that the third from the last, a gate of TDO, reads this net
+-- own: M has the stitched netlist's ports and its cells under their numbers, but that the third from the last, a gate
+-- of TDO, reads this net
 pub record Connects (M N : NetlistView) (names : TapNames) (f : Fitted) (shown : NetId) (gate : ℕ) : Type 0 where
   pub library : M.library ≡ N.library
   pub ports : M.ports ≡ N.ports ++ tap_ports names (port_of N)

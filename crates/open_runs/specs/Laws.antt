@@ -13,18 +13,19 @@ use Rattle.netlist_link.specs.Linked.{LinkedView}
 use Rattle.wrapped_chip.specs.Beside.{HasPins}
 use Rattle.wrapped_chip.specs.ChipRuns.{ChipEvent, ChipMoment, IsChipRun}
 use Rattle.wrapped_chip.specs.Realises.{IsRunBeside}
-use Rattle.surrounded_core.specs.Open.{FollowsChip}
+use Rattle.status_runs.specs.surrounded_core.Open.{FollowsChip}
 use Rattle.status_runs.specs.Placed.{IsCoreWire}
 use Rattle.plan_texts.specs.declared.plan.Plan.{Plan}
 use Rattle.plan_fitting.specs.Pins.{PinSeen}
 use Rattle.plan_fitting.specs.Devices.{fitted_of, device_of}
-use Rattle.plan_devices.specs.FittingPlan.{IsFitting}
-use Rattle.stitch_model.specs.declared.TapNames.{TapNames}
-use Rattle.stitch_laws.specs.Laws.{ExtendsStitched}
+use Rattle.stitch_inside.specs.plan_devices.FittingPlan.{IsFitting}
+use Rattle.stitch_inside.specs.stitch_model.declared.TapNames.{TapNames}
+use Rattle.stitch_inside.specs.stitch_laws.Laws.{ExtendsStitched}
 use Rattle.stitch_inside.specs.Places.{places_in}
 
--- in every run beside a run of the chip: every pin but TDO reads as the chip's, the nets that the controller and the registers hand on
--- carry the chip's test logic, the core has its values, and TDO moves by what `shown` has in the place of the bypass bit
+-- in every run beside a run of the chip: every pin but TDO reads as the chip's, the nets that the controller and the
+-- registers hand on carry the chip's test logic, the core has its values, and TDO moves by what `shown` has in the
+-- place of the bypass bit
 abbrev pub OpenNetlistsFollow : Type 0
 OpenNetlistsFollow = (L : LinkedView) (p : Plan) (seen : List PinSeen) (names : TapNames) (M : NetlistView) (shown : NetId) → IsFitting L p seen → IsLaidOut L.arena.lists
     → IsDense L.arena.lists → ExtendsStitched M L.arena.lists names (fitted_of L p seen) shown → IsWellFormed M → HasPins M L.arena.lists
@@ -32,7 +33,8 @@ OpenNetlistsFollow = (L : LinkedView) (p : Plan) (seen : List PinSeen) (names : 
     → IsRunBeside M (device_of L p seen) L.arena.lists given events chip moment
     → FollowsChip M (device_of L p seen) L.arena.lists (places_in M L.arena.lists (fitted_of L p seen)) shown events chip moment
 
--- a bit of a wire that something drives, other than a three-state gate, is one whose value the netlist carries on the same net
+-- a bit of a wire that something drives, other than a three-state gate, is one whose value the netlist carries on the
+-- same net
 abbrev pub DrivenWiresStay : Type 0
 DrivenWiresStay = (L : LinkedView) (p : Plan) (seen : List PinSeen) (names : TapNames) (M : NetlistView) (shown : NetId) → IsFitting L p seen
     → ExtendsStitched M L.arena.lists names (fitted_of L p seen) shown → (net : ℕ) (cell : CellView) → direction L.arena.lists.ports net ≡ None

@@ -11,8 +11,8 @@ use Rattle.netlist_laws.specs.Settle.{SameFlops}
 use Rattle.netlist_images.specs.Renumbered.{IsRenumbering, renamed_event, seen_moment}
 use Rattle.bsdl_device.specs.declared.values.Device.{Device}
 use Rattle.wrapped_chip.specs.ChipRuns.{ChipMoment, ChipEvent, IsChipRun}
-use Rattle.wrapped_chip.specs.Realises.{SameOutside, tap_place, IsRunBeside, Realises, IsStretch, core_events, IsAlone}
-use Rattle.realised_copies.specs.Laws.{KeepsNumbers, RenumberedRealises, RenumberedAlone}
+use Rattle.wrapped_chip.specs.Realises.{SameOutside, tap_place, IsRunBeside, RealisesBy, IsStretch, core_events, IsAlone}
+use Rattle.realised_copies.specs.Laws.{KeepsNumbers, RenumberedRealisesBy, RenumberedAlone}
 use Rattle.realised_copies.proofs.Pins.{CopyLaws, same_bit, tap_net, same_events, events_back, reads_bit, reads_tdo}
 
 -- A run from other values of the flip-flops, where they are the same at each live cell.
@@ -74,10 +74,10 @@ pins_there laws M M' N to at r w pins image across same = record {
       ap image (sym (r.here.nets net)) ∙ across (r.back net) ∙ same.tap input (r.back net) (tap_net laws M' M N r.back r.from (laws.turns M M' to at r) (tap_place input) net tap);
 }
 
-some_there : CopyLaws → (M M' N : NetlistView) (B : Device) (to at : ℕ → ℕ) → IsRenumbering M M' to at → IsWellFormed M → KeepsNumbers N at → Realises M B N → (given start : ℕ → Sig)
+some_there : CopyLaws → (M M' N : NetlistView) (B : Device) (tdo : (ℕ → ChipMoment) → ℕ → PinSig) (to at : ℕ → ℕ) → IsRenumbering M M' to at → IsWellFormed M → KeepsNumbers N at → RealisesBy M B N tdo → (given start : ℕ → Sig)
     → (events : List ChipEvent) (chip : ℕ → ChipMoment) → IsChipRun B N given events chip → SameFlops N start given
     → (moment : ℕ → Moment) × (beside : IsRunBeside M' B N given events chip moment) × (beside.start ≡ start)
-some_there laws M M' N B to at r formed stay realises given start events chip run same =
+some_there laws M M' N B tdo to at r formed stay realises given start events chip run same =
     let old = realises.some given (λ i. start (at i)) events chip run (kept_flops N at start given stay same) in
     let beside : IsRunBeside M B N given events chip old.0 = old.1 in
     let image = laws.images M M' to at r formed beside.start beside.there old.0 beside.run in
@@ -96,9 +96,9 @@ some_there laws M M' N B to at r formed stay realises given start events chip ru
 
 -- What is owed in the test logic.
 
-pub realises_there : CopyLaws → RenumberedRealises
-realises_there laws M M' N B to at r formed stay realises = record {
-  some = some_there laws M M' N B to at r formed stay realises;
+pub realises_there : CopyLaws → RenumberedRealisesBy
+realises_there laws M M' N B tdo to at r formed stay realises = record {
+  some = some_there laws M M' N B tdo to at r formed stay realises;
   each = λ given events chip moment run beside t less.
       let old = realises.each given events chip (λ s. seen_moment to at (moment s)) run (beside_seen laws M M' N B to at r formed stay given events chip moment beside) t less in
       record {

@@ -6,7 +6,7 @@ use Rattle.netlist_model.specs.declared.Feed.TheVariants.{Net, Const}
 use Rattle.netlist_model.specs.Lists.{PortView, CellView, NetlistView, cell_at}
 use Rattle.netlist_images.specs.Nested.{renamed_net, renamed_feed, renamed_cell}
 use Rattle.netlist_images.specs.Renumbered.{ArePortImages, IsCopied, IsRenumbering}
-use Rattle.realised_copies.specs.Laws.{RenumberedRealises, RenumberedAlone, RenumberedFindsHome, SameRealises, SameAlone, SameFindsHome}
+use Rattle.realised_copies.specs.Laws.{RenumberedRealisesBy, RenumberedAlone, RenumberedFindsHome, SameRealisesBy, SameAlone, SameFindsHome}
 
 -- the same number
 abbrev itself : ℕ → ℕ
@@ -57,8 +57,8 @@ numbered_anew M M' library ports cells = record {
   here = copied M' M (sym library) (sym ports) (λ i. sym (cells i));
 }
 
-pub same_realises : RenumberedRealises → SameRealises
-same_realises copies M M' N B library ports cells formed realises = copies M M' N B itself itself (numbered_anew M M' library ports cells) formed (λ i cell live. refl) realises
+pub same_realises : RenumberedRealisesBy → SameRealisesBy
+same_realises copies M M' N B tdo library ports cells formed realises = copies M M' N B tdo itself itself (numbered_anew M M' library ports cells) formed (λ i cell live. refl) realises
 
 pub same_is_alone : RenumberedAlone → SameAlone
 same_is_alone copies M M' N B library ports cells formed alone = copies M M' N B itself itself (numbered_anew M M' library ports cells) formed (λ i cell live. refl) alone

@@ -2,11 +2,13 @@
 -- ports that it had.
 -- Own. For IEEE Std 1149.1-2001 see wrapped_chip.
 use Rattle.std.specs.Prelude.{◌≡◌, ℕ, Some}
+use Rattle.signal_values.specs.declared.PinSig.{PinSig}
 use Rattle.netlist_model.specs.Lists.{CellView, NetlistView, cell_at}
 use Rattle.netlist_model.specs.Formed.{IsWellFormed}
 use Rattle.netlist_images.specs.Renumbered.{IsRenumbering}
 use Rattle.bsdl_device.specs.declared.values.Device.{Device}
-use Rattle.wrapped_chip.specs.Realises.{Realises, Alone}
+use Rattle.wrapped_chip.specs.ChipRuns.{ChipMoment}
+use Rattle.wrapped_chip.specs.Realises.{RealisesBy, Realises, Alone}
 use Rattle.wrapped_chip.specs.Legal.{HasControls}
 use Rattle.wrapped_chip.specs.Home.{FindsHome}
 
@@ -14,7 +16,12 @@ use Rattle.wrapped_chip.specs.Home.{FindsHome}
 abbrev pub KeepsNumbers : NetlistView → (ℕ → ℕ) → Type 0
 KeepsNumbers N at = (i : ℕ) (cell : CellView) → cell_at N i ≡ Some cell → at i ≡ i
 
--- own: so it is of what it owes in the test logic
+-- own: so it is of what it owes in the test logic, whatever TDO is to read
+abbrev pub RenumberedRealisesBy : Type 0
+RenumberedRealisesBy = (M M' N : NetlistView) (B : Device) (tdo : (ℕ → ChipMoment) → ℕ → PinSig) (to at : ℕ → ℕ) → IsRenumbering M M' to at → IsWellFormed M → KeepsNumbers N at
+    → RealisesBy M B N tdo → RealisesBy M' B N tdo
+
+-- own: as the chip's
 abbrev pub RenumberedRealises : Type 0
 RenumberedRealises = (M M' N : NetlistView) (B : Device) (to at : ℕ → ℕ) → IsRenumbering M M' to at → IsWellFormed M → KeepsNumbers N at → Realises M B N → Realises M' B N
 
@@ -26,7 +33,13 @@ RenumberedAlone = (M M' N : NetlistView) (B : Device) (to at : ℕ → ℕ) → 
 abbrev pub RenumberedControls : Type 0
 RenumberedControls = (M M' N : NetlistView) (to at : ℕ → ℕ) → IsRenumbering M M' to at → HasControls M N → HasControls M' N
 
--- own: the same library and ports, and the same live cell under each number; so one realises what the other does
+-- own: the same library and ports, and the same live cell under each number; so one realises what the other does,
+-- whatever TDO is to read
+abbrev pub SameRealisesBy : Type 0
+SameRealisesBy = (M M' N : NetlistView) (B : Device) (tdo : (ℕ → ChipMoment) → ℕ → PinSig) → M.library ≡ M'.library → M.ports ≡ M'.ports → ((i : ℕ) → cell_at M i ≡ cell_at M' i)
+    → IsWellFormed M → RealisesBy M B N tdo → RealisesBy M' B N tdo
+
+-- own: as the chip's
 abbrev pub SameRealises : Type 0
 SameRealises = (M M' N : NetlistView) (B : Device) → M.library ≡ M'.library → M.ports ≡ M'.ports → ((i : ℕ) → cell_at M i ≡ cell_at M' i) → IsWellFormed M → Realises M B N → Realises M' B N
 

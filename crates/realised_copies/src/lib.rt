@@ -7,10 +7,12 @@
 //   (`renumbered_has_controls`).
 // - So does a netlist with the same ports and, by their numbers, the same live cells (`same_realises`, `same_is_alone`,
 //   `same_finds_home`).
+// - Both hold whatever TDO is to read (`renumbered_realises_by`, `same_realises_by`).
 // By the contract of its law functions.
 #![tactic(auto)]
 
 ghost use Rattle.realised_copies.specs.Laws.{RenumberedRealises, RenumberedAlone, RenumberedControls, SameRealises, SameAlone};
+ghost use Rattle.realised_copies.specs.Laws.{RenumberedRealisesBy, SameRealisesBy};
 ghost use Rattle.realised_copies.specs.Laws.{RenumberedFindsHome, SameFindsHome};
 
 use netlist_images::{
@@ -19,9 +21,9 @@ use netlist_images::{
 };
 use netlist_laws::direction_of_a_bit;
 
-/// In a device's test logic.
-pub fn renumbered_realises()
-    ensures { RenumberedRealises }
+/// In a device's test logic, whatever TDO is to read.
+pub fn renumbered_realises_by()
+    ensures { RenumberedRealisesBy }
 {
     direction_of_a_bit();
     renumbering_turns();
@@ -29,6 +31,13 @@ pub fn renumbered_realises()
     renumbered_reads();
     renumbered_runs();
     runs_have_images();
+}
+
+/// With TDO as the chip's.
+pub fn renumbered_realises()
+    ensures { RenumberedRealises }
+{
+    renumbered_realises_by();
 }
 
 /// And alone.
@@ -53,11 +62,18 @@ pub fn renumbered_has_controls()
     renumbered_ports();
 }
 
-/// With the same ports and live cells, in a device's test logic.
+/// With the same ports and live cells, in a device's test logic, whatever TDO is to read.
+pub fn same_realises_by()
+    ensures { SameRealisesBy }
+{
+    renumbered_realises_by();
+}
+
+/// With TDO as the chip's.
 pub fn same_realises()
     ensures { SameRealises }
 {
-    renumbered_realises();
+    same_realises_by();
 }
 
 /// And alone.

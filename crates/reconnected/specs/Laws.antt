@@ -45,7 +45,8 @@ abbrev pub ReconnectedHasControls : Type 0
 ReconnectedHasControls = (old new : NetlistView) (number to : ℕ) → IsWellFormed old → (r : Reconnects old new number to) → ReadsFlop old r.cell
     → (net : ℕ) → (IsControlNet new net → IsControlNet old net) × (IsControlNet old net → IsControlNet new net)
 
--- Numbers of the nets, where the net that is read in place of the other stands behind gates that read flip-flops and pins only.
+-- Numbers of the nets, where the net that is read in place of the other stands behind gates that read flip-flops and
+-- pins only.
 
 abbrev pub low_number : Option ℕ → ℕ → ℕ
 low_number None other = suc other

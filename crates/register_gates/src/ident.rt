@@ -15,15 +15,15 @@ use register_bits::lower_netlist_arena::Netlist;
 use register_bits::lower_netlist_model::{Feed, NetId};
 use register_bits::lower_test_logic::{InstrNets, TapNets};
 
-/// Whether USERCODE isn't in effect. Handed in is whether it is.
+/// The inverse of a bit. Handed in is the bit.
 pub const INVERSE: [Gate; 1] = [
     Gate {
         kind: Kind::Not,
         pins: Pins::One(Pin::Given(0)),
-    }, // 0: it isn't
+    }, // 0: the inverse
 ];
 
-// Adds that gate.
+// Adds what tells that USERCODE isn't in effect.
 fn add_inverse(netlist: &mut Netlist, user_on: NetId, user: u32) -> NetId
     requires dense { IsDense netlist.old.lists }
     requires nets { 1 ≤ netlist.old.spare.nets }

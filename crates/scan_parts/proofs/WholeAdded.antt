@@ -166,6 +166,13 @@ tdo_use old new tap instruction bypass ident boundary tdo added =
     let seven : length (tdo_cells (length old.lists.nets) (cell_count old.lists) tap instruction bypass ident boundary tdo) ≡ 7 = refl in
     (omega arith, omega arith)
 
+pub tdo_count : (old new : ArenaView) (tap : TapNets) (instruction : InstrNets) (bypass : NetId) (ident : Option NetId) (boundary tdo : NetId)
+    → Appended old new 6 (tdo_cells (length old.lists.nets) (cell_count old.lists) tap instruction bypass ident boundary tdo) → cell_count new.lists ≡ cell_count old.lists + 7
+tdo_count old new tap instruction bypass ident boundary tdo added =
+    let more = added.counted in
+    let seven : length (tdo_cells (length old.lists.nets) (cell_count old.lists) tap instruction bypass ident boundary tdo) ≡ 7 = refl in
+    omega (arith, more, seven)
+
 pub ident_more : (n m : ℕ) (ident : Option NetId) → n ≤ m → AreIdentBelow n ident → AreIdentBelow m ident
 ident_more n m None more below = tt
 ident_more n m (Some net) more below = let b : net.0 < n = below in let r : net.0 < m = omega arith in r

@@ -5,6 +5,7 @@ ghost use Rattle.netlist_model.specs.Lists.{cell_count};
 ghost use Rattle.netlist_arena.specs.Adds.{IsFree};
 ghost use Rattle.gate_parts.specs.Appended.{Appended};
 ghost use Rattle.scan_sides.specs.stitch_model.Sites as sites;
+ghost use Rattle.scan_sides.specs.stitch_model.Logic.{logic_at};
 ghost use Rattle.scan_sides.specs.stitch_model.Stitched.{test_logic_nets, test_logic_cells};
 ghost use Rattle.scan_sides.specs.Pins.{between};
 ghost use Rattle.scan_parts.specs.Rows.{into_from, IsApart};
@@ -14,23 +15,27 @@ use crate::logic::add_logic;
 use crate::rows::add_rows;
 use gate_parts::{appended_count, appended_more, free_net_stays};
 use netlist_arena::Netlist;
-use netlist_model::NetId;
+use netlist_model::{CellId, NetId};
 use plan_fitting::Fitted;
 use register_gates::add_tdo;
-use scan_sides::lower_stitch_model::TapPort;
+use scan_sides::lower_stitch_model::{Logic, TapPort};
 
-/// Adds the controller and the registers, the boundary register, and what drives TDO, to a netlist whose core stands behind its
-/// boundary cells. The nets between run from `first` up to `end`. Other nets that were free stay so.
+/// Adds the controller and the registers, the boundary register, and what drives TDO, to a netlist whose core stands
+/// behind its boundary cells. The nets between run from `first` up to `end`. Other nets that were free stay so.
+/// Answered are what the controller and the registers hand on, and TDO's gate that chooses between the bits of the
+/// boundary and the bypass register.
 pub fn add_test_logic(
     netlist: &mut Netlist,
     fitted: &Fitted,
     port: &TapPort,
     first: NetId,
     end: NetId,
-)
+) -> (Logic, CellId)
     requires can { CanTakeLogic netlist.old (between netlist.old.lists.ports fitted.now.rows first)
         fitted.now port.now }
     requires end { end.0 ≡ first.0 + sites.sides_of netlist.old.lists.ports fitted.now.rows }
+    ensures logic { result.0 ≡ logic_at (length netlist.old.lists.nets) port.now fitted.now }
+    ensures gate { result.1.0 + 3 ≡ cell_count netlist.new.lists }
     ensures added { Appended netlist.old netlist.new
         (test_logic_nets (between netlist.old.lists.ports fitted.now.rows first) fitted.now)
         (test_logic_cells (between netlist.old.lists.ports fitted.now.rows first) (length netlist.old.lists.nets)
@@ -58,4 +63,7 @@ pub fn add_test_logic(
         nearest,
         port.tdo,
     );
+    let count = netlist.cell_count();
+    let gate = CellId(count - 3);
+    (logic, gate)
 }

@@ -1,21 +1,27 @@
 -- What each step of stitching a netlist finds there.
-use Rattle.std.proofs.Common.{◌≡◌, ◌≢◌, ℕ, ◌+◌, ◌*◌, ◌<◌, ◌≤◌, List, ◌++◌, length, refl, sym, ◌∙◌, ap, subst, arith, Some, None}
+use Rattle.std.proofs.Common.{◌≡◌, ◌≢◌, ℕ, ◌+◌, ◌*◌, ◌<◌, ◌≤◌, List, ◌++◌, map, length, length-append, refl, sym, ◌∙◌, ap, subst, arith, Option, Some, None}
+use Rattle.std.specs.Prelude.{IsSome}
 use Rattle.netlist_model.specs.declared.Dir.TheVariants.{Input, Output}
 use Rattle.netlist_model.specs.declared.NetId.{NetId}
 use Rattle.netlist_model.specs.Formed.{IsLaidOut}
-use Rattle.netlist_model.specs.Lists.{PortView, NetView, CellView, NetlistView, direction, cell_count}
+use Rattle.netlist_model.specs.Contained.{IsDense}
+use Rattle.netlist_model.specs.Lists.{PortView, NetView, CellView, NetlistView, cell_at, direction, cell_count}
 use Rattle.netlist_arena.specs.Arena.{ArenaView}
 use Rattle.netlist_arena.specs.Adds.{IsFree, CanBePin}
 use Rattle.gate_parts.specs.Appended.{Appended}
 use Rattle.gate_parts.specs.Laws.{AppendedCount}
+use Rattle.gate_parts.proofs.Steps.{dense_after}
 use Rattle.plan_fitting.specs.declared.fitted.FitRow.{FitRow}
 use Rattle.plan_fitting.specs.declared.fitted.Fitted.{Fitted}
 use Rattle.scan_parts.specs.stitch_model.declared.TapNames.{TapNames}
 use Rattle.scan_parts.specs.stitch_model.declared.TapPort.{TapPort}
 use Rattle.scan_parts.specs.stitch_model.Sites.{Boundary, boundary_of, sides_of}
 use Rattle.scan_parts.specs.stitch_model.Sides.{core_cell}
-use Rattle.scan_parts.specs.stitch_model.Stitched.{tap_port, tap_ports}
+use Rattle.scan_parts.specs.stitch_model.declared.Logic.{Logic}
+use Rattle.scan_parts.specs.stitch_model.Logic.{logic_at}
+use Rattle.scan_parts.specs.stitch_model.Stitched.{tap_port, tap_ports, first_net, live_cells, test_logic_nets, test_logic_cells, stitched_cells}
 use Rattle.scan_parts.proofs.stitch_model.Moves.{sides_few}
+use Rattle.stitch_names.proofs.stitch_cells.Cells.{core_length}
 use Rattle.stitch_names.specs.Prepared.{room_of}
 use Rattle.scan_parts.specs.scan_sides.Pins.{between}
 use Rattle.scan_parts.specs.Ports.{with_ports, CanBePort}
@@ -89,7 +95,7 @@ ports_can N names f A A' B port is laid can bound port_is there =
 
 -- how many nets and cells there are then
 pub few_nets : AppendedCount → (N : NetlistView) (names : TapNames) (f : Fitted) (A A' : ArenaView) (new : NetlistView) (tap : List PortView) (count : ℕ) (part : List CellView)
-    → A.lists ≡ surrounded N names f.rows → Appended A A' count part → new ≡ with_ports tap A'.lists → A.spare.nets ≤ A'.spare.nets + net_room f → length new.nets ≤ length N.nets + room_of f
+    → A.lists ≡ surrounded N names f.rows → Appended A A' count part → new ≡ with_ports tap A'.lists → A.spare.nets ≤ A'.spare.nets + net_room f → length new.nets < length N.nets + room_of f
 few_nets counted N names f A A' new tap count part is added grown left =
     let few = sides_few N.ports f.rows in
     let more = counted A A' count part added in
@@ -100,10 +106,73 @@ few_nets counted N names f A A' new tap count part is added grown left =
     omega arith
 
 pub few_cells : (N : NetlistView) (names : TapNames) (f : Fitted) (A A' : ArenaView) (new : NetlistView) (tap : List PortView) (count : ℕ) (part : List CellView)
-    → A.lists ≡ surrounded N names f.rows → Appended A A' count part → new ≡ with_ports tap A'.lists → A.spare.cells ≤ A'.spare.cells + cell_room f → cell_count new ≤ cell_count N + room_of f
+    → A.lists ≡ surrounded N names f.rows → Appended A A' count part → new ≡ with_ports tap A'.lists → A.spare.cells ≤ A'.spare.cells + cell_room f → cell_count new < cell_count N + room_of f
 few_cells N names f A A' new tap count part is added grown left =
     let used = added.cell_room in
     let more = added.counted in
     let here : cell_count A.lists ≡ cell_count N = ap (λ (L : NetlistView). cell_count L) is ∙ mapped_count (core_cell (boundary_of N f.rows)) N.cells in
     let there : cell_count new ≡ cell_count A'.lists = ap (λ (L : NetlistView). cell_count L) grown in
     omega arith
+
+-- nets and cells that are there, and those for which there is room, are as many as before
+pub net_sum : AppendedCount → (N : NetlistView) (names : TapNames) (f : Fitted) (A A' : ArenaView) (new : NetlistView) (tap : List PortView) (count : ℕ) (part : List CellView) (old_spare new_spare : ℕ)
+    → A.lists ≡ surrounded N names f.rows → Appended A A' count part → new ≡ with_ports tap A'.lists → A.spare.nets + (5 + sides_of N.ports f.rows) ≡ old_spare → new_spare ≡ A'.spare.nets
+    → length new.nets + new_spare ≡ length N.nets + old_spare
+net_sum counted N names f A A' new tap count part old_spare new_spare is added grown before after =
+    let more = counted A A' count part added in
+    let used = added.net_room in
+    let long = length_around N names f.rows in
+    let here : length A.lists.nets ≡ length (surrounded N names f.rows).nets = ap (λ (L : NetlistView). length L.nets) is in
+    let there : length new.nets ≡ length A'.lists.nets = ap (λ (L : NetlistView). length L.nets) grown in
+    omega arith
+
+pub cell_sum : (N : NetlistView) (names : TapNames) (f : Fitted) (A A' : ArenaView) (new : NetlistView) (tap : List PortView) (count : ℕ) (part : List CellView) (old_spare new_spare : ℕ)
+    → A.lists ≡ surrounded N names f.rows → Appended A A' count part → new ≡ with_ports tap A'.lists → A.spare.cells ≡ old_spare → new_spare ≡ A'.spare.cells
+    → cell_count new + new_spare ≡ cell_count N + old_spare
+cell_sum N names f A A' new tap count part old_spare new_spare is added grown before after =
+    let used = added.cell_room in
+    let more = added.counted in
+    let here : cell_count A.lists ≡ cell_count N = ap (λ (L : NetlistView). cell_count L) is ∙ mapped_count (core_cell (boundary_of N f.rows)) N.cells in
+    let there : cell_count new ≡ cell_count A'.lists = ap (λ (L : NetlistView). cell_count L) grown in
+    omega arith
+
+-- what the controller and the registers hand on
+pub logic_built : (N : NetlistView) (names : TapNames) (f : Fitted) (A : ArenaView) (port : TapPort) (logic : Logic) → A.lists ≡ surrounded N names f.rows → port ≡ tap_port (length N.nets)
+    → logic ≡ logic_at (length A.lists.nets) port f → logic ≡ logic_at (first_net N f) (tap_port (length N.nets)) f
+logic_built N names f A port logic is port_is logic_is =
+    let long = length_around N names f.rows in
+    let here : length A.lists.nets ≡ length (surrounded N names f.rows).nets = ap (λ (L : NetlistView). length L.nets) is in
+    let start : first_net N f ≡ length N.nets + 5 + sides_of N.ports f.rows = refl in
+    let first : length A.lists.nets ≡ first_net N f = omega (arith, long, here, start) in
+    logic_is ∙ ap (λ (n : ℕ). logic_at n port f) first ∙ ap (λ (p : TapPort). logic_at (first_net N f) p f) port_is
+
+-- it has no gaps, and the cells of the list
+pub built_dense : (A A' : ArenaView) (new : NetlistView) (tap : List PortView) (count : ℕ) (part : List CellView) → Appended A A' count part → new ≡ with_ports tap A'.lists → IsDense new
+built_dense A A' new tap count part added grown =
+    let same : (i : ℕ) → cell_at A'.lists i ≡ cell_at new i = λ i. sym (ap (λ (L : NetlistView). cell_at L i) grown) in
+    let many : cell_count new ≡ cell_count A'.lists = ap (λ (L : NetlistView). cell_count L) grown in
+    λ i low. subst (λ (place : Option CellView). IsSome place) (same i) (dense_after A A' count part added i (omega (arith, low, many)))
+
+pub built_count : (N : NetlistView) (names : TapNames) (f : Fitted) (A A' : ArenaView) (B : Boundary) (port : TapPort) (new : NetlistView) (tap : List PortView) → A.lists ≡ surrounded N names f.rows
+    → B ≡ boundary_of N f.rows → port ≡ tap_port (length N.nets)
+    → Appended A A' (test_logic_nets B f) (test_logic_cells B (length A.lists.nets) (cell_count A.lists) port f) → new ≡ with_ports tap A'.lists → cell_count new ≡ length (stitched_cells N f)
+built_count N names f A A' B port new tap is bound port_is added grown =
+    let long = length_around N names f.rows in
+    let here : length A.lists.nets ≡ length (surrounded N names f.rows).nets = ap (λ (L : NetlistView). length L.nets) is in
+    let start : first_net N f ≡ length N.nets + 5 + sides_of N.ports f.rows = refl in
+    let first : length A.lists.nets ≡ first_net N f = omega (arith, long, here, start) in
+    let cells : cell_count A.lists ≡ cell_count N = ap (λ (L : NetlistView). cell_count L) is ∙ mapped_count (core_cell (boundary_of N f.rows)) N.cells in
+    let P : Boundary → ℕ → ℕ → TapPort → ℕ = λ b n k p. length (test_logic_cells b n k p f) in
+    let part : length (test_logic_cells B (length A.lists.nets) (cell_count A.lists) port f)
+    ≡ length (test_logic_cells (boundary_of N f.rows) (first_net N f) (cell_count N) (tap_port (length N.nets)) f)
+    = ap (λ (b : Boundary). P b (length A.lists.nets) (cell_count A.lists) port) bound
+    ∙ ap (λ (n : ℕ). P (boundary_of N f.rows) n (cell_count A.lists) port) first
+    ∙ ap (λ (k : ℕ). P (boundary_of N f.rows) (first_net N f) k port) cells
+    ∙ ap (λ (p : TapPort). P (boundary_of N f.rows) (first_net N f) (cell_count N) p) port_is in
+    let more = added.counted in
+    let there : cell_count new ≡ cell_count A'.lists = ap (λ (L : NetlistView). cell_count L) grown in
+    let core : length (map (core_cell (boundary_of N f.rows)) (live_cells N)) ≡ cell_count N = core_length N f in
+    let both = length-append (map (core_cell (boundary_of N f.rows)) (live_cells N)) (test_logic_cells (boundary_of N f.rows) (first_net N f) (cell_count N) (tap_port (length N.nets)) f) in
+    let whole : length (stitched_cells N f)
+    ≡ length (map (core_cell (boundary_of N f.rows)) (live_cells N) ++ test_logic_cells (boundary_of N f.rows) (first_net N f) (cell_count N) (tap_port (length N.nets)) f) = refl in
+    omega (arith, cells, part, more, there, core, both, whole)

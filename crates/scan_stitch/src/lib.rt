@@ -16,7 +16,7 @@
 //   takes no memory.
 // - A law: the bits of what was fitted are bits of its own ports, and of the netlist's.
 // - A law: what was fitted to a netlist without gaps can be built into it (`fitted_can_be_stitched`).
-// By the contract of `device_of_fit`, `room`, `prepare`, `stitch`, `stitch_netlist` and two law functions.
+// By the contract of `device_of_fit`, `room`, `prepare`, `tap_names`, `stitch`, `stitch_netlist` and two law functions.
 #![tactic(auto)]
 
 mod device;
@@ -28,7 +28,12 @@ mod whole;
 
 pub use device::device_of_fit;
 pub use laws::{fitted_bits_are_there, fitted_can_be_stitched};
+pub use names::tap_names;
 pub use needed_room::{prepare, room};
-pub use parts::stitch_netlist;
+pub use parts::{Built, stitch_netlist};
+pub use stitch_names as lower_stitch_names;
+pub use stitch_names::lower_stitch_cells;
+pub use stitch_ready as lower_stitch_ready;
 pub use stitch_ready::lower_plan_devices;
+pub use stitch_runs::{lower_stitch_formed, lower_stitch_rows};
 pub use whole::stitch;

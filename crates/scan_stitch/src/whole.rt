@@ -51,6 +51,6 @@ pub fn stitch(linked: &mut Linked, fitted: &Fitted)
     linked.netlist().is_laid_out();
     let names = tap_names(linked, fitted);
     let mut draft = linked.begin_draft();
-    stitch_netlist(draft.netlist_mut(), &names, fitted);
+    let _built = stitch_netlist(draft.netlist_mut(), &names, fitted);
     linked.close(draft);
 }

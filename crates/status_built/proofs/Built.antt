@@ -16,10 +16,10 @@ use Rattle.gate_parts.specs.Laws.{AppendedGrows}
 use Rattle.register_gates.specs.Constants.{ConstantsAreBits}
 use Rattle.register_gates.specs.Steps.{AddedInTurn}
 use Rattle.status_fitting.specs.declared.fitted.FittedRegister.{FittedRegister}
-use Rattle.status_gates.specs.Opcodes.{inverses_cells}
-use Rattle.status_parts.specs.declared.SharedNets.{SharedNets}
-use Rattle.status_parts.specs.Registers.{registers_size, registers_cells, CanStand}
-use Rattle.status_parts.proofs.Added.{registers_length}
+use Rattle.status_formed.specs.status_gates.Opcodes.{inverses_cells}
+use Rattle.status_formed.specs.status_parts.declared.SharedNets.{SharedNets}
+use Rattle.status_formed.specs.status_parts.Registers.{registers_size, registers_cells, CanStand}
+use Rattle.status_formed.proofs.status_parts.Added.{registers_length}
 use Rattle.status_built.specs.Laws.{added_cells, shown_at}
 use Rattle.status_built.specs.Build.{IsAddable, CanAdd, IsBuiltOn}
 use Rattle.status_built.proofs.Connected.{connected_other, connected_at, connected_count}

@@ -21,8 +21,8 @@ use Rattle.draft_laws.specs.Sources.{InputIsPure}
 use Rattle.draft_laws.specs.Parts.{IsGrown}
 use Rattle.reconnected.specs.Laws.{Reconnects, ReadsFlop, IsReadable}
 use Rattle.status_fitting.specs.declared.fitted.FittedRegister.{FittedRegister}
-use Rattle.status_parts.specs.declared.SharedNets.{SharedNets}
-use Rattle.status_parts.specs.Registers.{registers_size, shown_of}
+use Rattle.status_formed.specs.status_parts.declared.SharedNets.{SharedNets}
+use Rattle.status_formed.specs.status_parts.Registers.{registers_size, shown_of}
 use Rattle.status_formed.specs.Laws.{IsReadNet, CanShare, CanCapture, RegistersAreFormed}
 use Rattle.status_order.specs.Laws.{IsHeld, IsCopy, IsProper, ShownIsFormed}
 use Rattle.status_built.specs.Laws.{IsInputNet, IsInnerFlop, IsInnerCopy, IsOpenTo, added_cells, shown_at, CanRead, StatusIsFormed}

@@ -14,7 +14,7 @@ use Rattle.netlist_arena.specs.Moves.{with_feed, connected}
 use Rattle.netlist_link.specs.WellNamed.{IsWellNamed, IsWireNet, IsWireName}
 use Rattle.gate_parts.specs.Laws.{AppendedGrows}
 use Rattle.draft_laws.specs.Names.{AppendedIsNamed}
-use Rattle.status_parts.specs.Registers.{registers_size}
+use Rattle.status_formed.specs.status_parts.Registers.{registers_size}
 use Rattle.status_formed.specs.Laws.{RegistersAreNamed}
 use Rattle.status_built.specs.Laws.{added_cells, shown_at, StatusIsNamed}
 use Rattle.status_built.proofs.Connected.{connected_other, connected_at}

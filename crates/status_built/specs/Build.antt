@@ -9,8 +9,8 @@ use Rattle.netlist_arena.specs.Moves.{with_feed}
 use Rattle.gate_parts.specs.Parts.{added_nets}
 use Rattle.register_bits.specs.Bits.{AreNetsBelow}
 use Rattle.status_fitting.specs.declared.fitted.FittedRegister.{FittedRegister}
-use Rattle.status_parts.specs.declared.SharedNets.{SharedNets}
-use Rattle.status_parts.specs.Registers.{registers_size}
+use Rattle.status_formed.specs.status_parts.declared.SharedNets.{SharedNets}
+use Rattle.status_formed.specs.status_parts.Registers.{registers_size}
 use Rattle.status_built.specs.Laws.{added_cells, shown_at}
 
 -- own: a register has a bit of opcode, at most so many, and at most 256 wires, on nets that are there

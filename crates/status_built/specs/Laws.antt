@@ -13,9 +13,9 @@ use Rattle.netlist_arena.specs.Moves.{connected}
 use Rattle.netlist_link.specs.WellNamed.{IsWellNamed}
 use Rattle.gate_parts.specs.Appended.{Appended}
 use Rattle.status_fitting.specs.declared.fitted.FittedRegister.{FittedRegister}
-use Rattle.status_gates.specs.Opcodes.{inverses_cells}
-use Rattle.status_parts.specs.declared.SharedNets.{SharedNets}
-use Rattle.status_parts.specs.Registers.{registers_size, shown_of, registers_cells}
+use Rattle.status_formed.specs.status_gates.Opcodes.{inverses_cells}
+use Rattle.status_formed.specs.status_parts.declared.SharedNets.{SharedNets}
+use Rattle.status_formed.specs.status_parts.Registers.{registers_size, shown_of, registers_cells}
 use Rattle.status_formed.specs.Laws.{IsReadNet}
 use Rattle.status_order.specs.Laws.{IsHeld, IsCopy, IsProper}
 

@@ -7,7 +7,7 @@ ghost use Rattle.netlist_model.specs.Formed.{IsLaidOut, IsWellFormed};
 ghost use Rattle.netlist_arena.specs.Looks.{feed_at};
 ghost use Rattle.netlist_link.specs.WellNamed.{IsWellNamed};
 ghost use Rattle.gate_parts.specs.Appended.{Appended};
-ghost use Rattle.status_parts.specs.Registers.{registers_size};
+ghost use Rattle.status_formed.specs.status_parts.Registers.{registers_size};
 ghost use Rattle.status_order.specs.Laws.{IsProper};
 ghost use Rattle.status_built.specs.Laws.{IsOpenTo, CanRead, added_cells, shown_at};
 ghost use Rattle.status_built.specs.Build.{CanAdd, IsBuiltOn};
@@ -19,8 +19,8 @@ use netlist_laws::numbers_of_a_dense_netlist;
 use netlist_model::{CellId, Feed, NetId};
 use register_gates::{added_in_turn, constants_are_bits};
 use status_fitting::FittedRegister;
-use status_gates::add_inverses;
-use status_parts::{SharedNets, add_registers};
+use status_formed::lower_status_gates::add_inverses;
+use status_formed::lower_status_parts::{SharedNets, add_registers};
 
 // Adds the inverses and the registers, and answers the net that they show.
 fn add_status(

@@ -5,7 +5,7 @@ use Rattle.std.specs.List.{list_any}
 use Rattle.bsdl_lexicon.specs.Names.{is_same_name}
 use Rattle.bsdl_lexicon.specs.Reserved.{is_reserved}
 use Rattle.bsdl_device.specs.Runs.{is_identifier}
-use Rattle.extended_device.specs.Rules.{names_register, names_profile}
+use Rattle.extended_device.specs.Rules.{names_register, names_some_instruction}
 use Rattle.status_texts.specs.declared.plan.StatusRow.{StatusRow}
 use Rattle.status_texts.specs.declared.plan.StatusPlan.{StatusPlan}
 
@@ -34,7 +34,7 @@ all_given plan = flat_map given_by plan.registers
 -- BOUNDARY, BYPASS and DEVICE_ID; the profile's instructions, INTEST and RUNBIST
 abbrev pub is_standard : Given → Bool
 is_standard (RegisterName name) = names_register name
-is_standard (InstructionName name) = names_profile name || is_same_name name (codes "INTEST") || is_same_name name (codes "RUNBIST")
+is_standard (InstructionName name) = names_some_instruction name || is_same_name name (codes "INTEST") || is_same_name name (codes "RUNBIST")
 
 -- no identifier, or a reserved word; or a name of the standard, or one that was given before
 abbrev pub is_barred : List Given → Given → Bool

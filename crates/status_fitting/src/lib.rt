@@ -8,10 +8,10 @@
 // - It answers a fault only where that stands, and none before it (`IsFault`): a name that can't be a register's or an
 //   instruction's, a word that names no bit of a wire with a driver, an opcode that can't be its instruction's, each
 //   the first along all lines.
-// - Wires are found by a table of names and indexes, made in one pass over the nets; drivers are flagged in one pass
-//   over the cells; names and opcodes that were given before are found by tables.
 // - Laws: in a well-named netlist a word names one net at most, and what is fitted or the first fault is one answer.
-// By the contract of `fit_status` and its law function.
+// By the contract of `fit_status` and its law function. What no clause says: wires are found by a table of names and
+// indexes, made in one pass over the nets; drivers are flagged in one pass over the cells; names and opcodes that were
+// given before are found by tables.
 #![tactic(auto)]
 
 // Keys of tables, and the wires of a netlist.

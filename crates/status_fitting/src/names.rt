@@ -2,36 +2,18 @@
 ghost use Rattle.std.specs.Prelude.{◌≡◌, ◌++◌, ◌∷◌, [], true, false, not, ◌||◌, IfOk, OnOk, codes, flat_map};
 ghost use Rattle.std.specs.List.{list_any};
 ghost use Rattle.bsdl_lexicon.specs.Names.{is_same_name};
-ghost use Rattle.extended_device.specs.Rules as rule;
 ghost use Rattle.status_fitting.specs.Keys.{given_in, given_of};
 ghost use Rattle.status_fitting.specs.Names as names;
 ghost use Rattle.status_fitting.specs.Steps.{fault_behind, name_fault};
 
 use crate::keys::GivenKey;
-use bsdl_device::INSTRUCTIONS;
 use bsdl_lexicon::{NameKey, is_reserved, same_name};
-use bsdl_runs::opcodes::names_instruction;
 use bsdl_runs::runs::is_identifier;
+use extended_rules::{names_register, names_some_instruction};
 use indexmap::IndexSet;
 use status_texts::{StatusFault, StatusPlan, StatusRow};
 use std::alloc::Global;
 use texts::{OutOfMemory, Text};
-
-// The name is that of one of the profile's registers.
-fn names_register(name: &[u8]) -> bool
-    ensures { result ≡ rule.names_register name.now }
-{
-    same_name(name, b"BOUNDARY") || same_name(name, b"BYPASS") || same_name(name, b"DEVICE_ID")
-}
-
-// The name is that of one of the profile's instructions.
-fn names_profile(name: &[u8]) -> bool
-    ensures { result ≡ rule.names_profile name.now }
-{
-    INSTRUCTIONS
-        .iter()
-        .any(|instruction| names_instruction(*instruction, name))
-}
 
 // The name is that of an instruction of the standard that the profile leaves out.
 fn names_other(name: &[u8]) -> bool
@@ -56,7 +38,7 @@ impl<'a> GivenKey<'a> {
     {
         match self {
             GivenKey::Register(name) => names_register(name.0),
-            GivenKey::Instruction(name) => names_profile(name.0) || names_other(name.0),
+            GivenKey::Instruction(name) => names_some_instruction(name.0) || names_other(name.0),
         }
     }
 }

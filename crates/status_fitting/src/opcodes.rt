@@ -21,7 +21,7 @@ fn same_bits(one: Bits, other: Bits) -> bool
     one.len == other.len && one.value == other.value
 }
 
-// One of the opcodes, of which a plan has eight at most, is this.
+// One of the opcodes is this.
 fn is_among(opcodes: &[Opcode], bits: Bits) -> bool
     ensures { result ≡ list_any (λ o. profile.same_bits bits o.bits) opcodes.now }
 {

@@ -13,8 +13,8 @@ use plan_texts::Plan;
 use status_texts::{StatusFault, StatusPlan};
 use std::alloc::Global;
 
-/// Fits registers to a plan and a netlist, in time linear in all: the nets that they capture where no fault stands,
-/// else the first fault in the order of `StatusFault`.
+/// Fits registers to a plan and a netlist, in time linear in lines, nets and cells: the nets that they capture where no
+/// fault stands, else the first fault in the order of `StatusFault`.
 pub fn fit_status(
     alloc: Global,
     plan: &StatusPlan,

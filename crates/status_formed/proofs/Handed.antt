@@ -27,11 +27,12 @@ use Rattle.draft_laws.specs.Readable.{IsPure}
 use Rattle.draft_laws.specs.Tables.{IsPartTable, IsControl}
 use Rattle.draft_laws.specs.Parts.{Part, parts_size, parts_cells, IsThere, IsHanded, AreHanded, PartsAreFormed}
 use Rattle.status_fitting.specs.declared.fitted.FittedRegister.{FittedRegister}
-use Rattle.status_gates.specs.declared.TheConstants.{INVERSE, BOTH, SHOWN}
-use Rattle.status_gates.specs.Opcodes.{inverses_cells, literal, told_feed}
-use Rattle.status_gates.specs.Shown.{shown_given}
-use Rattle.status_gates.specs.Wires.{net_feeds}
-use Rattle.status_gates.proofs.Feeds.{net_feeds_length}
+use Rattle.register_gates.specs.declared.ident.TheConstants.{INVERSE}
+use Rattle.status_parts.specs.status_gates.declared.TheConstants.{BOTH, SHOWN}
+use Rattle.status_parts.specs.status_gates.Opcodes.{inverses_cells, literal, told_feed}
+use Rattle.status_parts.specs.status_gates.Shown.{shown_given}
+use Rattle.status_parts.specs.status_gates.Wires.{net_feeds}
+use Rattle.status_parts.proofs.status_gates.Feeds.{net_feeds_length}
 use Rattle.status_parts.specs.declared.SharedNets.{SharedNets}
 use Rattle.status_parts.specs.Registers.{wanted_feeds, net_in, bits_size, on_at, near_at, registers_size, shown_of, registers_cells}
 use Rattle.status_formed.specs.Handed.{inverse_parts, both_part, opcode_parts, bit_part, chain_parts, data_parts, shown_part, register_parts, registers_parts}

@@ -18,10 +18,11 @@ use Rattle.draft_laws.specs.Grown.{IsOneOf}
 use Rattle.draft_laws.specs.Names.{IsNamedCell}
 use Rattle.draft_laws.specs.Sources.{PartIsNamed}
 use Rattle.status_fitting.specs.declared.fitted.FittedRegister.{FittedRegister}
-use Rattle.status_gates.specs.declared.TheConstants.{INVERSE, BOTH, SHOWN}
-use Rattle.status_gates.specs.Opcodes.{inverses_cells, literal, told_feed, opcode_cells}
-use Rattle.status_gates.specs.Shown.{shown_given}
-use Rattle.status_gates.specs.Wires.{net_feeds}
+use Rattle.register_gates.specs.declared.ident.TheConstants.{INVERSE}
+use Rattle.status_parts.specs.status_gates.declared.TheConstants.{BOTH, SHOWN}
+use Rattle.status_parts.specs.status_gates.Opcodes.{inverses_cells, literal, told_feed, opcode_cells}
+use Rattle.status_parts.specs.status_gates.Shown.{shown_given}
+use Rattle.status_parts.specs.status_gates.Wires.{net_feeds}
 use Rattle.status_parts.specs.declared.SharedNets.{SharedNets}
 use Rattle.status_parts.specs.Registers.{wanted_feeds, bits_size, on_at, near_at, register_cells, registers_size, shown_of, registers_cells}
 use Rattle.status_formed.specs.Laws.{RegistersAreNamed}

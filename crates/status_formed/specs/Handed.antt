@@ -15,10 +15,11 @@ use Rattle.register_gates.specs.Registers.{selected_given, selected_steering}
 use Rattle.instruction_gates.specs.Rows.{is_one}
 use Rattle.draft_laws.specs.Parts.{Part}
 use Rattle.status_fitting.specs.declared.fitted.FittedRegister.{FittedRegister}
-use Rattle.status_gates.specs.declared.TheConstants.{INVERSE, BOTH, SHOWN}
-use Rattle.status_gates.specs.Opcodes.{literal, told_feed}
-use Rattle.status_gates.specs.Shown.{shown_given}
-use Rattle.status_gates.specs.Wires.{net_feeds}
+use Rattle.register_gates.specs.declared.ident.TheConstants.{INVERSE}
+use Rattle.status_parts.specs.status_gates.declared.TheConstants.{BOTH, SHOWN}
+use Rattle.status_parts.specs.status_gates.Opcodes.{literal, told_feed}
+use Rattle.status_parts.specs.status_gates.Shown.{shown_given}
+use Rattle.status_parts.specs.status_gates.Wires.{net_feeds}
 use Rattle.status_parts.specs.declared.SharedNets.{SharedNets}
 use Rattle.status_parts.specs.Registers.{wanted_feeds, on_at, near_at, registers_size, shown_of}
 

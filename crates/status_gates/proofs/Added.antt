@@ -1,5 +1,5 @@
 -- The gates are added one after the other.
-use Rattle.std.proofs.Common.{Bool, true, false, ◌≡◌, ℕ, suc, ◌+◌, ◌-◌, ◌<◌, ◌≤◌, List, [], ◌∷◌, ◌++◌, drop, length, length-append, refl, sym, ap, subst, ◌∙◌, arith, Some}
+use Rattle.std.proofs.Common.{Bool, true, false, ◌≡◌, ℕ, zero, suc, ◌+◌, ◌-◌, ◌<◌, ◌≤◌, List, [], ◌∷◌, ◌++◌, drop, length, length-append, append_assoc, append-nil, refl, sym, ap, subst, ◌∙◌, arith, Some}
 use Rattle.std.specs.Prelude.{slice_get}
 use Rattle.std.proofs.Math.Seq.{drop-cons, drop-length}
 use Rattle.std.proofs.lemmas.Option.{slice_get_within, get_or_from_slice_get}
@@ -11,41 +11,57 @@ use Rattle.netlist_model.specs.Below.{IsFeedBelow}
 use Rattle.netlist_arena.specs.Arena.{ArenaView}
 use Rattle.gate_parts.specs.Appended.{Appended}
 use Rattle.gate_parts.specs.Parts.{part_cells}
+use Rattle.register_gates.specs.declared.ident.TheConstants.{INVERSE}
 use Rattle.register_gates.specs.Steps.{AddedInTurn}
 use Rattle.instruction_gates.specs.Rows.{is_one}
-use Rattle.status_gates.specs.declared.TheConstants.{INVERSE, BOTH}
+use Rattle.status_gates.specs.declared.TheConstants.{BOTH}
 use Rattle.status_gates.specs.Opcodes.{inverses_cells, literal, told_feed, opcode_cells}
 
 -- The inverses.
 
-pub none_inverted : (old : ArenaView) (opcode count : ℕ) → count ≡ 0 → Appended old old 0 []
-    → Appended old old count (inverses_cells (length old.lists.nets) (cell_count old.lists) opcode count)
-none_inverted old opcode count e added =
-    let P : ℕ → Type 0 = λ n. Appended old old n (inverses_cells (length old.lists.nets) (cell_count old.lists) opcode n) in
-    subst P (sym e) added
+abbrev inverse_part : ℕ → ℕ → ℕ → List CellView
+inverse_part bit first number = part_cells INVERSE (Net (record { 0 = bit }) ∷ []) first number
 
-more_inverted : AddedInTurn → (old middle new : ArenaView) (opcode behind count : ℕ) → suc behind ≡ count
-    → Appended old middle 1 (part_cells INVERSE (Net (record { 0 = opcode }) ∷ []) (length old.lists.nets) (cell_count old.lists))
-    → Appended middle new behind (inverses_cells (length middle.lists.nets) (cell_count middle.lists) (suc opcode) behind)
-    → Appended old new count (inverses_cells (length old.lists.nets) (cell_count old.lists) opcode count)
-more_inverted in_turn old middle new opcode behind count e a b =
-    let front : List CellView = part_cells INVERSE (Net (record { 0 = opcode }) ∷ []) (length old.lists.nets) (cell_count old.lists) in
-    let nets : length old.lists.nets + 1 ≡ suc (length old.lists.nets) = omega arith in
-    let cells : cell_count old.lists + 1 ≡ suc (cell_count old.lists) = omega arith in
-    let whole : 1 + behind ≡ suc behind = omega arith in
-    let P : ℕ → Type 0 = λ n. Appended old new (suc behind) (front ++ inverses_cells n (cell_count old.lists + 1) (suc opcode) behind) in
-    let Q : ℕ → Type 0 = λ n. Appended old new (suc behind) (front ++ inverses_cells (suc (length old.lists.nets)) n (suc opcode) behind) in
-    let R : ℕ → Type 0 = λ n. Appended old new n (inverses_cells (length old.lists.nets) (cell_count old.lists) opcode n) in
-    subst R e (subst Q cells (subst P nets (in_turn old middle new 1 behind (suc behind) front (λ first number. inverses_cells first number (suc opcode) behind) a refl b whole)))
+pub inverses_length : (first number opcode count : ℕ) → length (inverses_cells first number opcode count) ≡ count
+inverses_length first number opcode zero = refl
+inverses_length first number opcode (suc behind) =
+    let xs : List CellView = inverse_part opcode first number in
+    let ys : List CellView = inverses_cells (suc first) (suc number) (suc opcode) behind in
+    let one : length xs ≡ 1 = refl in
+    let both = length-append xs ys in
+    let long = inverses_length (suc first) (suc number) (suc opcode) behind in
+    omega (arith, one, both, long)
 
-pub one_inverted : AddedInTurn → (old middle new : ArenaView) (opcode count : ℕ) → 0 < count
-    → Appended old middle 1 (part_cells INVERSE (Net (record { 0 = opcode }) ∷ []) (length old.lists.nets) (cell_count old.lists))
-    → Appended middle new (count - 1) (inverses_cells (length middle.lists.nets) (cell_count middle.lists) (opcode + 1) (count - 1))
+same_inverse : (bit bit' first first' number number' : ℕ) → bit ≡ bit' → first ≡ first' → number ≡ number' → inverse_part bit first number ≡ inverse_part bit' first' number'
+same_inverse bit bit' first first' number number' a b c = ap (λ (n : ℕ). inverse_part n first number) a ∙ ap (λ (n : ℕ). inverse_part bit' n number) b ∙ ap (λ (n : ℕ). inverse_part bit' first' n) c
+
+-- the last one stands behind all others
+inverses_last : (first number opcode behind : ℕ) → inverses_cells first number opcode (suc behind) ≡ inverses_cells first number opcode behind ++ inverse_part (opcode + behind) (first + behind) (number + behind)
+inverses_last first number opcode zero = append-nil (inverse_part opcode first number) ∙ same_inverse opcode (opcode + 0) first (first + 0) number (number + 0) (omega arith) (omega arith) (omega arith)
+inverses_last first number opcode (suc behind) =
+    let front : List CellView = inverse_part opcode first number in
+    let middle : List CellView = inverses_cells (suc first) (suc number) (suc opcode) behind in
+    ap (λ (xs : List CellView). front ++ xs)
+    (inverses_last (suc first) (suc number) (suc opcode) behind
+    ∙ ap (λ (xs : List CellView). middle ++ xs)
+    (same_inverse (suc opcode + behind) (opcode + suc behind) (suc first + behind) (first + suc behind) (suc number + behind) (number + suc behind) (omega arith) (omega arith) (omega arith)))
+    ∙ sym (append_assoc front middle (inverse_part (opcode + suc behind) (first + suc behind) (number + suc behind)))
+
+pub inverted_more : AddedInTurn → (old middle new : ArenaView) (opcode place : ℕ) → Appended old middle place (inverses_cells (length old.lists.nets) (cell_count old.lists) opcode place)
+    → Appended middle new 1 (part_cells INVERSE (Net (record { 0 = opcode + place }) ∷ []) (length middle.lists.nets) (cell_count middle.lists))
+    → Appended old new (place + 1) (inverses_cells (length old.lists.nets) (cell_count old.lists) opcode (place + 1))
+inverted_more in_turn old middle new opcode place before step =
+    let first : ℕ = length old.lists.nets in
+    let number : ℕ = cell_count old.lists in
+    let next : suc place ≡ place + 1 = omega arith in
+    let both = in_turn old middle new place 1 (place + 1) (inverses_cells first number opcode place) (λ f n. inverse_part (opcode + place) f n) before (inverses_length first number opcode place) step refl in
+    let whole : Appended old new (place + 1) (inverses_cells first number opcode (suc place)) = subst (λ (cells : List CellView). Appended old new (place + 1) cells) (sym (inverses_last first number opcode place)) both in
+    subst (λ (n : ℕ). Appended old new (place + 1) (inverses_cells first number opcode n)) next whole
+
+-- at the end all are there
+pub inverted_all : (old new : ArenaView) (opcode place count : ℕ) → place ≡ count → Appended old new place (inverses_cells (length old.lists.nets) (cell_count old.lists) opcode place)
     → Appended old new count (inverses_cells (length old.lists.nets) (cell_count old.lists) opcode count)
-one_inverted in_turn old middle new opcode count some a b =
-    let next : opcode + 1 ≡ suc opcode = omega arith in
-    let P : ℕ → Type 0 = λ n. Appended middle new (count - 1) (inverses_cells (length middle.lists.nets) (cell_count middle.lists) n (count - 1)) in
-    more_inverted in_turn old middle new opcode (count - 1) count (omega arith) a (subst P next b)
+inverted_all old new opcode place count is added = subst (λ (n : ℕ). Appended old new n (inverses_cells (length old.lists.nets) (cell_count old.lists) opcode n)) is added
 
 -- An opcode.
 

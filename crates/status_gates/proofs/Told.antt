@@ -4,7 +4,6 @@ use Rattle.signal_values.specs.declared.Sig.{Sig}
 use Rattle.signal_values.specs.declared.Sig.TheVariants.{Zero, One, Unknown}
 use Rattle.signal_values.specs.Values.{bit, sig_and, sig_not, sig_mux}
 use Rattle.signal_values.proofs.Laws.{and-bit}
-use Rattle.netlist_model.specs.declared.NetId.{NetId}
 use Rattle.netlist_model.specs.declared.Feed.{Feed}
 use Rattle.netlist_model.specs.declared.Feed.TheVariants.{Net}
 use Rattle.netlist_model.specs.Settled.{feed_value}
@@ -15,12 +14,10 @@ use Rattle.test_logic.specs.Instructions.{is_pattern, is_same_bit}
 use Rattle.instruction_gates.specs.Rows.{is_one, bits_in}
 use Rattle.instruction_gates.specs.Copies.{row_values}
 use Rattle.instruction_gates.specs.Matches.{IsKnown}
-use Rattle.surrounded_core.specs.Places.{bypass_bit}
-use Rattle.register_gates.specs.Registers.{data_last}
-use Rattle.status_runs.specs.Placed.{wire_feeds}
-use Rattle.status_gates.specs.declared.TheConstants.{INVERSE, BOTH, SHOWN}
+use Rattle.register_gates.specs.declared.ident.TheConstants.{INVERSE}
+use Rattle.status_gates.specs.declared.TheConstants.{BOTH, SHOWN}
 use Rattle.status_gates.specs.Opcodes.{inverses_cells, InversesTell, literal, told_feed, opcode_cells, OpcodesTell}
-use Rattle.status_gates.specs.Shown.{shown_net, shown_cells, ShownTells}
+use Rattle.status_gates.specs.Shown.{ShownTells}
 
 pub record GateLaws : Type 0 where
   pub parts : ContainedParts
@@ -67,16 +64,10 @@ opcodes_tell laws first number opcode inverses (w ∷ rest) N m formed has settl
 
 -- The bit that is shown.
 
-pub shown_tells : GateLaws → ShownTells
-shown_tells laws first number S [] N m formed has settled = refl
-shown_tells laws first number S (p ∷ ps) N m formed has settled =
-    let behind : NetId = shown_net first (bypass_bit S) ps in
-    let near : NetId = data_last p.first S.tdi (wire_feeds p.register) in
-    let given : List Feed = Net behind ∷ Net near ∷ Net p.on ∷ [] in
-    let f : ℕ = first + length ps in
-    let n : ℕ = number + length ps in
-    let apart = (laws.parts N (shown_cells first number S ps) (part_cells SHOWN given f n)).parts has in
-    let eqs = laws.meets N SHOWN given f n formed apart.1 _ m.state m.value settled in
-    let z : f + 0 ≡ f = omega arith in
-    let e : m.value (f + 0) ≡ sig_mux (m.value p.on.0) (m.value behind.0) (m.value near.0) = (eqs 0 _ refl refl).1 in
-    ap m.value (sym z) ∙ e ∙ ap (λ (x : Sig). sig_mux (m.value p.on.0) x (m.value near.0)) (shown_tells laws first number S ps N m formed apart.0 settled)
+pub shown_tells : ContainedPartMeets → ShownTells
+shown_tells meets first number behind near on N m formed has settled =
+    let given : List Feed = Net behind ∷ Net near ∷ Net on ∷ [] in
+    let eqs = meets N SHOWN given first number formed has _ m.state m.value settled in
+    let z : first + 0 ≡ first = omega arith in
+    let e : m.value (first + 0) ≡ sig_mux (m.value on.0) (m.value behind.0) (m.value near.0) = (eqs 0 _ refl refl).1 in
+    ap m.value (sym z) ∙ e

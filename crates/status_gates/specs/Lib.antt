@@ -1,3 +1,5 @@
+pub use Rattle.register_gates.specs as register_gates
+pub use Rattle.instruction_gates.specs as instruction_gates
 pub mod Opcodes
 pub mod Shown
 pub mod Wires

@@ -1,4 +1,5 @@
--- Whether the latched opcode, which stands on nets in a row with bit 0 first, is a certain one. In a list place 0 is nearest TDO.
+-- Whether the latched opcode, which stands on nets in a row with bit 0 first, is a certain one. In a list place 0 is
+-- nearest TDO.
 -- IEEE Std 1149.1-2001: instruction register; the gates are own.
 use Rattle.std.specs.Prelude.{◌≡◌, ℕ, zero, suc, ◌+◌, Bool, true, false, List, [], ◌∷◌, ◌++◌, length, ⊤}
 use Rattle.signal_values.specs.declared.Sig.{Sig}
@@ -12,10 +13,11 @@ use Rattle.netlist_model.specs.Contained.{HasCells}
 use Rattle.netlist_model.specs.Runs.{Moment}
 use Rattle.gate_parts.specs.Parts.{part_cells}
 use Rattle.test_logic.specs.Instructions.{is_pattern}
+use Rattle.register_gates.specs.declared.ident.TheConstants.{INVERSE}
 use Rattle.instruction_gates.specs.Rows.{is_one, bits_in}
 use Rattle.instruction_gates.specs.Copies.{row_values}
 use Rattle.instruction_gates.specs.Matches.{AreKnown}
-use Rattle.status_gates.specs.declared.TheConstants.{INVERSE, BOTH}
+use Rattle.status_gates.specs.declared.TheConstants.{BOTH}
 
 -- own: the cells of the inverses, shared by all opcodes
 abbrev pub inverses_cells : ℕ → ℕ → ℕ → ℕ → List CellView

@@ -1,13 +1,13 @@
-// The gates that select data registers of a design's own: whether the latched opcode is a certain one, and which bit goes to TDO.
-// specs/ has their cells and what they do.
+// The gates that select data registers of a design's own: whether the latched opcode is a certain one, and which bit
+// goes to TDO. specs/ has their cells and what they do.
 // IEEE Std 1149.1-2001: instruction register, design-specific test data registers; the gates are own.
 //
 // - `add_inverses`, `add_opcode`, `add_wires` and `add_shown` append exactly their cells, and can't refuse: n for an
 //   instruction register of n bits, which all data registers share; and for each register n, 2 + 3 b for b wires,
 //   and 1.
-// - Where the latched bits are known, the last gate of an opcode tells whether it is latched (`inverses_tell`,
-//   `opcodes_tell`); the last multiplexer has the bit of the first register that is on, else the bypass bit
-//   (`shown_tells`).
+// - The inverses are those of the bits (`inverses_tell`); where the latched bits are known, the last gate of an opcode
+//   tells whether it is latched (`opcodes_tell`); a multiplexer has its register's bit while the register is on, else
+//   what stands behind it (`shown_tells`).
 // By the contract of the four calls and three law functions.
 #![tactic(auto)]
 
@@ -24,16 +24,9 @@ use gate_parts::{Gate, Pin, Pins, contained_part_meets};
 pub use inverses::add_inverses;
 use netlist_laws::contained_parts;
 pub use opcodes::add_opcode;
+pub use register_gates as lower_register_gates;
 pub use shown::add_shown;
 pub use wires::add_wires;
-
-/// The inverse of a bit of the latched opcode. Handed in is the bit.
-pub const INVERSE: [Gate; 1] = [
-    Gate {
-        kind: Kind::Not,
-        pins: Pins::One(Pin::Given(0)),
-    }, // 0: the inverse
-];
 
 /// Whether a bit and those behind it are an opcode's. Handed in are whether this one is, and whether those are.
 pub const BOTH: [Gate; 1] = [
@@ -67,10 +60,9 @@ pub fn opcodes_tell()
     contained_part_meets();
 }
 
-/// The last multiplexer has the bit of the first register that is selected, else the bypass bit.
+/// A multiplexer has its register's bit while the register is on, else what stands behind it.
 pub fn shown_tells()
     ensures { ShownTells }
 {
-    contained_parts();
     contained_part_meets();
 }

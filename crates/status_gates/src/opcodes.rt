@@ -41,8 +41,8 @@ fn add_both(netlist: &mut Netlist, this: Feed, told: Feed) -> NetId
     add_part(netlist, &BOTH, &[this, told])
 }
 
-/// Adds to a dense netlist what tells whether the bits on nets from `opcode` on, whose inverses stand on nets from `inverses` on, are
-/// these, and answers it. For n bits it takes n cells and nets of the room that is there.
+/// Adds to a dense netlist what tells whether the bits on nets from `opcode` on, whose inverses stand on nets from
+/// `inverses` on, are these, and answers it. For n bits it takes n cells and nets of the room that is there.
 pub fn add_opcode(netlist: &mut Netlist, opcode: NetId, inverses: NetId, wanted: &[Feed]) -> Feed
     requires dense { IsDense netlist.old.lists }
     requires nets { length wanted.now ≤ netlist.old.spare.nets }

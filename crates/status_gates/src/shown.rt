@@ -13,8 +13,8 @@ use gate_parts::add_part;
 use netlist_arena::Netlist;
 use netlist_model::{Feed, NetId};
 
-/// Adds to a dense netlist what has a register's bit nearest TDO while the register is on, and else the bit that is shown behind it; and
-/// answers its net.
+/// Adds to a dense netlist what has a register's bit nearest TDO while the register is on, and else the bit that is
+/// shown behind it; and answers its net.
 pub fn add_shown(netlist: &mut Netlist, behind: NetId, near: NetId, on: NetId) -> NetId
     requires dense { IsDense netlist.old.lists }
     requires nets { 1 ≤ netlist.old.spare.nets }

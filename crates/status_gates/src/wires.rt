@@ -1,7 +1,6 @@
 // A data register that captures nets.
 
-ghost use Rattle.std.specs.Prelude.{◌≡◌, ◌+◌, ◌*◌, ◌<◌, ◌≤◌, map, take, length, All};
-ghost use Rattle.netlist_model.specs.declared.Feed.TheVariants.{Net};
+ghost use Rattle.std.specs.Prelude.{◌≡◌, ◌+◌, ◌*◌, ◌<◌, ◌≤◌, take, length, All};
 ghost use Rattle.netlist_model.specs.Lists.{cell_count};
 ghost use Rattle.netlist_model.specs.Contained.{IsDense};
 ghost use Rattle.netlist_model.specs.Below.{IsNetBelow};
@@ -27,8 +26,8 @@ fn feeds_of(nets: &[NetId]) -> [Feed; 256]
     feeds
 }
 
-/// Adds a register to a dense netlist that captures these nets, the first of which is nearest TDO, while `on` is 1, and answers the net
-/// of the bit nearest TDO. For n nets it takes 2 + 3 n cells and nets of the room that is there.
+/// Adds a register to a dense netlist that captures these nets, the first of which is nearest TDO, while `on` is 1, and
+/// answers the net of the bit nearest TDO. For n nets it takes 2 + 3 n cells and nets of the room that is there.
 pub fn add_wires(
     netlist: &mut Netlist,
     tap: &TapNets,

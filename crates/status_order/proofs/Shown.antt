@@ -19,11 +19,11 @@ use Rattle.register_gates.specs.Constants.{ConstantsAreBits}
 use Rattle.register_gates.specs.Registers.{selected_cells, selected_steering, data_cells, data_last}
 use Rattle.instruction_gates.specs.Rows.{is_one}
 use Rattle.reconnected.specs.Laws.{ReconnectedToLow}
-use Rattle.status_fitting.specs.declared.fitted.FittedRegister.{FittedRegister}
-use Rattle.status_gates.specs.declared.TheConstants.{BOTH, SHOWN}
-use Rattle.status_gates.specs.Opcodes.{inverses_cells, literal, told_feed, opcode_cells}
-use Rattle.status_gates.specs.Shown.{shown_given}
-use Rattle.status_gates.specs.Wires.{net_feeds}
+use Rattle.status_parts.specs.status_fitting.declared.fitted.FittedRegister.{FittedRegister}
+use Rattle.status_parts.specs.status_gates.declared.TheConstants.{BOTH, SHOWN}
+use Rattle.status_parts.specs.status_gates.Opcodes.{inverses_cells, literal, told_feed, opcode_cells}
+use Rattle.status_parts.specs.status_gates.Shown.{shown_given}
+use Rattle.status_parts.specs.status_gates.Wires.{net_feeds}
 use Rattle.status_parts.specs.declared.SharedNets.{SharedNets}
 use Rattle.status_parts.specs.Registers.{wanted_feeds, net_in, bits_size, on_at, near_at, shown_at, registers_size, shown_of, registers_cells}
 use Rattle.status_order.specs.Laws.{IsHeld, IsCopy, IsProper, ShownIsFormed}

@@ -8,8 +8,8 @@ use Rattle.netlist_model.specs.Lists.{CellView, NetlistView, Drives}
 use Rattle.netlist_model.specs.Formed.{IsWellFormed}
 use Rattle.netlist_model.specs.Contained.{HasCells}
 use Rattle.reconnected.specs.Laws.{Reconnects, ReadsFlop, IsReadable}
-use Rattle.status_fitting.specs.declared.fitted.FittedRegister.{FittedRegister}
-use Rattle.status_gates.specs.Opcodes.{inverses_cells}
+use Rattle.status_parts.specs.status_fitting.declared.fitted.FittedRegister.{FittedRegister}
+use Rattle.status_parts.specs.status_gates.Opcodes.{inverses_cells}
 use Rattle.status_parts.specs.declared.SharedNets.{SharedNets}
 use Rattle.status_parts.specs.Registers.{shown_of, registers_cells}
 

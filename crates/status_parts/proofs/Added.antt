@@ -15,9 +15,9 @@ use Rattle.gate_parts.specs.Parts.{part_cells}
 use Rattle.test_logic.specs.declared.TapNets.{TapNets}
 use Rattle.register_bits.specs.Chains.{chain_last, chain_cells}
 use Rattle.register_bits.proofs.Lengths.{chain_length}
-use Rattle.register_gates.specs.Constants.{constant_bits, ConstantsAreBits}
-use Rattle.register_gates.specs.Registers.{selected_cells, selected_steering, data_cells, data_last}
-use Rattle.register_gates.specs.Steps.{AddedInTurn}
+use Rattle.status_gates.specs.register_gates.Constants.{constant_bits, ConstantsAreBits}
+use Rattle.status_gates.specs.register_gates.Registers.{selected_cells, selected_steering, data_cells, data_last}
+use Rattle.status_gates.specs.register_gates.Steps.{AddedInTurn}
 use Rattle.status_fitting.specs.declared.fitted.FittedRegister.{FittedRegister}
 use Rattle.status_gates.specs.declared.TheConstants.{SHOWN}
 use Rattle.status_gates.specs.Opcodes.{told_feed, opcode_cells}

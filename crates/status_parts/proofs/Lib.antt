@@ -1,2 +1,3 @@
+pub use Rattle.status_gates.proofs as status_gates
 pub mod Added
 pub mod Told

@@ -1,11 +1,10 @@
 -- What the gates of all registers tell.
-use Rattle.std.proofs.Common.{◌≡◌, ℕ, zero, suc, ◌+◌, ◌/◌, ◌%◌, ◌<◌, ◌==◌, List, [], ◌∷◌, ◌++◌, map, length, refl, sym, ap, subst, ◌∙◌, arith}
+use Rattle.std.proofs.Common.{◌≡◌, ℕ, zero, suc, ◌+◌, ◌/◌, ◌%◌, ◌<◌, ◌==◌, List, [], ◌∷◌, ◌++◌, length, refl, sym, ap, subst, ◌∙◌, arith}
 use Rattle.std.proofs.lemmas.List.Elements.{All-nil, All-cons, All-head, All-tail}
 use Rattle.signal_values.specs.declared.Sig.{Sig}
 use Rattle.signal_values.specs.Values.{bit, sig_mux}
 use Rattle.netlist_model.specs.declared.NetId.{NetId}
 use Rattle.netlist_model.specs.declared.Feed.{Feed}
-use Rattle.netlist_model.specs.declared.Feed.TheVariants.{Net}
 use Rattle.netlist_model.specs.Lists.{CellView, NetlistView}
 use Rattle.netlist_model.specs.Settled.{feed_value, IsSettled}
 use Rattle.netlist_model.specs.Formed.{IsWellFormed}
@@ -13,29 +12,28 @@ use Rattle.netlist_model.specs.Contained.{HasCells}
 use Rattle.netlist_model.specs.Runs.{Moment}
 use Rattle.netlist_laws.specs.Contained.{ContainedParts}
 use Rattle.gate_parts.specs.Parts.{part_cells}
-use Rattle.gate_parts.specs.PartLaws.{ContainedPartMeets}
 use Rattle.test_logic.specs.Instructions.{bits_of, pattern, is_pattern}
-use Rattle.instruction_gates.specs.Rows.{bits_in}
-use Rattle.instruction_gates.specs.Copies.{row_values}
-use Rattle.instruction_gates.specs.Matches.{AreKnown}
-use Rattle.register_gates.specs.Constants.{constant_bits, ConstantsAreBits}
-use Rattle.register_gates.specs.Registers.{data_cells, data_last}
-use Rattle.surrounded_core.specs.Places.{bypass_bit}
-use Rattle.status_runs.specs.Placed.{wire_feeds, shown_by}
+use Rattle.status_gates.specs.instruction_gates.Rows.{bits_in}
+use Rattle.status_gates.specs.instruction_gates.Copies.{row_values}
+use Rattle.status_gates.specs.instruction_gates.Matches.{AreKnown}
+use Rattle.status_gates.specs.register_gates.Constants.{constant_bits, ConstantsAreBits}
+use Rattle.status_gates.specs.register_gates.Registers.{data_cells, data_last}
+use Rattle.status_runs.specs.surrounded_core.Places.{bypass_bit}
+use Rattle.status_runs.specs.Placed.{shown_by}
 use Rattle.status_fitting.specs.declared.fitted.FittedRegister.{FittedRegister}
 use Rattle.status_gates.specs.declared.TheConstants.{SHOWN}
 use Rattle.status_gates.specs.Opcodes.{told_feed, opcode_cells, AreInverses, OpcodesTell}
-use Rattle.status_gates.specs.Shown.{shown_given}
+use Rattle.status_gates.specs.Shown.{shown_given, ShownTells}
 use Rattle.status_gates.specs.Wires.{net_feeds}
 use Rattle.status_parts.specs.declared.SharedNets.{SharedNets}
 use Rattle.status_parts.specs.Registers.{wanted_feeds, net_in, bits_size, registers_size, on_at, near_at, shown_of, registers_cells}
-use Rattle.status_parts.specs.Laws.{status_of, placed_at, placed_in, HasOpcode, Stands, RegistersTell}
+use Rattle.status_parts.specs.Laws.{placed_at, placed_in, HasOpcode, Stands, RegistersTell}
 
 -- the laws that it stands on
 pub record TellLaws : Type 0 where
   pub opcodes : OpcodesTell
+  pub shown : ShownTells
   pub parts : ContainedParts
-  pub meets : ContainedPartMeets
   pub constants : ConstantsAreBits
 
 bits_in_constants : (count value : ℕ) → bits_in (constant_bits count value) ≡ bits_of count value
@@ -47,11 +45,6 @@ bits_in_constants (suc count) value = ap (λ (bits : List Sig). bit (value % 2 =
 on_value : (v : ℕ → Sig) (first : ℕ) (items : List Feed) → 0 < length items → v (net_in (told_feed first items)).0 ≡ feed_value v (told_feed first items)
 on_value v first [] some = absurd (omega (arith, some))
 on_value v first (item ∷ rest) some = refl
-
--- the wires by their numbers are the wires
-same_feeds : (nets : List NetId) → map (λ (net : ℕ). Net (record { 0 = net })) (map (λ (net : NetId). net.0) nets) ≡ net_feeds nets
-same_feeds [] = refl
-same_feeds (net ∷ nets) = ap (λ (fs : List Feed). Net net ∷ fs) (same_feeds nets)
 
 -- a register's net tells its opcode
 on_tells : TellLaws → (first number : ℕ) (shared : SharedNets) (r : FittedRegister) (N : NetlistView) (m : Moment) → IsWellFormed N
@@ -77,27 +70,22 @@ registers_tell laws first number S shared (r ∷ rs) N m tdi formed has settled 
     let n : ℕ = r.register.bits.len in
     let front : List CellView = registers_cells first number shared (bypass_bit S) rs in
     let behind : NetId = shown_of first (bypass_bit S) rs in
-    let given : List Feed = shown_given behind (near_at f shared r) (on_at f r) in
     let end : ℕ = n + bits_size r in
     let xs : List CellView = opcode_cells f k shared.opcode.0 shared.inverses.0 (wanted_feeds r.register.bits) in
     let ys : List CellView = data_cells (f + n) (k + n) shared.tap (on_at f r) shared.tdi (net_feeds r.nets) in
-    let zs : List CellView = part_cells SHOWN given (f + end) (k + end) in
+    let zs : List CellView = part_cells SHOWN (shown_given behind (near_at f shared r) (on_at f r)) (f + end) (k + end) in
     let apart = (laws.parts N front ((xs ++ ys) ++ zs)).parts has in
     let inner = (laws.parts N (xs ++ ys) zs).parts apart.1 in
     let both = (laws.parts N xs ys).parts inner.0 in
     let before = registers_tell laws first number S shared rs N m tdi formed apart.0 settled (All-tail (HasOpcode shared m) r rs opcodes) in
-    let feeds : net_feeds r.nets ≡ wire_feeds (status_of r) = sym (same_feeds r.nets) in
     let stands : Stands N shared m (placed_at f k r) = record {
-      cells = subst (λ (fs : List Feed). HasCells N (data_cells (f + n) (k + n) shared.tap (on_at f r) shared.tdi fs)) feeds both.1;
+      cells = both.1;
       on = on_tells laws f k shared r N m formed both.0 settled (All-head (HasOpcode shared m) r rs opcodes);
     } in
-    let eqs = laws.meets N SHOWN given (f + end) (k + end) formed inner.1 _ m.state m.value settled in
-    let z : f + end + 0 ≡ f + end = omega arith in
-    let e : m.value (f + end + 0) ≡ sig_mux (m.value (on_at f r).0) (m.value behind.0) (m.value (near_at f shared r).0) = (eqs 0 _ refl refl).1 in
-    let near : near_at f shared r ≡ data_last (f + n) S.tdi (wire_feeds (status_of r))
-    = ap (λ (t : NetId). data_last (f + n) t (net_feeds r.nets)) tdi ∙ ap (λ (fs : List Feed). data_last (f + n) S.tdi fs) feeds in
+    let e = laws.shown (f + end) (k + end) behind (near_at f shared r) (on_at f r) N m formed inner.1 settled in
+    let near : near_at f shared r ≡ data_last (f + n) S.tdi (net_feeds r.nets) = ap (λ (t : NetId). data_last (f + n) t (net_feeds r.nets)) tdi in
     record {
       each = All-cons (Stands N shared m) (placed_at f k r) (placed_in first number rs) stands before.each;
-      shown_is = ap m.value (sym z) ∙ e ∙ ap (λ (x : Sig). sig_mux (m.value (on_at f r).0) x (m.value (near_at f shared r).0)) before.shown_is
+      shown_is = e ∙ ap (λ (x : Sig). sig_mux (m.value (on_at f r).0) x (m.value (near_at f shared r).0)) before.shown_is
           ∙ ap (λ (t : NetId). sig_mux (m.value (on_at f r).0) (shown_by S (placed_in first number rs) m) (m.value t.0)) near;
     }

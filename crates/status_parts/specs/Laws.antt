@@ -1,6 +1,6 @@
 -- What the gates of all registers do.
 -- IEEE Std 1149.1-2001: design-specific test data registers; the laws are own.
-use Rattle.std.specs.Prelude.{◌≡◌, ℕ, ◌+◌, ◌<◌, List, [], ◌∷◌, map, All}
+use Rattle.std.specs.Prelude.{◌≡◌, ℕ, ◌+◌, ◌<◌, List, [], ◌∷◌, All}
 use Rattle.signal_values.specs.Values.{bit}
 use Rattle.netlist_model.specs.declared.NetId.{NetId}
 use Rattle.netlist_model.specs.Lists.{NetlistView}
@@ -9,20 +9,21 @@ use Rattle.netlist_model.specs.Formed.{IsWellFormed}
 use Rattle.netlist_model.specs.Contained.{HasCells}
 use Rattle.netlist_model.specs.Runs.{Moment}
 use Rattle.test_logic.specs.Instructions.{pattern, is_pattern}
-use Rattle.instruction_gates.specs.Copies.{row_values}
-use Rattle.instruction_gates.specs.Matches.{AreKnown}
-use Rattle.register_gates.specs.Registers.{data_cells}
-use Rattle.surrounded_core.specs.Places.{Places, bypass_bit}
+use Rattle.status_gates.specs.instruction_gates.Copies.{row_values}
+use Rattle.status_gates.specs.instruction_gates.Matches.{AreKnown}
+use Rattle.status_gates.specs.register_gates.Registers.{data_cells}
+use Rattle.status_runs.specs.surrounded_core.Places.{Places, bypass_bit}
 use Rattle.status_runs.specs.Extended.{StatusRegister}
-use Rattle.status_runs.specs.Placed.{Placed, wire_feeds, shown_by}
+use Rattle.status_runs.specs.Placed.{Placed, shown_by}
 use Rattle.status_fitting.specs.declared.fitted.FittedRegister.{FittedRegister}
 use Rattle.status_gates.specs.Opcodes.{AreInverses}
+use Rattle.status_gates.specs.Wires.{net_feeds}
 use Rattle.status_parts.specs.declared.SharedNets.{SharedNets}
 use Rattle.status_parts.specs.Registers.{registers_size, on_at, shown_of, registers_cells}
 
 -- own: a register as the test logic has it
 abbrev pub status_of : FittedRegister → StatusRegister
-status_of r = record { opcode = r.register.bits; wires = map (λ (net : NetId). net.0) r.nets }
+status_of r = record { opcode = r.register.bits; wires = r.nets }
 
 -- own: where its bits stand
 abbrev pub placed_at : ℕ → ℕ → FittedRegister → Placed
@@ -40,7 +41,7 @@ pub record HasOpcode (shared : SharedNets) (m : Moment) (r : FittedRegister) : T
 
 -- own: a register's bits are there, and its net tells whether the nets of the latched opcode have its pattern
 pub record Stands (N : NetlistView) (shared : SharedNets) (m : Moment) (p : Placed) : Type 0 where
-  pub cells : HasCells N (data_cells p.first p.number shared.tap p.on shared.tdi (wire_feeds p.register))
+  pub cells : HasCells N (data_cells p.first p.number shared.tap p.on shared.tdi (net_feeds p.register.wires))
   pub on : m.value p.on.0 ≡ bit (is_pattern (row_values m.value shared.opcode.0 p.register.opcode.len) (pattern p.register.opcode))
 
 -- own: so do all, and the last multiplexer has the bit of the first register that is selected, else the bypass bit

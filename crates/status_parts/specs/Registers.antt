@@ -1,5 +1,6 @@
--- The gates of data registers of a design's own, those of the last register first: of each what tells whether its opcode is latched, its
--- bits, and the multiplexer that has its bit nearest TDO while it is selected, and else what stands behind it.
+-- The gates of data registers of a design's own, those of the last register first: of each what tells whether its
+-- opcode is latched, its bits, and the multiplexer that has its bit nearest TDO while it is selected, and else what
+-- stands behind it.
 -- IEEE Std 1149.1-2001: design-specific test data registers; the gates and their order are own.
 use Rattle.std.specs.Prelude.{ℕ, ◌+◌, ◌*◌, ◌<◌, ◌≤◌, List, [], ◌∷◌, ◌++◌, length, All}
 use Rattle.cell_library.specs.declared.codes.Bits.{Bits}
@@ -10,8 +11,8 @@ use Rattle.netlist_model.specs.Lists.{CellView}
 use Rattle.netlist_model.specs.Below.{IsNetBelow}
 use Rattle.gate_parts.specs.Parts.{part_cells}
 use Rattle.register_bits.specs.Bits.{AreNetsBelow}
-use Rattle.register_gates.specs.Constants.{constant_bits}
-use Rattle.register_gates.specs.Registers.{data_cells, data_last}
+use Rattle.status_gates.specs.register_gates.Constants.{constant_bits}
+use Rattle.status_gates.specs.register_gates.Registers.{data_cells, data_last}
 use Rattle.status_fitting.specs.declared.fitted.FittedRegister.{FittedRegister}
 use Rattle.status_gates.specs.declared.TheConstants.{SHOWN}
 use Rattle.status_gates.specs.Opcodes.{told_feed, opcode_cells}
@@ -23,7 +24,7 @@ use Rattle.status_parts.specs.declared.SharedNets.{SharedNets}
 abbrev pub wanted_feeds : Bits → List Feed
 wanted_feeds bits = constant_bits bits.len bits.value
 
--- own: the net that an operand is
+-- own: the net that an operand is; of a constant net 0, which no opcode with a bit gives
 abbrev pub net_in : Feed → NetId
 net_in (Net net) = net
 net_in (Const b) = record { 0 = 0 }
@@ -35,7 +36,8 @@ bits_size r = 2 + 3 * length r.nets
 abbrev pub register_size : FittedRegister → ℕ
 register_size r = r.register.bits.len + bits_size r + 1
 
--- own: the net that tells whether its opcode is latched, the bit nearest TDO, and the multiplexer's net, where its nets begin at `first`
+-- own: the net that tells whether its opcode is latched, the bit nearest TDO, and the multiplexer's net, where its nets
+-- begin at `first`
 abbrev pub on_at : ℕ → FittedRegister → NetId
 on_at first r = net_in (told_feed first (wanted_feeds r.register.bits))
 
@@ -66,7 +68,8 @@ registers_cells first number shared bypass [] = []
 registers_cells first number shared bypass (r ∷ rs) = registers_cells first number shared bypass rs
     ++ register_cells (first + registers_size rs) (number + registers_size rs) shared r (shown_of first bypass rs)
 
--- own: what it stands on is there: it has 1 to 32 bits of opcode, at most 256 wires, and all nets are among the first so many
+-- own: what it stands on is there: it has 1 to 32 bits of opcode, at most 256 wires, and all nets are among the first
+-- so many
 pub record CanStand (nets : ℕ) (shared : SharedNets) (r : FittedRegister) : Type 0 where
   pub some : 0 < r.register.bits.len
   pub few : r.register.bits.len ≤ 32

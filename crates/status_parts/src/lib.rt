@@ -1,11 +1,11 @@
-// The gates of all data registers of a design's own: of each register what tells whether its opcode is latched, its bits, and a
-// multiplexer towards TDO. specs/Registers.antt has the cells, specs/Laws.antt what they do.
+// The gates of all data registers of a design's own: of each register what tells whether its opcode is latched, its
+// bits, and a multiplexer towards TDO. specs/Registers.antt has the cells, specs/Laws.antt what they do.
 // IEEE Std 1149.1-2001: design-specific test data registers; the gates and their order are own.
 //
-// - `add_registers` appends exactly these cells, and can't refuse: n + 3 + 3 b for a register of b wires and an opcode of n bits. It
-//   answers the net whose value goes to TDO in the place of the bypass bit.
-// - Where the latched bits are known, each register's net tells whether its opcode is latched, and the net that is answered has the bit
-//   of the first register that is selected, else the bypass bit (`registers_tell`).
+// - `add_registers` appends exactly these cells, and can't refuse: n + 3 + 3 b for a register of b wires and an opcode
+//   of n bits. It answers the net whose value goes to TDO in the place of the bypass bit.
+// - Where the latched bits are known, each register's net tells whether its opcode is latched, and the net that is
+//   answered has the bit of the first register that is selected, else the bypass bit (`registers_tell`).
 // By the contract of `add_registers` and a law function.
 #![tactic(auto)]
 
@@ -14,15 +14,18 @@ ghost use Rattle.status_parts.specs.Laws.{RegistersTell};
 mod register;
 mod registers;
 
-use gate_parts::contained_part_meets;
 use netlist_laws::contained_parts;
 use netlist_model::NetId;
-use register_gates::constants_are_bits;
 pub use registers::add_registers;
-use status_gates::opcodes_tell;
+pub use status_gates as lower_status_gates;
+use status_gates::lower_register_gates::constants_are_bits;
+use status_gates::{opcodes_tell, shown_tells};
+pub use status_runs as lower_status_runs;
+pub use status_runs::lower_surrounded_core;
 use test_logic::TapNets;
 
-/// The nets that all registers stand on: those of the controller, TDI, and from these on the latched opcode, bit 0 first, and its inverses.
+/// The nets that all registers stand on: those of the controller, TDI, and from these on the latched opcode, bit 0
+/// first, and its inverses.
 #[derive(Clone, Copy)]
 pub struct SharedNets {
     pub tap: TapNets,
@@ -36,7 +39,7 @@ pub fn registers_tell()
     ensures { RegistersTell }
 {
     opcodes_tell();
+    shown_tells();
     contained_parts();
-    contained_part_meets();
     constants_are_bits();
 }

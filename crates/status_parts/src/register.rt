@@ -10,11 +10,11 @@ use crate::SharedNets;
 use gate_parts::appended_count;
 use netlist_arena::Netlist;
 use netlist_model::{Feed, NetId};
-use register_gates::{added_in_turn, constants_are_bits, constants_of};
 use status_fitting::FittedRegister;
+use status_gates::lower_register_gates::{added_in_turn, constants_are_bits, constants_of};
 use status_gates::{add_opcode, add_shown, add_wires};
 
-// The net that an operand is.
+// The net that an operand is; of a constant net 0, which no opcode with a bit gives.
 fn net_of(feed: Feed) -> NetId
     ensures { result ≡ model.net_in feed }
 {
@@ -24,7 +24,8 @@ fn net_of(feed: Feed) -> NetId
     }
 }
 
-/// Adds a register to a dense netlist, before what stands behind it on its way to TDO, and answers the multiplexer's net.
+/// Adds a register to a dense netlist, before what stands behind it on its way to TDO, and answers the multiplexer's
+/// net.
 pub fn add_register(
     netlist: &mut Netlist,
     shared: &SharedNets,

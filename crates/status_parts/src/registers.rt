@@ -11,8 +11,8 @@ use crate::register::add_register;
 use gate_parts::{appended_count, appended_none};
 use netlist_arena::Netlist;
 use netlist_model::NetId;
-use register_gates::{added_in_turn, constants_are_bits};
 use status_fitting::FittedRegister;
+use status_gates::lower_register_gates::{added_in_turn, constants_are_bits};
 
 /// Adds registers to a dense netlist, and answers the net whose value goes to TDO in the place of the bypass bit.
 pub fn add_registers(

@@ -5,10 +5,10 @@ use Rattle.netlist_model.specs.declared.NetId.{NetId}
 use Rattle.netlist_model.specs.Lists.{NetlistView}
 use Rattle.netlist_model.specs.Formed.{IsDriven}
 use Rattle.plan_fitting.specs.declared.fitted.Fitted.{Fitted}
-use Rattle.stitch_model.specs.declared.TapNames.{TapNames}
-use Rattle.stitch_model.specs.Sides.{core_side}
-use Rattle.stitch_model.specs.Logic.{tap_at, instruction_at, bypass_at}
-use Rattle.stitch_model.specs.Stitched.{boundary_at, first_net}
+use Rattle.stitch_laws.specs.stitch_model.declared.TapNames.{TapNames}
+use Rattle.stitch_laws.specs.stitch_model.Sides.{core_side}
+use Rattle.stitch_laws.specs.stitch_model.Logic.{tap_at, instruction_at, bypass_at}
+use Rattle.stitch_laws.specs.stitch_model.Stitched.{boundary_at, first_net}
 use Rattle.stitch_laws.specs.Places.{port_of}
 use Rattle.stitch_laws.specs.Laws.{HoldsPartsBy, HasBuiltIn}
 use Rattle.status_order.specs.Laws.{IsHeld, IsCopy}

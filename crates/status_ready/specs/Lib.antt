@@ -1,2 +1,3 @@
+pub use Rattle.plan_devices.specs as plan_devices
 pub mod Ready
 pub mod Laws

@@ -10,7 +10,7 @@ use Rattle.netlist_link.specs.Drafts.{reserved}
 use Rattle.netlist_link.specs.Linked.{LinkedView}
 use Rattle.cell_order.specs.Tables.{RoomView}
 use Rattle.plan_fitting.specs.declared.fitted.Fitted.{Fitted}
-use Rattle.stitch_names.specs.Prepared.{room_of, ports_of, prepared}
+use Rattle.scan_stitch.specs.stitch_names.Prepared.{room_of, ports_of, prepared}
 use Rattle.status_room.specs.Prepared.{prepared_with}
 use Rattle.status_room.proofs.Limits.{too_many_less}
 

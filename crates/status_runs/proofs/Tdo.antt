@@ -9,7 +9,6 @@ use Rattle.signal_values.specs.Values.{bit, sig_mux}
 use Rattle.signal_values.proofs.Laws.{mux-one, mux-zero}
 use Rattle.cell_library.specs.declared.codes.Instr.{Instr}
 use Rattle.cell_library.specs.declared.codes.Instr.TheVariants as instr
-use Rattle.netlist_model.specs.declared.Feed.TheVariants.{Net}
 use Rattle.netlist_model.specs.Runs.{Moment, reading_at}
 use Rattle.bsdl_device.specs.Instructions.{selected_register}
 use Rattle.bsdl_device.specs.declared.entries.Register.{Register}
@@ -23,13 +22,11 @@ use Rattle.surrounded_core.specs.Places.{Places, controller_nets, bypass_bit}
 use Rattle.surrounded_core.specs.Open.{shown_bit, tdo_step, FollowsChip, SurroundedFollows}
 use Rattle.register_gates.specs.Laws.{DataFollows}
 use Rattle.register_gates.specs.Registers.{data_last}
+use Rattle.status_gates.specs.Wires.{net_feeds}
+use Rattle.status_gates.proofs.Feeds.{net_feeds_length}
 use Rattle.status_runs.specs.Extended.{StatusRegister, is_latched, list_at, nearest_of, data_of, tdo_with, tdo_at}
-use Rattle.status_runs.specs.Placed.{Placed, wire_feeds, IsPlaced, shown_by, IsFree}
+use Rattle.status_runs.specs.Placed.{Placed, IsPlaced, shown_by, IsFree}
 use Rattle.status_runs.specs.Laws.{RegistersFollow, ExtendedTdoFollows}
-
-counted : {A C : Type 0} (f : A → C) (xs : List A) → length (map f xs) ≡ length xs
-counted f [] = refl
-counted f (x ∷ xs) = ap suc (counted f xs)
 
 pub record TdoLaws : Type 0 where
   pub follows : SurroundedFollows
@@ -48,7 +45,7 @@ or_near false o near rest = refl
 -- what is known of a register at a moment
 record IsAt (S : Places) (lists : StatusRegister → List Sig) (machine : Machine) (m : Moment) (p : Placed) : Type 0 where
   on : m.value p.on.0 ≡ bit (is_latched p.register machine)
-  near : m.value (data_last p.first S.tdi (wire_feeds p.register)).0 ≡ first_bit (lists p.register)
+  near : m.value (data_last p.first S.tdi (net_feeds p.register.wires)).0 ≡ first_bit (lists p.register)
 
 shown_is : (S : Places) (lists : StatusRegister → List Sig) (machine : Machine) (m : Moment) → m.value (bypass_bit S).0 ≡ machine.bypass → (ps : List Placed) → All (IsAt S lists machine m) ps
     → shown_by S ps m ≡ unwrap_or (nearest_of (map (λ (p : Placed). p.register) ps) lists machine) machine.bypass
@@ -56,7 +53,7 @@ shown_is S lists machine m bypass [] all = bypass
 shown_is S lists machine m bypass (p ∷ ps) all =
     let at = All-head (IsAt S lists machine m) p ps all in
     let rest = shown_is S lists machine m bypass ps (All-tail (IsAt S lists machine m) p ps all) in
-    ap (λ (s : Sig). sig_mux s (shown_by S ps m) (m.value (data_last p.first S.tdi (wire_feeds p.register)).0)) at.on
+    ap (λ (s : Sig). sig_mux s (shown_by S ps m) (m.value (data_last p.first S.tdi (net_feeds p.register.wires)).0)) at.on
     ∙ ap (λ (x : Sig). sig_mux (bit (is_latched p.register machine)) (shown_by S ps m) x) at.near
     ∙ ap (λ (x : Sig). sig_mux (bit (is_latched p.register machine)) x (first_bit (lists p.register))) rest
     ∙ chosen (is_latched p.register machine) (unwrap_or (nearest_of (map (λ (q : Placed). q.register) ps) lists machine) machine.bypass) (first_bit (lists p.register))
@@ -114,11 +111,11 @@ extended_tdo_follows by M N B S shown given events chip moment r ps placed free 
     all_at t below (p ∷ qs) are ons =
         let mine = All-head (IsPlaced M N S) p qs are in
         let mine_on = All-head (λ (q : Placed). (u : ℕ) → u ≤ length events → (moment u).value q.on.0 ≡ bit (is_latched q.register (chip u).machine)) p qs ons in
-        let counted : length (wire_feeds p.register) ≡ length p.register.wires = counted (λ (net : ℕ). Net (record { 0 = net })) p.register.wires in
+        let counted = net_feeds_length p.register.wires in
         All-cons (IsAt S (λ q. list_at q chip t) (chip t).machine (moment t)) p qs
         (record {
           on = mine_on t below;
-          near = (by.gates p.first p.number (controller_nets S) p.on S.tdi (wire_feeds p.register)).last (let some = mine.some in omega arith) (moment t)
+          near = (by.gates p.first p.number (controller_nets S) p.on S.tdi (net_feeds p.register.wires)).last (let some = mine.some in omega (arith, some, counted)) (moment t)
               ∙ ap first_bit (by.registers M N B S shown given events chip moment r p mine mine_on t below);
         })
         (all_at t below qs (All-tail (IsPlaced M N S) p qs are)

@@ -12,8 +12,9 @@ use Rattle.wrapped_chip.specs.Realises.{IsRunBeside}
 use Rattle.surrounded_core.specs.Places.{Places}
 use Rattle.surrounded_core.specs.Surrounds.{SurroundsBy}
 use Rattle.register_gates.specs.Registers.{data_values}
+use Rattle.status_gates.specs.Wires.{net_feeds}
 use Rattle.status_runs.specs.Extended.{is_latched, list_at, tdo_at}
-use Rattle.status_runs.specs.Placed.{Placed, wire_feeds, IsCoreWire, IsPlaced, shown_by, IsFree}
+use Rattle.status_runs.specs.Placed.{Placed, IsCoreWire, IsPlaced, shown_by, IsFree}
 
 -- own: a run of M beside one of the chip
 pub record Beside (M N : NetlistView) (B : Device) (S : Places) (shown : NetId) (given : ℕ → Sig) (events : List ChipEvent) (chip : ℕ → ChipMoment) (moment : ℕ → Moment) : Type 0 where
@@ -31,9 +32,10 @@ abbrev pub RegistersFollow : Type 0
 RegistersFollow = (M N : NetlistView) (B : Device) (S : Places) (shown : NetId) (given : ℕ → Sig) (events : List ChipEvent) (chip : ℕ → ChipMoment) (moment : ℕ → Moment)
     → Beside M N B S shown given events chip moment → (p : Placed) → IsPlaced M N S p
     → ((t : ℕ) → t ≤ length events → (moment t).value p.on.0 ≡ bit (is_latched p.register (chip t).machine))
-    → (t : ℕ) → t ≤ length events → data_values (moment t).value p.first (wire_feeds p.register) ≡ list_at p.register chip t
+    → (t : ℕ) → t ≤ length events → data_values (moment t).value p.first (net_feeds p.register.wires) ≡ list_at p.register chip t
 
--- own: and TDO reads as the extended test logic, where what is shown is the bit of the register that is on, else the bypass bit
+-- own: and TDO reads as the extended test logic, where what is shown is the bit of the register that is on, else the
+-- bypass bit
 abbrev pub ExtendedTdoFollows : Type 0
 ExtendedTdoFollows = (M N : NetlistView) (B : Device) (S : Places) (shown : NetId) (given : ℕ → Sig) (events : List ChipEvent) (chip : ℕ → ChipMoment) (moment : ℕ → Moment)
     → Beside M N B S shown given events chip moment → (ps : List Placed) → All (IsPlaced M N S) ps → All (λ (p : Placed). IsFree B p.register) ps

@@ -1,12 +1,15 @@
-// Read-only data registers of the design's own beside a core with a device's test logic around it: specs/Extended.antt has the test logic
-// with them, specs/Placed.antt their gates, specs/Laws.antt that the two agree. Laws only.
+// Read-only data registers of the design's own beside a core with a device's test logic around it: specs/Extended.antt
+// has the test logic with them, specs/Placed.antt their gates, specs/Laws.antt that the gates do as it says, where nets
+// tell whose opcode is latched. Laws only.
 // IEEE Std 1149.1-2001: test data registers (design-specific); the laws are own.
 #![tactic(auto)]
 
 ghost use Rattle.status_runs.specs.Laws.{WiresCarry, RegistersFollow, ExtendedTdoFollows};
 
 use netlist_laws::moments_of_a_run;
+pub use register_gates as lower_register_gates;
 use register_gates::data_registers_follow;
+pub use surrounded_core as lower_surrounded_core;
 use surrounded_core::surrounded_core_follows;
 
 /// A captured wire carries the core's value.
@@ -16,7 +19,7 @@ pub fn wires_carry()
     surrounded_core_follows();
 }
 
-/// Each register's bits are its list at every moment.
+/// Each register's bits are its list at every moment, where a net tells whether its opcode is latched.
 pub fn registers_follow()
     ensures { RegistersFollow }
 {
@@ -26,7 +29,8 @@ pub fn registers_follow()
     moments_of_a_run();
 }
 
-/// And TDO reads as the extended test logic.
+/// And TDO reads as the extended test logic, where it takes the bit of the first register that is on in the place of
+/// the bypass bit.
 pub fn extended_tdo_follows()
     ensures { ExtendedTdoFollows }
 {

@@ -28,6 +28,7 @@ use plan_devices::{
     rows_stand_at_bits, rows_take_the_core,
 };
 pub use stitch_laws as lower_stitch_laws;
+pub use stitch_laws::lower_stitch_model;
 use stitch_laws::stitched_is_built_in;
 use surrounded_core::lower_instruction_register::registers_fit;
 

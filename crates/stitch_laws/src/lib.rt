@@ -28,6 +28,7 @@ ghost use Rattle.stitch_laws.specs.Laws.{
 };
 
 use netlist_laws::contained_parts;
+pub use stitch_model as lower_stitch_model;
 
 /// The ports are there, and each cell of the core under its number, with its kind and its name.
 pub fn stitched_keeps()

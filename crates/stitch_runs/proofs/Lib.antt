@@ -1,1 +1,2 @@
+pub use Rattle.stitch_formed.proofs as stitch_formed
 pub mod Home

@@ -17,7 +17,8 @@
 ghost use Rattle.stitch_runs.specs.Laws.{StitchedRealises, StitchedIsAlone, FittingPlansRealise, FittingPlansAreAlone};
 ghost use Rattle.stitch_runs.specs.Laws.{FittingPlansHaveControls, FittingPlansFindHome};
 
-pub use stitch_formed::stitched_is_formed;
+pub use stitch_formed as lower_stitch_formed;
+pub use stitch_formed::{lower_stitch_rows, stitched_is_formed};
 use stitch_formed::{stitched_has_controls, stitched_has_pins, stitched_logic_is_added};
 use stitch_inside::lower_plan_devices::plans_suit_netlists;
 use stitch_inside::lower_surrounded_core::{surrounded_core_finds_home, surrounded_core_realises};

@@ -27,17 +27,17 @@ not_passed what limit count low = rw (le-ltb limit count low) refl
 
 -- The counts.
 
-record FitsLimits (N : NetlistView) : Type 0 where
-  cells : cell_count N ≤ 262144
-  nets : length N.nets ≤ 524288
-  ports : length (port_numbers N.ports) ≤ 4096
+pub record FitsLimits (N : NetlistView) : Type 0 where
+  pub cells : cell_count N ≤ 262144
+  pub nets : length N.nets ≤ 524288
+  pub ports : length (port_numbers N.ports) ≤ 4096
 
-none_passed : (N : NetlistView) → FitsLimits N → passed_limit N ≡ None
+pub none_passed : (N : NetlistView) → FitsLimits N → passed_limit N ≡ None
 none_passed N fits =
     rw (not_passed Cells 262144 (cell_count N) fits.cells, not_passed Nets 524288 (length N.nets) fits.nets, not_passed Ports 4096 (length (port_numbers N.ports)) fits.ports) refl
 
 -- five bits more
-tap_bits : (names : TapNames) (first : ℕ) → bit_count (tap_ports names (tap_port first)) ≡ 5
+pub tap_bits : (names : TapNames) (first : ℕ) → bit_count (tap_ports names (tap_port first)) ≡ 5
 tap_bits names first = refl
 
 stitched_fits : StitchedHasCounts → (L after : LinkedView) (f : Fitted) → HasStitchRoom L f → IsStitchedOf L f after → FitsLimits after.arena.lists

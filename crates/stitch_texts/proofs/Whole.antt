@@ -55,11 +55,11 @@ dense_after counts L after f is i low =
     subst (λ (o : Option CellView). IsSome o) (sym (is.same.cells i)) ((counts L.arena.lists is.names f).dense i (subst (λ (n : ℕ). i < n) same low))
 
 -- the name of a cell as the text told it
-record IsToldName (table : List (List ℕ)) (cell : CellView) : Type 0 where
-  named : Option (List ℕ)
-  is : IsName table cell.name named
+pub record IsToldName (table : List (List ℕ)) (cell : CellView) : Type 0 where
+  pub named : Option (List ℕ)
+  pub is : IsName table cell.name named
 
-told_name : (table : List (List ℕ)) (N : NetlistView) (cells : List NamedCell) → AreCells table N cells → (i : ℕ) (cell : CellView) → cell_at N i ≡ Some cell → IsToldName table cell
+pub told_name : (table : List (List ℕ)) (N : NetlistView) (cells : List NamedCell) → AreCells table N cells → (i : ℕ) (cell : CellView) → cell_at N i ≡ Some cell → IsToldName table cell
 told_name table N cells are i cell live =
     let there = slice_get_there cells i (are.only i (is_there (cell_at N i) cell live)) in
     let is : IsLive table (Some cell) there.0 = subst (λ (o : Option CellView). IsLive table o there.0) live (are.each i there.0 there.1) in
@@ -75,7 +75,7 @@ record IsFittedStitching (L : LinkedView) (p : Plan) (seen : List PinSeen) (afte
   is : IsStitchedOf L (fitted_of L p seen) after
 
 -- the written netlist by its table of names
-named_by : (after written : LinkedView) (prefix : List ℕ) (tree : Module) → IsWrittenAs after prefix tree → written.arena.lists.library ≡ after.arena.lists.library → IsLinkOf tree written
+pub named_by : (after written : LinkedView) (prefix : List ℕ) (tree : Module) → IsWrittenAs after prefix tree → written.arena.lists.library ≡ after.arena.lists.library → IsLinkOf tree written
     → IsNamed written.names written.arena.lists (renumbered (naming_of after prefix) after.arena.lists)
 named_by after written prefix tree writes listed link =
     subst (IsNamed written.names written.arena.lists) (ap (λ (l : List ListedCell). denoted l tree) listed ∙ writes.denotes) link.denoted

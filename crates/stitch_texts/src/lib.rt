@@ -15,7 +15,9 @@
 ghost use Rattle.stitch_texts.specs.Laws.{StitchedCanBeWritten, StitchedIsRenumbered, StitchedIsWritten, StitchedKeepsLimits};
 
 use netlist_link::{link_views_agree, some_link_view};
+pub use stitch_names as lower_stitch_names;
 use stitch_names::lower_plan_devices::fitted_is_fitting;
+pub use stitch_names::lower_stitch_cells;
 use stitch_names::lower_stitch_cells::stitched_has_counts;
 use stitch_names::lower_stitch_laws::stitched_keeps;
 use stitch_names::{stitched_has_free_prefix, tap_names_are_entered};

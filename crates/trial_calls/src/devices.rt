@@ -63,7 +63,8 @@ fn look_at_scans(rt: &impl Abort, machine: &mut Machine, captured: &[Sig])
     assert_eq!(rt; machine.tdo(), PinSig::HighZ);
     // Update-DR, Select-DR-Scan, Select-IR-Scan, Capture-IR, Shift-IR.
     walk(machine, captured, &[true, true, true, false, false]);
-    // It captures 0001 and then shows what went in, 1, 0, 1, 1; behind these goes 0110, which is no instruction's opcode.
+    // It captures 0001 and then shows what went in, 1, 0, 1, 1; behind these goes 0110, which is no instruction's
+    // opcode.
     assert_eq!(rt; scan(machine, captured, 8, 109), Some(209));
     assert_eq!(rt; machine.in_effect(), Instr::Idcode);
     // Update-IR.

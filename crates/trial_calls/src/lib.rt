@@ -1,5 +1,5 @@
-// Trials of calls that no command reaches, each once: refusals in memory, real files and standard output, texts that are cut or come
-// back, libraries, modules of a text, and the test logic of a device at work.
+// Trials of calls that no command reaches, each once: refusals in memory, real files and standard output, texts that
+// are cut or come back, libraries, modules of a text, and the test logic of a device at work.
 // Each trial is a test; what it wants was worked out by hand.
 // Own: commands are tried by `worked_rows`.
 #![tactic(auto)]

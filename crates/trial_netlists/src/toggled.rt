@@ -16,12 +16,8 @@ use std::alloc::Global;
 use std::process::Abort;
 use std::test::Fail;
 
-const TOGGLE: &[u8] = b"module t(input ck, input rn, output q);
-wire d;
-not(d, q);
-DFFR f(.D(d), .CK(ck), .RN(rn), .Q(q));
-endmodule
-";
+const TOGGLE: &[u8] = b"module t(input ck, input rn, output q); wire d; not(d,q); \
+DFFR f(.D(d),.CK(ck),.RN(rn),.Q(q)); endmodule";
 
 /// The flip-flop, with CK, RN and Q as ports.
 pub(crate) fn toggle(alloc: Global) -> Result<Linked, Fail> {

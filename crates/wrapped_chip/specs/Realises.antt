@@ -96,13 +96,19 @@ pub record ReadsTdo (M N : NetlistView) (m : Moment) (wanted : PinSig) : Type 0 
   pub tap : IsTapNet M N 3 there
   pub reads : reading_at M m there ≡ wanted
 
--- M reads as the chip does, at each output and inout bit and at TDO, and its first flip-flops hold what the chip's hold
-pub record ReadsAsChip (M : NetlistView) (B : Device) (N : NetlistView) (m : Moment) (w : ChipMoment) : Type 0 where
+-- M reads as the chip does at each output and inout bit, and this at TDO, and its first flip-flops hold what the
+-- chip's hold
+pub record ReadsAsChipBy (M : NetlistView) (B : Device) (N : NetlistView) (m : Moment) (w : ChipMoment) (wanted : PinSig) : Type 0 where
   pub bits : (net : ℕ) → IsRead N net → ReadsBit M N m net (chip_reading B N w.machine w.pins w.value net)
-  pub tdo : ReadsTdo M N m w.machine.tdo
+  pub tdo : ReadsTdo M N m wanted
   pub kept : SameFlops N m.state w.state
 
--- a run of M from the pins of the chip's power-up, by the same events, with the core's flip-flops as given and all others anything
+-- it reads as the chip does at TDO too
+abbrev pub ReadsAsChip : NetlistView → Device → NetlistView → Moment → ChipMoment → Type 0
+ReadsAsChip M B N m w = ReadsAsChipBy M B N m w w.machine.tdo
+
+-- a run of M from the pins of the chip's power-up, by the same events, with the core's flip-flops as given and all
+-- others anything
 pub record IsRunBeside (M : NetlistView) (B : Device) (N : NetlistView) (given : ℕ → Sig) (events : List ChipEvent) (chip : ℕ → ChipMoment) (moment : ℕ → Moment) : Type 0 where
   pub start : ℕ → Sig
   pub same_flops : SameFlops N start given
@@ -111,12 +117,20 @@ pub record IsRunBeside (M : NetlistView) (B : Device) (N : NetlistView) (given :
   pub same_events : SameEvents M N events there
   pub run : IsRun M start there moment
 
--- for each run of the chip and any values of the other flip-flops M has such a run, and each such run reads as the chip at every moment
-pub record Realises (M : NetlistView) (B : Device) (N : NetlistView) : Type 0 where
+-- for each run of the chip and any values of the other flip-flops M has such a run, and each such run reads as the
+-- chip at every moment, and at TDO as this says
+pub record RealisesBy (M : NetlistView) (B : Device) (N : NetlistView) (tdo : (ℕ → ChipMoment) → ℕ → PinSig) : Type 0 where
   pub some : (given start : ℕ → Sig) (events : List ChipEvent) (chip : ℕ → ChipMoment) → IsChipRun B N given events chip → SameFlops N start given
       → (moment : ℕ → Moment) × (beside : IsRunBeside M B N given events chip moment) × (beside.start ≡ start)
   pub each : (given : ℕ → Sig) (events : List ChipEvent) (chip : ℕ → ChipMoment) (moment : ℕ → Moment) → IsChipRun B N given events chip
-      → IsRunBeside M B N given events chip moment → (t : ℕ) → t ≤ length events → ReadsAsChip M B N (moment t) (chip t)
+      → IsRunBeside M B N given events chip moment → (t : ℕ) → t ≤ length events → ReadsAsChipBy M B N (moment t) (chip t) (tdo chip t)
+
+-- TDO as the chip's own
+abbrev pub chip_tdo : (ℕ → ChipMoment) → ℕ → PinSig
+chip_tdo chip t = (chip t).machine.tdo
+
+abbrev pub Realises : NetlistView → Device → NetlistView → Type 0
+Realises M B N = RealisesBy M B N chip_tdo
 
 -- a stretch of a run of the chip, and of M beside it, at each moment of which the instruction in effect is transparent
 pub record IsStretch (M : NetlistView) (B : Device) (N : NetlistView) (events : List ChipEvent) (chip : ℕ → ChipMoment) (moment : ℕ → Moment) (first last : ℕ) : Type 0 where

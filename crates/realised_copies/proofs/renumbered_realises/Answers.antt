@@ -1,13 +1,5 @@
-use Rattle.realised_copies.proofs.Beside.{realises_there as lemma}
+use Rattle.wrapped_chip.specs.Realises.{chip_tdo}
 use Rattle.realised_copies.proofs.renumbered_realises.Goals as goal
 
 pub returns : goal.returns
-returns c = lemma
-    (record {
-      ways = c.direction_of_a_bit.ensures;
-      turns = c.renumbering_turns.ensures;
-      bits = c.renumbered_bits.ensures;
-      reads = c.renumbered_reads.ensures;
-      runs = c.renumbered_runs.ensures;
-      images = c.runs_have_images.ensures;
-    })
+returns c = λ M M' N B to at r formed stay realises. c.renumbered_realises_by.ensures M M' N B chip_tdo to at r formed stay realises

@@ -5,7 +5,7 @@ pub returns : goal.returns
 returns c = lemma
     (record {
       opcodes = c.opcodes_tell.ensures;
+      shown = c.shown_tells.ensures;
       parts = c.contained_parts.ensures;
-      meets = c.contained_part_meets.ensures;
       constants = c.constants_are_bits.ensures;
     })

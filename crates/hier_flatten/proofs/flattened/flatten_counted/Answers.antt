@@ -23,8 +23,11 @@ returns-in_err-tables-clause-fault c = err_is c.from_residual.result fault.OutOf
 pub returns-in_err-fault-clause-fault : goal.returns-in_err-fault-clause-fault
 returns-in_err-fault-clause-fault c = err_is c.from_residual-in_err-fault.result fault.OutOfMemory (IsLateFault c.args.table.now c.args.top.now) c.from_residual-in_err-fault.ensures.1 IsLateFault.memory
 
-pub returns-in_err-check_operands-clause-fault : goal.returns-in_err-check_operands-clause-fault
-returns-in_err-check_operands-clause-fault c = err_is c.from_residual-in_err-check_operands.result fault.OutOfMemory (IsLateFault c.args.table.now c.args.top.now) c.from_residual-in_err-check_operands.ensures.1 IsLateFault.memory
+pub returns-in_err-has_few_operands-clause-fault : goal.returns-in_err-has_few_operands-clause-fault
+returns-in_err-has_few_operands-clause-fault c = err_is c.from_residual-in_err-has_few_operands.result fault.OutOfMemory (IsLateFault c.args.table.now c.args.top.now) c.from_residual-in_err-has_few_operands.ensures.1 IsLateFault.memory
+
+pub returns-then-not-branch-clause-fault : goal.returns-then-not-branch-clause-fault
+returns-then-not-branch-clause-fault c = IsLateFault.memory
 
 pub returns-in_err-flat_module-clause-fault : goal.returns-in_err-flat_module-clause-fault
 returns-in_err-flat_module-clause-fault c = err_is c.from_residual-in_err-flat_module.result fault.OutOfMemory (IsLateFault c.args.table.now c.args.top.now) c.from_residual-in_err-flat_module.ensures.1 IsLateFault.memory

@@ -1,5 +1,5 @@
 use Rattle.std.proofs.Common.{arith, map, string_bytes, refl}
-use Rattle.insert_cli.proofs.Forms.{five_are, six_are, words_of_five, words_of_six}
+use Rattle.insert_cli.proofs.Forms.{five_are, six_are, seven_are, words_of_five, words_of_six, words_of_seven}
 use Rattle.insert_cli.proofs.FormLaws.{plain_as}
 use Rattle.insert_cli.proofs.command.plain_command.Goals as goal
 
@@ -18,3 +18,11 @@ returns-in-len6 c =
     (words_of_six (map string_bytes c.args.words.now) c.args.words.now c.word-item-then-words-lt7.result c.first-item-then-words-lt7.result c.second-item-then-words-lt7.result c.third-item-then-words-lt7.result c.fourth-item-then-words-lt7.result c.fifth-item.result _ _ _ _ _ _ refl are
     c.as_str-in-len6.ensures.value c.as_str-in-len6-2.ensures.value c.as_str-in-len6-3.ensures.value c.as_str-in-len6-4.ensures.value c.as_str-in-len6-5.ensures.value c.as_str-in-len6-6.ensures.value)
     c.of_five.ensures
+
+pub returns-in-len7 : goal.returns-in-len7
+returns-in-len7 c =
+    let are = seven_are c.args.words.now c.word-item-then-words-lt8.result c.first-item-then-words-lt8.result c.second-item-then-words-lt8.result c.third-item-then-words-lt8.result c.fourth-item-then-words-lt8.result c.fifth-item-then-words-lt8.result c.sixth-item.result (omega arith) (omega arith) c.word-item-then-words-lt8.is c.first-item-then-words-lt8.is c.second-item-then-words-lt8.is c.third-item-then-words-lt8.is c.fourth-item-then-words-lt8.is c.fifth-item-then-words-lt8.is c.sixth-item.is in
+    plain_as (map string_bytes c.args.words.now) _ c.of_six.result
+    (words_of_seven (map string_bytes c.args.words.now) c.args.words.now c.word-item-then-words-lt8.result c.first-item-then-words-lt8.result c.second-item-then-words-lt8.result c.third-item-then-words-lt8.result c.fourth-item-then-words-lt8.result c.fifth-item-then-words-lt8.result c.sixth-item.result _ _ _ _ _ _ _ refl are
+    c.as_str-in-len7.ensures.value c.as_str-in-len7-2.ensures.value c.as_str-in-len7-3.ensures.value c.as_str-in-len7-4.ensures.value c.as_str-in-len7-5.ensures.value c.as_str-in-len7-6.ensures.value c.as_str-in-len7-7.ensures.value)
+    c.of_six.ensures

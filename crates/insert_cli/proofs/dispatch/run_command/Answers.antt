@@ -97,6 +97,24 @@ returns-in-Insert-clause-complete g c =
     let sink : SinkSeen = sink_seen g.O.Sink.given g.O.Sink.faults c.args.out.now c.run_insert.new.out in
     subst (λ command. IfErr c.run_insert.result (λ fault. Completes (task_of (form_of command)) shelf sink (status_of fault))) (sym c.in-Insert.is) c.run_insert.ensures.complete
 
+pub returns-in-InsertStatus-clause-done : goal.returns-in-InsertStatus-clause-done
+returns-in-InsertStatus-clause-done g c =
+    let shelf : ShelfSeen = shelf_seen g.S.Shelf.tells g.S.Shelf.held g.S.Shelf.written g.S.Shelf.faults c.args.shelf.now c.run_status.new.shelf in
+    let sink : SinkSeen = sink_seen g.O.Sink.given g.O.Sink.faults c.args.out.now c.run_status.new.out in
+    subst (λ command. IfOk c.run_status.result (Finishes (task_of (form_of command)) shelf sink)) (sym c.in-InsertStatus.is) c.run_status.ensures.done
+
+pub returns-in-InsertStatus-clause-fault : goal.returns-in-InsertStatus-clause-fault
+returns-in-InsertStatus-clause-fault g c =
+    let shelf : ShelfSeen = shelf_seen g.S.Shelf.tells g.S.Shelf.held g.S.Shelf.written g.S.Shelf.faults c.args.shelf.now c.run_status.new.shelf in
+    let sink : SinkSeen = sink_seen g.O.Sink.given g.O.Sink.faults c.args.out.now c.run_status.new.out in
+    subst (λ command. IfErr c.run_status.result (λ fault. Stands (task_of (form_of command)) shelf sink fault sink.given_after)) (sym c.in-InsertStatus.is) c.run_status.ensures.fault
+
+pub returns-in-InsertStatus-clause-complete : goal.returns-in-InsertStatus-clause-complete
+returns-in-InsertStatus-clause-complete g c =
+    let shelf : ShelfSeen = shelf_seen g.S.Shelf.tells g.S.Shelf.held g.S.Shelf.written g.S.Shelf.faults c.args.shelf.now c.run_status.new.shelf in
+    let sink : SinkSeen = sink_seen g.O.Sink.given g.O.Sink.faults c.args.out.now c.run_status.new.out in
+    subst (λ command. IfErr c.run_status.result (λ fault. Completes (task_of (form_of command)) shelf sink (status_of fault))) (sym c.in-InsertStatus.is) c.run_status.ensures.complete
+
 pub returns-in-Strip-clause-done : goal.returns-in-Strip-clause-done
 returns-in-Strip-clause-done g c =
     let shelf : ShelfSeen = shelf_seen g.S.Shelf.tells g.S.Shelf.held g.S.Shelf.written g.S.Shelf.faults c.args.shelf.now c.run_strip.new.shelf in

@@ -2,7 +2,7 @@ use Rattle.std.proofs.Common.{◌≡◌, ℕ, length, sym, ◌∙◌, ap, subst,
 use Rattle.scan_sides.specs.stitch_model.Sites.{Boundary}
 use Rattle.scan_sides.specs.Pins.{between}
 use Rattle.scan_parts.specs.Rows.{CanTakeRows}
-use Rattle.scan_parts.proofs.WholeAdded.{RowsThere, same_between, rows_at, rows_use, tdo_use, ident_more, nearest_below, rows_can_follow, whole_added, tdo_leaves_free}
+use Rattle.scan_parts.proofs.WholeAdded.{RowsThere, same_between, rows_at, rows_use, tdo_use, tdo_count, ident_more, nearest_below, rows_can_follow, whole_added, tdo_leaves_free}
 use Rattle.scan_parts.proofs.whole.add_test_logic.Goals as goal
 
 pub add_rows-nearest-requires-clause-rows : goal.add_rows-nearest-requires-clause-rows
@@ -58,6 +58,21 @@ add_tdo-requires-clause-ident c =
     (record { last = c.add_rows-nearest.ensures.last; added = c.add_rows-nearest.ensures.added; free = c.add_rows-nearest.ensures.free }) in
     let more = c.appended_count.ensures c.add_logic-logic.new.netlist c.add_rows-nearest.new.netlist _ _ there.added in
     ident_more (length c.add_logic-logic.new.netlist.lists.nets) (length c.add_rows-nearest.new.netlist.lists.nets) c.add_logic-logic.result.ident (omega arith) c.add_logic-logic.ensures.below.ident
+
+pub overflow_sub-gate : goal.overflow_sub-gate
+overflow_sub-gate c =
+    let many = tdo_count c.add_rows-nearest.new.netlist c.add_tdo.new.netlist c.add_logic-logic.result.tap c.add_logic-logic.result.instruction c.add_logic-logic.result.bypass c.add_logic-logic.result.ident c.add_rows-nearest.result c.args.port.now.tdo
+    c.add_tdo.ensures.added in
+    omega (arith, many, c.cell_count-count.ensures)
+
+pub returns-clause-logic : goal.returns-clause-logic
+returns-clause-logic c = c.add_logic-logic.ensures.logic
+
+pub returns-clause-gate : goal.returns-clause-gate
+returns-clause-gate c =
+    let many = tdo_count c.add_rows-nearest.new.netlist c.add_tdo.new.netlist c.add_logic-logic.result.tap c.add_logic-logic.result.instruction c.add_logic-logic.result.bypass c.add_logic-logic.result.ident c.add_rows-nearest.result c.args.port.now.tdo
+    c.add_tdo.ensures.added in
+    omega (arith, many, c.cell_count-count.ensures)
 
 pub returns-clause-added : goal.returns-clause-added
 returns-clause-added c =

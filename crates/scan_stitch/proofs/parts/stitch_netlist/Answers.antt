@@ -1,5 +1,6 @@
 use Rattle.std.proofs.Common.{◌≡◌, ℕ, ◌+◌, List, length, refl, sym, ◌∙◌, ap, subst, arith}
 use Rattle.netlist_model.specs.Lists.{PortView, NetlistView, cell_count}
+use Rattle.netlist_arena.specs.Arena.{SpareView}
 use Rattle.gate_parts.specs.Appended.{Appended}
 use Rattle.scan_parts.specs.stitch_model.declared.TapPort.{TapPort}
 use Rattle.scan_parts.specs.stitch_model.Sites.{Boundary, boundary_of, sides_of}
@@ -7,7 +8,7 @@ use Rattle.scan_parts.specs.stitch_model.Stitched.{tap_port, tap_ports, test_log
 use Rattle.scan_parts.specs.scan_sides.Pins.{between}
 use Rattle.scan_parts.specs.Ports.{with_ports}
 use Rattle.scan_stitch.proofs.Joined.{same_netlist}
-use Rattle.scan_stitch.proofs.StitchSteps.{same_boundary, logic_can, LogicThere, ports_can, few_nets, few_cells}
+use Rattle.scan_stitch.proofs.StitchSteps.{same_boundary, logic_can, LogicThere, ports_can, few_nets, few_cells, net_sum, cell_sum, logic_built, built_dense, built_count}
 use Rattle.scan_stitch.proofs.parts.stitch_netlist.Goals as goal
 
 pub add_test_logic-requires-clause-can : goal.add_test_logic-requires-clause-can
@@ -48,10 +49,50 @@ returns-clause-stitched c =
     let grown = subst Q c.surround.ensures.port c.add_ports.ensures.lists in
     same_netlist c.stitched_holds_the_core.ensures c.args.netlist.now.lists c.args.names.now c.args.fitted.now c.surround.new.netlist c.add_test_logic.new.netlist c.add_ports.new.netlist.lists c.requires.can.dense c.surround.ensures.lists added grown
 
+pub returns-clause-port : goal.returns-clause-port
+returns-clause-port c = c.surround.ensures.port
+
+pub returns-clause-logic : goal.returns-clause-logic
+returns-clause-logic c =
+    logic_built c.args.netlist.now.lists c.args.names.now c.args.fitted.now c.surround.new.netlist c.surround.result.port c.add_test_logic.result.0 c.surround.ensures.lists c.surround.ensures.port c.add_test_logic.ensures.logic
+
+pub returns-clause-gate : goal.returns-clause-gate
+returns-clause-gate c =
+    c.add_test_logic.ensures.gate ∙ sym (ap (λ (L : NetlistView). cell_count L) c.add_ports.ensures.lists)
+
+pub returns-clause-nets_left : goal.returns-clause-nets_left
+returns-clause-nets_left c =
+    few_nets c.appended_count.ensures c.args.netlist.now.lists c.args.names.now c.args.fitted.now c.surround.new.netlist c.add_test_logic.new.netlist c.add_ports.new.netlist.lists _ _ _ c.surround.ensures.lists c.add_test_logic.ensures.added c.add_ports.ensures.lists c.add_test_logic.ensures.nets_left
+
+pub returns-clause-cells_left : goal.returns-clause-cells_left
+returns-clause-cells_left c =
+    few_cells c.args.netlist.now.lists c.args.names.now c.args.fitted.now c.surround.new.netlist c.add_test_logic.new.netlist c.add_ports.new.netlist.lists _ _ _ c.surround.ensures.lists c.add_test_logic.ensures.added c.add_ports.ensures.lists c.add_test_logic.ensures.cells_left
+
 pub returns-clause-nets : goal.returns-clause-nets
 returns-clause-nets c =
-    few_nets c.appended_count.ensures c.args.netlist.now.lists c.args.names.now c.args.fitted.now c.surround.new.netlist c.add_test_logic.new.netlist c.add_ports.new.netlist.lists _ _ _ c.surround.ensures.lists c.add_test_logic.ensures.added c.add_ports.ensures.lists c.add_test_logic.ensures.nets_left
+    let few = few_nets c.appended_count.ensures c.args.netlist.now.lists c.args.names.now c.args.fitted.now c.surround.new.netlist c.add_test_logic.new.netlist c.add_ports.new.netlist.lists _ _ _ c.surround.ensures.lists c.add_test_logic.ensures.added c.add_ports.ensures.lists c.add_test_logic.ensures.nets_left in
+    omega arith
 
 pub returns-clause-cells : goal.returns-clause-cells
 returns-clause-cells c =
-    few_cells c.args.netlist.now.lists c.args.names.now c.args.fitted.now c.surround.new.netlist c.add_test_logic.new.netlist c.add_ports.new.netlist.lists _ _ _ c.surround.ensures.lists c.add_test_logic.ensures.added c.add_ports.ensures.lists c.add_test_logic.ensures.cells_left
+    let few = few_cells c.args.netlist.now.lists c.args.names.now c.args.fitted.now c.surround.new.netlist c.add_test_logic.new.netlist c.add_ports.new.netlist.lists _ _ _ c.surround.ensures.lists c.add_test_logic.ensures.added c.add_ports.ensures.lists c.add_test_logic.ensures.cells_left in
+    omega arith
+
+pub returns-clause-net_room : goal.returns-clause-net_room
+returns-clause-net_room c =
+    net_sum c.appended_count.ensures c.args.netlist.now.lists c.args.names.now c.args.fitted.now c.surround.new.netlist c.add_test_logic.new.netlist c.add_ports.new.netlist.lists _ _ _ c.args.netlist.now.spare.nets c.add_ports.new.netlist.spare.nets c.surround.ensures.lists c.add_test_logic.ensures.added c.add_ports.ensures.lists c.surround.ensures.nets (ap (λ (s : SpareView). s.nets) c.add_ports.ensures.spare)
+
+pub returns-clause-cell_room : goal.returns-clause-cell_room
+returns-clause-cell_room c =
+    cell_sum c.args.netlist.now.lists c.args.names.now c.args.fitted.now c.surround.new.netlist c.add_test_logic.new.netlist c.add_ports.new.netlist.lists _ _ _ c.args.netlist.now.spare.cells c.add_ports.new.netlist.spare.cells c.surround.ensures.lists c.add_test_logic.ensures.added c.add_ports.ensures.lists c.surround.ensures.cells (ap (λ (s : SpareView). s.cells) c.add_ports.ensures.spare)
+
+pub returns-clause-dense : goal.returns-clause-dense
+returns-clause-dense c =
+    built_dense c.surround.new.netlist c.add_test_logic.new.netlist c.add_ports.new.netlist.lists _ _ _ c.add_test_logic.ensures.added c.add_ports.ensures.lists
+
+pub returns-clause-count : goal.returns-clause-count
+returns-clause-count c =
+    let bound : between c.surround.new.netlist.lists.ports c.args.fitted.now.rows c.surround.result.first ≡ boundary_of c.args.netlist.now.lists c.args.fitted.now.rows
+    = same_boundary c.args.netlist.now.lists c.surround.new.netlist.lists c.args.fitted.now.rows c.args.fitted.now.rows c.surround.result.first (ap (λ (L : NetlistView). L.ports) c.surround.ensures.lists) refl c.surround.ensures.first in
+    built_count c.args.netlist.now.lists c.args.names.now c.args.fitted.now c.surround.new.netlist c.add_test_logic.new.netlist _ c.surround.result.port c.add_ports.new.netlist.lists _ c.surround.ensures.lists bound c.surround.ensures.port
+    c.add_test_logic.ensures.added c.add_ports.ensures.lists

@@ -15,16 +15,16 @@ use Rattle.scan_stitch.proofs.whole.stitch.Goals as goal
 pub tap_names-names-requires : goal.tap_names-names-requires
 tap_names-names-requires c = names_entered c.tap_names_are_entered.ensures c.args.linked.now c.args.fitted.now c.requires
 
-pub stitch_netlist-requires-clause-can : goal.stitch_netlist-requires-clause-can
-stitch_netlist-requires-clause-can c =
+pub stitch_netlist-built-requires-clause-can : goal.stitch_netlist-built-requires-clause-can
+stitch_netlist-built-requires-clause-can c =
     let P : ArenaView → Type 0 = λ A. IsLaidOut A.lists in
     let laid = subst P c.netlist.ensures.netlist c.is_laid_out.ensures.laid_out in
     let same = c.netlist_mut.ensures.netlist ∙ c.begin_draft-draft.ensures.draft in
     let Q : ArenaView → Type 0 = λ A. CanBeStitched A.lists c.tap_names-names.result c.args.fitted.now in
     subst Q (sym same) (can_of c.fitted_can_stand_behind.ensures c.args.linked.now c.args.fitted.now c.tap_names-names.result c.requires laid)
 
-pub stitch_netlist-requires-clause-room : goal.stitch_netlist-requires-clause-room
-stitch_netlist-requires-clause-room c =
+pub stitch_netlist-built-requires-clause-room : goal.stitch_netlist-built-requires-clause-room
+stitch_netlist-built-requires-clause-room c =
     let same = c.netlist_mut.ensures.netlist ∙ c.begin_draft-draft.ensures.draft in
     let Q : ArenaView → Type 0 = λ A. HasStitchRoom A c.args.fitted.now in
     subst Q (sym same) (room_made c.args.linked.now c.args.fitted.now c.requires)
@@ -34,31 +34,31 @@ close-requires-clause-formed c =
     let P : ArenaView → Type 0 = λ A. IsLaidOut A.lists in
     let laid = subst P c.netlist.ensures.netlist c.is_laid_out.ensures.laid_out in
     let same = c.netlist_mut.ensures.netlist ∙ c.begin_draft-draft.ensures.draft in
-    let R : ArenaView → Type 0 = λ A. IsSameNetlist c.stitch_netlist.new.netlist.lists (stitched A.lists c.tap_names-names.result c.args.fitted.now) in
-    let made = subst R same c.stitch_netlist.ensures.stitched in
-    formed_of c.grown_is_formed.ensures c.stitched_is_formed.ensures c.args.linked.now c.args.fitted.now c.tap_names-names.result c.stitch_netlist.new.netlist.lists c.requires laid made
+    let R : ArenaView → Type 0 = λ A. IsSameNetlist c.stitch_netlist-built.new.netlist.lists (stitched A.lists c.tap_names-names.result c.args.fitted.now) in
+    let made = subst R same c.stitch_netlist-built.ensures.stitched in
+    formed_of c.grown_is_formed.ensures c.stitched_is_formed.ensures c.args.linked.now c.args.fitted.now c.tap_names-names.result c.stitch_netlist-built.new.netlist.lists c.requires laid made
 
 pub close-requires-clause-named : goal.close-requires-clause-named
 close-requires-clause-named c =
     let P : ArenaView → Type 0 = λ A. IsLaidOut A.lists in
     let laid = subst P c.netlist.ensures.netlist c.is_laid_out.ensures.laid_out in
     let same = c.netlist_mut.ensures.netlist ∙ c.begin_draft-draft.ensures.draft in
-    let R : ArenaView → Type 0 = λ A. IsSameNetlist c.stitch_netlist.new.netlist.lists (stitched A.lists c.tap_names-names.result c.args.fitted.now) in
-    let made = subst R same c.stitch_netlist.ensures.stitched in
-    named_of c.same_is_named.ensures c.stitched_is_named.ensures c.args.linked.now c.args.fitted.now c.tap_names-names.result c.stitch_netlist.new.netlist.lists c.begin_draft-draft.new.self.names
+    let R : ArenaView → Type 0 = λ A. IsSameNetlist c.stitch_netlist-built.new.netlist.lists (stitched A.lists c.tap_names-names.result c.args.fitted.now) in
+    let made = subst R same c.stitch_netlist-built.ensures.stitched in
+    named_of c.same_is_named.ensures c.stitched_is_named.ensures c.args.linked.now c.args.fitted.now c.tap_names-names.result c.stitch_netlist-built.new.netlist.lists c.begin_draft-draft.new.self.names
     c.requires laid c.tap_names-names.ensures c.begin_draft-draft.ensures.names made
 
 pub close-requires-clause-room : goal.close-requires-clause-room
 close-requires-clause-room c =
     let same = c.netlist_mut.ensures.netlist ∙ c.begin_draft-draft.ensures.draft in
-    fits_room_at c.args.linked.now c.args.fitted.now c.stitch_netlist.new.netlist.lists c.begin_draft-draft.new.self.room c.netlist_mut.result.now c.requires same c.begin_draft-draft.ensures.room
-    c.stitch_netlist.ensures.nets c.stitch_netlist.ensures.cells
+    fits_room_at c.args.linked.now c.args.fitted.now c.stitch_netlist-built.new.netlist.lists c.begin_draft-draft.new.self.room c.netlist_mut.result.now c.requires same c.begin_draft-draft.ensures.room
+    c.stitch_netlist-built.ensures.nets c.stitch_netlist-built.ensures.cells
 
 pub returns-clause-stitched : goal.returns-clause-stitched
 returns-clause-stitched c =
     let same = c.netlist_mut.ensures.netlist ∙ c.begin_draft-draft.ensures.draft in
-    let R : ArenaView → Type 0 = λ A. IsSameNetlist c.stitch_netlist.new.netlist.lists (stitched A.lists c.tap_names-names.result c.args.fitted.now) in
-    let made = subst R same c.stitch_netlist.ensures.stitched in
+    let R : ArenaView → Type 0 = λ A. IsSameNetlist c.stitch_netlist-built.new.netlist.lists (stitched A.lists c.tap_names-names.result c.args.fitted.now) in
+    let made = subst R same c.stitch_netlist-built.ensures.stitched in
     let S : ArenaView → Type 0 = λ A. IsSameNetlist A.lists (stitched c.args.linked.now.arena.lists c.tap_names-names.result c.args.fitted.now) in
     record {
       tap = c.tap_names-names.result;
@@ -74,34 +74,34 @@ returns-clause-realises c =
     let P : ArenaView → Type 0 = λ A. IsLaidOut A.lists in
     let laid = subst P c.netlist.ensures.netlist c.is_laid_out.ensures.laid_out in
     let same = c.netlist_mut.ensures.netlist ∙ c.begin_draft-draft.ensures.draft in
-    let R : ArenaView → Type 0 = λ A. IsSameNetlist c.stitch_netlist.new.netlist.lists (stitched A.lists c.tap_names-names.result c.args.fitted.now) in
-    let made = subst R same c.stitch_netlist.ensures.stitched in
+    let R : ArenaView → Type 0 = λ A. IsSameNetlist c.stitch_netlist-built.new.netlist.lists (stitched A.lists c.tap_names-names.result c.args.fitted.now) in
+    let made = subst R same c.stitch_netlist-built.ensures.stitched in
     let S : ArenaView → Type 0 = λ A. Realises A.lists (device_of_fitted c.args.fitted.now) c.args.linked.now.arena.lists in
     subst S (sym c.close.ensures.netlist)
-    (realises_of c.stitched_is_formed.ensures c.fitting_plans_realise.ensures c.same_realises.ensures c.args.linked.now c.args.fitted.now c.tap_names-names.result c.stitch_netlist.new.netlist.lists c.requires laid made)
+    (realises_of c.stitched_is_formed.ensures c.fitting_plans_realise.ensures c.same_realises.ensures c.args.linked.now c.args.fitted.now c.tap_names-names.result c.stitch_netlist-built.new.netlist.lists c.requires laid made)
 
 pub returns-clause-alone : goal.returns-clause-alone
 returns-clause-alone c =
     let P : ArenaView → Type 0 = λ A. IsLaidOut A.lists in
     let laid = subst P c.netlist.ensures.netlist c.is_laid_out.ensures.laid_out in
     let same = c.netlist_mut.ensures.netlist ∙ c.begin_draft-draft.ensures.draft in
-    let R : ArenaView → Type 0 = λ A. IsSameNetlist c.stitch_netlist.new.netlist.lists (stitched A.lists c.tap_names-names.result c.args.fitted.now) in
-    let made = subst R same c.stitch_netlist.ensures.stitched in
+    let R : ArenaView → Type 0 = λ A. IsSameNetlist c.stitch_netlist-built.new.netlist.lists (stitched A.lists c.tap_names-names.result c.args.fitted.now) in
+    let made = subst R same c.stitch_netlist-built.ensures.stitched in
     let S : ArenaView → Type 0 = λ A. Alone A.lists (device_of_fitted c.args.fitted.now) c.args.linked.now.arena.lists in
     subst S (sym c.close.ensures.netlist)
-    (alone_of c.stitched_is_formed.ensures c.fitting_plans_are_alone.ensures c.same_is_alone.ensures c.args.linked.now c.args.fitted.now c.tap_names-names.result c.stitch_netlist.new.netlist.lists c.requires laid made)
+    (alone_of c.stitched_is_formed.ensures c.fitting_plans_are_alone.ensures c.same_is_alone.ensures c.args.linked.now c.args.fitted.now c.tap_names-names.result c.stitch_netlist-built.new.netlist.lists c.requires laid made)
 
 pub returns-clause-finds_home : goal.returns-clause-finds_home
 returns-clause-finds_home c =
     let P : ArenaView → Type 0 = λ A. IsLaidOut A.lists in
     let laid = subst P c.netlist.ensures.netlist c.is_laid_out.ensures.laid_out in
     let same = c.netlist_mut.ensures.netlist ∙ c.begin_draft-draft.ensures.draft in
-    let R : ArenaView → Type 0 = λ A. IsSameNetlist c.stitch_netlist.new.netlist.lists (stitched A.lists c.tap_names-names.result c.args.fitted.now) in
-    let made = subst R same c.stitch_netlist.ensures.stitched in
+    let R : ArenaView → Type 0 = λ A. IsSameNetlist c.stitch_netlist-built.new.netlist.lists (stitched A.lists c.tap_names-names.result c.args.fitted.now) in
+    let made = subst R same c.stitch_netlist-built.ensures.stitched in
     let S : ArenaView → Type 0 = λ A. FindsHome A.lists (device_of_fitted c.args.fitted.now) c.args.linked.now.arena.lists in
     subst S (sym c.close.ensures.netlist)
     (home_of c.stitched_is_formed.ensures c.stitched_keeps.ensures c.fitting_plans_find_home.ensures c.same_finds_home.ensures c.args.linked.now c.args.fitted.now c.tap_names-names.result
-    c.stitch_netlist.new.netlist.lists c.requires laid made)
+    c.stitch_netlist-built.new.netlist.lists c.requires laid made)
 
 pub returns-clause-alone_from_home : goal.returns-clause-alone_from_home
 returns-clause-alone_from_home c =

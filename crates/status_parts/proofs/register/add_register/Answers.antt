@@ -3,7 +3,7 @@ use Rattle.netlist_model.specs.declared.NetId.{NetId}
 use Rattle.netlist_model.specs.declared.Feed.{Feed}
 use Rattle.netlist_model.specs.Lists.{cell_count}
 use Rattle.gate_parts.specs.Appended.{Appended}
-use Rattle.register_gates.specs.Registers.{data_cells, data_last}
+use Rattle.status_gates.specs.register_gates.Registers.{data_cells, data_last}
 use Rattle.status_gates.specs.Wires.{net_feeds}
 use Rattle.status_gates.proofs.Added.{opcode_length}
 use Rattle.status_gates.proofs.Feeds.{net_feeds_length}

@@ -1,0 +1,7 @@
+use Rattle.std.proofs.Common.{◌≡◌, ◌++◌, map, take}
+use Rattle.first_faults.specs.Repeated.{texts}
+use Rattle.link_model.specs.verilog_tree.declared.tree.Wire.{Wire}
+use Rattle.link_names.proofs.names.add_wires.Given as goal
+
+abbrev pub invariant-loop-wire : goal.invariant-loop-wire
+invariant-loop-wire l = texts l.names.items ≡ texts l.initial.names.items ++ map (λ (wire : Wire). wire.name) (take l.wire-index l.wires)

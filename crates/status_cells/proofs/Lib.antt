@@ -1,0 +1,3 @@
+pub use Rattle.status_parts.proofs as status_parts
+pub mod Added
+pub mod Laws

@@ -1,0 +1,4 @@
+pub mod Each
+pub mod Known
+pub mod Stands
+pub mod Realises

@@ -1,0 +1,5 @@
+pub use Rattle.status_parts.specs as status_parts
+pub use Rattle.status_parts.specs.status_gates as status_gates
+pub mod Realises
+pub mod Stands
+pub mod Laws
