@@ -11,6 +11,8 @@ ROW = re.compile(r"(\d+)\s*\(\s*(\w+)\s*,\s*(\*|\w+(?:\s*\(\s*\d+\s*\))?)\s*,\s*
 BOUNDARY, BYPASS, DEVICE_ID = "BOUNDARY", "BYPASS", "DEVICE_ID"
 REGISTERS = dict(EXTEST=BOUNDARY, SAMPLE=BOUNDARY, PRELOAD=BOUNDARY, BYPASS=BYPASS, IDCODE=DEVICE_ID, HIGHZ=BYPASS, CLAMP=BYPASS, USERCODE=DEVICE_ID)
 FUNCTIONS = ("input", "clock", "output2", "output3", "bidir", "control")
+# What to do with the file of a device that has registers of the design's own.
+OWN = "where it selects a register of the design's own, give the file that `insert` writes for the same netlist and plan"
 
 
 @dataclass
@@ -301,7 +303,7 @@ def instructions_of(words, device):
             raise Fault(f"{name}: {bits} hasn't the length of the instruction register, {device.length}")
     for name in device.opcodes:
         if name not in REGISTERS:
-            raise Fault(f"the instruction {name} isn't read here")
+            raise Fault(f"the instruction {name} isn't read here; {OWN}")
     for name in ("BYPASS", "EXTEST", "SAMPLE", "PRELOAD"):
         if name not in device.opcodes:
             raise Fault(f"there is no opcode of {name}")

@@ -4,9 +4,10 @@ import os, socket, subprocess
 from chips import CELLS, keep, run, spelled
 
 
-def bench(module, tap, values):
+def bench(module, tap, values, beside=()):
     """A bench that does what remote_bitbang asks for on its standard input, with these values at the inputs; it ends
-    with the readings."""
+    with the readings. Lines that stand beside the chip have three tasks: `asking` before a letter is followed,
+    `answered` behind it, and `pulsed` for a pulse of the system's reset, which is no pin of the chip."""
     inputs = [(number, port) for number, port in enumerate(module.ports) if port.direction == "input"]
     names = {port.name: f"p{number}" for number, port in enumerate(module.ports)}
     clock, mode, data, out, reset = (names[tap[name]] for name in ("CLOCK", "MODE", "IN", "OUT", "RESET"))
@@ -14,16 +15,18 @@ def bench(module, tap, values):
     for number, port in enumerate(module.ports):
         yield f"  {'reg' if port.direction == 'input' else 'wire'} {port.range()}p{number};"
     links = ", ".join(f".{spelled(port.name)}(p{number})" for number, port in enumerate(module.ports))
-    yield from (f"  {spelled(module.name)} chip ({links});", "  initial begin")
+    yield from (f"  {spelled(module.name)} chip ({links});", *beside, "  initial begin")
     for number, port in inputs:
         for pin, index in zip(port.pins(), port.bits()):
             yield f"    p{number}{'' if index is None else f'[{index}]'} = {values.get(pin, 0)};"
     yield from ("    #10 asked = $fgetc(32'h8000_0000);", '    while (asked != -1 && asked != "Q") begin')
+    yield from ["      asking;"] if beside else []
     yield f'      if (asked >= "0" && asked <= "7") {{{clock}, {mode}, {data}}} = asked - "0";'
     yield f'      else if (asked == "r" || asked == "s") {reset} = 1;'
     yield f'      else if (asked == "t" || asked == "u") {reset} = 0;'
     yield f"""      else if (asked == "R") begin $write("%b", {out} === 1'b1); $fflush(32'h8000_0001); end"""
-    yield from ("      #10 asked = $fgetc(32'h8000_0000);", "    end")
+    yield from ("      #10;", *(["      answered;", '      if (asked == "s") pulsed;'] if beside else []))
+    yield from ("      asked = $fgetc(32'h8000_0000);", "    end")
     yield from (f'    $display("\\n{port.name} %b", p{number});' for number, port in enumerate(module.ports) if port.direction != "input")
     yield from ("    $finish;", "  end", "endmodule")
 

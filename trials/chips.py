@@ -79,10 +79,12 @@ def models_of(room, library):
     return [keep(os.path.join(room, "models.v"), "".join(cell.model() for cell in cells_of(library)))] if library else []
 
 
-def inserted(program, folder, name, room):
-    """The written netlist and BSDL file of a chip, as paths."""
+def inserted(program, folder, name, room, registers=None):
+    """The written netlist and BSDL file of a chip, as paths; with the path of a text of registers those of `status`."""
     paths = [os.path.join(room, name + end) for end in (".out.v", ".out.bsd")]
-    run([program, "insert", *(os.path.join(folder, name + end) for end in (".v", ".plan")), *paths, *library_of(folder, name)])
+    given = [os.path.join(folder, name + end) for end in (".v", ".plan")]
+    words = ["status", *given, registers] if registers else ["insert", *given]
+    run([program, *words, *paths, *library_of(folder, name)])
     return paths
 
 

@@ -1,7 +1,7 @@
 """What the trials of the scripts share: runs of a script, what it refuses, and chips to try it on."""
 import os, subprocess, sys
 
-from chips import HERE, TOP, inserted, keep, run
+from chips import HERE, TOP, inserted, keep, run, text_of
 
 SCRIPTS = os.path.join(TOP, "scripts")
 DATA = os.path.join(HERE, "data")
@@ -34,6 +34,14 @@ def small_chips(program, room):
     """The name, the netlist and the BSDL file of each small chip."""
     for folder, name in SMALL:
         yield (name, *inserted(program, folder, name, room))
+
+
+def with_own_register(room):
+    """The BSDL file of the counter with a register of the design's own, as `statusbsdl` takes it."""
+    text = text_of(os.path.join(TOP, "examples/counter8.bsd"))
+    for old, new in (("CLAMP (0100)", "RDOWN (0101)"), ("DEVICE_ID (IDCODE)", "OWN[3] (RDOWN)")):
+        text = text.replace(f'"{old}";', f'"{old}," &\n    "{new}";')
+    return keep(os.path.join(room, "own.bsd"), text)
 
 
 def demo(program, room, number):

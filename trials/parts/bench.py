@@ -2,7 +2,7 @@
 import os, re, sys
 
 from chips import CELLS, TOP, keep, run, text_of
-from script_trials import demo, most_rows, refusals, script, small_chips
+from script_trials import demo, most_rows, refusals, script, small_chips, with_own_register
 
 NEEDS = ("iverilog", "vvp")
 # Of the longest program so many lines are played.
@@ -81,6 +81,7 @@ def tried(program, room):
     wrong["a pin of another chip"] = [chips[1][2], vectors, bench]
     wrong["a netlist as the library"] = [bsdl, vectors, bench, netlist]
     wrong["no time"] = [bsdl, vectors, bench, "--step", "0"]
+    wrong["a register of the design's own"] = [with_own_register(room), vectors, bench]
     yield refusals("bench", wrong)
 
 

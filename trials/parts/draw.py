@@ -4,7 +4,7 @@ import os, re, sys
 from xml.etree import ElementTree
 
 from chips import keep, text_of
-from script_trials import demo, most_rows, refusals, script, small_chips, two_hundred
+from script_trials import demo, most_rows, refusals, script, small_chips, two_hundred, with_own_register
 
 NEEDS = ()
 SVG = "{http://www.w3.org/2000/svg}"
@@ -64,4 +64,5 @@ def tried(program, room):
     svg, (_, netlist, bsdl) = os.path.join(room, "chip.svg"), chips[0]
     wrong = {"no file": [os.path.join(room, "missing"), svg], "a netlist": [netlist, svg], "a folder to write to": [bsdl, room], "no word": []}
     wrong["a port that isn't mapped"] = [keep(os.path.join(room, "less.bsd"), text_of(bsdl).replace('    "en:3," &\n', "")), svg]
+    wrong["a register of the design's own"] = [with_own_register(room), svg]
     yield refusals("draw", wrong)

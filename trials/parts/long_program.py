@@ -3,7 +3,7 @@ exchanged."""
 import itertools, os, re, sys
 
 from chips import keep, run, text_of
-from script_trials import demo, most_rows, refusals, script, small_chips
+from script_trials import demo, most_rows, refusals, script, small_chips, with_own_register
 from side_by_side import SideBySide, missed
 
 NEEDS = ()
@@ -117,4 +117,5 @@ def tried(program, room):
     missing = os.path.join(room, "missing")
     wrong = {"no file": [missing, events], "a netlist": [net, events], "a folder to write to": [bsdl, room], "no word": []}
     wrong["a row less"] = [keep(os.path.join(room, "less.bsd"), text_of(bsdl).replace('    "7 (BC_1, a(7), input, X)," &\n', "")), events]
+    wrong["a register of the design's own"] = [with_own_register(room), events]
     yield refusals("long_program", wrong)

@@ -2,7 +2,7 @@
 import os, random, re, subprocess, sys
 
 from chips import TOP, inserted, keep, run, text_of
-from script_trials import DATA, demo, most_rows, refusals, script
+from script_trials import DATA, demo, most_rows, refusals, script, with_own_register
 
 NEEDS = ()
 CHANGES = 300
@@ -60,6 +60,22 @@ SPOILED_CODES = (
     ("BYPASS (BYPASS", "BYPASS (USERCODE, BYPASS", "BsdlMeaning Register", "USERCODE stands at BYPASS; its register is DEVICE_ID"),
 )
 
+# Of the counter's file with a register of the design's own.
+EXTRA = "BsdlExtra"
+SPOILED_OWN = (
+    ("OWN[3] (RDOWN)", "OWN[0] (RDOWN)", EXTRA, "OWN has 0 bits; it may have 1 to 256"),
+    ("OWN[3] (RDOWN)", "OWN[257] (RDOWN)", EXTRA, "OWN has 257 bits; it may have 1 to 256"),
+    ("OWN[3] (RDOWN)", "bypass[3] (RDOWN)", EXTRA, "a register of the design's own has another name than BYPASS"),
+    ("OWN[3] (RDOWN)", "OWN[3] (RDOWN), own[1] (RDOWN)", EXTRA, "the register own stands twice"),
+    ("OWN[3] (RDOWN)", "OWN[3] (RDOWN), MORE[1] (rdown)", EXTRA, "the instruction rdown stands twice"),
+    ("OWN[3] (RDOWN)", "OWN[3] (RDOWN), MORE[1] (RDMORE)", EXTRA, "RDMORE has no opcode"),
+    ("RDOWN (0101)", "RDOWN (0100)", EXTRA, "RDOWN has the opcode of CLAMP"),
+    ("RDOWN (0101)", "RDOWN (00101)", EXTRA, "the opcode of RDOWN has 5 bits, and the instruction register 4"),
+    ("RDOWN (0101)", "RDELSE (0101)", "BsdlMeaning Opcode", "the instruction RDELSE isn't taken"),
+    ("OWN[3] (RDOWN)", "OWN(3) (RDOWN)", STRING, "`OWN` stands where one of BOUNDARY, BYPASS, DEVICE_ID"),
+    ("OWN[3] (RDOWN)", "OWN[] (RDOWN)", STRING, "`]` stands where the count of a register's bits belongs"),
+)
+
 
 def shown(path, place):
     """The lines and columns that the script shows, with what it says, and the byte over each mark."""
@@ -69,16 +85,16 @@ def shown(path, place):
         yield int(found[1]), int(found[2]), found[3] or "", line[len(mark) - 1 : len(mark)]
 
 
-def spoiled_files(program, room, name, text, changes):
+def spoiled_files(program, room, name, text, changes, command="showbsdl"):
     path, out = os.path.join(room, "spoiled.bsd"), os.path.join(room, "out.bsd")
     for old, new, fault, told in changes:
         if text.count(old) != 1:
             sys.exit(f"{old} stands {text.count(old)} times in the file of {name}")
         keep(path, text.replace(old, new))
-        said = run([program, "showbsdl", path, out], (1,)).split()
+        said = run([program, command, path, out], (1,)).split()
         if " ".join(said[: len(fault.split())]) != fault:
             sys.exit(f"{new}: {said}")
-        places = list(shown(path, said[1 if fault == STRING else 2]))
+        places = list(shown(path, said[len(fault.split())]))
         line = text.count("\n", 0, text.index(old)) + 1
         if len(places) != 2 or told not in places[1][2] or places[1][0] != line:
             sys.exit(f"{new}: {places}")
@@ -211,6 +227,7 @@ def tried(program, room):
     yield spoiled_files(program, room, "the counter", text_of(bsdl), SPOILED)
     codes = text_of(inserted(program, DATA, "two_codes", room)[1])
     yield spoiled_files(program, room, "two_codes", codes, SPOILED_CODES)
+    yield spoiled_files(program, room, "the counter with a register of its own", text_of(with_own_register(room)), SPOILED_OWN, "statusbsdl")
     yield changed_words(program, room, text_of(bsdl))
     yield most(room, program)
     yield loop(program, room)

@@ -4,7 +4,7 @@ import os, re, sys
 
 from bridge import bench, bridged, simulated
 from chips import Module, keep, text_of
-from script_trials import demo, most_rows, refusals, script, small_chips
+from script_trials import demo, most_rows, refusals, script, small_chips, with_own_register
 
 NEEDS = ("openocd", "iverilog", "vvp")
 TAP = {"CLOCK": "TCK", "MODE": "TMS", "IN": "TDI", "OUT": "TDO", "RESET": "TRST"}
@@ -175,4 +175,5 @@ def tried(program, room):
     wrong["events that set other pins"] = [bsdl, svf, "--events", events]
     wrong["a chip without an instruction register"] = [bsdl, svf, "--chips-before", "1"]
     wrong["no program"] = [bsdl, svf, "--program", os.path.join(room, "missing")]
+    wrong["a register of the design's own"] = [with_own_register(room), svf, "--program", program]
     yield refusals("svf", wrong)

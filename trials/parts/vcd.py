@@ -2,7 +2,7 @@
 import os, re, sys
 
 from chips import TOP, keep, run, text_of
-from script_trials import demo, most_rows, refusals, script, small_chips
+from script_trials import demo, most_rows, refusals, script, small_chips, with_own_register
 
 NEEDS = ()
 
@@ -93,4 +93,5 @@ def tried(program, room):
     wrong["readings of another chip"] = [netlist, events, dump, "--said", said, "--bsdl", bsdl]
     wrong["cells of a library without it"] = unlisted
     wrong["what `sim` didn't print"] = [netlist, events, dump, "--said", bsdl]
+    wrong["a register of the design's own"] = [netlist, events, dump, "--bsdl", with_own_register(room), "--program", program]
     yield refusals("vcd", wrong)
