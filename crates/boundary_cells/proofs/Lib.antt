@@ -1,3 +1,4 @@
+pub use Rattle.register_bits.proofs.gate_parts as gate_parts
 pub use Rattle.register_bits.proofs as register_bits
 pub mod AddedTables
 pub mod Stages

@@ -4,17 +4,17 @@ use Rattle.std.specs.Prelude.{if◌then◌else◌, Option, None, slice_get}
 use Rattle.signal_values.specs.declared.Sig.{Sig}
 use Rattle.signal_values.specs.declared.Sig.TheVariants.{Zero}
 use Rattle.signal_values.specs.Values.{bit}
-use Rattle.cell_library.specs.declared.Edge.{Edge}
-use Rattle.cell_library.specs.declared.Edge.TheVariants.{Rise, Fall}
-use Rattle.cell_library.specs.declared.codes.Instr.{Instr}
-use Rattle.cell_library.specs.declared.codes.BoundaryKind.{BoundaryKind}
-use Rattle.cell_library.specs.declared.codes.BoundaryKind.TheVariants.{Bc4}
-use Rattle.netlist_model.specs.declared.NetId.{NetId}
-use Rattle.netlist_model.specs.Lists.{CellView, NetlistView}
-use Rattle.netlist_model.specs.Settled.{IsSettled}
-use Rattle.netlist_model.specs.Formed.{IsWellFormed}
-use Rattle.netlist_model.specs.Contained.{HasCells}
-use Rattle.netlist_model.specs.Runs.{Moment, PinEvent, IsStep}
+use Rattle.instruction_gates.specs.cell_library.declared.Edge.{Edge}
+use Rattle.instruction_gates.specs.cell_library.declared.Edge.TheVariants.{Rise, Fall}
+use Rattle.instruction_gates.specs.cell_library.declared.codes.Instr.{Instr}
+use Rattle.instruction_gates.specs.cell_library.declared.codes.BoundaryKind.{BoundaryKind}
+use Rattle.instruction_gates.specs.cell_library.declared.codes.BoundaryKind.TheVariants.{Bc4}
+use Rattle.netlist_laws.specs.netlist_model.declared.NetId.{NetId}
+use Rattle.netlist_laws.specs.netlist_model.Lists.{CellView, NetlistView}
+use Rattle.netlist_laws.specs.netlist_model.Settled.{IsSettled}
+use Rattle.netlist_laws.specs.netlist_model.Formed.{IsWellFormed}
+use Rattle.netlist_laws.specs.netlist_model.Contained.{HasCells}
+use Rattle.netlist_laws.specs.netlist_model.Runs.{Moment, PinEvent, IsStep}
 use Rattle.wrapped_chip.specs.test_logic.declared.Levels.{Levels}
 use Rattle.wrapped_chip.specs.test_logic.declared.ScanNets.{ScanNets}
 use Rattle.wrapped_chip.specs.test_logic.Controller.{act}

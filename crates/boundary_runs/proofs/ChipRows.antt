@@ -3,10 +3,10 @@ use Rattle.std.proofs.Common.{◌≡◌, ℕ, zero, suc, ◌+◌, List, [], ◌�
 use Rattle.std.specs.Prelude.{map, slice_get, Option, None}
 use Rattle.signal_values.specs.declared.Sig.{Sig}
 use Rattle.signal_values.specs.declared.PinSig.{PinSig}
-use Rattle.netlist_model.specs.declared.NetId.{NetId}
-use Rattle.netlist_model.specs.Lists.{NetlistView}
-use Rattle.bsdl_device.specs.declared.values.CellRow.{CellRow}
-use Rattle.bsdl_device.specs.declared.values.Device.{Device}
+use Rattle.netlist_laws.specs.netlist_model.declared.NetId.{NetId}
+use Rattle.netlist_laws.specs.netlist_model.Lists.{NetlistView}
+use Rattle.wrapped_chip.specs.bsdl_device.declared.values.CellRow.{CellRow}
+use Rattle.wrapped_chip.specs.bsdl_device.declared.values.Device.{Device}
 use Rattle.wrapped_chip.specs.test_logic.Machine.{Machine, in_effect, test_logic_of}
 use Rattle.wrapped_chip.specs.test_logic.Rows.{row_captured}
 use Rattle.wrapped_chip.specs.Cells.{net_of_row, cell_at_net, captured_from, captured}

@@ -3,10 +3,10 @@ use Rattle.std.proofs.Common.{◌≡◌, ℕ, zero, suc, ◌<◌, ◌≤◌, Boo
 use Rattle.std.specs.Prelude.{Option, Some, None, slice_index_or}
 use Rattle.signal_values.specs.declared.Sig.{Sig}
 use Rattle.signal_values.specs.Values.{bit}
-use Rattle.cell_library.specs.declared.Edge.{Edge}
-use Rattle.cell_library.specs.declared.Edge.TheVariants.{Rise, Fall}
-use Rattle.cell_library.specs.declared.codes.BoundaryKind.{BoundaryKind}
-use Rattle.bsdl_device.specs.declared.entries.Register.TheVariants.{Boundary}
+use Rattle.instruction_gates.specs.cell_library.declared.Edge.{Edge}
+use Rattle.instruction_gates.specs.cell_library.declared.Edge.TheVariants.{Rise, Fall}
+use Rattle.instruction_gates.specs.cell_library.declared.codes.BoundaryKind.{BoundaryKind}
+use Rattle.wrapped_chip.specs.bsdl_device.declared.entries.Register.TheVariants.{Boundary}
 use Rattle.wrapped_chip.specs.test_logic.declared.Levels.{Levels}
 use Rattle.wrapped_chip.specs.test_logic.declared.Action.{Action}
 use Rattle.wrapped_chip.specs.test_logic.declared.Action.TheVariants.{Captures, Shifts, Keeps}

@@ -2,17 +2,17 @@
 use Rattle.std.proofs.Common.{◌≡◌, ℕ, ◌+◌, Bool, false, List, refl, sym, ◌∙◌}
 use Rattle.signal_values.specs.declared.Sig.{Sig}
 use Rattle.signal_values.specs.Values.{see}
-use Rattle.cell_library.specs.declared.codes.Instr.{Instr}
-use Rattle.cell_library.specs.declared.codes.BoundaryKind.{BoundaryKind}
-use Rattle.cell_library.specs.declared.codes.BoundaryKind.TheVariants.{Bc1, Bc2, Bc4, Bc7}
-use Rattle.cell_library.specs.declared.codes.Function.TheVariants.{Input, Output2, Control, Bidir}
-use Rattle.netlist_model.specs.declared.NetId.{NetId}
-use Rattle.netlist_model.specs.declared.Feed.{Feed}
-use Rattle.netlist_model.specs.Lists.{NetlistView}
-use Rattle.netlist_model.specs.Settled.{feed_value, Meets}
-use Rattle.netlist_model.specs.Formed.{IsWellFormed}
-use Rattle.netlist_model.specs.Contained.{HasCells}
-use Rattle.netlist_model.specs.Runs.{Moment, PinEvent, IsStart}
+use Rattle.instruction_gates.specs.cell_library.declared.codes.Instr.{Instr}
+use Rattle.instruction_gates.specs.cell_library.declared.codes.BoundaryKind.{BoundaryKind}
+use Rattle.instruction_gates.specs.cell_library.declared.codes.BoundaryKind.TheVariants.{Bc1, Bc2, Bc4, Bc7}
+use Rattle.instruction_gates.specs.cell_library.declared.codes.Function.TheVariants.{Input, Output2, Control, Bidir}
+use Rattle.netlist_laws.specs.netlist_model.declared.NetId.{NetId}
+use Rattle.netlist_laws.specs.netlist_model.declared.Feed.{Feed}
+use Rattle.netlist_laws.specs.netlist_model.Lists.{NetlistView}
+use Rattle.netlist_laws.specs.netlist_model.Settled.{feed_value, Meets}
+use Rattle.netlist_laws.specs.netlist_model.Formed.{IsWellFormed}
+use Rattle.netlist_laws.specs.netlist_model.Contained.{HasCells}
+use Rattle.netlist_laws.specs.netlist_model.Runs.{Moment, PinEvent, IsStart}
 use Rattle.netlist_laws.specs.Runs.{RunHasMoments}
 use Rattle.wrapped_chip.specs.test_logic.declared.Levels.{Levels}
 use Rattle.wrapped_chip.specs.test_logic.declared.ScanNets.{ScanNets}

@@ -1,11 +1,11 @@
 -- A row over a whole run.
 use Rattle.std.proofs.Common.{◌≡◌, ℕ, zero, suc, ◌<◌, ◌≤◌, List, length, arith}
 use Rattle.signal_values.specs.declared.Sig.{Sig}
-use Rattle.netlist_model.specs.declared.NetId.{NetId}
-use Rattle.netlist_model.specs.Lists.{NetlistView}
-use Rattle.netlist_model.specs.Formed.{IsWellFormed}
-use Rattle.netlist_model.specs.Contained.{HasCells}
-use Rattle.netlist_model.specs.Runs.{Moment, PinEvent, IsRun}
+use Rattle.netlist_laws.specs.netlist_model.declared.NetId.{NetId}
+use Rattle.netlist_laws.specs.netlist_model.Lists.{NetlistView}
+use Rattle.netlist_laws.specs.netlist_model.Formed.{IsWellFormed}
+use Rattle.netlist_laws.specs.netlist_model.Contained.{HasCells}
+use Rattle.netlist_laws.specs.netlist_model.Runs.{Moment, PinEvent, IsRun}
 use Rattle.wrapped_chip.specs.test_logic.declared.Levels.{Levels}
 use Rattle.wrapped_chip.specs.test_logic.declared.ScanNets.{ScanNets}
 use Rattle.wrapped_chip.specs.test_logic.Machine.{TestLogic, Machine, IsHistory, in_effect}

@@ -2,7 +2,7 @@
 use Rattle.std.proofs.Common.{◌≡◌, Bool, true, false, ◌&&◌, refl, ap, ◌∙◌, arith}
 use Rattle.std.specs.Prelude.{if◌then◌else◌}
 use Rattle.signal_values.specs.Values.{bit}
-use Rattle.bsdl_device.specs.declared.entries.Register.TheVariants.{Boundary}
+use Rattle.wrapped_chip.specs.bsdl_device.declared.entries.Register.TheVariants.{Boundary}
 use Rattle.wrapped_chip.specs.test_logic.declared.Action.TheVariants.{Keeps}
 use Rattle.wrapped_chip.specs.test_logic.declared.TapState.{TapState}
 use Rattle.wrapped_chip.specs.test_logic.declared.TapState.TheVariants.{CaptureDr, ShiftDr, UpdateDr}

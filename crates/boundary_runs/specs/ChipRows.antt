@@ -3,9 +3,9 @@
 use Rattle.std.specs.Prelude.{◌≡◌, ℕ, length, slice_get, Some}
 use Rattle.signal_values.specs.declared.Sig.{Sig}
 use Rattle.signal_values.specs.declared.PinSig.{PinSig}
-use Rattle.netlist_model.specs.Lists.{NetlistView}
-use Rattle.bsdl_device.specs.declared.values.CellRow.{CellRow}
-use Rattle.bsdl_device.specs.declared.values.Device.{Device}
+use Rattle.netlist_laws.specs.netlist_model.Lists.{NetlistView}
+use Rattle.wrapped_chip.specs.bsdl_device.declared.values.CellRow.{CellRow}
+use Rattle.wrapped_chip.specs.bsdl_device.declared.values.Device.{Device}
 use Rattle.wrapped_chip.specs.test_logic.Machine.{Machine, in_effect, test_logic_of}
 use Rattle.wrapped_chip.specs.test_logic.Rows.{CellAt, row_captured}
 use Rattle.wrapped_chip.specs.Cells.{net_of_row, cell_at_net, captured}

@@ -2,13 +2,13 @@
 -- IEEE Std 1149.1-2001: boundary-scan register, TAP controller.
 use Rattle.std.specs.Prelude.{◌≡◌, ℕ, ◌<◌, ◌≤◌, false, List, length}
 use Rattle.signal_values.specs.declared.Sig.{Sig}
-use Rattle.cell_library.specs.declared.codes.Instr.{Instr}
-use Rattle.netlist_model.specs.declared.NetId.{NetId}
-use Rattle.netlist_model.specs.Lists.{NetlistView}
-use Rattle.netlist_model.specs.Settled.{Meets, IsSettled}
-use Rattle.netlist_model.specs.Formed.{IsWellFormed}
-use Rattle.netlist_model.specs.Contained.{HasCells}
-use Rattle.netlist_model.specs.Runs.{Moment, PinEvent, IsStart, IsStep, IsRun}
+use Rattle.instruction_gates.specs.cell_library.declared.codes.Instr.{Instr}
+use Rattle.netlist_laws.specs.netlist_model.declared.NetId.{NetId}
+use Rattle.netlist_laws.specs.netlist_model.Lists.{NetlistView}
+use Rattle.netlist_laws.specs.netlist_model.Settled.{Meets, IsSettled}
+use Rattle.netlist_laws.specs.netlist_model.Formed.{IsWellFormed}
+use Rattle.netlist_laws.specs.netlist_model.Contained.{HasCells}
+use Rattle.netlist_laws.specs.netlist_model.Runs.{Moment, PinEvent, IsStart, IsStep, IsRun}
 use Rattle.wrapped_chip.specs.test_logic.declared.Levels.{Levels}
 use Rattle.wrapped_chip.specs.test_logic.declared.ScanNets.{ScanNets}
 use Rattle.wrapped_chip.specs.test_logic.Instructions.{mode_of}

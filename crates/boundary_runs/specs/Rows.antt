@@ -4,15 +4,15 @@ use Rattle.std.specs.Prelude.{◌≡◌, ℕ, ◌+◌, not, Bool, List, Some, sl
 use Rattle.signal_values.specs.declared.Sig.{Sig}
 use Rattle.signal_values.specs.declared.Sig.TheVariants.{Zero}
 use Rattle.signal_values.specs.Values.{bit, see}
-use Rattle.cell_library.specs.declared.codes.BoundaryKind.{BoundaryKind}
-use Rattle.cell_library.specs.declared.codes.BoundaryKind.TheVariants.{Bc1, Bc2, Bc4, Bc7}
-use Rattle.cell_library.specs.declared.codes.Function.{Function}
-use Rattle.cell_library.specs.declared.codes.Function.TheVariants.{Input, Output2, Control, Bidir}
-use Rattle.netlist_model.specs.declared.NetId.{NetId}
-use Rattle.netlist_model.specs.declared.Feed.{Feed}
-use Rattle.netlist_model.specs.Lists.{CellView}
-use Rattle.netlist_model.specs.Settled.{feed_value}
-use Rattle.netlist_model.specs.Runs.{Moment}
+use Rattle.instruction_gates.specs.cell_library.declared.codes.BoundaryKind.{BoundaryKind}
+use Rattle.instruction_gates.specs.cell_library.declared.codes.BoundaryKind.TheVariants.{Bc1, Bc2, Bc4, Bc7}
+use Rattle.instruction_gates.specs.cell_library.declared.codes.Function.{Function}
+use Rattle.instruction_gates.specs.cell_library.declared.codes.Function.TheVariants.{Input, Output2, Control, Bidir}
+use Rattle.netlist_laws.specs.netlist_model.declared.NetId.{NetId}
+use Rattle.netlist_laws.specs.netlist_model.declared.Feed.{Feed}
+use Rattle.netlist_laws.specs.netlist_model.Lists.{CellView}
+use Rattle.netlist_laws.specs.netlist_model.Settled.{feed_value}
+use Rattle.netlist_laws.specs.netlist_model.Runs.{Moment}
 use Rattle.wrapped_chip.specs.test_logic.declared.Levels.{Levels}
 use Rattle.wrapped_chip.specs.test_logic.declared.Mode.{Mode}
 use Rattle.wrapped_chip.specs.test_logic.declared.ScanNets.{ScanNets}

@@ -2,8 +2,8 @@
 -- IEEE Std 1149.1-2001: instruction register, boundary-scan register.
 use Rattle.std.specs.Prelude.{◌≡◌, ℕ}
 use Rattle.signal_values.specs.Values.{bit}
-use Rattle.netlist_model.specs.declared.NetId.{NetId}
-use Rattle.netlist_model.specs.Runs.{Moment}
+use Rattle.netlist_laws.specs.netlist_model.declared.NetId.{NetId}
+use Rattle.netlist_laws.specs.netlist_model.Runs.{Moment}
 use Rattle.wrapped_chip.specs.test_logic.declared.Levels.{Levels}
 use Rattle.wrapped_chip.specs.test_logic.declared.InstrNets.{InstrNets}
 use Rattle.wrapped_chip.specs.test_logic.Registers.{shifted}

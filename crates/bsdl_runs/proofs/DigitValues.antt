@@ -1,7 +1,7 @@
 -- Values of one digit more.
 use Rattle.std.proofs.Common.{◌≡◌, ℕ, ◌+◌, ◌-◌, ◌*◌, ◌<◌, List, length, take, get_or, ap, ◌∙◌}
 use Rattle.std.proofs.lemmas.List.{take_more}
-use Rattle.list_laws.proofs.Digits.{push_value}
+use Rattle.word_cutter.proofs.list_laws.Digits.{push_value}
 use Rattle.bsdl_device.specs.Runs.{value_after}
 
 pub value_more : (base : ℕ) (xs : List ℕ) (i : ℕ) → i < length xs → value_after base 0 (take (i + 1) xs) ≡ base * value_after base 0 (take i xs) + (get_or xs i 0 - 48)

@@ -15,9 +15,9 @@ use Rattle.register_bits.specs.Bits.{shift_bit_given, shift_bit_cells}
 use Rattle.register_gates.specs.Registers.{selected_cells, selected_steering}
 use Rattle.reconnected.specs.Laws.{ReadsFlop}
 use Rattle.plan_fitting.specs.declared.fitted.Fitted.{Fitted}
-use Rattle.stitch_model.specs.declared.TapNames.{TapNames}
-use Rattle.stitch_model.specs.Logic.{bypass_from, tap_at, instruction_at, bypass_at}
-use Rattle.stitch_model.specs.Stitched.{first_net, stitched}
+use Rattle.status_realised.specs.stitch_model.declared.TapNames.{TapNames}
+use Rattle.status_realised.specs.stitch_model.Logic.{bypass_from, tap_at, instruction_at, bypass_at}
+use Rattle.status_realised.specs.stitch_model.Stitched.{first_net, stitched}
 use Rattle.status_realised.specs.stitch_laws.Places.{port_of, bypass_number}
 use Rattle.status_realised.specs.stitch_laws.Laws.{StitchedHoldsParts}
 use Rattle.status_realised.proofs.open_runs.Connected.{choice_at}

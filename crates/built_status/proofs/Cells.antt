@@ -9,13 +9,13 @@ use Rattle.netlist_model.specs.Lists.{NetView, CellView, NetlistView, cell_at, c
 use Rattle.gate_parts.specs.Parts.{added_nets}
 use Rattle.gate_parts.proofs.Steps.{length-added_nets}
 use Rattle.plan_fitting.specs.declared.fitted.Fitted.{Fitted}
-use Rattle.stitch_model.specs.declared.TapNames.{TapNames}
-use Rattle.stitch_model.specs.declared.TapPort.{TapPort}
-use Rattle.stitch_model.specs.Sites.{Boundary, sides_of}
-use Rattle.stitch_model.specs.Sides.{core_cell}
-use Rattle.stitch_model.specs.Stitched.{live_cells, tap_net_views, boundary_at, first_net, test_logic_nets, tdo_part_by, tdo_part, stitched_cells_by, stitched_cells, stitched}
+use Rattle.status_realised.specs.stitch_model.declared.TapNames.{TapNames}
+use Rattle.status_realised.specs.stitch_model.declared.TapPort.{TapPort}
+use Rattle.status_realised.specs.stitch_model.Sites.{Boundary, sides_of}
+use Rattle.status_realised.specs.stitch_model.Sides.{core_cell}
+use Rattle.status_realised.specs.stitch_model.Stitched.{live_cells, tap_net_views, boundary_at, first_net, test_logic_nets, tdo_part_by, tdo_part, stitched_cells_by, stitched_cells, stitched}
 use Rattle.status_realised.specs.stitch_laws.Places.{port_of}
-use Rattle.status_fitting.specs.declared.fitted.FittedRegister.{FittedRegister}
+use Rattle.status_cells.specs.status_fitting.declared.fitted.FittedRegister.{FittedRegister}
 use Rattle.status_realised.specs.open_runs.Connected.{shows}
 use Rattle.status_realised.proofs.open_runs.Connected.{choice_cell, middle_cells, choice_at, opened_length}
 use Rattle.status_realised.specs.open_stitch.Open.{through_number, through_net, through_cell, stitched_open}

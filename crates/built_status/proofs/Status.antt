@@ -22,16 +22,16 @@ use Rattle.plan_fitting.specs.declared.fitted.Fitted.{Fitted}
 use Rattle.plan_fitting.specs.Pins.{PinSeen}
 use Rattle.plan_fitting.specs.Devices.{fitted_of, device_of}
 use Rattle.status_realised.specs.plan_devices.FittingPlan.{IsFitting}
-use Rattle.stitch_model.specs.declared.TapNames.{TapNames}
-use Rattle.stitch_model.specs.Logic.{bypass_at}
-use Rattle.stitch_model.specs.Stitched.{first_net, stitched_cells_by, stitched_cells, stitched}
+use Rattle.status_realised.specs.stitch_model.declared.TapNames.{TapNames}
+use Rattle.status_realised.specs.stitch_model.Logic.{bypass_at}
+use Rattle.status_realised.specs.stitch_model.Stitched.{first_net, stitched_cells_by, stitched_cells, stitched}
 use Rattle.status_realised.specs.stitch_laws.Laws.{StitchedHoldsParts}
 use Rattle.status_realised.proofs.stitch_laws.Places.{listed_at}
 use Rattle.status_realised.specs.stitch_inside.Places.{places_in}
 use Rattle.status_realised.specs.stitch_ranks.Laws.{StitchedHasControls}
 use Rattle.status_realised.specs.stitch_formed.Laws.{StitchedIsFormed}
 use Rattle.status_cells.specs.surrounded_core.Surrounds.{SurroundsBy}
-use Rattle.status_fitting.specs.declared.fitted.FittedRegister.{FittedRegister}
+use Rattle.status_cells.specs.status_fitting.declared.fitted.FittedRegister.{FittedRegister}
 use Rattle.status_cells.specs.status_gates.Opcodes.{inverses_cells}
 use Rattle.status_cells.specs.status_parts.declared.SharedNets.{SharedNets}
 use Rattle.status_cells.specs.status_parts.Registers.{registers_cells}

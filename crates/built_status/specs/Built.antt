@@ -6,9 +6,9 @@ use Rattle.netlist_model.specs.declared.Feed.TheVariants.{Net}
 use Rattle.netlist_model.specs.Lists.{CellView, NetlistView, cell_at}
 use Rattle.netlist_model.specs.Formed.{IsWellFormed}
 use Rattle.plan_fitting.specs.declared.fitted.Fitted.{Fitted}
-use Rattle.stitch_model.specs.declared.TapNames.{TapNames}
-use Rattle.stitch_model.specs.Stitched.{stitched_cells_by, stitched}
-use Rattle.status_fitting.specs.declared.fitted.FittedRegister.{FittedRegister}
+use Rattle.status_realised.specs.stitch_model.declared.TapNames.{TapNames}
+use Rattle.status_realised.specs.stitch_model.Stitched.{stitched_cells_by, stitched}
+use Rattle.status_cells.specs.status_fitting.declared.fitted.FittedRegister.{FittedRegister}
 use Rattle.status_cells.specs.Laws.{added_cells}
 use Rattle.status_realised.specs.open_stitch.Open.{through_number, through_net, through_cell, parts_at}
 use Rattle.status_realised.specs.Stands.{shared_of, status_shown}

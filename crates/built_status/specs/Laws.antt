@@ -10,12 +10,12 @@ use Rattle.plan_texts.specs.declared.plan.Plan.{Plan}
 use Rattle.plan_fitting.specs.Pins.{PinSeen}
 use Rattle.plan_fitting.specs.Devices.{fitted_of, device_of}
 use Rattle.status_realised.specs.plan_devices.FittingPlan.{IsFitting}
-use Rattle.stitch_model.specs.declared.TapNames.{TapNames}
+use Rattle.status_realised.specs.stitch_model.declared.TapNames.{TapNames}
 use Rattle.status_texts.specs.declared.plan.StatusPlan.{StatusPlan}
-use Rattle.status_fitting.specs.declared.fitted.FittedRegister.{FittedRegister}
-use Rattle.status_fitting.specs.declared.fitted.FittedStatus.{FittedStatus}
-use Rattle.status_fitting.specs.Faults.{HasNoFault, IsSpelled}
-use Rattle.status_fitting.specs.Fitted.{IsFitted}
+use Rattle.status_cells.specs.status_fitting.declared.fitted.FittedRegister.{FittedRegister}
+use Rattle.status_cells.specs.status_fitting.declared.fitted.FittedStatus.{FittedStatus}
+use Rattle.status_cells.specs.status_fitting.Faults.{HasNoFault, IsSpelled}
+use Rattle.status_cells.specs.status_fitting.Fitted.{IsFitted}
 use Rattle.status_realised.specs.surrounded_status.Realises.{RealisesStatus}
 use Rattle.status_realised.specs.Stands.{HasStatus}
 use Rattle.built_status.specs.Built.{IsBuilt}

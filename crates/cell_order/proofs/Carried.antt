@@ -2,7 +2,7 @@
 use Rattle.std.proofs.Common.{◌≡◌, ℕ, ◌+◌, ◌<◌, ◌≤◌, ◌⊎◌, inl, inr, ◌↔◌, Bool, true, false, List, length, arith, refl, sym, subst, ap, ◌∙◌}
 use Rattle.std.proofs.lemmas.Bool.Decides.{eqb_tells}
 use Rattle.std.proofs.lemmas.Option.{slice_get_within}
-use Rattle.list_laws.proofs.Options.{is_there}
+use Rattle.netlist_laws.proofs.list_laws.Options.{is_there}
 use Rattle.netlist_laws.proofs.Search.{cell_at_once}
 use Rattle.netlist_laws.specs.cell_library.Gates.{is_flop}
 use Rattle.netlist_laws.specs.netlist_model.declared.CellId.{CellId}

@@ -2,7 +2,7 @@
 use Rattle.std.proofs.Common.{◌≡◌, ℕ, ◌+◌, ◌-◌, ◌<◌, List, length, slice_index, inl, inr, arith, refl, sym, ap, ◌∙◌, subst, false, Some}
 use Rattle.std.proofs.lemmas.Bool.{cases_lt}
 use Rattle.std.proofs.lemmas.Option.{slice_get_within}
-use Rattle.list_laws.proofs.Lists.{slice_get_there}
+use Rattle.netlist_laws.proofs.list_laws.Lists.{slice_get_there}
 use Rattle.netlist_laws.proofs.Search.{cell_at_once}
 use Rattle.netlist_laws.specs.cell_library.Gates.{is_flop}
 use Rattle.netlist_laws.specs.netlist_model.declared.CellId.{CellId}

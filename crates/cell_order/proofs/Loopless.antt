@@ -5,8 +5,8 @@ use Rattle.std.specs.List.{filter_map, cons_option, position}
 use Rattle.std.proofs.lemmas.Bool.Decides.{eqb_tells}
 use Rattle.std.proofs.lemmas.List.Quantifiers.{position-Some}
 use Rattle.std.proofs.lemmas.Option.{none-some, same_Some, slice_get_within, slice_get-get_or}
-use Rattle.list_laws.proofs.Lists.{any_at, at_push, before_push, last_push, position_none}
-use Rattle.list_laws.proofs.Options.{is_there, some_there}
+use Rattle.netlist_laws.proofs.list_laws.Lists.{any_at, at_push, before_push, last_push, position_none}
+use Rattle.netlist_laws.proofs.list_laws.Options.{is_there, some_there}
 use Rattle.netlist_laws.proofs.Search.{cell_at_once}
 use Rattle.netlist_laws.specs.cell_library.Gates.{is_flop}
 use Rattle.netlist_laws.specs.netlist_model.declared.CellId.{CellId}

@@ -18,8 +18,8 @@ use Rattle.scan_vectors.specs.Grammar.{pin_of}
 use Rattle.netlist_link.specs.Linked.{LinkedView}
 use Rattle.event_scripts.specs.declared.script.ScriptLine.{ScriptLine}
 use Rattle.event_scripts.specs.Scripts.{IsResolved, IsSpelled}
-use Rattle.sim_runs.specs.Runs.{net_number}
-use Rattle.sim_runs.specs.Outputs.{missed_line, sets_with}
+use Rattle.conformance_report.specs.sim_runs.Runs.{net_number}
+use Rattle.conformance_report.specs.sim_runs.Outputs.{missed_line, sets_with}
 use Rattle.conformance_report.specs.declared.verdict.Missed.{Missed}
 use Rattle.conformance_report.specs.declared.verdict.Verdict.{Verdict}
 use Rattle.conformance_report.specs.Verdicts.{IsVerdict, expected, expected_by, is_missed}

@@ -8,7 +8,7 @@ use Rattle.scan_vectors.specs.declared.lines.Lines.{Lines}
 use Rattle.scan_vectors.specs.Grammar.{pin_of}
 use Rattle.event_scripts.specs.declared.script.ScriptLine.{ScriptLine}
 use Rattle.event_scripts.specs.Scripts.{IsResolved}
-use Rattle.sim_runs.specs.Outputs.{missed_line, done_line}
+use Rattle.conformance_report.specs.sim_runs.Outputs.{missed_line, done_line}
 use Rattle.conformance_report.specs.declared.verdict.Missed.{Missed}
 use Rattle.conformance_report.specs.declared.verdict.Verdict.{Verdict}
 use Rattle.conformance_report.specs.Verdicts.{IsVerdict}

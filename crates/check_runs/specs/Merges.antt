@@ -1,6 +1,6 @@
 -- How the expectations that aren't met are merged with the lines. Own.
 use Rattle.std.specs.Prelude.{◌≡◌, ℕ, ◌==◌, ◌⊎◌, List, [], ◌∷◌, if◌then◌else◌}
-use Rattle.sim_runs.specs.Outputs.{missed_line}
+use Rattle.conformance_report.specs.sim_runs.Outputs.{missed_line}
 use Rattle.conformance_report.specs.declared.verdict.Missed.{Missed}
 
 -- the expectations are of lines with some of these numbers, in their order

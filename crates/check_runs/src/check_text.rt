@@ -3,7 +3,7 @@ ghost use Rattle.std.specs.Prelude.{◌≡◌, ◌++◌, IfOk, OnOk};
 ghost use Rattle.std.specs.List.{flat_map};
 ghost use Rattle.scan_vectors.specs.Grammar.{pin_of};
 ghost use Rattle.event_scripts.specs.Scripts.{IsSpelled};
-ghost use Rattle.sim_runs.specs.Outputs.{done_line, missed_line};
+ghost use Rattle.conformance_report.specs.sim_runs.Outputs.{done_line, missed_line};
 ghost use Rattle.check_runs.specs.Checks.{check_text, miss_text};
 ghost use Rattle.check_runs.specs.Merges.{AreWithin, misses_behind, text_at};
 

@@ -15,8 +15,8 @@ use Rattle.netlist_model.specs.Lists.{PortView, CellView, NetlistView, bit_net, 
 use Rattle.netlist_model.specs.Formed.{IsLaidOut, IsNumbered, IsWellFormed}
 use Rattle.netlist_laws.specs.Settle.{IsDrivenOnce}
 use Rattle.netlist_laws.specs.Ports.{DirectionHasBit}
-use Rattle.netlist_arena.specs.Arena.{ArenaView}
-use Rattle.netlist_arena.proofs.Laid.{All-slice_get}
+use Rattle.gate_parts.specs.netlist_arena.Arena.{ArenaView}
+use Rattle.gate_parts.proofs.netlist_arena.Laid.{All-slice_get}
 use Rattle.gate_parts.specs.declared.Pin.{Pin}
 use Rattle.gate_parts.specs.declared.Pin.TheVariants.{Own, Given}
 use Rattle.gate_parts.specs.declared.Gate.{Gate}

@@ -17,8 +17,8 @@ use Rattle.netlist_model.specs.declared.Name.TheVariants.{Original, Added}
 use Rattle.netlist_model.specs.Lists.{PortView, NetView, CellView, NetlistView, cell_at, bit_net, direction, Drives, Reads}
 use Rattle.netlist_model.specs.Formed.{IsLaidOut, IsWellFormed}
 use Rattle.netlist_laws.specs.Ports.{DirectionHasBit}
-use Rattle.netlist_arena.specs.Arena.{ArenaView}
-use Rattle.netlist_arena.specs.Adds.{with_net, with_port}
+use Rattle.gate_parts.specs.netlist_arena.Arena.{ArenaView}
+use Rattle.gate_parts.specs.netlist_arena.Adds.{with_net, with_port}
 use Rattle.name_table.specs.Names.{with_name}
 use Rattle.gate_parts.specs.Parts.{added_nets}
 use Rattle.gate_parts.specs.Laws.{AppendedGrows}

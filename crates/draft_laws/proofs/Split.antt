@@ -5,8 +5,8 @@ use Rattle.std.proofs.lemmas.Bool.{cases_lt}
 use Rattle.std.proofs.lemmas.List.Sums.{sum_by-cons}
 use Rattle.list_laws.proofs.Lists.{slice_get-append_left}
 use Rattle.netlist_model.specs.Lists.{CellView, NetlistView, live_cell, cell_at, cell_count}
-use Rattle.netlist_arena.specs.Arena.{ArenaView}
-use Rattle.netlist_arena.proofs.Walks.{slice_get-append_right}
+use Rattle.gate_parts.specs.netlist_arena.Arena.{ArenaView}
+use Rattle.gate_parts.proofs.netlist_arena.Walks.{slice_get-append_right}
 use Rattle.gate_parts.specs.Parts.{added_nets}
 use Rattle.gate_parts.specs.Appended.{Appended}
 use Rattle.gate_parts.proofs.Steps.{length-added_nets, added_nets-add}

@@ -5,7 +5,7 @@ use Rattle.netlist_model.specs.declared.Feed.TheVariants.{Net}
 use Rattle.netlist_model.specs.Lists.{CellView, NetlistView, cell_count}
 use Rattle.netlist_model.specs.Formed.{IsLaidOut, IsWellFormed}
 use Rattle.netlist_laws.specs.Settle.{IsDrivenOnce}
-use Rattle.netlist_arena.specs.Arena.{ArenaView}
+use Rattle.gate_parts.specs.netlist_arena.Arena.{ArenaView}
 use Rattle.gate_parts.specs.declared.Gate.{Gate}
 use Rattle.gate_parts.specs.Parts.{part_cells}
 use Rattle.gate_parts.specs.Appended.{Appended}

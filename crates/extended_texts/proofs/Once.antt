@@ -10,8 +10,8 @@ use Rattle.extended_device.specs.declared.values.RegisterEntry.{RegisterEntry}
 use Rattle.extended_device.specs.declared.values.Extended.{Extended}
 use Rattle.extended_device.specs.Entries.{HasExtendedContents}
 use Rattle.extended_device.specs.Spelled.{extended_of, SpellsExtended, SpellsExtendedText}
-use Rattle.extended_entries.specs.declared.parted.Parted.{Parted}
-use Rattle.extended_entries.specs.BaseFile.{with_access, IsParted}
+use Rattle.bsdl_extended.specs.extended_entries.declared.parted.Parted.{Parted}
+use Rattle.bsdl_extended.specs.extended_entries.BaseFile.{with_access, IsParted}
 use Rattle.bsdl_extended.proofs.Faults.{AreOne, some_strings}
 use Rattle.extended_texts.specs.Laws.{SpellsOneExtended}
 use Rattle.extended_texts.proofs.Parted.{parted_there}

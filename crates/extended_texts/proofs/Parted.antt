@@ -2,10 +2,10 @@
 use Rattle.std.proofs.Common.{◌≡◌, ℕ, zero, suc, ◌<◌, List, [], ◌∷◌, ◌++◌, length, take, Option, Some, None, refl, ap, ◌∙◌, arith, append-nil}
 use Rattle.bsdl_device.specs.declared.written.File.{File}
 use Rattle.bsdl_device.specs.Shape.{joined}
-use Rattle.extended_entries.specs.declared.parted.Parted.{Parted}
-use Rattle.extended_entries.specs.declared.parted.OwnEntries.{OwnEntries}
-use Rattle.extended_entries.specs.BaseFile.{own_in, with_access, IsParted}
-use Rattle.extended_entries.proofs.Partings.{parted_none, parted_some}
+use Rattle.bsdl_extended.specs.extended_entries.declared.parted.Parted.{Parted}
+use Rattle.bsdl_extended.specs.extended_entries.declared.parted.OwnEntries.{OwnEntries}
+use Rattle.bsdl_extended.specs.extended_entries.BaseFile.{own_in, with_access, IsParted}
+use Rattle.bsdl_extended.proofs.extended_entries.Partings.{parted_none, parted_some}
 
 -- empty strings
 blanks : ℕ → List (List ℕ)

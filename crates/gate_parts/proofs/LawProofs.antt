@@ -3,7 +3,7 @@ use Rattle.std.proofs.Common.{◌≡◌, ◌≢◌, ℕ, zero, suc, ◌+◌, ◌
 use Rattle.std.proofs.lemmas.Bool.{cases_lt}
 use Rattle.std.specs.List.{slice_get, range_with_len}
 use Rattle.std.proofs.lemmas.List.FromFn.{length-range_with_len, get_or-range_with_len}
-use Rattle.signal_values.specs.declared.Sig.{Sig}
+use Rattle.netlist_laws.specs.signal_values.declared.Sig.{Sig}
 use Rattle.netlist_laws.specs.cell_library.declared.FlopKind.{FlopKind}
 use Rattle.netlist_laws.specs.cell_library.Gates.{flop_of}
 use Rattle.netlist_laws.specs.cell_library.Flops.{flop_next, flop_start}

@@ -1,6 +1,6 @@
 -- What the gates of any table do, by their places, in a well-formed netlist that contains the cells of the table.
 use Rattle.std.specs.Prelude.{◌≡◌, ℕ, ◌+◌, false, List, map, slice_get, Some}
-use Rattle.signal_values.specs.declared.Sig.{Sig}
+use Rattle.netlist_laws.specs.signal_values.declared.Sig.{Sig}
 use Rattle.netlist_laws.specs.cell_library.declared.FlopKind.{FlopKind}
 use Rattle.netlist_laws.specs.cell_library.declared.listed.ListedCell.{ListedCell}
 use Rattle.netlist_laws.specs.cell_library.declared.Kind.TheVariants.{Flop}

@@ -8,7 +8,7 @@ use Rattle.netlist_link.specs.Linked.{LinkedView}
 use Rattle.plan_texts.specs.declared.plan.Plan.{Plan}
 use Rattle.plan_fitting.specs.Devices.{device_of}
 use Rattle.insertions.specs.Insertions.{IsInsertion, IsInsertionText}
-use Rattle.strip_gives.specs.Gives.{Gives}
+use Rattle.strip_law.specs.strip_gives.Gives.{Gives}
 use Rattle.strip_law.specs.Answer.{IsAnswer}
 use Rattle.program_checks.specs.Texts.{BelongTogether}
 

@@ -22,8 +22,8 @@ use Rattle.netlist_unlink.specs.Trees.{tree_of}
 use Rattle.plan_texts.specs.declared.plan.Plan.{Plan}
 use Rattle.plan_texts.specs.Exactly.{SpelledOnce}
 use Rattle.plan_texts.specs.Grammar.{SpellsPlan}
-use Rattle.plan_fitting.specs.declared.fitted.Fitted.{Fitted}
-use Rattle.plan_fitting.specs.Devices.{IsFitted, fitted_of, device_of}
+use Rattle.insertion_report.specs.plan_fitting.declared.fitted.Fitted.{Fitted}
+use Rattle.insertion_report.specs.plan_fitting.Devices.{IsFitted, fitted_of, device_of}
 use Rattle.written_runs.specs.stitch_model.declared.TapNames.{TapNames}
 use Rattle.written_runs.specs.stitch_model.declared.TapPort.{TapPort}
 use Rattle.written_runs.specs.stitch_model.Stitched.{tap_ports, tap_port}

@@ -7,7 +7,7 @@ use Rattle.netlist_model.specs.Lists.{PortView, NetView, CellView, NetlistView, 
 use Rattle.netlist_link.specs.Linked.{LinkedView}
 use Rattle.netlist_unlink.specs.Rows.{rows}
 use Rattle.netlist_unlink.specs.Trees.{Naming, item_of, items_from, port_of, wire_of, added_from, tree_of}
-use Rattle.plan_fitting.specs.declared.fitted.Fitted.{Fitted}
+use Rattle.insertion_report.specs.plan_fitting.declared.fitted.Fitted.{Fitted}
 use Rattle.written_runs.specs.stitch_model.declared.TapNames.{TapNames}
 use Rattle.written_runs.specs.stitch_model.Stitched.{stitched}
 use Rattle.written_runs.specs.stitch_names.Prepared.{with_tap_names}

@@ -22,9 +22,9 @@ use Rattle.netlist_unlink.specs.Trees.{tree_of}
 use Rattle.netlist_unlink.specs.Renumbered.{IsWrittenAs}
 use Rattle.plan_texts.specs.declared.plan.Plan.{Plan}
 use Rattle.plan_texts.specs.Grammar.{SpellsPlan}
-use Rattle.plan_fitting.specs.declared.fitted.Fitted.{Fitted}
-use Rattle.plan_fitting.specs.Fits.{Fits}
-use Rattle.plan_fitting.specs.Devices.{fitted_of, device_of}
+use Rattle.insertion_report.specs.plan_fitting.declared.fitted.Fitted.{Fitted}
+use Rattle.insertion_report.specs.plan_fitting.Fits.{Fits}
+use Rattle.insertion_report.specs.plan_fitting.Devices.{fitted_of, device_of}
 use Rattle.wrapped_chip.specs.Realises.{Keeps, Realises, Alone}
 use Rattle.wrapped_chip.specs.Legal.{HasControls}
 use Rattle.wrapped_chip.specs.Home.{FindsHome, AloneFromHome}

@@ -1,3 +1,4 @@
+pub use Rattle.instruction_gates.proofs as instruction_gates
 pub use Rattle.instruction_gates.proofs.register_gates as register_gates
 pub mod Sizes
 pub mod Added

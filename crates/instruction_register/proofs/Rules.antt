@@ -12,10 +12,10 @@ use Rattle.cell_library.specs.declared.codes.Bits.{Bits}
 use Rattle.cell_library.specs.declared.codes.Instr.{Instr}
 use Rattle.cell_library.specs.declared.codes.Instr.TheVariants.{Bypass, Extest, Sample, Preload, Idcode, Highz, Clamp, Usercode}
 use Rattle.cell_library.specs.declared.codes.Opcode.{Opcode}
-use Rattle.bsdl_device.specs.declared.entries.OpcodeEntry.{OpcodeEntry}
-use Rattle.bsdl_device.specs.Instructions.{instruction_word, names_instruction, is_instruction, same_bits}
-use Rattle.bsdl_device.specs.Checks.{any_pair, has_instruction, has_other_length, are_sample_and_preload, opcodes_clash}
-use Rattle.bsdl_device.specs.IsDevice.{IsBits, opcode_entry, opcode_entries}
+use Rattle.instruction_gates.specs.bsdl_device.declared.entries.OpcodeEntry.{OpcodeEntry}
+use Rattle.instruction_gates.specs.bsdl_device.Instructions.{instruction_word, names_instruction, is_instruction, same_bits}
+use Rattle.instruction_gates.specs.bsdl_device.Checks.{any_pair, has_instruction, has_other_length, are_sample_and_preload, opcodes_clash}
+use Rattle.instruction_gates.specs.bsdl_device.IsDevice.{IsBits, opcode_entry, opcode_entries}
 use Rattle.instruction_gates.specs.test_logic.Instructions.{bits_of, pattern, opcode_of}
 use Rattle.instruction_gates.specs.test_logic.Registers.{first_bit}
 use Rattle.instruction_gates.proofs.test_logic.Lengths.{length_bits_of, right_length}

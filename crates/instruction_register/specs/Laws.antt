@@ -14,7 +14,7 @@ use Rattle.instruction_gates.specs.test_logic.declared.Codes.{Codes}
 use Rattle.instruction_gates.specs.test_logic.declared.TapNets.{TapNets}
 use Rattle.instruction_gates.specs.test_logic.declared.TapState.{TapState}
 use Rattle.instruction_gates.specs.test_logic.declared.Levels.{Levels}
-use Rattle.bsdl_device.specs.IsDevice.{IsInstructionRegister}
+use Rattle.instruction_gates.specs.bsdl_device.IsDevice.{IsInstructionRegister}
 use Rattle.instruction_gates.specs.test_logic.Instructions.{pattern, opcode_of, reset_opcode}
 use Rattle.instruction_gates.specs.test_logic.Registers.{first_bit}
 use Rattle.instruction_gates.specs.test_logic.Machine.{TestLogic, Machine, AreCodes, IsHistory, in_effect}

@@ -4,8 +4,8 @@ use Rattle.std.specs.Prelude.{slice_get, IsSome, MatchOption, ⊤, ◌==◌, ◌
 use Rattle.std.proofs.lemmas.List.{length-take}
 use Rattle.std.proofs.lemmas.Bool.Decides.{eqb_tells, leb_tells}
 use Rattle.std.proofs.lemmas.Option.{slice_get_within}
-use Rattle.list_laws.proofs.Lists.{slice_get_there}
-use Rattle.list_laws.proofs.Tests.{and_left}
+use Rattle.name_table.proofs.list_laws.Lists.{slice_get_there}
+use Rattle.name_table.proofs.list_laws.Tests.{and_left}
 use Rattle.netlist_arena.proofs.Laid.{All-slice_get}
 use Rattle.netlist_arena.specs.cell_library.declared.ResetTo.{ResetTo}
 use Rattle.netlist_arena.specs.cell_library.declared.ResetTo.TheVariants as reset

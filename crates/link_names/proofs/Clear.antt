@@ -1,6 +1,6 @@
 -- Where no test finds anything at the bits, each finds nothing.
 use Rattle.std.proofs.Common.{◌≡◌, ℕ, List, [], ◌∷◌, Option, None, Some, is_none, true, refl}
-use Rattle.list_laws.proofs.Options.{or_else-parts}
+use Rattle.first_faults.proofs.list_laws.Options.{or_else-parts}
 use Rattle.link_model.specs.verilog_tree.declared.tree.Bit.{Bit}
 use Rattle.link_model.specs.verilog_tree.declared.tree.Item.{Item}
 use Rattle.link_model.specs.Lists.{or_else, first_in}

@@ -7,7 +7,7 @@ use Rattle.std.specs.Str.{bytes_eq}
 use Rattle.std.proofs.lemmas.Bool.Decides.{nat_tests}
 use Rattle.std.proofs.lemmas.List.{length-map}
 use Rattle.std.proofs.lemmas.List.Elements.{All-nil, All-cons, All-head, All-tail}
-use Rattle.list_laws.proofs.Options.{or_else-parts, first_in-append}
+use Rattle.first_faults.proofs.list_laws.Options.{or_else-parts, first_in-append}
 use Rattle.link_model.specs.verilog_tree.declared.tree.Bit.{Bit}
 use Rattle.link_model.specs.verilog_tree.declared.tree.Operand.{Operand}
 use Rattle.link_model.specs.verilog_tree.declared.tree.Operand.TheVariants as operand

@@ -29,7 +29,7 @@ use Rattle.link_drivers.specs.link_model.Faults.{cells_in}
 use Rattle.link_drivers.specs.link_model.Late.{is_control_place, bit_links, flop_links, item_links, IsDerived, HasNoDerived}
 use Rattle.link_order.specs.Cones.{FlopReads}
 use Rattle.link_order.proofs.LinkNets.{find-first}
-use Rattle.list_laws.proofs.Lists.{before_push}
+use Rattle.link_drivers.proofs.list_laws.Lists.{before_push}
 
 -- Places of a joined list.
 

@@ -5,7 +5,7 @@ use Rattle.std.specs.Option.{option_map}
 use Rattle.std.proofs.lemmas.Option.{slice_get-map, get_or_from_slice_get}
 use Rattle.std.proofs.lemmas.Bool.Decides.{leb_tells}
 use Rattle.std.proofs.lemmas.List.{length-map, get_or_past}
-use Rattle.list_laws.proofs.Lists.{slice_get_there}
+use Rattle.link_drivers.proofs.list_laws.Lists.{slice_get_there}
 use Rattle.link_drivers.specs.cell_library.Gates.{is_flop}
 use Rattle.link_drivers.specs.netlist_model.declared.Dir.{Dir}
 use Rattle.link_drivers.specs.netlist_model.declared.Dir.TheVariants.{Input, Output, Inout}

@@ -8,8 +8,8 @@ use Rattle.std.specs.Cmp.Lexicographic.{bytes_decides}
 use Rattle.std.proofs.lemmas.List.Folds.{list_any-append}
 use Rattle.std.proofs.lemmas.List.Quantifiers.{position-Some}
 use Rattle.std.proofs.lemmas.Option.{slice_get-map, slice_get-get_or, none-some, same_Some}
-use Rattle.list_laws.proofs.Options.{or_else-parts, first_in-at, not_there}
-use Rattle.list_laws.proofs.Bytes.{bytes_eq-same}
+use Rattle.link_drivers.proofs.list_laws.Options.{or_else-parts, first_in-at, not_there}
+use Rattle.link_drivers.proofs.list_laws.Bytes.{bytes_eq-same}
 use Rattle.link_drivers.specs.cell_library.declared.listed.ListedCell.{ListedCell}
 use Rattle.link_drivers.specs.cell_library.declared.Kind.{Kind}
 use Rattle.link_drivers.specs.cell_library.declared.Kind.TheVariants as kind

@@ -1,1 +1,2 @@
+pub use Rattle.list_laws.proofs as list_laws
 pub mod Numbers

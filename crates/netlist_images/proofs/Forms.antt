@@ -1,8 +1,8 @@
 -- A netlist with new numbers stays well formed.
 use Rattle.std.proofs.Common.{◌≡◌, ℕ, List, [], ◌∷◌, map, length, refl, ap, sym, subst, ◌∙◌, inl, inr}
 use Rattle.std.specs.Prelude.{Some, None}
-use Rattle.cell_library.specs.declared.listed.ListedCell.{ListedCell}
-use Rattle.cell_library.specs.Gates.{is_flop, Takes}
+use Rattle.netlist_laws.specs.cell_library.declared.listed.ListedCell.{ListedCell}
+use Rattle.netlist_laws.specs.cell_library.Gates.{is_flop, Takes}
 use Rattle.netlist_laws.specs.netlist_model.declared.Feed.{Feed}
 use Rattle.netlist_laws.specs.netlist_model.declared.Feed.TheVariants.{Net, Const}
 use Rattle.netlist_laws.specs.netlist_model.declared.Name.{Name}

@@ -2,9 +2,9 @@
 use Rattle.std.proofs.Common.{◌≡◌, ℕ, List, [], ◌∷◌, map, refl, ap, ◌∙◌, Option, Some}
 use Rattle.std.specs.Option.{option_map}
 use Rattle.signal_values.specs.declared.Sig.{Sig}
-use Rattle.cell_library.specs.declared.listed.ListedCell.{ListedCell}
-use Rattle.cell_library.specs.Gates.{flop_of}
-use Rattle.cell_library.specs.Flops.{flop_next, flop_start}
+use Rattle.netlist_laws.specs.cell_library.declared.listed.ListedCell.{ListedCell}
+use Rattle.netlist_laws.specs.cell_library.Gates.{flop_of}
+use Rattle.netlist_laws.specs.cell_library.Flops.{flop_next, flop_start}
 use Rattle.netlist_laws.specs.netlist_model.declared.Feed.{Feed}
 use Rattle.netlist_laws.specs.netlist_model.declared.Feed.TheVariants.{Net, Const}
 use Rattle.netlist_laws.specs.netlist_model.declared.NetId.{NetId}

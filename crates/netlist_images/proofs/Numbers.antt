@@ -1,7 +1,7 @@
 -- Ports, operands, drivers and cones under other numbers.
 use Rattle.std.proofs.Common.{◌≡◌, ℕ, zero, suc, ◌⊎◌, List, [], ◌∷◌, map, refl, ap, sym, ◌∙◌, inl, inr}
-use Rattle.cell_library.specs.declared.listed.ListedCell.{ListedCell}
-use Rattle.cell_library.specs.Gates.{flop_of, is_flop}
+use Rattle.netlist_laws.specs.cell_library.declared.listed.ListedCell.{ListedCell}
+use Rattle.netlist_laws.specs.cell_library.Gates.{flop_of, is_flop}
 use Rattle.std.specs.Prelude.{Option, Some, None, slice_get, ◌==◌}
 use Rattle.std.specs.Option.{option_map}
 use Rattle.std.proofs.lemmas.Bool.Decides.{eqb_tells}

@@ -9,7 +9,7 @@ use Rattle.link_names.specs.link_model.Cells.{NamedCell}
 use Rattle.link_names.specs.link_model.Fits.{FitCells}
 use Rattle.link_names.specs.link_model.Faults.{driver_fault, cells_in}
 use Rattle.link_names.specs.link_model.Late.{HasNoDerived, IsLinkable}
-use Rattle.list_laws.proofs.Lists.{AreAll-length}
+use Rattle.name_table.proofs.list_laws.Lists.{AreAll-length}
 use Rattle.link_names.specs.link_model.Denoted.{IsNamed, IsNet, denoted}
 use Rattle.link_arena.specs.link_drivers.Drivers.{HasItsDrivers, HaveTheirDrivers}
 use Rattle.link_arena.proofs.Parts.{are_below}

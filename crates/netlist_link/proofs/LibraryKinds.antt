@@ -1,7 +1,7 @@
 -- What the kinds of items are, and which faults a module without faults of its text has not.
 use Rattle.std.proofs.Common.{◌≡◌, ℕ, List, refl, Option, Some, None}
 use Rattle.std.specs.Prelude.{slice_get, IsSome}
-use Rattle.list_laws.proofs.Options.{or_else-parts, first_in-at}
+use Rattle.name_table.proofs.list_laws.Options.{or_else-parts, first_in-at}
 use Rattle.link_names.specs.cell_library.declared.listed.ListedCell.{ListedCell}
 use Rattle.link_names.specs.cell_library.declared.Kind.{Kind}
 use Rattle.link_names.specs.cell_library.declared.Kind.TheVariants as kind

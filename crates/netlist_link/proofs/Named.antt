@@ -7,7 +7,7 @@ use Rattle.std.proofs.lemmas.Grind.{flat_map-append}
 use Rattle.std.proofs.lemmas.Bool.{cases_lt}
 use Rattle.std.proofs.lemmas.List.{length-map}
 use Rattle.std.proofs.lemmas.Option.{slice_get-map, slice_get_within, same_Some}
-use Rattle.list_laws.proofs.Lists.{all_at, slice_get-append_left, slice_get-append_right, AreAll-right, AreAll-left}
+use Rattle.name_table.proofs.list_laws.Lists.{all_at, slice_get-append_left, slice_get-append_right, AreAll-right, AreAll-left}
 use Rattle.link_names.specs.verilog_tree.declared.tree.Module.{Module}
 use Rattle.link_names.specs.verilog_tree.declared.tree.Port.{Port}
 use Rattle.link_names.specs.verilog_tree.declared.tree.Wire.{Wire}

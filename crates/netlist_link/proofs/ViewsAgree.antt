@@ -1,6 +1,6 @@
 -- Two link views of one tree are the same, and each is well named.
 use Rattle.std.proofs.Common.{◌≡◌, subst, ℕ, List, [], ◌∷◌, length, refl, ap, sym, ◌∙◌, Option, Some, None}
-use Rattle.list_laws.proofs.Options.{or_else-parts}
+use Rattle.name_table.proofs.list_laws.Options.{or_else-parts}
 use Rattle.link_names.specs.cell_library.declared.listed.ListedCell.{ListedCell}
 use Rattle.link_names.specs.verilog_tree.declared.tree.Module.{Module}
 use Rattle.link_names.specs.netlist_model.declared.Name.{Name}

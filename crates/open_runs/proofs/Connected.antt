@@ -7,7 +7,7 @@ use Rattle.netlist_model.specs.declared.Name.TheVariants.{Added}
 use Rattle.netlist_model.specs.declared.NetId.{NetId}
 use Rattle.netlist_model.specs.declared.Feed.TheVariants.{Net}
 use Rattle.netlist_model.specs.Lists.{CellView, NetlistView, cell_at, cell_count}
-use Rattle.plan_fitting.specs.declared.fitted.Fitted.{Fitted}
+use Rattle.stitch_inside.specs.plan_fitting.declared.fitted.Fitted.{Fitted}
 use Rattle.stitch_inside.specs.stitch_model.declared.TapPort.{TapPort}
 use Rattle.stitch_inside.specs.stitch_model.Sites.{Boundary}
 use Rattle.stitch_inside.specs.stitch_model.Sides.{core_cell}

@@ -8,8 +8,8 @@ use Rattle.netlist_model.specs.Settled.{is_output}
 use Rattle.netlist_model.specs.Formed.{IsWellFormed}
 use Rattle.netlist_laws.specs.Ports.{BitHasDirection}
 use Rattle.wrapped_chip.specs.Realises.{SameBit, tap_place}
-use Rattle.plan_fitting.specs.declared.fitted.FitRow.{FitRow}
-use Rattle.plan_fitting.specs.Devices.{fitted_of, device_of}
+use Rattle.stitch_inside.specs.plan_fitting.declared.fitted.FitRow.{FitRow}
+use Rattle.stitch_inside.specs.plan_fitting.Devices.{fitted_of, device_of}
 use Rattle.status_runs.specs.surrounded_core.Open.{SurroundedFollows}
 use Rattle.stitch_inside.specs.stitch_model.Sites.{Boundary, pin_net, row_net, site_of, row_sides}
 use Rattle.stitch_inside.specs.stitch_model.Sides.{is_moved, moves, side_from}

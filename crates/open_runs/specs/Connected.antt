@@ -4,7 +4,7 @@ use Rattle.std.specs.Prelude.{◌≡◌, ◌≢◌, ℕ, ◌+◌, ◌++◌, leng
 use Rattle.netlist_model.specs.declared.NetId.{NetId}
 use Rattle.netlist_model.specs.declared.Feed.TheVariants.{Net}
 use Rattle.netlist_model.specs.Lists.{CellView, NetlistView, cell_at}
-use Rattle.plan_fitting.specs.declared.fitted.Fitted.{Fitted}
+use Rattle.stitch_inside.specs.plan_fitting.declared.fitted.Fitted.{Fitted}
 use Rattle.stitch_inside.specs.stitch_model.declared.TapNames.{TapNames}
 use Rattle.stitch_inside.specs.stitch_model.Stitched.{tap_ports, stitched_cells}
 use Rattle.stitch_inside.specs.stitch_laws.Places.{port_of}

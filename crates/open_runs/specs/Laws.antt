@@ -9,15 +9,15 @@ use Rattle.netlist_model.specs.Settled.{driver_of}
 use Rattle.netlist_model.specs.Formed.{IsLaidOut, IsWellFormed}
 use Rattle.netlist_model.specs.Contained.{IsDense}
 use Rattle.netlist_model.specs.Runs.{Moment}
-use Rattle.netlist_link.specs.Linked.{LinkedView}
+use Rattle.stitch_inside.specs.netlist_link.Linked.{LinkedView}
 use Rattle.wrapped_chip.specs.Beside.{HasPins}
 use Rattle.wrapped_chip.specs.ChipRuns.{ChipEvent, ChipMoment, IsChipRun}
 use Rattle.wrapped_chip.specs.Realises.{IsRunBeside}
 use Rattle.status_runs.specs.surrounded_core.Open.{FollowsChip}
 use Rattle.status_runs.specs.Placed.{IsCoreWire}
 use Rattle.plan_texts.specs.declared.plan.Plan.{Plan}
-use Rattle.plan_fitting.specs.Pins.{PinSeen}
-use Rattle.plan_fitting.specs.Devices.{fitted_of, device_of}
+use Rattle.stitch_inside.specs.plan_fitting.Pins.{PinSeen}
+use Rattle.stitch_inside.specs.plan_fitting.Devices.{fitted_of, device_of}
 use Rattle.stitch_inside.specs.plan_devices.FittingPlan.{IsFitting}
 use Rattle.stitch_inside.specs.stitch_model.declared.TapNames.{TapNames}
 use Rattle.stitch_inside.specs.stitch_laws.Laws.{ExtendsStitched}

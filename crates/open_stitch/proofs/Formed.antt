@@ -27,7 +27,7 @@ use Rattle.draft_laws.specs.Readable.{CanBeRead}
 use Rattle.draft_laws.specs.Tables.{IsPartTable, IsControl, CanBeGiven, PartIsFormed, PartIsReadable}
 use Rattle.register_bits.specs.declared.TheConstants.{SHIFT_BIT}
 use Rattle.register_bits.specs.Bits.{shift_bit_given, shift_bit_cells}
-use Rattle.register_gates.specs.Registers.{selected_cells, selected_steering}
+use Rattle.open_runs.specs.register_gates.Registers.{selected_cells, selected_steering}
 use Rattle.plan_fitting.specs.declared.fitted.Fitted.{Fitted}
 use Rattle.reconnected.specs.Laws.{Reconnects, ReadsFlop, IsReadable, HasLowNets, ReconnectedToLow}
 use Rattle.open_runs.specs.stitch_model.declared.TapNames.{TapNames}

@@ -24,7 +24,7 @@ use Rattle.netlist_arena.specs.Moves.{with_feed}
 use Rattle.netlist_link.specs.Linked.{LinkedView}
 use Rattle.gate_parts.specs.PartLaws.{ContainedPartMeets}
 use Rattle.gate_parts.specs.Parts.{part_cells}
-use Rattle.instruction_gates.specs.Copies.{row_values}
+use Rattle.open_runs.specs.instruction_gates.Copies.{row_values}
 use Rattle.bsdl_device.specs.declared.values.Device.{Device}
 use Rattle.wrapped_chip.specs.Beside.{HasPins}
 use Rattle.wrapped_chip.specs.ChipRuns.{ChipEvent, ChipMoment, IsChipRun}

@@ -18,8 +18,8 @@ use Rattle.test_logic.specs.Registers.{first_bit}
 use Rattle.test_logic.specs.Machine.{in_effect, test_logic_of}
 use Rattle.tap_gates.specs.Laws.{ShowsState}
 use Rattle.register_bits.specs.Laws.{Carries}
-use Rattle.instruction_gates.specs.Copies.{row_values}
-use Rattle.instruction_gates.specs.Selections.{Selected}
+use Rattle.open_runs.specs.instruction_gates.Copies.{row_values}
+use Rattle.open_runs.specs.instruction_gates.Selections.{Selected}
 use Rattle.wrapped_chip.specs.Cells.{chip_reading}
 use Rattle.wrapped_chip.specs.ChipRuns.{ChipEvent, ChipMoment, IsChipRun}
 use Rattle.wrapped_chip.specs.Suits.{IsRead}

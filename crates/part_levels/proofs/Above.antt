@@ -5,13 +5,13 @@ use Rattle.list_laws.proofs.Tests.{both_hold, other_holds}
 use Rattle.cell_library.specs.Gates.{is_flop}
 use Rattle.netlist_model.specs.declared.Feed.{Feed}
 use Rattle.netlist_model.specs.Formed.{FeedsBelow}
-use Rattle.gate_parts.specs.declared.Pin.{Pin}
-use Rattle.gate_parts.specs.declared.Pin.TheVariants.{Own, Given}
-use Rattle.gate_parts.specs.declared.Gate.{Gate}
-use Rattle.gate_parts.specs.Parts.{is_flop_kind, feed_of, pins_of, cells_from, part_cells}
-use Rattle.gate_parts.specs.Levels.{AreFeedsUpTo}
-use Rattle.gate_parts.proofs.LevelProofs.{feed_below}
-use Rattle.gate_parts.proofs.PinCounts.{no_flop_kind}
+use Rattle.boundary_runs.specs.gate_parts.declared.Pin.{Pin}
+use Rattle.boundary_runs.specs.gate_parts.declared.Pin.TheVariants.{Own, Given}
+use Rattle.boundary_runs.specs.gate_parts.declared.Gate.{Gate}
+use Rattle.boundary_runs.specs.gate_parts.Parts.{is_flop_kind, feed_of, pins_of, cells_from, part_cells}
+use Rattle.boundary_runs.specs.gate_parts.Levels.{AreFeedsUpTo}
+use Rattle.boundary_runs.proofs.gate_parts.LevelProofs.{feed_below}
+use Rattle.boundary_runs.proofs.gate_parts.PinCounts.{no_flop_kind}
 use Rattle.part_levels.specs.Above.{StandsOn, IsAbove, AreAbove, StandsByPlace, PartsStandAbove, is_low_pin, fits_from, fits, AreRanked}
 
 pins_below : (rank : ℕ → ℕ) (first base level bound count : ℕ) (levels : List ℕ) (given : List Feed) (pins : List Pin)

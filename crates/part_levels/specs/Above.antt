@@ -8,10 +8,10 @@ use Rattle.netlist_model.specs.declared.NetId.{NetId}
 use Rattle.netlist_model.specs.declared.Feed.{Feed}
 use Rattle.netlist_model.specs.Lists.{CellView}
 use Rattle.netlist_model.specs.Formed.{FeedsBelow}
-use Rattle.gate_parts.specs.declared.Pin.{Pin}
-use Rattle.gate_parts.specs.declared.Pin.TheVariants.{Own, Given}
-use Rattle.gate_parts.specs.declared.Gate.{Gate}
-use Rattle.gate_parts.specs.Parts.{is_flop_kind, pins_of}
+use Rattle.boundary_runs.specs.gate_parts.declared.Pin.{Pin}
+use Rattle.boundary_runs.specs.gate_parts.declared.Pin.TheVariants.{Own, Given}
+use Rattle.boundary_runs.specs.gate_parts.declared.Gate.{Gate}
+use Rattle.boundary_runs.specs.gate_parts.Parts.{is_flop_kind, pins_of}
 
 -- own: each net that is read has a smaller number than the one that is driven
 abbrev pub StandsOn : (ℕ → ℕ) → List Feed → Option NetId → Type 0

@@ -7,16 +7,16 @@ use Rattle.list_laws.proofs.Options.{some_same}
 use Rattle.signal_values.specs.declared.Sig.{Sig}
 use Rattle.signal_values.specs.declared.Sig.TheVariants.{One}
 use Rattle.signal_values.specs.Values.{bit}
-use Rattle.cell_library.specs.Gates.{is_three_state, operand}
-use Rattle.bsdl_device.specs.RowRules.{is_function}
-use Rattle.netlist_model.specs.declared.Dir.{Dir}
-use Rattle.netlist_model.specs.declared.Feed.{Feed}
-use Rattle.netlist_model.specs.declared.Feed.TheVariants.{Net, Const}
-use Rattle.netlist_model.specs.declared.NetId.{NetId}
-use Rattle.netlist_model.specs.declared.PinBit.{PinBit}
-use Rattle.netlist_model.specs.Lists.{CellView, NetlistView, direction, Drives, bit_net}
-use Rattle.netlist_model.specs.Settled.{feed_value, feed_values, driver_of}
-use Rattle.netlist_model.specs.Formed.{IsDriven, IsWellFormed}
+use Rattle.netlist_unlink.specs.cell_library.Gates.{is_three_state, operand}
+use Rattle.wrapped_chip.specs.bsdl_device.RowRules.{is_function}
+use Rattle.netlist_laws.specs.netlist_model.declared.Dir.{Dir}
+use Rattle.netlist_laws.specs.netlist_model.declared.Feed.{Feed}
+use Rattle.netlist_laws.specs.netlist_model.declared.Feed.TheVariants.{Net, Const}
+use Rattle.netlist_laws.specs.netlist_model.declared.NetId.{NetId}
+use Rattle.netlist_laws.specs.netlist_model.declared.PinBit.{PinBit}
+use Rattle.netlist_laws.specs.netlist_model.Lists.{CellView, NetlistView, direction, Drives, bit_net}
+use Rattle.netlist_laws.specs.netlist_model.Settled.{feed_value, feed_values, driver_of}
+use Rattle.netlist_laws.specs.netlist_model.Formed.{IsDriven, IsWellFormed}
 use Rattle.netlist_laws.specs.Ports.{BitHasDirection}
 use Rattle.netlist_laws.specs.Drivers.{DriverIsFound, DriverDrives, IsDriverOf}
 use Rattle.netlist_unlink.specs.netlist_link.Linked.{LinkedView}
@@ -33,8 +33,8 @@ use Rattle.plan_devices.proofs.Drivers.{seen_direction, gate_has_driver}
 use Rattle.plan_devices.proofs.Lined.{IsLined}
 use Rattle.plan_devices.proofs.Facts.{Facts, facts_of}
 use Rattle.plan_devices.proofs.RowPlaces.{net_of_line}
-use Rattle.cell_library.specs.declared.codes.Function.TheVariants as function
-use Rattle.netlist_model.specs.declared.Dir.TheVariants as dir
+use Rattle.netlist_unlink.specs.cell_library.declared.codes.Function.TheVariants as function
+use Rattle.netlist_laws.specs.netlist_model.declared.Dir.TheVariants as dir
 
 -- A three-state gate as a driver.
 

@@ -10,19 +10,19 @@ use Rattle.list_laws.proofs.Tests.{and_left, and_right, and_true, or_more}
 use Rattle.list_laws.proofs.Numbers.{eqb_same}
 use Rattle.list_laws.proofs.Lists.{all_append, slice_get_there, slice_get-counted_from, all_mapped, any_at, test_at}
 use Rattle.list_laws.proofs.Options.{some_same}
-use Rattle.cell_library.specs.declared.codes.BoundaryKind.{BoundaryKind}
-use Rattle.netlist_model.specs.declared.PinBit.{PinBit}
-use Rattle.netlist_model.specs.declared.Range.{Range}
-use Rattle.netlist_model.specs.Lists.{PortView}
-use Rattle.netlist_model.specs.Formed.{width_of}
+use Rattle.netlist_unlink.specs.cell_library.declared.codes.BoundaryKind.{BoundaryKind}
+use Rattle.netlist_laws.specs.netlist_model.declared.PinBit.{PinBit}
+use Rattle.netlist_laws.specs.netlist_model.declared.Range.{Range}
+use Rattle.netlist_laws.specs.netlist_model.Lists.{PortView}
+use Rattle.netlist_laws.specs.netlist_model.Formed.{width_of}
 use Rattle.netlist_unlink.specs.netlist_link.Linked.{LinkedView}
 use Rattle.netlist_unlink.specs.netlist_link.PinWords.{pin_at}
 use Rattle.netlist_unlink.specs.netlist_link.WellNamed.{index_from}
-use Rattle.bsdl_device.specs.declared.values.DevPort.{DevPort}
-use Rattle.bsdl_device.specs.declared.values.DevBit.{DevBit}
-use Rattle.bsdl_device.specs.Checks.{any_pair}
-use Rattle.bsdl_device.specs.Ports.{width, indices, index_at, counted_from, is_mode}
-use Rattle.bsdl_device.specs.IsDevice.{is_tap_place, tap_places, own_bits_at, own_bits, is_at}
+use Rattle.wrapped_chip.specs.bsdl_device.declared.values.DevPort.{DevPort}
+use Rattle.wrapped_chip.specs.bsdl_device.declared.values.DevBit.{DevBit}
+use Rattle.wrapped_chip.specs.bsdl_device.Checks.{any_pair}
+use Rattle.wrapped_chip.specs.bsdl_device.Ports.{width, indices, index_at, counted_from, is_mode}
+use Rattle.wrapped_chip.specs.bsdl_device.IsDevice.{is_tap_place, tap_places, own_bits_at, own_bits, is_at}
 use Rattle.plan_fitting.specs.plan_texts.declared.plan.Plan.{Plan}
 use Rattle.plan_fitting.specs.declared.fitted.FitRow.{FitRow}
 use Rattle.plan_fitting.specs.declared.fitted.Fitted.{Fitted}
@@ -40,8 +40,8 @@ use Rattle.plan_devices.proofs.PortPins.{same_bits_join}
 use Rattle.plan_devices.proofs.Indices.{IsBit, range_there, dev_port_at, count_of_ports, same_in_device, same_dev_bit}
 use Rattle.plan_devices.proofs.DeviceTap.{behind_own}
 use Rattle.plan_devices.proofs.DeviceRows.{lined_bit, mapped_at}
-use Rattle.link_model.specs.Nets as link
-use Rattle.bsdl_device.specs.declared.values.PortMode.TheVariants as mode
+use Rattle.netlist_unlink.specs.link_model.Nets as link
+use Rattle.wrapped_chip.specs.bsdl_device.declared.values.PortMode.TheVariants as mode
 
 -- Each bit of the netlist has a line.
 

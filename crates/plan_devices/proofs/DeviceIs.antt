@@ -6,17 +6,17 @@ use Rattle.std.proofs.lemmas.List.{length-map}
 use Rattle.std.proofs.lemmas.List.Sums.{count_by-le-length}
 use Rattle.list_laws.proofs.Tests.{and_left, and_right}
 use Rattle.list_laws.proofs.Lists.{slice_get_there}
-use Rattle.netlist_model.specs.declared.Range.{Range}
-use Rattle.netlist_model.specs.declared.PinBit.{PinBit}
-use Rattle.netlist_model.specs.Formed.{width_of}
-use Rattle.netlist_arena.specs.Arena.{bit_count}
+use Rattle.netlist_laws.specs.netlist_model.declared.Range.{Range}
+use Rattle.netlist_laws.specs.netlist_model.declared.PinBit.{PinBit}
+use Rattle.netlist_laws.specs.netlist_model.Formed.{width_of}
+use Rattle.netlist_unlink.specs.netlist_arena.Arena.{bit_count}
 use Rattle.netlist_laws.specs.Ports.{BitHasDirection}
 use Rattle.netlist_laws.specs.Drivers.{DriverIsFound}
 use Rattle.netlist_unlink.specs.netlist_link.Linked.{LinkedView}
 use Rattle.netlist_unlink.specs.netlist_link.PinWords.{pin_at}
-use Rattle.bsdl_device.specs.declared.values.DevBit.{DevBit}
-use Rattle.bsdl_device.specs.declared.values.CellRow.{CellRow}
-use Rattle.bsdl_device.specs.IsDevice.{IsInstructionRegister, IsDeviceRow, AreDeviceRows, is_at}
+use Rattle.wrapped_chip.specs.bsdl_device.declared.values.DevBit.{DevBit}
+use Rattle.wrapped_chip.specs.bsdl_device.declared.values.CellRow.{CellRow}
+use Rattle.wrapped_chip.specs.bsdl_device.IsDevice.{IsInstructionRegister, IsDeviceRow, AreDeviceRows, is_at}
 use Rattle.plan_fitting.specs.plan_texts.declared.plan.Plan.{Plan}
 use Rattle.plan_fitting.specs.Pins.{PinSeen, same_bit}
 use Rattle.plan_fitting.specs.Names.{NamedBit, port_bits}

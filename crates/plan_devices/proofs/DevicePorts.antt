@@ -9,22 +9,22 @@ use Rattle.std.proofs.lemmas.List.Folds.{list_all-append}
 use Rattle.std.proofs.lemmas.List.Sums.{sum_by-cons, sum_by-append}
 use Rattle.list_laws.proofs.Tests.{and_left, and_right, or_first, or_second, neither}
 use Rattle.list_laws.proofs.Lists.{all_append, length-counted_from, slice_get_there, all_at}
-use Rattle.link_model.specs.Nets.{counted_from}
-use Rattle.link_model.specs.Denoted.{name_bytes}
+use Rattle.netlist_unlink.specs.link_model.Nets.{counted_from}
+use Rattle.netlist_unlink.specs.link_model.Denoted.{name_bytes}
 use Rattle.bsdl_lexicon.specs.Names.{is_same_name}
-use Rattle.bsdl_device.specs.declared.values.PortMode.{PortMode}
-use Rattle.bsdl_device.specs.declared.values.PortMode.TheVariants as mode
-use Rattle.bsdl_device.specs.declared.values.DevPort.{DevPort}
-use Rattle.bsdl_device.specs.Ports.{width}
-use Rattle.bsdl_device.specs.Checks.{is_repeated}
-use Rattle.bsdl_device.specs.IsDevice as device
-use Rattle.bsdl_device.specs.IsDevice.{IsDeviceName, IsDeviceRange, IsDevicePin, IsDevicePort, AreDevicePorts}
-use Rattle.netlist_model.specs.declared.Range.{Range}
-use Rattle.netlist_model.specs.declared.Name.{Name}
-use Rattle.netlist_model.specs.declared.Name.TheVariants.{Original}
-use Rattle.netlist_model.specs.Lists.{PortView}
-use Rattle.netlist_model.specs.Formed.{width_of}
-use Rattle.netlist_arena.specs.Arena.{bit_count}
+use Rattle.wrapped_chip.specs.bsdl_device.declared.values.PortMode.{PortMode}
+use Rattle.wrapped_chip.specs.bsdl_device.declared.values.PortMode.TheVariants as mode
+use Rattle.wrapped_chip.specs.bsdl_device.declared.values.DevPort.{DevPort}
+use Rattle.wrapped_chip.specs.bsdl_device.Ports.{width}
+use Rattle.wrapped_chip.specs.bsdl_device.Checks.{is_repeated}
+use Rattle.wrapped_chip.specs.bsdl_device.IsDevice as device
+use Rattle.wrapped_chip.specs.bsdl_device.IsDevice.{IsDeviceName, IsDeviceRange, IsDevicePin, IsDevicePort, AreDevicePorts}
+use Rattle.netlist_laws.specs.netlist_model.declared.Range.{Range}
+use Rattle.netlist_laws.specs.netlist_model.declared.Name.{Name}
+use Rattle.netlist_laws.specs.netlist_model.declared.Name.TheVariants.{Original}
+use Rattle.netlist_laws.specs.netlist_model.Lists.{PortView}
+use Rattle.netlist_laws.specs.netlist_model.Formed.{width_of}
+use Rattle.netlist_unlink.specs.netlist_arena.Arena.{bit_count}
 use Rattle.netlist_unlink.specs.netlist_link.Linked.{LinkedView}
 use Rattle.netlist_unlink.specs.netlist_link.PinWords.{pin_at}
 use Rattle.netlist_unlink.specs.netlist_link.WellNamed.{IsShortRange, IsWellNamed}

@@ -7,22 +7,22 @@ use Rattle.std.proofs.lemmas.Option.{slice_get-map, slice_get_within}
 use Rattle.list_laws.proofs.Tests.{and_true}
 use Rattle.list_laws.proofs.Numbers.{eqb_same}
 use Rattle.list_laws.proofs.Lists.{any_at, test_at}
-use Rattle.cell_library.specs.declared.codes.Function.{Function}
-use Rattle.cell_library.specs.declared.codes.Function.TheVariants as function
-use Rattle.bsdl_device.specs.declared.values.PortMode.{PortMode}
-use Rattle.bsdl_device.specs.declared.values.DevPort.{DevPort}
-use Rattle.bsdl_device.specs.declared.values.DevBit.{DevBit}
-use Rattle.bsdl_device.specs.declared.values.Disable.{Disable}
-use Rattle.bsdl_device.specs.declared.values.CellRow.{CellRow}
-use Rattle.bsdl_device.specs.declared.values.Device.{Device}
-use Rattle.bsdl_device.specs.Ports.{has_bit, is_mode}
-use Rattle.bsdl_device.specs.RowRules.{is_function}
-use Rattle.bsdl_device.specs.IsDevice.{suits, wanted_mode, is_tap_place, tap_places, is_bit_of, disable_right, names_control, IsDeviceRow}
-use Rattle.netlist_model.specs.declared.Dir.{Dir}
-use Rattle.netlist_model.specs.declared.Dir.TheVariants as dir
-use Rattle.netlist_model.specs.declared.PinBit.{PinBit}
-use Rattle.netlist_model.specs.declared.Range.{Range}
-use Rattle.netlist_model.specs.Formed.{width_of}
+use Rattle.netlist_unlink.specs.cell_library.declared.codes.Function.{Function}
+use Rattle.netlist_unlink.specs.cell_library.declared.codes.Function.TheVariants as function
+use Rattle.wrapped_chip.specs.bsdl_device.declared.values.PortMode.{PortMode}
+use Rattle.wrapped_chip.specs.bsdl_device.declared.values.DevPort.{DevPort}
+use Rattle.wrapped_chip.specs.bsdl_device.declared.values.DevBit.{DevBit}
+use Rattle.wrapped_chip.specs.bsdl_device.declared.values.Disable.{Disable}
+use Rattle.wrapped_chip.specs.bsdl_device.declared.values.CellRow.{CellRow}
+use Rattle.wrapped_chip.specs.bsdl_device.declared.values.Device.{Device}
+use Rattle.wrapped_chip.specs.bsdl_device.Ports.{has_bit, is_mode}
+use Rattle.wrapped_chip.specs.bsdl_device.RowRules.{is_function}
+use Rattle.wrapped_chip.specs.bsdl_device.IsDevice.{suits, wanted_mode, is_tap_place, tap_places, is_bit_of, disable_right, names_control, IsDeviceRow}
+use Rattle.netlist_laws.specs.netlist_model.declared.Dir.{Dir}
+use Rattle.netlist_laws.specs.netlist_model.declared.Dir.TheVariants as dir
+use Rattle.netlist_laws.specs.netlist_model.declared.PinBit.{PinBit}
+use Rattle.netlist_laws.specs.netlist_model.declared.Range.{Range}
+use Rattle.netlist_laws.specs.netlist_model.Formed.{width_of}
 use Rattle.netlist_unlink.specs.netlist_link.Linked.{LinkedView}
 use Rattle.netlist_unlink.specs.netlist_link.WellNamed.{index_from}
 use Rattle.plan_fitting.specs.plan_texts.declared.plan.Plan.{Plan}

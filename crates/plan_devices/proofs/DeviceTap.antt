@@ -7,12 +7,12 @@ use Rattle.std.proofs.lemmas.List.{length-map}
 use Rattle.list_laws.proofs.Numbers.{eqb_less}
 use Rattle.list_laws.proofs.Lists.{slice_get-append_right}
 use Rattle.list_laws.proofs.Tests.{neither}
-use Rattle.bsdl_device.specs.declared.values.PortMode.{PortMode}
-use Rattle.bsdl_device.specs.declared.values.PortMode.TheVariants as mode
-use Rattle.bsdl_device.specs.declared.values.DevPort.{DevPort}
-use Rattle.bsdl_device.specs.Ports.{is_mode}
-use Rattle.bsdl_device.specs.Checks.{any_pair}
-use Rattle.bsdl_device.specs.IsDevice.{is_scalar_at, IsDeviceTap}
+use Rattle.wrapped_chip.specs.bsdl_device.declared.values.PortMode.{PortMode}
+use Rattle.wrapped_chip.specs.bsdl_device.declared.values.PortMode.TheVariants as mode
+use Rattle.wrapped_chip.specs.bsdl_device.declared.values.DevPort.{DevPort}
+use Rattle.wrapped_chip.specs.bsdl_device.Ports.{is_mode}
+use Rattle.wrapped_chip.specs.bsdl_device.Checks.{any_pair}
+use Rattle.wrapped_chip.specs.bsdl_device.IsDevice.{is_scalar_at, IsDeviceTap}
 use Rattle.netlist_unlink.specs.netlist_link.Linked.{LinkedView}
 use Rattle.plan_fitting.specs.plan_texts.declared.plan.Plan.{Plan}
 use Rattle.plan_fitting.specs.declared.fitted.Fitted.{Fitted}

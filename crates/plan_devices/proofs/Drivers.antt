@@ -1,15 +1,15 @@
 -- An inout bit of a well-formed netlist has a three-state driver, so its line makes a row.
 use Rattle.std.proofs.Common.{◌≡◌, ℕ, true, List, [], ◌∷◌, length, Option, Some, refl, sym, ap, ◌∙◌, arith}
 use Rattle.std.specs.Prelude.{is_some}
-use Rattle.cell_library.specs.declared.Kind.{Kind}
-use Rattle.cell_library.specs.declared.Kind.TheVariants.{Bufif0, Bufif1}
-use Rattle.cell_library.specs.declared.listed.ListedCell.{ListedCell}
-use Rattle.cell_library.specs.Gates.{is_three_state, Takes}
-use Rattle.netlist_model.specs.declared.Dir.{Dir}
-use Rattle.netlist_model.specs.declared.Dir.TheVariants as dir
-use Rattle.netlist_model.specs.declared.Feed.{Feed}
-use Rattle.netlist_model.specs.Lists.{CellView, NetlistView, direction, Drives}
-use Rattle.netlist_model.specs.Formed.{IsWellFormed}
+use Rattle.netlist_unlink.specs.cell_library.declared.Kind.{Kind}
+use Rattle.netlist_unlink.specs.cell_library.declared.Kind.TheVariants.{Bufif0, Bufif1}
+use Rattle.netlist_unlink.specs.cell_library.declared.listed.ListedCell.{ListedCell}
+use Rattle.netlist_unlink.specs.cell_library.Gates.{is_three_state, Takes}
+use Rattle.netlist_laws.specs.netlist_model.declared.Dir.{Dir}
+use Rattle.netlist_laws.specs.netlist_model.declared.Dir.TheVariants as dir
+use Rattle.netlist_laws.specs.netlist_model.declared.Feed.{Feed}
+use Rattle.netlist_laws.specs.netlist_model.Lists.{CellView, NetlistView, direction, Drives}
+use Rattle.netlist_laws.specs.netlist_model.Formed.{IsWellFormed}
 use Rattle.netlist_laws.specs.Ports.{BitHasDirection}
 use Rattle.netlist_laws.specs.Drivers.{DriverIsFound}
 use Rattle.netlist_unlink.specs.netlist_link.Linked.{LinkedView}

@@ -10,9 +10,9 @@ use Rattle.list_laws.proofs.Numbers.{eqb_same}
 use Rattle.list_laws.proofs.Lists.{length-counted_from, slice_get-counted_from, any_at}
 use Rattle.list_laws.proofs.Tests.{and_true, or_more}
 use Rattle.list_laws.proofs.Options.{some_same}
-use Rattle.link_model.specs.Nets.{counted_from}
-use Rattle.netlist_model.specs.Lists.{PortView}
-use Rattle.netlist_arena.specs.Arena.{bit_count}
+use Rattle.netlist_unlink.specs.link_model.Nets.{counted_from}
+use Rattle.netlist_laws.specs.netlist_model.Lists.{PortView}
+use Rattle.netlist_unlink.specs.netlist_arena.Arena.{bit_count}
 use Rattle.netlist_unlink.specs.netlist_link.Linked.{LinkedView}
 use Rattle.plan_fitting.specs.Pins.{PinSeen, IsSeen, same_bit}
 use Rattle.plan_fitting.specs.Names.{NamedBit, named_bit, bits_of_port, port_bits}

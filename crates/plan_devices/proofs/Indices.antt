@@ -8,15 +8,15 @@ use Rattle.std.proofs.lemmas.Option.{slice_get-map, slice_get_within}
 use Rattle.list_laws.proofs.Lists.{slice_get-append_left}
 use Rattle.list_laws.proofs.Tests.{and_true, or_more}
 use Rattle.list_laws.proofs.Options.{some_same}
-use Rattle.netlist_model.specs.declared.Range.{Range}
-use Rattle.netlist_model.specs.declared.PinBit.{PinBit}
-use Rattle.netlist_model.specs.Lists.{PortView}
-use Rattle.netlist_model.specs.Formed.{width_of}
+use Rattle.netlist_laws.specs.netlist_model.declared.Range.{Range}
+use Rattle.netlist_laws.specs.netlist_model.declared.PinBit.{PinBit}
+use Rattle.netlist_laws.specs.netlist_model.Lists.{PortView}
+use Rattle.netlist_laws.specs.netlist_model.Formed.{width_of}
 use Rattle.netlist_unlink.specs.netlist_link.Linked.{LinkedView}
 use Rattle.netlist_unlink.specs.netlist_link.WellNamed.{index_from}
-use Rattle.bsdl_device.specs.declared.values.PortMode.TheVariants as mode
-use Rattle.bsdl_device.specs.declared.values.DevBit.{DevBit}
-use Rattle.bsdl_device.specs.Ports.{has_bit, is_within, same_index}
+use Rattle.wrapped_chip.specs.bsdl_device.declared.values.PortMode.TheVariants as mode
+use Rattle.wrapped_chip.specs.bsdl_device.declared.values.DevBit.{DevBit}
+use Rattle.wrapped_chip.specs.bsdl_device.Ports.{has_bit, is_within, same_index}
 use Rattle.wrapped_chip.specs.Cells.{bit_place, net_of_bit}
 use Rattle.plan_fitting.specs.plan_texts.declared.plan.Plan.{Plan}
 use Rattle.plan_fitting.specs.declared.fitted.FitPort.{FitPort}

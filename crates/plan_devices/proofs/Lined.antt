@@ -1,11 +1,11 @@
 -- A line of a plan that fits, with what stands at its bit.
 use Rattle.std.proofs.Common.{◌≡◌, ℕ, zero, suc, Bool, true, false, List, [], ◌∷◌, slice_get, if◌then◌else◌, Option, Some, None, refl, subst, inl}
-use Rattle.cell_library.specs.declared.codes.BoundaryKind.{BoundaryKind}
-use Rattle.cell_library.specs.declared.codes.BoundaryKind.TheVariants as kind
-use Rattle.cell_library.specs.declared.codes.Function.TheVariants as function
-use Rattle.netlist_model.specs.declared.Dir.{Dir}
-use Rattle.netlist_model.specs.declared.Dir.TheVariants as dir
-use Rattle.bsdl_device.specs.IsDevice.{suits}
+use Rattle.netlist_unlink.specs.cell_library.declared.codes.BoundaryKind.{BoundaryKind}
+use Rattle.netlist_unlink.specs.cell_library.declared.codes.BoundaryKind.TheVariants as kind
+use Rattle.netlist_unlink.specs.cell_library.declared.codes.Function.TheVariants as function
+use Rattle.netlist_laws.specs.netlist_model.declared.Dir.{Dir}
+use Rattle.netlist_laws.specs.netlist_model.declared.Dir.TheVariants as dir
+use Rattle.wrapped_chip.specs.bsdl_device.IsDevice.{suits}
 use Rattle.netlist_unlink.specs.netlist_link.Linked.{LinkedView}
 use Rattle.plan_fitting.specs.plan_texts.declared.plan.Plan.{Plan}
 use Rattle.plan_fitting.specs.plan_texts.declared.plan.PinLine.{PinLine}

@@ -6,10 +6,10 @@ use Rattle.verilog_tree.specs.declared.tree.Module.{Module}
 use Rattle.list_laws.proofs.Options.{some_same}
 use Rattle.verilog_tree.specs.declared.tree.Port.{Port}
 use Rattle.verilog_tree.specs.declared.tree.Range as tree
-use Rattle.link_model.specs.Nets.{dir_of, width, counted_from}
-use Rattle.link_model.specs.Denoted.{range_of, NamedPort, IsPort, ports_from, net_id}
-use Rattle.netlist_model.specs.declared.NetId.{NetId}
-use Rattle.netlist_model.specs.Formed.{width_of}
+use Rattle.netlist_unlink.specs.link_model.Nets.{dir_of, width, counted_from}
+use Rattle.netlist_unlink.specs.link_model.Denoted.{range_of, NamedPort, IsPort, ports_from, net_id}
+use Rattle.netlist_laws.specs.netlist_model.declared.NetId.{NetId}
+use Rattle.netlist_laws.specs.netlist_model.Formed.{width_of}
 use Rattle.netlist_unlink.specs.netlist_link.Linked.{LinkedView}
 use Rattle.netlist_unlink.specs.netlist_link.Links.{IsLinkOf}
 use Rattle.netlist_unlink.specs.netlist_link.ViewLaws.{LinkViewIsNamed, LinkViewIsFormed}

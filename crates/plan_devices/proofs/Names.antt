@@ -6,9 +6,9 @@ use Rattle.list_laws.proofs.Options.{or_else-parts, not_there}
 use Rattle.list_laws.proofs.Tests.{or_first, or_second, neither, not_false}
 use Rattle.bsdl_lexicon.specs.Names.{is_same_name}
 use Rattle.bsdl_lexicon.specs.Reserved.{is_reserved}
-use Rattle.bsdl_device.specs.Runs.{is_identifier}
-use Rattle.bsdl_device.specs.Checks.{is_repeated}
-use Rattle.bsdl_device.specs.IsDevice.{IsDeviceName}
+use Rattle.wrapped_chip.specs.bsdl_device.Runs.{is_identifier}
+use Rattle.wrapped_chip.specs.bsdl_device.Checks.{is_repeated}
+use Rattle.wrapped_chip.specs.bsdl_device.IsDevice.{IsDeviceName}
 use Rattle.netlist_unlink.specs.netlist_link.Linked.{LinkedView}
 use Rattle.first_faults.specs.First.{or_else}
 use Rattle.first_faults.specs.Repeated.{has_name}

@@ -5,15 +5,15 @@ use Rattle.std.specs.Option.{option_map_or}
 use Rattle.std.proofs.lemmas.Option.{slice_get-map, slice_get_within}
 use Rattle.list_laws.proofs.Tests.{and_left, and_right}
 use Rattle.list_laws.proofs.Options.{some_same}
-use Rattle.netlist_model.specs.declared.NetId.{NetId}
-use Rattle.netlist_model.specs.declared.Dir.{Dir}
-use Rattle.netlist_model.specs.declared.PinBit.{PinBit}
-use Rattle.netlist_model.specs.Lists.{PortView, NetlistView, direction}
-use Rattle.netlist_model.specs.Formed.{width_of}
+use Rattle.netlist_laws.specs.netlist_model.declared.NetId.{NetId}
+use Rattle.netlist_laws.specs.netlist_model.declared.Dir.{Dir}
+use Rattle.netlist_laws.specs.netlist_model.declared.PinBit.{PinBit}
+use Rattle.netlist_laws.specs.netlist_model.Lists.{PortView, NetlistView, direction}
+use Rattle.netlist_laws.specs.netlist_model.Formed.{width_of}
 use Rattle.netlist_laws.specs.Ports.{DirectionHasBit}
 use Rattle.netlist_unlink.specs.netlist_link.Linked.{LinkedView}
 use Rattle.netlist_unlink.specs.netlist_link.PinWords.{pin_at}
-use Rattle.bsdl_device.specs.declared.values.CellRow.{CellRow}
+use Rattle.wrapped_chip.specs.bsdl_device.declared.values.CellRow.{CellRow}
 use Rattle.wrapped_chip.specs.Cells.{Numbered, is_net, net_of_bit, net_of_row, row_from, row_of}
 use Rattle.plan_fitting.specs.plan_texts.declared.plan.Plan.{Plan}
 use Rattle.plan_fitting.specs.declared.fitted.FitRow.{FitRow}

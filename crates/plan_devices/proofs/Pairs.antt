@@ -4,7 +4,7 @@ use Rattle.std.specs.List.{list_any, list_all}
 use Rattle.std.proofs.lemmas.List.Folds.{list_any-append}
 use Rattle.list_laws.proofs.Tests.{and_left, and_right, or_first, or_second, neither}
 use Rattle.list_laws.proofs.Lists.{any_same}
-use Rattle.bsdl_device.specs.Checks.{any_pair}
+use Rattle.wrapped_chip.specs.bsdl_device.Checks.{any_pair}
 
 -- one of the first list and one of the second pass
 abbrev pub any_across : {X : Type 0} → (X → X → Bool) → List X → List X → Bool

@@ -4,10 +4,10 @@ use Rattle.std.specs.Prelude.{unwrap_or}
 use Rattle.std.proofs.lemmas.List.{length-map, length-append}
 use Rattle.std.proofs.lemmas.Option.{slice_get-map}
 use Rattle.list_laws.proofs.Lists.{all_at}
-use Rattle.netlist_model.specs.Lists.{PortView}
+use Rattle.netlist_laws.specs.netlist_model.Lists.{PortView}
 use Rattle.netlist_unlink.specs.netlist_link.Linked.{LinkedView}
-use Rattle.bsdl_device.specs.declared.values.PortMode.TheVariants as mode
-use Rattle.bsdl_device.specs.declared.values.DevPort.{DevPort}
+use Rattle.wrapped_chip.specs.bsdl_device.declared.values.PortMode.TheVariants as mode
+use Rattle.wrapped_chip.specs.bsdl_device.declared.values.DevPort.{DevPort}
 use Rattle.plan_fitting.specs.plan_texts.declared.plan.Plan.{Plan}
 use Rattle.plan_fitting.specs.declared.fitted.Fitted.{Fitted}
 use Rattle.plan_fitting.specs.Pins.{PinSeen}

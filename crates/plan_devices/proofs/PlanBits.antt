@@ -6,11 +6,11 @@ use Rattle.std.proofs.lemmas.List.Elements.{recursion_from_All}
 use Rattle.std.proofs.Math.Nat.{pow-le-pow_right}
 use Rattle.list_laws.proofs.Tests.{and_left, and_right}
 use Rattle.list_laws.proofs.Digits.{value_below}
-use Rattle.cell_library.specs.declared.codes.Instr.{Instr}
-use Rattle.cell_library.specs.declared.codes.Opcode.{Opcode}
-use Rattle.bsdl_device.specs.declared.entries.OpcodeEntry.{OpcodeEntry}
-use Rattle.bsdl_device.specs.Runs.{is_pattern, value_after}
-use Rattle.bsdl_device.specs.IsDevice.{IsBits, IsUsercode}
+use Rattle.netlist_unlink.specs.cell_library.declared.codes.Instr.{Instr}
+use Rattle.netlist_unlink.specs.cell_library.declared.codes.Opcode.{Opcode}
+use Rattle.wrapped_chip.specs.bsdl_device.declared.entries.OpcodeEntry.{OpcodeEntry}
+use Rattle.wrapped_chip.specs.bsdl_device.Runs.{is_pattern, value_after}
+use Rattle.wrapped_chip.specs.bsdl_device.IsDevice.{IsBits, IsUsercode}
 use Rattle.plan_fitting.specs.plan_texts.declared.plan.Plan.{Plan}
 use Rattle.plan_fitting.specs.plan_texts.Forms.{bits_of}
 use Rattle.plan_fitting.specs.plan_texts.Rules.{instructions_of, instruction_of}

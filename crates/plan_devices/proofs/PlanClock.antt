@@ -5,7 +5,7 @@ use Rattle.std.specs.List.{list_all, AllByRecursion}
 use Rattle.list_laws.proofs.Tests.{and_left, and_right}
 use Rattle.bsdl_lexicon.specs.Bytes.{is_digit}
 use Rattle.bsdl_lexicon.specs.Pieces.{IsReal}
-use Rattle.bsdl_device.specs.Runs.{is_integer, value_after}
+use Rattle.wrapped_chip.specs.bsdl_device.Runs.{is_integer, value_after}
 use Rattle.plan_fitting.specs.plan_texts.declared.plan.Plan.{Plan}
 use Rattle.plan_fitting.specs.plan_texts.Forms.{is_clock}
 use Rattle.plan_fitting.specs.plan_texts.Meaning.{plan_of}

@@ -6,15 +6,15 @@ use Rattle.std.specs.List.{list_any, cons_option, AllByRecursion}
 use Rattle.list_laws.proofs.Bytes.{bytes_eq-sym}
 use Rattle.list_laws.proofs.Options.{or_else-parts, not_there}
 use Rattle.list_laws.proofs.Tests.{or_first, or_second, neither, not_false}
-use Rattle.cell_library.specs.declared.codes.Instr.{Instr}
-use Rattle.cell_library.specs.declared.codes.Opcode.{Opcode}
+use Rattle.netlist_unlink.specs.cell_library.declared.codes.Instr.{Instr}
+use Rattle.netlist_unlink.specs.cell_library.declared.codes.Opcode.{Opcode}
 use Rattle.bsdl_lexicon.specs.Names.{is_same_name}
-use Rattle.bsdl_device.specs.declared.entries.OpcodeEntry.{OpcodeEntry}
-use Rattle.cell_library.specs.declared.codes.Bits.{Bits}
-use Rattle.bsdl_device.specs.Instructions.{instruction_word, all_instructions, is_instruction}
-use Rattle.bsdl_device.specs.Checks.{any_pair, is_repeated, opcode_named_twice, has_instruction, has_other_length, code_is_barred}
-use Rattle.bsdl_device.specs.Canonical.{has_opcode}
-use Rattle.bsdl_device.specs.IsDevice.{IsDeviceCode, opcode_entries}
+use Rattle.wrapped_chip.specs.bsdl_device.declared.entries.OpcodeEntry.{OpcodeEntry}
+use Rattle.netlist_unlink.specs.cell_library.declared.codes.Bits.{Bits}
+use Rattle.wrapped_chip.specs.bsdl_device.Instructions.{instruction_word, all_instructions, is_instruction}
+use Rattle.wrapped_chip.specs.bsdl_device.Checks.{any_pair, is_repeated, opcode_named_twice, has_instruction, has_other_length, code_is_barred}
+use Rattle.wrapped_chip.specs.bsdl_device.Canonical.{has_opcode}
+use Rattle.wrapped_chip.specs.bsdl_device.IsDevice.{IsDeviceCode, opcode_entries}
 use Rattle.first_faults.specs.First.{or_else, first_in}
 use Rattle.first_faults.specs.Repeated.{has_name, repeated, repeated_after}
 use Rattle.plan_fitting.specs.plan_texts.declared.plan.Plan.{Plan}
@@ -27,7 +27,7 @@ use Rattle.plan_fitting.specs.plan_texts.Grammar.{PlanSource, IsSource, IsUserIf
 use Rattle.plan_fitting.specs.plan_texts.Canonical.{IsPlan}
 use Rattle.plan_fitting.proofs.Opcodes.{name_of, opcode_with}
 use Rattle.plan_devices.proofs.Pairs.{any_front, any_back}
-use Rattle.cell_library.specs.declared.codes.Instr.TheVariants as instr
+use Rattle.netlist_unlink.specs.cell_library.declared.codes.Instr.TheVariants as instr
 use Rattle.plan_fitting.specs.plan_texts.declared.fault.PlanFault.TheVariants as fault
 
 -- Names that stand once.

@@ -7,9 +7,9 @@ use Rattle.list_laws.proofs.Tests.{and_left, and_right, and_true}
 use Rattle.list_laws.proofs.Lists.{all_front, all_back}
 use Rattle.line_texts.specs.Words.{is_empty}
 use Rattle.bsdl_lexicon.specs.Bytes.{is_digit, is_name_byte}
-use Rattle.bsdl_device.specs.Runs.{begins_with_letter, has_single_underscores, is_identifier}
-use Rattle.bsdl_device.specs.IsDevice.{IsDevicePin}
-use Rattle.bsdl_device.proofs.Identifiers.{digits_are_name_bytes}
+use Rattle.wrapped_chip.specs.bsdl_device.Runs.{begins_with_letter, has_single_underscores, is_identifier}
+use Rattle.wrapped_chip.specs.bsdl_device.IsDevice.{IsDevicePin}
+use Rattle.wrapped_chip.proofs.bsdl_device.Identifiers.{digits_are_name_bytes}
 use Rattle.plan_fitting.specs.plan_texts.declared.plan.Plan.{Plan}
 use Rattle.plan_fitting.specs.plan_texts.declared.plan.TapLine.{TapLine}
 use Rattle.plan_fitting.specs.plan_texts.declared.plan.PinLine.{PinLine}

@@ -6,13 +6,13 @@ use Rattle.std.proofs.lemmas.List.Folds.{list_all-append}
 use Rattle.list_laws.proofs.Tests.{and_left, and_right, and_true, neither}
 use Rattle.list_laws.proofs.Numbers.{eqb_less}
 use Rattle.list_laws.proofs.Options.{or_else-parts}
-use Rattle.link_model.specs.Nets.{counted_from}
-use Rattle.bsdl_device.specs.Checks.{any_pair}
-use Rattle.cell_library.specs.declared.listed.ListedCell.{ListedCell}
-use Rattle.netlist_model.specs.declared.CellId.{CellId}
-use Rattle.netlist_model.specs.declared.Reader.{Reader}
-use Rattle.netlist_model.specs.Lists.{PortView, NetView, CellView}
-use Rattle.netlist_arena.specs.Arena.{SpareView}
+use Rattle.netlist_unlink.specs.link_model.Nets.{counted_from}
+use Rattle.wrapped_chip.specs.bsdl_device.Checks.{any_pair}
+use Rattle.netlist_unlink.specs.cell_library.declared.listed.ListedCell.{ListedCell}
+use Rattle.netlist_laws.specs.netlist_model.declared.CellId.{CellId}
+use Rattle.netlist_laws.specs.netlist_model.declared.Reader.{Reader}
+use Rattle.netlist_laws.specs.netlist_model.Lists.{PortView, NetView, CellView}
+use Rattle.netlist_unlink.specs.netlist_arena.Arena.{SpareView}
 use Rattle.netlist_unlink.specs.cell_order.Tables.{RoomView}
 use Rattle.netlist_unlink.specs.netlist_link.Linked.{LinkedView}
 use Rattle.first_faults.specs.First.{first_in}

@@ -5,9 +5,9 @@ use Rattle.std.specs.List.{list_any, list_all, AllByRecursion}
 use Rattle.list_laws.proofs.Tests.{and_left, and_right, and_true, or_first, or_second, neither}
 use Rattle.list_laws.proofs.Lists.{each_fails}
 use Rattle.bsdl_lexicon.specs.Names.{is_same_name}
-use Rattle.bsdl_device.specs.Checks.{any_pair, is_repeated}
-use Rattle.bsdl_device.specs.IsDevice.{IsDevicePin}
-use Rattle.netlist_model.specs.declared.PinBit.{PinBit}
+use Rattle.wrapped_chip.specs.bsdl_device.Checks.{any_pair, is_repeated}
+use Rattle.wrapped_chip.specs.bsdl_device.IsDevice.{IsDevicePin}
+use Rattle.netlist_laws.specs.netlist_model.declared.PinBit.{PinBit}
 use Rattle.bsdl_lexicon.proofs.SameNames.{same_turned}
 use Rattle.plan_fitting.specs.plan_texts.declared.plan.Plan.{Plan}
 use Rattle.plan_fitting.specs.plan_texts.declared.plan.TapLine.{TapLine}

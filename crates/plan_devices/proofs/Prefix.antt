@@ -5,10 +5,10 @@ use Rattle.std.specs.List.{starts_with, cons_option, AllByRecursion}
 use Rattle.std.proofs.lemmas.List.Elements.{All-from_recursion}
 use Rattle.list_laws.proofs.Lists.{all_front, all_back, begins_joined}
 use Rattle.list_laws.proofs.Options.{or_else-parts, some_same, not_there}
-use Rattle.link_model.specs.Denoted.{name_bytes}
-use Rattle.netlist_model.specs.declared.Name.{Name}
-use Rattle.netlist_model.specs.declared.Name.TheVariants.{Original}
-use Rattle.netlist_model.specs.Lists.{PortView, NetView, CellView, live_cell}
+use Rattle.netlist_unlink.specs.link_model.Denoted.{name_bytes}
+use Rattle.netlist_laws.specs.netlist_model.declared.Name.{Name}
+use Rattle.netlist_laws.specs.netlist_model.declared.Name.TheVariants.{Original}
+use Rattle.netlist_laws.specs.netlist_model.Lists.{PortView, NetView, CellView, live_cell}
 use Rattle.netlist_unlink.specs.netlist_link.Linked.{LinkedView}
 use Rattle.netlist_unlink.specs.Prefixes.{IsUsed, port as used_port, net as used_net, cell as used_cell}
 use Rattle.first_faults.specs.First.{first_in}

@@ -6,13 +6,13 @@ use Rattle.std.specs.Option.{option_map_or}
 use Rattle.std.proofs.lemmas.List.{length-append}
 use Rattle.std.proofs.lemmas.List.Sums.{sum_by-cons, sum_by-append}
 use Rattle.list_laws.proofs.Tests.{or_first, or_second}
-use Rattle.bsdl_device.specs.Checks.{any_pair}
-use Rattle.cell_library.specs.declared.codes.BoundaryKind.{BoundaryKind}
-use Rattle.cell_library.specs.declared.codes.Function.{Function}
-use Rattle.cell_library.specs.declared.codes.Function.TheVariants as function
-use Rattle.netlist_model.specs.declared.Dir.{Dir}
-use Rattle.netlist_model.specs.declared.Dir.TheVariants as dir
-use Rattle.netlist_model.specs.declared.PinBit.{PinBit}
+use Rattle.wrapped_chip.specs.bsdl_device.Checks.{any_pair}
+use Rattle.netlist_unlink.specs.cell_library.declared.codes.BoundaryKind.{BoundaryKind}
+use Rattle.netlist_unlink.specs.cell_library.declared.codes.Function.{Function}
+use Rattle.netlist_unlink.specs.cell_library.declared.codes.Function.TheVariants as function
+use Rattle.netlist_laws.specs.netlist_model.declared.Dir.{Dir}
+use Rattle.netlist_laws.specs.netlist_model.declared.Dir.TheVariants as dir
+use Rattle.netlist_laws.specs.netlist_model.declared.PinBit.{PinBit}
 use Rattle.plan_fitting.specs.plan_texts.declared.plan.PinLine.{PinLine}
 use Rattle.plan_fitting.specs.declared.fitted.FitRow.{FitRow}
 use Rattle.plan_fitting.specs.Pins.{PinSeen, same_bit}

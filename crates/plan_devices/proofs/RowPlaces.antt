@@ -6,15 +6,15 @@ use Rattle.std.proofs.lemmas.Option.{slice_get-map, slice_get_within}
 use Rattle.list_laws.proofs.Tests.{and_left, and_right, and_true}
 use Rattle.list_laws.proofs.Options.{some_same}
 use Rattle.list_laws.proofs.Lists.{any_at}
-use Rattle.netlist_model.specs.declared.NetId.{NetId}
-use Rattle.netlist_model.specs.declared.PinBit.{PinBit}
-use Rattle.netlist_model.specs.Lists.{PortView, bit_net}
-use Rattle.netlist_model.specs.Formed.{width_of}
+use Rattle.netlist_laws.specs.netlist_model.declared.NetId.{NetId}
+use Rattle.netlist_laws.specs.netlist_model.declared.PinBit.{PinBit}
+use Rattle.netlist_laws.specs.netlist_model.Lists.{PortView, bit_net}
+use Rattle.netlist_laws.specs.netlist_model.Formed.{width_of}
 use Rattle.netlist_laws.specs.Ports.{BitHasDirection}
 use Rattle.netlist_laws.specs.Drivers.{DriverIsFound}
 use Rattle.netlist_unlink.specs.netlist_link.Linked.{LinkedView}
 use Rattle.netlist_unlink.specs.netlist_link.PinWords.{pin_at}
-use Rattle.bsdl_device.specs.declared.values.CellRow.{CellRow}
+use Rattle.wrapped_chip.specs.bsdl_device.declared.values.CellRow.{CellRow}
 use Rattle.wrapped_chip.specs.Cells.{Numbered, is_net, net_of_row, row_of}
 use Rattle.plan_fitting.specs.plan_texts.declared.plan.Plan.{Plan}
 use Rattle.plan_fitting.specs.plan_texts.declared.plan.PinLine.{PinLine}

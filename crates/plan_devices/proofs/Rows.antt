@@ -6,13 +6,13 @@ use Rattle.std.proofs.lemmas.List.Quantifiers.{position-Some}
 use Rattle.list_laws.proofs.Numbers.{eqb_same}
 use Rattle.list_laws.proofs.Lists.{slice_get_there, slice_get-append_left, slice_get-append_right}
 use Rattle.list_laws.proofs.Tests.{and_true}
-use Rattle.cell_library.specs.declared.codes.BoundaryKind.{BoundaryKind}
-use Rattle.cell_library.specs.declared.codes.Function.{Function}
-use Rattle.cell_library.specs.declared.codes.Function.TheVariants as function
-use Rattle.netlist_model.specs.declared.Dir.{Dir}
-use Rattle.netlist_model.specs.declared.Dir.TheVariants as dir
-use Rattle.netlist_model.specs.declared.Feed.{Feed}
-use Rattle.netlist_model.specs.declared.Feed.TheVariants.{Net, Const}
+use Rattle.netlist_unlink.specs.cell_library.declared.codes.BoundaryKind.{BoundaryKind}
+use Rattle.netlist_unlink.specs.cell_library.declared.codes.Function.{Function}
+use Rattle.netlist_unlink.specs.cell_library.declared.codes.Function.TheVariants as function
+use Rattle.netlist_laws.specs.netlist_model.declared.Dir.{Dir}
+use Rattle.netlist_laws.specs.netlist_model.declared.Dir.TheVariants as dir
+use Rattle.netlist_laws.specs.netlist_model.declared.Feed.{Feed}
+use Rattle.netlist_laws.specs.netlist_model.declared.Feed.TheVariants.{Net, Const}
 use Rattle.plan_fitting.specs.plan_texts.declared.plan.Plan.{Plan}
 use Rattle.plan_fitting.specs.plan_texts.declared.plan.PinLine.{PinLine}
 use Rattle.plan_fitting.specs.declared.fitted.FitRow.{FitRow}

@@ -4,25 +4,25 @@ use Rattle.std.specs.Prelude.{is_some, ◌&&◌}
 use Rattle.std.specs.Option.{option_map_or}
 use Rattle.list_laws.proofs.Tests.{and_left, and_right}
 use Rattle.list_laws.proofs.Options.{some_same}
-use Rattle.cell_library.specs.declared.Kind.{Kind}
-use Rattle.cell_library.specs.declared.Kind.TheVariants.{Bufif0, Bufif1}
-use Rattle.cell_library.specs.Gates.{is_three_state}
-use Rattle.cell_library.specs.declared.codes.BoundaryKind.{BoundaryKind}
-use Rattle.cell_library.specs.declared.codes.BoundaryKind.TheVariants as kind
-use Rattle.cell_library.specs.declared.codes.Function.{Function}
-use Rattle.cell_library.specs.declared.codes.Function.TheVariants as function
-use Rattle.bsdl_device.specs.RowRules.{is_function}
-use Rattle.netlist_model.specs.declared.Dir.{Dir}
-use Rattle.netlist_model.specs.declared.Dir.TheVariants as dir
-use Rattle.netlist_model.specs.declared.Feed.{Feed}
-use Rattle.netlist_model.specs.declared.Feed.TheVariants.{Net, Const}
-use Rattle.netlist_model.specs.Lists.{CellView, direction, Drives}
-use Rattle.netlist_model.specs.Cones.{IsControlPort}
+use Rattle.netlist_unlink.specs.cell_library.declared.Kind.{Kind}
+use Rattle.netlist_unlink.specs.cell_library.declared.Kind.TheVariants.{Bufif0, Bufif1}
+use Rattle.netlist_unlink.specs.cell_library.Gates.{is_three_state}
+use Rattle.netlist_unlink.specs.cell_library.declared.codes.BoundaryKind.{BoundaryKind}
+use Rattle.netlist_unlink.specs.cell_library.declared.codes.BoundaryKind.TheVariants as kind
+use Rattle.netlist_unlink.specs.cell_library.declared.codes.Function.{Function}
+use Rattle.netlist_unlink.specs.cell_library.declared.codes.Function.TheVariants as function
+use Rattle.wrapped_chip.specs.bsdl_device.RowRules.{is_function}
+use Rattle.netlist_laws.specs.netlist_model.declared.Dir.{Dir}
+use Rattle.netlist_laws.specs.netlist_model.declared.Dir.TheVariants as dir
+use Rattle.netlist_laws.specs.netlist_model.declared.Feed.{Feed}
+use Rattle.netlist_laws.specs.netlist_model.declared.Feed.TheVariants.{Net, Const}
+use Rattle.netlist_laws.specs.netlist_model.Lists.{CellView, direction, Drives}
+use Rattle.netlist_laws.specs.netlist_model.Cones.{IsControlPort}
 use Rattle.netlist_laws.specs.Ports.{BitHasDirection, DirectionHasBit}
 use Rattle.netlist_laws.specs.Drivers.{DriverIsFound}
 use Rattle.netlist_unlink.specs.netlist_link.Linked.{LinkedView}
-use Rattle.bsdl_device.specs.declared.values.Disable.{Disable}
-use Rattle.bsdl_device.specs.declared.values.CellRow.{CellRow}
+use Rattle.wrapped_chip.specs.bsdl_device.declared.values.Disable.{Disable}
+use Rattle.wrapped_chip.specs.bsdl_device.declared.values.CellRow.{CellRow}
 use Rattle.wrapped_chip.specs.Cells.{Numbered, row_of}
 use Rattle.wrapped_chip.specs.Suits.{IsRead, inactive_level, SuitsDriver, HasCell, is_input, is_output, is_bidir}
 use Rattle.first_faults.specs.First.{or_else}

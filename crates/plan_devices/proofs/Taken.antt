@@ -5,8 +5,8 @@ use Rattle.std.proofs.lemmas.List.{append-nil}
 use Rattle.list_laws.proofs.Tests.{or_first, or_second, neither}
 use Rattle.list_laws.proofs.Options.{not_there}
 use Rattle.bsdl_lexicon.specs.Names.{is_same_name}
-use Rattle.bsdl_device.specs.Checks.{any_pair, is_repeated}
-use Rattle.netlist_model.specs.declared.PinBit.{PinBit}
+use Rattle.wrapped_chip.specs.bsdl_device.Checks.{any_pair, is_repeated}
+use Rattle.netlist_laws.specs.netlist_model.declared.PinBit.{PinBit}
 use Rattle.bsdl_lexicon.proofs.SameNames.{same_turned}
 use Rattle.plan_fitting.specs.plan_texts.declared.plan.Plan.{Plan}
 use Rattle.plan_fitting.specs.plan_texts.declared.plan.TapLine.{TapLine}

@@ -9,10 +9,10 @@ use Rattle.list_laws.proofs.Lists.{all_front, all_back, each_fails}
 use Rattle.list_laws.proofs.Tests.{or_first, or_second}
 use Rattle.bsdl_lexicon.specs.Bytes.{is_letter, is_name_byte}
 use Rattle.bsdl_lexicon.specs.Names.{lower, is_same_name}
-use Rattle.bsdl_device.specs.Checks.{is_repeated}
-use Rattle.bsdl_device.specs.IsDevice.{IsDeviceName}
+use Rattle.wrapped_chip.specs.bsdl_device.Checks.{is_repeated}
+use Rattle.wrapped_chip.specs.bsdl_device.IsDevice.{IsDeviceName}
 use Rattle.verilog_tree.specs.IsTree.{IsVisible, IsTreeName}
-use Rattle.netlist_model.specs.declared.Name.TheVariants.{Original}
+use Rattle.netlist_laws.specs.netlist_model.declared.Name.TheVariants.{Original}
 use Rattle.netlist_unlink.specs.netlist_link.Linked.{LinkedView}
 use Rattle.netlist_unlink.specs.Prefixes.{IsUsed}
 use Rattle.first_faults.specs.Repeated.{has_name}

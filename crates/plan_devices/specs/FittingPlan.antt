@@ -1,9 +1,9 @@
 -- A plan that some text spells and that fits a netlist.
 -- IEEE Std 1149.1-2001: the annex on BSDL (logical port description). The limit on port bits is own.
 use Rattle.std.specs.Prelude.{◌≡◌, ℕ, ◌+◌, ◌≤◌, List, length, slice_get, Some, None}
-use Rattle.netlist_model.specs.Lists.{PortView, NetlistView}
-use Rattle.netlist_model.specs.Formed.{width_of, IsWellFormed}
-use Rattle.netlist_arena.specs.Arena.{bit_count}
+use Rattle.netlist_laws.specs.netlist_model.Lists.{PortView, NetlistView}
+use Rattle.netlist_laws.specs.netlist_model.Formed.{width_of, IsWellFormed}
+use Rattle.netlist_unlink.specs.netlist_arena.Arena.{bit_count}
 use Rattle.netlist_unlink.specs.netlist_link.Linked.{LinkedView}
 use Rattle.netlist_unlink.specs.netlist_link.WellNamed.{IsWellNamed}
 use Rattle.plan_fitting.specs.plan_texts.declared.plan.Plan.{Plan}

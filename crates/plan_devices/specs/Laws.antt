@@ -7,23 +7,23 @@ use Rattle.signal_values.specs.declared.Sig.{Sig}
 use Rattle.signal_values.specs.declared.Sig.TheVariants.{Unknown}
 use Rattle.verilog_tree.specs.declared.tree.Module.{Module}
 use Rattle.verilog_tree.specs.IsTree.{IsTree, IsTreeName}
-use Rattle.link_model.specs.Denoted.{name_bytes}
-use Rattle.cell_library.specs.declared.codes.Function.TheVariants as function
-use Rattle.cell_library.specs.Sound.{IsLibrary}
-use Rattle.netlist_model.specs.declared.Feed.{Feed}
-use Rattle.netlist_model.specs.declared.Name.TheVariants.{Original}
-use Rattle.netlist_model.specs.declared.NetId.{NetId}
-use Rattle.netlist_model.specs.declared.PinBit.{PinBit}
-use Rattle.netlist_model.specs.Lists.{PortView, bit_net}
-use Rattle.netlist_model.specs.Settled.{feed_value, driver_of}
+use Rattle.netlist_unlink.specs.link_model.Denoted.{name_bytes}
+use Rattle.netlist_unlink.specs.cell_library.declared.codes.Function.TheVariants as function
+use Rattle.netlist_unlink.specs.cell_library.Sound.{IsLibrary}
+use Rattle.netlist_laws.specs.netlist_model.declared.Feed.{Feed}
+use Rattle.netlist_laws.specs.netlist_model.declared.Name.TheVariants.{Original}
+use Rattle.netlist_laws.specs.netlist_model.declared.NetId.{NetId}
+use Rattle.netlist_laws.specs.netlist_model.declared.PinBit.{PinBit}
+use Rattle.netlist_laws.specs.netlist_model.Lists.{PortView, bit_net}
+use Rattle.netlist_laws.specs.netlist_model.Settled.{feed_value, driver_of}
 use Rattle.netlist_unlink.specs.netlist_link.Linked.{LinkedView}
 use Rattle.netlist_unlink.specs.netlist_link.Links.{IsLinkOf}
 use Rattle.netlist_unlink.specs.netlist_link.PinWords.{pin_at}
 use Rattle.netlist_unlink.specs.Prefixes.{IsUsed, IsFreePrefix}
-use Rattle.bsdl_device.specs.declared.values.PortMode.TheVariants as mode
-use Rattle.bsdl_device.specs.declared.values.DevPort.{DevPort}
-use Rattle.bsdl_device.specs.declared.values.Device.{Device}
-use Rattle.bsdl_device.specs.IsDevice.{IsDevice}
+use Rattle.wrapped_chip.specs.bsdl_device.declared.values.PortMode.TheVariants as mode
+use Rattle.wrapped_chip.specs.bsdl_device.declared.values.DevPort.{DevPort}
+use Rattle.wrapped_chip.specs.bsdl_device.declared.values.Device.{Device}
+use Rattle.wrapped_chip.specs.bsdl_device.IsDevice.{IsDevice}
 use Rattle.wrapped_chip.specs.Cells.{row_of, core_datum, core_control}
 use Rattle.wrapped_chip.specs.Suits.{Suits}
 use Rattle.plan_fitting.specs.plan_texts.declared.plan.Plan.{Plan}

@@ -7,11 +7,11 @@ use Rattle.std.specs.Str.{bytes_eq}
 use Rattle.std.specs.Fmt.{decimal}
 use Rattle.std.specs.Cmp.Lexicographic.{bytes_decides}
 use Rattle.std.proofs.lemmas.List.Elements.{All-nil, All-cons, All-head, All-tail}
-use Rattle.list_laws.proofs.Tests.{both_true, not_false, or_second}
-use Rattle.list_laws.proofs.Options.{or_else-parts, not_there, found}
+use Rattle.first_faults.proofs.list_laws.Tests.{both_true, not_false, or_second}
+use Rattle.first_faults.proofs.list_laws.Options.{or_else-parts, not_there, found}
 use Rattle.bsdl_runs.specs.cell_library.declared.codes.Instr.{Instr}
 use Rattle.bsdl_runs.specs.cell_library.declared.codes.Instr.TheVariants as instr
-use Rattle.bsdl_lexicon.specs.Bytes.{is_digit}
+use Rattle.bsdl_runs.specs.bsdl_lexicon.Bytes.{is_digit}
 use Rattle.bsdl_runs.specs.bsdl_device.Instructions.{instruction_word}
 use Rattle.bsdl_runs.specs.bsdl_device.Canonical.{bits_text, pattern_text}
 use Rattle.bsdl_runs.specs.bsdl_device.Runs.{is_integer, value_after}

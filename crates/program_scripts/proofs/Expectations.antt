@@ -22,8 +22,8 @@ use Rattle.scan_vectors.specs.declared.lines.Line.{Line}
 use Rattle.scan_vectors.specs.declared.lines.Line.TheVariants.{Start, Set, Expect}
 use Rattle.event_scripts.specs.declared.script.ScriptLine.{ScriptLine}
 use Rattle.event_scripts.specs.Pins.{Names}
-use Rattle.sim_runs.specs.Runs.{net_number}
-use Rattle.sim_runs.specs.Outputs.{sets_with}
+use Rattle.conformance_report.specs.sim_runs.Runs.{net_number}
+use Rattle.conformance_report.specs.sim_runs.Outputs.{sets_with}
 use Rattle.program_runs.specs.Around.{StandsAround}
 use Rattle.program_runs.specs.Readings.{AreReadFrom, IsBitWord, BitReadsThere, TdoReadsThere, ReadsThere}
 use Rattle.conformance_report.specs.declared.verdict.Missed.{Missed}

@@ -25,7 +25,7 @@ use Rattle.wrapped_chip.specs.Cells.{bit_place}
 use Rattle.plan_fitting.specs.Devices.{mode_of_side, port_range}
 use Rattle.plan_devices.proofs.Indices.{place_of_index}
 use Rattle.event_scripts.specs.Pins.{Names}
-use Rattle.sim_runs.specs.Runs.{net_number}
+use Rattle.conformance_report.specs.sim_runs.Runs.{net_number}
 use Rattle.scan_programs.specs.Pins.{bit_word, port_word, takes_start}
 use Rattle.conformance_report.specs.Agreement.{IsSamePort}
 use Rattle.program_scripts.specs.Words.{WordsNameBits}

@@ -16,7 +16,7 @@ use Rattle.scan_vectors.specs.declared.lines.Line.{Line}
 use Rattle.scan_vectors.specs.declared.lines.Line.TheVariants.{Start, Set, Expect}
 use Rattle.event_scripts.specs.declared.script.ScriptLine.{ScriptLine}
 use Rattle.event_scripts.specs.Pins.{net_of}
-use Rattle.sim_runs.specs.Runs.{net_number, events_at, event_of, events_of}
+use Rattle.conformance_report.specs.sim_runs.Runs.{net_number, events_at, event_of, events_of}
 use Rattle.scan_programs.specs.Met.{input_place}
 use Rattle.program_runs.specs.Lines.{IsSetOf, NamePins}
 use Rattle.program_runs.specs.There.{IsSetThere, AreSetsThere}

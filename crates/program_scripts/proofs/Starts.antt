@@ -33,7 +33,7 @@ use Rattle.scan_vectors.specs.declared.lines.Line.{Line}
 use Rattle.scan_vectors.specs.Grammar.{pin_of as word_of, value_of}
 use Rattle.event_scripts.specs.declared.script.ScriptLine.{ScriptLine}
 use Rattle.event_scripts.specs.Pins.{Names, TakesValue, HasStart}
-use Rattle.sim_runs.specs.Runs.{net_number, HasStarts}
+use Rattle.conformance_report.specs.sim_runs.Runs.{net_number, HasStarts}
 use Rattle.scan_programs.specs.Pins.{start_value, takes_start}
 use Rattle.scan_programs.specs.Met.{input_place, first_levels}
 use Rattle.program_runs.specs.Lines.{IsStartOf, NamePins}

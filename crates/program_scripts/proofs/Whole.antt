@@ -3,7 +3,7 @@ use Rattle.std.proofs.Common.{List, sym, ◌∙◌, subst}
 use Rattle.signal_values.specs.declared.Sig.TheVariants.{Unknown}
 use Rattle.netlist_laws.specs.Ports.{BitHasDirection}
 use Rattle.scan_vectors.specs.declared.lines.Line.{Line}
-use Rattle.sim_runs.specs.Runs.{events_of}
+use Rattle.conformance_report.specs.sim_runs.Runs.{events_of}
 use Rattle.program_runs.specs.Lines.{NamePins}
 use Rattle.program_runs.specs.Readings.{AreReadFrom, ReadsThere}
 use Rattle.program_runs.specs.There.{AreSetsThere}

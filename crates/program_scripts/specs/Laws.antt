@@ -16,7 +16,7 @@ use Rattle.event_scripts.specs.Scripts.{IsSpelled, IsResolved}
 use Rattle.scan_programs.specs.Program.{program_of}
 use Rattle.program_runs.specs.Around.{StandsAround}
 use Rattle.program_runs.specs.There.{IsProgramRunThere}
-use Rattle.sim_runs.specs.Runs.{events_of, IsRunOf}
+use Rattle.conformance_report.specs.sim_runs.Runs.{events_of, IsRunOf}
 use Rattle.conformance_report.specs.declared.verdict.Verdict.{Verdict}
 use Rattle.conformance_report.specs.Verdicts.{IsVerdict}
 use Rattle.program_scripts.specs.Beside.{IsDescribed, IsBeside}

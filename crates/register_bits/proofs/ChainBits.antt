@@ -1,8 +1,8 @@
 -- A shift stage of any length captures, shifts and keeps as its list does.
 use Rattle.std.proofs.Common.{◌≡◌, ℕ, ◌+◌, ◌*◌, Bool, true, false, List, [], ◌∷◌, ◌++◌, length, refl, sym, ap, ◌∙◌}
 use Rattle.std.specs.Prelude.{Option, Some, None, if◌then◌else◌}
-use Rattle.signal_values.specs.declared.Sig.{Sig}
-use Rattle.signal_values.specs.declared.Sig.TheVariants.{Zero}
+use Rattle.test_logic.specs.signal_values.declared.Sig.{Sig}
+use Rattle.test_logic.specs.signal_values.declared.Sig.TheVariants.{Zero}
 use Rattle.test_logic.specs.cell_library.declared.Edge.{Edge}
 use Rattle.test_logic.specs.cell_library.declared.Edge.TheVariants.{Rise, Fall}
 use Rattle.test_logic.specs.netlist_model.declared.NetId.{NetId}

@@ -1,9 +1,9 @@
 -- A bit that is held loads and keeps.
 use Rattle.std.proofs.Common.{◌≡◌, ℕ, ◌+◌, Bool, true, false, refl, arith}
 use Rattle.std.specs.Prelude.{if◌then◌else◌}
-use Rattle.signal_values.specs.declared.Sig.{Sig}
-use Rattle.signal_values.specs.Values.{bit, sig_mux}
-use Rattle.signal_values.proofs.Laws.{mux-one, mux-zero}
+use Rattle.test_logic.specs.signal_values.declared.Sig.{Sig}
+use Rattle.test_logic.specs.signal_values.Values.{bit, sig_mux}
+use Rattle.test_logic.proofs.signal_values.Laws.{mux-one, mux-zero}
 use Rattle.test_logic.specs.cell_library.declared.Edge.TheVariants.{Fall}
 use Rattle.test_logic.specs.cell_library.declared.ResetTo.{ResetTo}
 use Rattle.test_logic.specs.cell_library.declared.ResetTo.TheVariants.{Zero as ToZero, One as ToOne}

@@ -1,10 +1,10 @@
 -- A bit of a shift stage captures, shifts and keeps as the stage does.
 use Rattle.std.proofs.Common.{◌≡◌, ℕ, ◌+◌, Bool, true, false, ◌∷◌, [], refl, arith}
 use Rattle.std.specs.Prelude.{if◌then◌else◌}
-use Rattle.signal_values.specs.declared.Sig.{Sig}
-use Rattle.signal_values.specs.declared.Sig.TheVariants.{Zero, One, Unknown}
-use Rattle.signal_values.specs.Values.{bit, sig_mux, sig_and, sig_or, sig_not}
-use Rattle.signal_values.proofs.Laws.{mux-one, mux-zero}
+use Rattle.test_logic.specs.signal_values.declared.Sig.{Sig}
+use Rattle.test_logic.specs.signal_values.declared.Sig.TheVariants.{Zero, One, Unknown}
+use Rattle.test_logic.specs.signal_values.Values.{bit, sig_mux, sig_and, sig_or, sig_not}
+use Rattle.test_logic.proofs.signal_values.Laws.{mux-one, mux-zero}
 use Rattle.test_logic.specs.cell_library.declared.Edge.TheVariants.{Rise}
 use Rattle.test_logic.specs.cell_library.declared.ResetTo.TheVariants.{Zero as ToZero}
 use Rattle.test_logic.specs.cell_library.Flops.{is_edge, reset_or}

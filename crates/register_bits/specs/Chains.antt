@@ -1,8 +1,8 @@
 -- A shift stage of any length, a bit behind another from TDI to TDO. In a list place 0 is nearest TDO.
 -- IEEE Std 1149.1-2001: instruction register, test data registers; the gates are own.
 use Rattle.std.specs.Prelude.{◌≡◌, ℕ, ◌+◌, ◌*◌, false, List, [], ◌∷◌, ◌++◌, map, length}
-use Rattle.signal_values.specs.declared.Sig.{Sig}
-use Rattle.signal_values.specs.declared.Sig.TheVariants.{Zero}
+use Rattle.test_logic.specs.signal_values.declared.Sig.{Sig}
+use Rattle.test_logic.specs.signal_values.declared.Sig.TheVariants.{Zero}
 use Rattle.test_logic.specs.netlist_model.declared.NetId.{NetId}
 use Rattle.test_logic.specs.netlist_model.declared.Feed.{Feed}
 use Rattle.test_logic.specs.netlist_model.Lists.{CellView, NetlistView}

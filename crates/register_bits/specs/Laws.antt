@@ -2,9 +2,9 @@
 -- IEEE Std 1149.1-2001: TAP controller (what acts on which edge of TCK, and TRST), instruction register,
 -- test data registers.
 use Rattle.std.specs.Prelude.{◌≡◌, ℕ, Bool, true, false, Option, Some, None, if◌then◌else◌}
-use Rattle.signal_values.specs.declared.Sig.{Sig}
-use Rattle.signal_values.specs.declared.Sig.TheVariants.{Zero}
-use Rattle.signal_values.specs.Values.{bit}
+use Rattle.test_logic.specs.signal_values.declared.Sig.{Sig}
+use Rattle.test_logic.specs.signal_values.declared.Sig.TheVariants.{Zero}
+use Rattle.test_logic.specs.signal_values.Values.{bit}
 use Rattle.test_logic.specs.cell_library.declared.Edge.{Edge}
 use Rattle.test_logic.specs.cell_library.declared.Edge.TheVariants.{Rise, Fall}
 use Rattle.test_logic.specs.netlist_model.declared.NetId.{NetId}

@@ -13,8 +13,8 @@ use Rattle.test_logic.specs.declared.Codes.{Codes}
 use Rattle.test_logic.specs.declared.TapNets.{TapNets}
 use Rattle.test_logic.specs.declared.InstrNets.{InstrNets}
 use Rattle.tap_gates.specs.Controller.{tap_cells, tap_nets}
-use Rattle.register_bits.specs.Bits.{AreNetsBelow}
-use Rattle.register_bits.specs.Chains.{chain_last}
+use Rattle.boundary_cells.specs.register_bits.Bits.{AreNetsBelow}
+use Rattle.boundary_cells.specs.register_bits.Chains.{chain_last}
 use Rattle.register_gates.specs.Constants.{ConstantsAreBits}
 use Rattle.register_gates.specs.Registers.{bypass_cells, user_size, captured_feeds, ident_size, ident_cells, ident_last}
 use Rattle.register_gates.specs.Tdo.{AreIdentBelow}

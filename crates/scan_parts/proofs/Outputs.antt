@@ -18,26 +18,26 @@ use Rattle.test_logic.specs.declared.TapNets.{TapNets}
 use Rattle.test_logic.specs.Instructions.{opcode_of}
 use Rattle.tap_gates.specs.declared.table.TheConstants.{CONTROLLER}
 use Rattle.tap_gates.specs.Controller.{tap_given}
-use Rattle.register_bits.specs.declared.Steering.{Steering}
-use Rattle.register_bits.specs.declared.TheConstants.{SHIFT_BIT}
-use Rattle.register_bits.specs.Bits.{shift_bit_given, held_bit, held_bit_given, held_bit_cells}
-use Rattle.register_bits.specs.Chains.{chain_last, chain_cells}
+use Rattle.boundary_cells.specs.register_bits.declared.Steering.{Steering}
+use Rattle.boundary_cells.specs.register_bits.declared.TheConstants.{SHIFT_BIT}
+use Rattle.boundary_cells.specs.register_bits.Bits.{shift_bit_given, held_bit, held_bit_given, held_bit_cells}
+use Rattle.boundary_cells.specs.register_bits.Chains.{chain_last, chain_cells}
 use Rattle.register_gates.specs.declared.TheConstants.{SELECTED}
 use Rattle.register_gates.specs.declared.ident.TheConstants.{INVERSE}
 use Rattle.register_gates.specs.Registers.{selected_given, selected_cells, selected_steering, bypass_cells, data_cells, user_size, inverse_cells, captured_feeds, ident_cells}
-use Rattle.instruction_gates.specs.declared.latches.Latching.{Latching}
-use Rattle.instruction_gates.specs.declared.latches.TheConstants.{LOADED}
-use Rattle.instruction_gates.specs.declared.matches.TheConstants.{EQUAL_BIT}
-use Rattle.instruction_gates.specs.declared.copies.TheConstants.{COPY}
-use Rattle.instruction_gates.specs.declared.selections.Matched.{Matched}
-use Rattle.instruction_gates.specs.declared.selections.TheConstants.{SELECTIONS}
-use Rattle.instruction_gates.specs.declared.stages.TheConstants.{LOADS}
-use Rattle.instruction_gates.specs.Rows.{is_one, row_cells, placed}
-use Rattle.instruction_gates.specs.Latches.{holding_of, loaded_given, latch_cells, latches_cells}
-use Rattle.instruction_gates.specs.Matches.{match_before, equal_given, match_cells, matches_cells}
-use Rattle.instruction_gates.specs.Copies.{copy_given, copies_cells}
-use Rattle.instruction_gates.specs.Selections.{selections_given, selections_cells}
-use Rattle.instruction_gates.specs.Stages.{loads_given, ir_steering, ir_latching, shift_stage_cells, stages_cells}
+use Rattle.instruction_register.specs.instruction_gates.declared.latches.Latching.{Latching}
+use Rattle.instruction_register.specs.instruction_gates.declared.latches.TheConstants.{LOADED}
+use Rattle.instruction_register.specs.instruction_gates.declared.matches.TheConstants.{EQUAL_BIT}
+use Rattle.instruction_register.specs.instruction_gates.declared.copies.TheConstants.{COPY}
+use Rattle.instruction_register.specs.instruction_gates.declared.selections.Matched.{Matched}
+use Rattle.instruction_register.specs.instruction_gates.declared.selections.TheConstants.{SELECTIONS}
+use Rattle.instruction_register.specs.instruction_gates.declared.stages.TheConstants.{LOADS}
+use Rattle.instruction_register.specs.instruction_gates.Rows.{is_one, row_cells, placed}
+use Rattle.instruction_register.specs.instruction_gates.Latches.{holding_of, loaded_given, latch_cells, latches_cells}
+use Rattle.instruction_register.specs.instruction_gates.Matches.{match_before, equal_given, match_cells, matches_cells}
+use Rattle.instruction_register.specs.instruction_gates.Copies.{copy_given, copies_cells}
+use Rattle.instruction_register.specs.instruction_gates.Selections.{selections_given, selections_cells}
+use Rattle.instruction_register.specs.instruction_gates.Stages.{loads_given, ir_steering, ir_latching, shift_stage_cells, stages_cells}
 use Rattle.instruction_register.specs.Register.{pattern_bits, latches_from, opcodes_from, selections_from, copies_from, cells_with, opcode_size, opcode_cells, opcodes_cells, opcodes_told, matched_instructions, instruction_cells}
 
 -- each of these cells that is connected drives a net from this one on

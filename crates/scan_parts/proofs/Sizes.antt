@@ -5,15 +5,15 @@ use Rattle.netlist_model.specs.declared.Feed.{Feed}
 use Rattle.netlist_model.specs.Lists.{CellView}
 use Rattle.test_logic.specs.declared.Codes.{Codes}
 use Rattle.test_logic.specs.declared.TapNets.{TapNets}
-use Rattle.register_bits.specs.Chains.{chain_cells}
-use Rattle.register_bits.proofs.Lengths.{chain_length}
+use Rattle.boundary_cells.specs.register_bits.Chains.{chain_cells}
+use Rattle.boundary_cells.proofs.register_bits.Lengths.{chain_length}
 use Rattle.register_gates.specs.Constants.{ConstantsAreBits}
 use Rattle.register_gates.specs.Registers.{selected_cells, selected_steering, user_size, inverse_cells, captured_feeds, ident_size, ident_cells}
-use Rattle.instruction_gates.specs.Copies.{copies_cells}
-use Rattle.instruction_gates.specs.Selections.{selections_cells}
-use Rattle.instruction_gates.specs.Stages.{stages_cells}
+use Rattle.instruction_register.specs.instruction_gates.Copies.{copies_cells}
+use Rattle.instruction_register.specs.instruction_gates.Selections.{selections_cells}
+use Rattle.instruction_register.specs.instruction_gates.Stages.{stages_cells}
 use Rattle.instruction_register.specs.Register.{pattern_bits, latches_from, opcodes_from, selections_from, copies_from, opcodes_cells, opcodes_told, matched_instructions, instruction_size, instruction_cells}
-use Rattle.instruction_gates.proofs.Copied.{copies_length}
+use Rattle.instruction_register.proofs.instruction_gates.Copied.{copies_length}
 use Rattle.instruction_register.proofs.Sizes.{opcodes_length}
 use Rattle.instruction_register.proofs.Added.{stages_counted}
 use Rattle.scan_sides.proofs.stitch_model.Few.{inverse_counted, captured_counted}

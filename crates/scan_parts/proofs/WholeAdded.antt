@@ -16,7 +16,7 @@ use Rattle.test_logic.specs.declared.TapNets.{TapNets}
 use Rattle.test_logic.specs.declared.InstrNets.{InstrNets}
 use Rattle.register_gates.specs.declared.tdo.TheConstants.{TDO}
 use Rattle.register_gates.specs.Tdo.{AreIdentBelow, tdo_given, tdo_driver, tdo_cells}
-use Rattle.register_bits.specs.Bits.{AreNetsBelow}
+use Rattle.boundary_cells.specs.register_bits.Bits.{AreNetsBelow}
 use Rattle.boundary_cells.specs.Cells.{AreScanNetsBelow}
 use Rattle.plan_fitting.specs.declared.fitted.FitRow.{FitRow}
 use Rattle.plan_fitting.specs.declared.fitted.Fitted.{Fitted}

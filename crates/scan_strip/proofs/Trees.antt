@@ -12,7 +12,7 @@ use Rattle.stitch_model.specs.declared.TapNames.{TapNames}
 use Rattle.stitch_model.specs.Stitched.{stitched}
 use Rattle.stitch_names.specs.Prepared.{with_tap_names}
 use Rattle.stitch_names.specs.Same.{IsSameNetlist}
-use Rattle.inserted_netlists.specs.Inserted.{with_test_logic}
+use Rattle.strip_law.specs.inserted_netlists.Inserted.{with_test_logic}
 
 same_cell : (a b : CellView) → Some a ≡ Some b → a ≡ b
 same_cell a b e = cc

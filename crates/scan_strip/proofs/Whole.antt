@@ -11,7 +11,7 @@ use Rattle.netlist_link.specs.Links.{IsLinkOf}
 use Rattle.netlist_link.specs.ViewLaws.{IsSameView, LinkViewsAgree}
 use Rattle.plan_texts.specs.declared.plan.Plan.{Plan}
 use Rattle.strip_model.specs.Recovered.{recovered}
-use Rattle.strip_gives.specs.Gives.{Gives, GivesByTheView}
+use Rattle.strip_law.specs.strip_gives.Gives.{Gives, GivesByTheView}
 use Rattle.strip_law.specs.Answer.{IsNotInserted, RefusedByAll}
 use Rattle.netlist_recovery.specs.declared.recovery.Recovered.{Recovered}
 use Rattle.netlist_recovery.specs.Pairs.{pair_of}

@@ -19,7 +19,7 @@ use Rattle.register_bits.specs.Bits.{shift_bit_cells}
 use Rattle.register_bits.specs.Chains.{chain_cells, chain_last}
 use Rattle.register_gates.specs.Registers.{selected_cells, selected_steering, data_cells}
 use Rattle.instruction_gates.specs.Rows.{is_one}
-use Rattle.status_fitting.specs.declared.fitted.FittedRegister.{FittedRegister}
+use Rattle.status_parts.specs.status_fitting.declared.fitted.FittedRegister.{FittedRegister}
 use Rattle.register_gates.specs.declared.ident.TheConstants.{INVERSE}
 use Rattle.status_parts.specs.status_gates.declared.TheConstants.{BOTH, SHOWN}
 use Rattle.status_parts.specs.status_gates.Opcodes.{inverses_cells, literal, told_feed, opcode_cells}

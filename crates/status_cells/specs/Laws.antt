@@ -5,7 +5,7 @@ use Rattle.netlist_model.specs.declared.NetId.{NetId}
 use Rattle.netlist_model.specs.Lists.{CellView, NetlistView}
 use Rattle.test_logic.specs.declared.TapInput.TheVariants.{Tck, Trst}
 use Rattle.wrapped_chip.specs.Realises.{IsTapNet, tap_place}
-use Rattle.status_fitting.specs.declared.fitted.FittedRegister.{FittedRegister}
+use Rattle.status_parts.specs.status_fitting.declared.fitted.FittedRegister.{FittedRegister}
 use Rattle.status_parts.specs.status_gates.Opcodes.{inverses_cells}
 use Rattle.status_parts.specs.declared.SharedNets.{SharedNets}
 use Rattle.status_parts.specs.Registers.{registers_cells}

@@ -12,7 +12,7 @@ use Rattle.register_gates.specs.declared.TheConstants.{SELECTED}
 use Rattle.register_gates.specs.Constants.{ConstantsAreBits}
 use Rattle.register_gates.specs.Registers.{selected_cells, selected_steering, data_cells}
 use Rattle.draft_laws.specs.Parts.{Part, parts_size, parts_cells}
-use Rattle.status_fitting.specs.declared.fitted.FittedRegister.{FittedRegister}
+use Rattle.status_parts.specs.status_fitting.declared.fitted.FittedRegister.{FittedRegister}
 use Rattle.register_gates.specs.declared.ident.TheConstants.{INVERSE}
 use Rattle.status_parts.specs.status_gates.Opcodes.{inverses_cells, opcode_cells}
 use Rattle.status_parts.specs.status_gates.Wires.{net_feeds}

@@ -26,7 +26,7 @@ use Rattle.instruction_gates.specs.Rows.{is_one}
 use Rattle.draft_laws.specs.Readable.{IsPure}
 use Rattle.draft_laws.specs.Tables.{IsPartTable, IsControl}
 use Rattle.draft_laws.specs.Parts.{Part, parts_size, parts_cells, IsThere, IsHanded, AreHanded, PartsAreFormed}
-use Rattle.status_fitting.specs.declared.fitted.FittedRegister.{FittedRegister}
+use Rattle.status_parts.specs.status_fitting.declared.fitted.FittedRegister.{FittedRegister}
 use Rattle.register_gates.specs.declared.ident.TheConstants.{INVERSE}
 use Rattle.status_parts.specs.status_gates.declared.TheConstants.{BOTH, SHOWN}
 use Rattle.status_parts.specs.status_gates.Opcodes.{inverses_cells, literal, told_feed}

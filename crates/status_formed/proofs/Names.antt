@@ -17,7 +17,7 @@ use Rattle.instruction_gates.specs.Rows.{is_one}
 use Rattle.draft_laws.specs.Grown.{IsOneOf}
 use Rattle.draft_laws.specs.Names.{IsNamedCell}
 use Rattle.draft_laws.specs.Sources.{PartIsNamed}
-use Rattle.status_fitting.specs.declared.fitted.FittedRegister.{FittedRegister}
+use Rattle.status_parts.specs.status_fitting.declared.fitted.FittedRegister.{FittedRegister}
 use Rattle.register_gates.specs.declared.ident.TheConstants.{INVERSE}
 use Rattle.status_parts.specs.status_gates.declared.TheConstants.{BOTH, SHOWN}
 use Rattle.status_parts.specs.status_gates.Opcodes.{inverses_cells, literal, told_feed, opcode_cells}

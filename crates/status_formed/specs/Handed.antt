@@ -14,7 +14,7 @@ use Rattle.register_gates.specs.declared.TheConstants.{SELECTED}
 use Rattle.register_gates.specs.Registers.{selected_given, selected_steering}
 use Rattle.instruction_gates.specs.Rows.{is_one}
 use Rattle.draft_laws.specs.Parts.{Part}
-use Rattle.status_fitting.specs.declared.fitted.FittedRegister.{FittedRegister}
+use Rattle.status_parts.specs.status_fitting.declared.fitted.FittedRegister.{FittedRegister}
 use Rattle.register_gates.specs.declared.ident.TheConstants.{INVERSE}
 use Rattle.status_parts.specs.status_gates.declared.TheConstants.{BOTH, SHOWN}
 use Rattle.status_parts.specs.status_gates.Opcodes.{literal, told_feed}

@@ -11,7 +11,7 @@ use Rattle.draft_laws.specs.Grown.{IsOneOf}
 use Rattle.draft_laws.specs.Names.{IsNamedCell}
 use Rattle.draft_laws.specs.Readable.{CanBeRead, IsPure}
 use Rattle.draft_laws.specs.Parts.{IsGrown}
-use Rattle.status_fitting.specs.declared.fitted.FittedRegister.{FittedRegister}
+use Rattle.status_parts.specs.status_fitting.declared.fitted.FittedRegister.{FittedRegister}
 use Rattle.status_parts.specs.status_gates.Opcodes.{inverses_cells}
 use Rattle.status_parts.specs.declared.SharedNets.{SharedNets}
 use Rattle.status_parts.specs.Registers.{registers_size, registers_cells}

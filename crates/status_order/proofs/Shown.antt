@@ -17,7 +17,7 @@ use Rattle.register_bits.specs.Bits.{shift_bit_cells}
 use Rattle.register_bits.specs.Chains.{chain_cells, chain_last}
 use Rattle.register_gates.specs.Constants.{ConstantsAreBits}
 use Rattle.register_gates.specs.Registers.{selected_cells, selected_steering, data_cells, data_last}
-use Rattle.instruction_gates.specs.Rows.{is_one}
+use Rattle.status_parts.specs.instruction_gates.Rows.{is_one}
 use Rattle.reconnected.specs.Laws.{ReconnectedToLow}
 use Rattle.status_parts.specs.status_fitting.declared.fitted.FittedRegister.{FittedRegister}
 use Rattle.status_parts.specs.status_gates.declared.TheConstants.{BOTH, SHOWN}

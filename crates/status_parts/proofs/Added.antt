@@ -13,8 +13,8 @@ use Rattle.netlist_arena.specs.Arena.{ArenaView}
 use Rattle.gate_parts.specs.Appended.{Appended}
 use Rattle.gate_parts.specs.Parts.{part_cells}
 use Rattle.test_logic.specs.declared.TapNets.{TapNets}
-use Rattle.register_bits.specs.Chains.{chain_last, chain_cells}
-use Rattle.register_bits.proofs.Lengths.{chain_length}
+use Rattle.status_gates.specs.register_bits.Chains.{chain_last, chain_cells}
+use Rattle.status_gates.proofs.register_bits.Lengths.{chain_length}
 use Rattle.status_gates.specs.register_gates.Constants.{constant_bits, ConstantsAreBits}
 use Rattle.status_gates.specs.register_gates.Registers.{selected_cells, selected_steering, data_cells, data_last}
 use Rattle.status_gates.specs.register_gates.Steps.{AddedInTurn}

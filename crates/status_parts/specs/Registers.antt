@@ -10,7 +10,7 @@ use Rattle.netlist_model.specs.declared.Feed.TheVariants.{Net, Const}
 use Rattle.netlist_model.specs.Lists.{CellView}
 use Rattle.netlist_model.specs.Below.{IsNetBelow}
 use Rattle.gate_parts.specs.Parts.{part_cells}
-use Rattle.register_bits.specs.Bits.{AreNetsBelow}
+use Rattle.status_gates.specs.register_bits.Bits.{AreNetsBelow}
 use Rattle.status_gates.specs.register_gates.Constants.{constant_bits}
 use Rattle.status_gates.specs.register_gates.Registers.{data_cells, data_last}
 use Rattle.status_fitting.specs.declared.fitted.FittedRegister.{FittedRegister}

@@ -24,16 +24,16 @@ use Rattle.status_texts.specs.declared.fault.StatusFault.{StatusFault}
 use Rattle.status_texts.specs.declared.plan.StatusPlan.{StatusPlan}
 use Rattle.status_texts.specs.declared.plan.StatusRow.{StatusRow}
 use Rattle.status_texts.specs.Grammar.{RegisterWords, IsRegister as IsWritten, register_of}
-use Rattle.status_fitting.specs.declared.fitted.FittedRegister.{FittedRegister}
-use Rattle.status_fitting.specs.Faults.{HasNoFault, IsSpelled, in_name, in_opcode}
-use Rattle.status_fitting.specs.First.{Stands}
-use Rattle.status_fitting.specs.Fitted.{IsNetOf, IsRegister}
-use Rattle.status_fitting.specs.Names.{all_given, is_barred}
-use Rattle.status_fitting.specs.Opcodes.{opcodes_of, is_taken}
-use Rattle.status_fitting.specs.Steps.{fault_behind, name_fault, opcode_fault}
-use Rattle.status_fitting.specs.Wires.{NamesWire, NamesDriven, scalar, vector}
-use Rattle.status_fitting.proofs.Firsts.{first_fault, no_fault_stands}
-use Rattle.status_fitting.proofs.Rows.{rows_named, split_at}
+use Rattle.surrounded_status.specs.status_fitting.declared.fitted.FittedRegister.{FittedRegister}
+use Rattle.surrounded_status.specs.status_fitting.Faults.{HasNoFault, IsSpelled, in_name, in_opcode}
+use Rattle.surrounded_status.specs.status_fitting.First.{Stands}
+use Rattle.surrounded_status.specs.status_fitting.Fitted.{IsNetOf, IsRegister}
+use Rattle.surrounded_status.specs.status_fitting.Names.{all_given, is_barred}
+use Rattle.surrounded_status.specs.status_fitting.Opcodes.{opcodes_of, is_taken}
+use Rattle.surrounded_status.specs.status_fitting.Steps.{fault_behind, name_fault, opcode_fault}
+use Rattle.surrounded_status.specs.status_fitting.Wires.{NamesWire, NamesDriven, scalar, vector}
+use Rattle.surrounded_status.proofs.status_fitting.Firsts.{first_fault, no_fault_stands}
+use Rattle.surrounded_status.proofs.status_fitting.Rows.{rows_named, split_at}
 use Rattle.status_realised.specs.Stands.{IsDrivenWire, IsOwn}
 use Rattle.status_realised.specs.Laws.{FittedRegistersAreOwn}
 

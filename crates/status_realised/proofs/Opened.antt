@@ -31,7 +31,7 @@ use Rattle.open_stitch.specs.stitch_inside.Places.{places_in}
 use Rattle.open_stitch.specs.stitch_inside.Laws.{BuiltInSurrounds}
 use Rattle.open_stitch.specs.stitch_ranks.Laws.{StitchedHasPins}
 use Rattle.open_stitch.specs.surrounded_core.Surrounds.{SurroundsBy}
-use Rattle.status_fitting.specs.declared.fitted.FittedRegister.{FittedRegister}
+use Rattle.surrounded_status.specs.status_fitting.declared.fitted.FittedRegister.{FittedRegister}
 use Rattle.open_stitch.specs.status_runs.Placed.{IsCoreWire}
 use Rattle.surrounded_status.specs.status_parts.Laws.{status_of}
 use Rattle.surrounded_status.specs.Stands.{FitsBeside, HoldsRegisters}

@@ -3,7 +3,7 @@ use Rattle.netlist_model.specs.Lists.{NetlistView}
 use Rattle.plan_fitting.specs.Devices.{fitted_of, device_of}
 use Rattle.open_stitch.proofs.plan_devices.PlanBits.{plans_have_bits}
 use Rattle.open_stitch.specs.stitch_inside.Places.{places_in}
-use Rattle.status_fitting.specs.declared.fitted.FittedRegister.{FittedRegister}
+use Rattle.surrounded_status.specs.status_fitting.declared.fitted.FittedRegister.{FittedRegister}
 use Rattle.surrounded_status.specs.status_parts.Laws.{status_of}
 use Rattle.surrounded_status.specs.Stands.{FitsBeside}
 use Rattle.surrounded_status.specs.Laws.{SurroundedStatusRealises}

@@ -15,10 +15,10 @@ use Rattle.plan_fitting.specs.Devices.{device_of}
 use Rattle.open_stitch.specs.plan_devices.FittingPlan.{IsFitting}
 use Rattle.open_stitch.specs.stitch_model.declared.TapNames.{TapNames}
 use Rattle.status_texts.specs.declared.plan.StatusPlan.{StatusPlan}
-use Rattle.status_fitting.specs.declared.fitted.FittedRegister.{FittedRegister}
-use Rattle.status_fitting.specs.declared.fitted.FittedStatus.{FittedStatus}
-use Rattle.status_fitting.specs.Faults.{HasNoFault, IsSpelled}
-use Rattle.status_fitting.specs.Fitted.{IsFitted}
+use Rattle.surrounded_status.specs.status_fitting.declared.fitted.FittedRegister.{FittedRegister}
+use Rattle.surrounded_status.specs.status_fitting.declared.fitted.FittedStatus.{FittedStatus}
+use Rattle.surrounded_status.specs.status_fitting.Faults.{HasNoFault, IsSpelled}
+use Rattle.surrounded_status.specs.status_fitting.Fitted.{IsFitted}
 use Rattle.open_stitch.specs.status_runs.Extended.{is_latched}
 use Rattle.surrounded_status.specs.status_parts.Laws.{status_of}
 use Rattle.surrounded_status.specs.Realises.{RealisesStatus}

@@ -1,3 +1,4 @@
+pub use Rattle.open_stitch.specs.stitch_model as stitch_model
 pub use Rattle.surrounded_status.specs as surrounded_status
 pub use Rattle.open_stitch.specs.stitch_ranks as stitch_ranks
 pub use Rattle.open_stitch.specs.stitch_laws as stitch_laws

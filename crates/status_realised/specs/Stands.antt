@@ -16,7 +16,7 @@ use Rattle.plan_texts.specs.declared.plan.Plan.{Plan}
 use Rattle.plan_fitting.specs.Pins.{PinSeen}
 use Rattle.plan_fitting.specs.Devices.{fitted_of}
 use Rattle.open_stitch.specs.stitch_model.declared.TapNames.{TapNames}
-use Rattle.status_fitting.specs.declared.fitted.FittedRegister.{FittedRegister}
+use Rattle.surrounded_status.specs.status_fitting.declared.fitted.FittedRegister.{FittedRegister}
 use Rattle.surrounded_status.specs.status_gates.Opcodes.{inverses_cells}
 use Rattle.surrounded_status.specs.status_parts.declared.SharedNets.{SharedNets}
 use Rattle.surrounded_status.specs.status_parts.Registers.{shown_of, registers_cells}

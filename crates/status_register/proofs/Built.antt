@@ -7,7 +7,7 @@ use Rattle.plan_fitting.specs.declared.fitted.Fitted.{Fitted}
 use Rattle.plan_fitting.specs.Devices.{fitted_of, device_of_fitted}
 use Rattle.wrapped_chip.specs.Legal.{HasControls}
 use Rattle.wrapped_chip.specs.Realises.{Alone}
-use Rattle.stitch_model.specs.declared.TapNames.{TapNames}
+use Rattle.status_stitch.specs.stitch_model.declared.TapNames.{TapNames}
 use Rattle.status_stitch.proofs.stitch_laws.Places.{listed_at}
 use Rattle.status_stitch.specs.stitch_names.Same.{IsSameNetlist}
 use Rattle.status_fitting.specs.declared.fitted.FittedRegister.{FittedRegister}

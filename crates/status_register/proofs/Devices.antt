@@ -20,7 +20,7 @@ use Rattle.extended_device.specs.IsExtended.{IsTestRegister}
 use Rattle.extended_device.specs.Rules.{names_register, names_some_instruction}
 use Rattle.netlist_link.specs.Linked.{LinkedView}
 use Rattle.plan_fitting.specs.Devices.{device_of}
-use Rattle.plan_devices.specs.Laws.{PlansMakeDevices}
+use Rattle.status_stitch.specs.plan_devices.Laws.{PlansMakeDevices}
 use Rattle.status_texts.specs.declared.plan.StatusRow.{StatusRow}
 use Rattle.status_texts.specs.declared.plan.StatusPlan.{StatusPlan}
 use Rattle.status_texts.specs.Grammar.{RegisterWords, IsRegister as IsWritten, register_of as row_of}

@@ -5,7 +5,7 @@ use Rattle.netlist_link.specs.Linked.{LinkedView}
 use Rattle.plan_texts.specs.declared.plan.Plan.{Plan}
 use Rattle.plan_fitting.specs.Pins.{PinSeen}
 use Rattle.plan_fitting.specs.Devices.{device_of}
-use Rattle.plan_devices.specs.FittingPlan.{IsFitting, HasRoom}
+use Rattle.status_stitch.specs.plan_devices.FittingPlan.{IsFitting, HasRoom}
 use Rattle.extended_device.specs.IsExtended.{IsExtended}
 use Rattle.status_fitting.specs.declared.fitted.FittedStatus.{FittedStatus}
 use Rattle.status_register.specs.Devices.{extended_of}

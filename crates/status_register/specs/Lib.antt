@@ -1,3 +1,5 @@
+pub use Rattle.status_stitch.specs.stitch_model as stitch_model
+pub use Rattle.status_fitting.specs as status_fitting
 pub use Rattle.built_status.specs.surrounded_status as surrounded_status
 pub use Rattle.status_stitch.specs.status_ready as status_ready
 pub use Rattle.built_status.specs.status_parts as status_parts

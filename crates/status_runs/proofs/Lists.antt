@@ -10,8 +10,8 @@ use Rattle.netlist_laws.specs.Runs.{RunHasMoments}
 use Rattle.test_logic.specs.declared.Levels.{Levels}
 use Rattle.test_logic.specs.Registers.{ident_after}
 use Rattle.test_logic.specs.Machine.{zeros}
-use Rattle.register_bits.specs.Laws.{bit_after}
-use Rattle.wrapped_chip.specs.ChipRuns.{ChipMoment}
+use Rattle.register_gates.specs.register_bits.Laws.{bit_after}
+use Rattle.surrounded_core.specs.wrapped_chip.ChipRuns.{ChipMoment}
 use Rattle.surrounded_core.specs.Places.{controller_nets}
 use Rattle.surrounded_core.specs.Open.{HoldsAsChip, SurroundedFollows}
 use Rattle.register_gates.specs.Laws.{DataLaws, DataFollows}

@@ -15,8 +15,8 @@ use Rattle.test_logic.specs.declared.Levels.{Levels}
 use Rattle.test_logic.specs.Instructions.{pattern, is_pattern}
 use Rattle.test_logic.specs.Registers.{first_bit, ident_after, tdo_after}
 use Rattle.test_logic.specs.Machine.{TestLogic, Machine, zeros, in_effect, bit_of, test_logic_of}
-use Rattle.register_bits.specs.Laws.{bit_after}
-use Rattle.wrapped_chip.specs.ChipRuns.{ChipMoment}
+use Rattle.register_gates.specs.register_bits.Laws.{bit_after}
+use Rattle.surrounded_core.specs.wrapped_chip.ChipRuns.{ChipMoment}
 
 -- a register: the opcode that selects it, and the nets of the core's wires that it captures, the one nearest TDO first
 pub record StatusRegister : Type 0 where

@@ -7,8 +7,8 @@ use Rattle.netlist_model.specs.declared.NetId.{NetId}
 use Rattle.netlist_model.specs.Lists.{NetlistView}
 use Rattle.netlist_model.specs.Runs.{Moment, reading_at}
 use Rattle.bsdl_device.specs.declared.values.Device.{Device}
-use Rattle.wrapped_chip.specs.ChipRuns.{ChipEvent, ChipMoment, IsChipRun}
-use Rattle.wrapped_chip.specs.Realises.{IsRunBeside}
+use Rattle.surrounded_core.specs.wrapped_chip.ChipRuns.{ChipEvent, ChipMoment, IsChipRun}
+use Rattle.surrounded_core.specs.wrapped_chip.Realises.{IsRunBeside}
 use Rattle.surrounded_core.specs.Places.{Places}
 use Rattle.surrounded_core.specs.Surrounds.{SurroundsBy}
 use Rattle.register_gates.specs.Registers.{data_values}

@@ -1,3 +1,4 @@
+pub use Rattle.status_ready.proofs.plan_devices as plan_devices
 pub use Rattle.status_places.proofs.stitch_laws as stitch_laws
 pub use Rattle.status_built.proofs as status_built
 pub use Rattle.open_stitch.proofs.scan_stitch as scan_stitch

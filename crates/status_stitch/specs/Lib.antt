@@ -1,3 +1,5 @@
+pub use Rattle.stitch_model.specs as stitch_model
+pub use Rattle.status_ready.specs.plan_devices as plan_devices
 pub use Rattle.open_stitch.specs.stitch_names as stitch_names
 pub use Rattle.status_room.specs as status_room
 pub use Rattle.status_ready.specs as status_ready

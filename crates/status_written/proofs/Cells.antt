@@ -13,11 +13,11 @@ use Rattle.netlist_model.specs.Contained.{IsDense}
 use Rattle.netlist_unlink.specs.Prefixes.{IsUsed, port as used_port, net as used_net, cell as used_cell}
 use Rattle.gate_parts.specs.Parts.{added_nets}
 use Rattle.plan_fitting.specs.declared.fitted.Fitted.{Fitted}
-use Rattle.stitch_model.specs.declared.TapNames.{TapNames}
-use Rattle.stitch_model.specs.declared.TapPort.{TapPort}
-use Rattle.stitch_model.specs.Sites.{Boundary}
-use Rattle.stitch_model.specs.Sides.{core_cell}
-use Rattle.stitch_model.specs.Stitched.{live_cells, boundary_at, first_net, tdo_part_by, tdo_part, stitched_cells_by, stitched_cells, stitched}
+use Rattle.status_register.specs.stitch_model.declared.TapNames.{TapNames}
+use Rattle.status_register.specs.stitch_model.declared.TapPort.{TapPort}
+use Rattle.status_register.specs.stitch_model.Sites.{Boundary}
+use Rattle.status_register.specs.stitch_model.Sides.{core_cell}
+use Rattle.status_register.specs.stitch_model.Stitched.{live_cells, boundary_at, first_net, tdo_part_by, tdo_part, stitched_cells_by, stitched_cells, stitched}
 use Rattle.stitch_texts.specs.stitch_laws.Places.{port_of}
 use Rattle.stitch_texts.proofs.stitch_laws.Places.{counts_live, listed_at, core_there}
 use Rattle.stitch_texts.specs.stitch_names.Same.{IsSameNetlist}
@@ -25,7 +25,7 @@ use Rattle.stitch_texts.proofs.Lists.{same_count}
 use Rattle.status_register.specs.open_runs.Connected.{shows}
 use Rattle.status_register.proofs.open_runs.Connected.{choice_cell, middle_cells}
 use Rattle.status_register.specs.open_stitch.Open.{through_net, through_cell, stitched_open, parts_at}
-use Rattle.status_fitting.specs.declared.fitted.FittedRegister.{FittedRegister}
+use Rattle.status_register.specs.status_fitting.declared.fitted.FittedRegister.{FittedRegister}
 use Rattle.status_register.specs.status_formed.Laws.{RegistersAreNamed}
 use Rattle.status_register.specs.status_stitch.Stitched.{status_first, status_number, status_size, shared_at, status_cells, status_shown, all_cells, stitched_status}
 

@@ -11,8 +11,8 @@ use Rattle.register_gates.specs.Constants.{ConstantsAreBits}
 use Rattle.gate_parts.specs.Parts.{added_nets}
 use Rattle.gate_parts.proofs.Steps.{length-added_nets}
 use Rattle.plan_fitting.specs.declared.fitted.Fitted.{Fitted}
-use Rattle.stitch_model.specs.declared.TapNames.{TapNames}
-use Rattle.stitch_model.specs.Stitched.{tap_port, tap_ports, stitched_cells_by, stitched_cells, stitched}
+use Rattle.status_register.specs.stitch_model.declared.TapNames.{TapNames}
+use Rattle.status_register.specs.stitch_model.Stitched.{tap_port, tap_ports, stitched_cells_by, stitched_cells, stitched}
 use Rattle.stitch_texts.specs.stitch_cells.Sizes.{StitchedHasCounts}
 use Rattle.stitch_texts.specs.stitch_names.Prepared.{room_of, ports_of}
 use Rattle.stitch_texts.specs.stitch_names.Same.{IsSameNetlist}
@@ -22,7 +22,7 @@ use Rattle.stitch_texts.proofs.Sizes.{cells_few, nets_few}
 use Rattle.stitch_texts.proofs.Limits.{FitsLimits, tap_bits}
 use Rattle.status_register.proofs.open_runs.Connected.{opened_length}
 use Rattle.status_register.specs.open_stitch.Open.{through_net, through_cell, stitched_open, parts_at}
-use Rattle.status_fitting.specs.declared.fitted.FittedRegister.{FittedRegister}
+use Rattle.status_register.specs.status_fitting.declared.fitted.FittedRegister.{FittedRegister}
 use Rattle.status_register.specs.status_gates.Opcodes.{inverses_cells}
 use Rattle.status_register.specs.status_parts.Registers.{registers_size, registers_cells}
 use Rattle.status_register.proofs.status_parts.Added.{registers_length}

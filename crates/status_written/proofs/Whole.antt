@@ -34,9 +34,9 @@ use Rattle.plan_fitting.specs.Devices.{fitted_of, device_of}
 use Rattle.plan_devices.specs.FittingPlan.{IsFitting}
 use Rattle.plan_devices.specs.Laws.{FittedIsFitting}
 use Rattle.plan_devices.proofs.PlanClock.{plans_have_registers}
-use Rattle.stitch_model.specs.declared.TapNames.{TapNames}
-use Rattle.stitch_model.specs.Sides.{core_cell}
-use Rattle.stitch_model.specs.Stitched.{boundary_at, stitched}
+use Rattle.status_register.specs.stitch_model.declared.TapNames.{TapNames}
+use Rattle.status_register.specs.stitch_model.Sides.{core_cell}
+use Rattle.status_register.specs.stitch_model.Stitched.{boundary_at, stitched}
 use Rattle.stitch_texts.specs.stitch_cells.Sizes.{StitchedHasCounts}
 use Rattle.stitch_texts.specs.stitch_names.Prepared.{AreTapNames}
 use Rattle.stitch_texts.specs.stitch_names.Laws.{TapNamesAreEntered, StitchedHasFreePrefix}
@@ -46,7 +46,7 @@ use Rattle.stitch_texts.proofs.Ports.{ports_kept, bits_kept}
 use Rattle.stitch_texts.proofs.Cells.{cell_called}
 use Rattle.stitch_texts.proofs.Whole.{told_name, named_by}
 use Rattle.stitch_texts.proofs.Limits.{none_passed}
-use Rattle.status_fitting.specs.declared.fitted.FittedStatus.{FittedStatus}
+use Rattle.status_register.specs.status_fitting.declared.fitted.FittedStatus.{FittedStatus}
 use Rattle.status_register.specs.status_formed.Laws.{RegistersAreNamed}
 use Rattle.status_register.specs.status_ready.Ready.{AreBuildable}
 use Rattle.status_register.specs.status_ready.Laws.{FittedCanBeBuilt}

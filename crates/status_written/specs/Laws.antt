@@ -21,7 +21,7 @@ use Rattle.stitch_texts.specs.stitch_names.stitch_model.declared.TapNames.{TapNa
 use Rattle.stitch_texts.specs.stitch_names.Prepared.{with_tap_names, AreTapNames}
 use Rattle.stitch_texts.specs.stitch_names.Same.{IsSameNetlist}
 use Rattle.stitch_texts.specs.Written.{WritesStitched}
-use Rattle.status_fitting.specs.declared.fitted.FittedStatus.{FittedStatus}
+use Rattle.status_register.specs.status_fitting.declared.fitted.FittedStatus.{FittedStatus}
 use Rattle.status_register.specs.status_stitch.Stitched.{stitched_status}
 use Rattle.status_register.specs.Stitch.{AreRegisters, HasRoomFor}
 use Rattle.status_register.specs.Realises.{RealisesStatus}

@@ -5,8 +5,8 @@ use Rattle.list_laws.proofs.Lists.{slice_get_there}
 use Rattle.list_laws.proofs.Options.{is_there}
 use Rattle.netlist_model.specs.Lists.{CellView, NetlistView, cell_at, cell_count}
 use Rattle.netlist_model.specs.Contained.{IsDense}
-use Rattle.gate_parts.specs.Parts.{added_nets}
-use Rattle.gate_parts.proofs.Steps.{length-added_nets}
+use Rattle.part_levels.specs.gate_parts.Parts.{added_nets}
+use Rattle.part_levels.proofs.gate_parts.Steps.{length-added_nets}
 use Rattle.stitch_laws.specs.plan_fitting.declared.fitted.Fitted.{Fitted}
 use Rattle.stitch_laws.specs.stitch_model.declared.TapNames.{TapNames}
 use Rattle.stitch_laws.specs.stitch_model.Sites.{sides_of}

@@ -7,7 +7,7 @@ use Rattle.netlist_model.specs.declared.Dir.{Dir}
 use Rattle.netlist_model.specs.declared.Dir.TheVariants.{Input, Output}
 use Rattle.netlist_model.specs.Lists.{PortView, direction}
 use Rattle.netlist_laws.specs.Ports.{DirectionHasBit}
-use Rattle.gate_parts.proofs.Ports.{dir_stays, dir_of_more, no_port_past}
+use Rattle.part_levels.proofs.gate_parts.Ports.{dir_stays, dir_of_more, no_port_past}
 use Rattle.stitch_laws.specs.stitch_model.declared.TapNames.{TapNames}
 use Rattle.stitch_laws.specs.stitch_model.declared.TapPort.{TapPort}
 use Rattle.stitch_laws.specs.stitch_model.Stitched.{scalar, tap_ports, tap_port}

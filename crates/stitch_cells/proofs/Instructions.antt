@@ -7,10 +7,10 @@ use Rattle.cell_library.specs.declared.codes.Instr.TheVariants.{Extest, Sample, 
 use Rattle.netlist_model.specs.declared.NetId.{NetId}
 use Rattle.netlist_model.specs.declared.Feed.{Feed}
 use Rattle.netlist_model.specs.declared.Feed.TheVariants.{Net}
-use Rattle.gate_parts.specs.Parts.{part_cells}
-use Rattle.test_logic.specs.declared.Codes.{Codes}
-use Rattle.test_logic.specs.declared.TapNets.{TapNets}
-use Rattle.test_logic.specs.Instructions.{opcode_of}
+use Rattle.part_levels.specs.gate_parts.Parts.{part_cells}
+use Rattle.part_levels.specs.test_logic.declared.Codes.{Codes}
+use Rattle.part_levels.specs.test_logic.declared.TapNets.{TapNets}
+use Rattle.part_levels.specs.test_logic.Instructions.{opcode_of}
 use Rattle.part_levels.specs.register_bits.Chains.{chain_cells}
 use Rattle.part_levels.proofs.register_bits.Lengths.{chain_length}
 use Rattle.part_levels.proofs.register_gates.ConstantBits.{counted, constants}

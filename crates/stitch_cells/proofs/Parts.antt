@@ -4,9 +4,9 @@ use Rattle.std.specs.Prelude.{Option}
 use Rattle.netlist_model.specs.declared.NetId.{NetId}
 use Rattle.netlist_model.specs.declared.Feed.{Feed}
 use Rattle.netlist_model.specs.declared.Feed.TheVariants.{Net, Const}
-use Rattle.gate_parts.specs.Parts.{part_cells}
-use Rattle.test_logic.specs.declared.InstrNets.{InstrNets}
-use Rattle.test_logic.specs.declared.TapNets.{TapNets}
+use Rattle.part_levels.specs.gate_parts.Parts.{part_cells}
+use Rattle.part_levels.specs.test_logic.declared.InstrNets.{InstrNets}
+use Rattle.part_levels.specs.test_logic.declared.TapNets.{TapNets}
 use Rattle.part_levels.specs.tap_gates.declared.table.TheConstants.{CONTROLLER}
 use Rattle.part_levels.specs.tap_gates.Controller.{tap_given}
 use Rattle.part_levels.specs.register_bits.declared.TheConstants.{SHIFT_BIT}

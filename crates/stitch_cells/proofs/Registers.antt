@@ -3,7 +3,7 @@ use Rattle.std.proofs.Common.{◌≡◌, ℕ, zero, suc, ◌+◌, ◌*◌, ◌<�
 use Rattle.netlist_model.specs.declared.NetId.{NetId}
 use Rattle.netlist_model.specs.declared.Feed.{Feed}
 use Rattle.netlist_model.specs.declared.Feed.TheVariants.{Net, Const}
-use Rattle.gate_parts.specs.Parts.{part_cells}
+use Rattle.part_levels.specs.gate_parts.Parts.{part_cells}
 use Rattle.part_levels.specs.register_bits.declared.Steering.{Steering}
 use Rattle.part_levels.specs.register_bits.declared.TheConstants.{SHIFT_BIT}
 use Rattle.part_levels.specs.register_bits.Bits.{shift_bit_given, shift_bit_cells, held_bit, held_bit_given, held_bit_cells}

@@ -7,10 +7,10 @@ use Rattle.netlist_model.specs.declared.NetId.{NetId}
 use Rattle.netlist_model.specs.declared.Feed.{Feed}
 use Rattle.netlist_model.specs.declared.Feed.TheVariants.{Net}
 use Rattle.netlist_model.specs.Lists.{CellView, NetlistView}
-use Rattle.gate_parts.specs.declared.Gate.{Gate}
-use Rattle.gate_parts.specs.Parts.{feed_of, part_cells}
-use Rattle.gate_parts.proofs.Steps.{length-cells_from}
-use Rattle.test_logic.specs.declared.ScanNets.{ScanNets}
+use Rattle.part_levels.specs.gate_parts.declared.Gate.{Gate}
+use Rattle.part_levels.specs.gate_parts.Parts.{feed_of, part_cells}
+use Rattle.part_levels.proofs.gate_parts.Steps.{length-cells_from}
+use Rattle.part_levels.specs.test_logic.declared.ScanNets.{ScanNets}
 use Rattle.part_levels.specs.register_bits.declared.TheConstants.{SHIFT_BIT}
 use Rattle.part_levels.specs.register_bits.Bits.{shift_bit_given}
 use Rattle.part_levels.specs.boundary_cells.declared.tables.Choice.{Choice}

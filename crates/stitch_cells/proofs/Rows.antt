@@ -3,7 +3,7 @@ use Rattle.std.proofs.Common.{◌≡◌, ◌⊎◌, inl, inr, ℕ, zero, suc, �
 use Rattle.std.specs.Prelude.{slice_get}
 use Rattle.netlist_model.specs.declared.NetId.{NetId}
 use Rattle.netlist_model.specs.Lists.{PortView, CellView, NetlistView}
-use Rattle.test_logic.specs.declared.ScanNets.{ScanNets}
+use Rattle.part_levels.specs.test_logic.declared.ScanNets.{ScanNets}
 use Rattle.stitch_laws.specs.plan_fitting.declared.fitted.FitRow.{FitRow}
 use Rattle.stitch_laws.specs.plan_fitting.declared.fitted.Fitted.{Fitted}
 use Rattle.stitch_laws.specs.stitch_model.Sites.{Boundary, site_of, row_sides, sides_of}

@@ -5,12 +5,12 @@ use Rattle.netlist_model.specs.declared.NetId.{NetId}
 use Rattle.netlist_model.specs.declared.Feed.{Feed}
 use Rattle.netlist_model.specs.declared.Feed.TheVariants.{Net}
 use Rattle.netlist_model.specs.Lists.{cell_count, NetlistView}
-use Rattle.gate_parts.specs.declared.Gate.{Gate}
-use Rattle.gate_parts.specs.Parts.{part_cells}
-use Rattle.gate_parts.proofs.Steps.{length-cells_from}
-use Rattle.test_logic.specs.declared.TapNets.{TapNets}
-use Rattle.test_logic.specs.declared.ScanNets.{ScanNets}
-use Rattle.test_logic.specs.declared.Codes.{Codes}
+use Rattle.part_levels.specs.gate_parts.declared.Gate.{Gate}
+use Rattle.part_levels.specs.gate_parts.Parts.{part_cells}
+use Rattle.part_levels.proofs.gate_parts.Steps.{length-cells_from}
+use Rattle.part_levels.specs.test_logic.declared.TapNets.{TapNets}
+use Rattle.part_levels.specs.test_logic.declared.ScanNets.{ScanNets}
+use Rattle.part_levels.specs.test_logic.declared.Codes.{Codes}
 use Rattle.part_levels.specs.register_bits.Chains.{chain_cells}
 use Rattle.part_levels.proofs.register_bits.Lengths.{chain_length}
 use Rattle.part_levels.specs.register_gates.Registers.{selected_cells, selected_steering, data_cells, user_size, inverse_cells, captured_feeds, ident_size, ident_cells}

@@ -13,11 +13,11 @@ use Rattle.netlist_model.specs.declared.Feed.{Feed}
 use Rattle.netlist_model.specs.declared.Feed.TheVariants.{Net, Const}
 use Rattle.netlist_model.specs.declared.NetId.{NetId}
 use Rattle.netlist_model.specs.Lists.{CellView}
-use Rattle.gate_parts.specs.declared.Pin.{Pin}
-use Rattle.gate_parts.specs.declared.Pin.TheVariants.{Own, Given}
-use Rattle.gate_parts.specs.declared.Gate.{Gate}
-use Rattle.gate_parts.specs.Parts.{feed_of, pins_of, gate_cell, cells_from, part_cells, takes_few, is_sound_pin, is_sound_gate}
-use Rattle.gate_parts.proofs.PinCounts.{takes_by, pins_few}
+use Rattle.part_levels.specs.gate_parts.declared.Pin.{Pin}
+use Rattle.part_levels.specs.gate_parts.declared.Pin.TheVariants.{Own, Given}
+use Rattle.part_levels.specs.gate_parts.declared.Gate.{Gate}
+use Rattle.part_levels.specs.gate_parts.Parts.{feed_of, pins_of, gate_cell, cells_from, part_cells, takes_few, is_sound_pin, is_sound_gate}
+use Rattle.part_levels.proofs.gate_parts.PinCounts.{takes_by, pins_few}
 use Rattle.stitch_cells.specs.Gates.{EachCell, DriveInTurn, FeedsAre, may_keep, IsLogicCell, is_given_at, is_clocked_by, is_logic_gate, is_logic_table, is_plain_gate}
 
 -- Lists of cells.

@@ -10,10 +10,10 @@ use Rattle.netlist_model.specs.declared.NetId.{NetId}
 use Rattle.netlist_model.specs.declared.Feed.{Feed}
 use Rattle.netlist_model.specs.declared.Feed.TheVariants.{Net, Const}
 use Rattle.netlist_model.specs.Lists.{CellView}
-use Rattle.gate_parts.specs.declared.Pin.{Pin}
-use Rattle.gate_parts.specs.declared.Pin.TheVariants.{Own, Given}
-use Rattle.gate_parts.specs.declared.Gate.{Gate}
-use Rattle.gate_parts.specs.Parts.{pins_of, is_sound_gate}
+use Rattle.part_levels.specs.gate_parts.declared.Pin.{Pin}
+use Rattle.part_levels.specs.gate_parts.declared.Pin.TheVariants.{Own, Given}
+use Rattle.part_levels.specs.gate_parts.declared.Gate.{Gate}
+use Rattle.part_levels.specs.gate_parts.Parts.{pins_of, is_sound_gate}
 
 -- Lists of cells.
 

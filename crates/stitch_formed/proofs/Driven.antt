@@ -10,8 +10,8 @@ use Rattle.netlist_model.specs.Lists.{CellView, NetlistView, cell_count, directi
 use Rattle.netlist_model.specs.Formed.{IsDriven}
 use Rattle.netlist_images.specs.Nested.{renamed_net}
 use Rattle.gate_parts.specs.Parts.{part_cells}
-use Rattle.register_gates.specs.declared.tdo.TheConstants.{TDO}
-use Rattle.register_gates.specs.Tdo.{tdo_given, tdo_driver}
+use Rattle.stitch_rows.specs.register_gates.declared.tdo.TheConstants.{TDO}
+use Rattle.stitch_rows.specs.register_gates.Tdo.{tdo_given, tdo_driver}
 use Rattle.stitch_rows.specs.instruction_register.Register.{instruction_size}
 use Rattle.stitch_rows.specs.plan_fitting.declared.fitted.FitRow.{FitRow}
 use Rattle.stitch_rows.specs.plan_fitting.declared.fitted.Fitted.{Fitted}

@@ -15,13 +15,13 @@ use Rattle.netlist_model.specs.declared.Feed.TheVariants.{Net, Const}
 use Rattle.netlist_model.specs.Lists.{CellView, NetlistView, cell_at, cell_count, direction}
 use Rattle.gate_parts.specs.Parts.{part_cells}
 use Rattle.test_logic.specs.declared.ScanNets.{ScanNets}
-use Rattle.register_gates.specs.declared.tdo.TheConstants.{TDO}
-use Rattle.register_gates.specs.Registers.{user_size, captured_feeds}
-use Rattle.register_gates.specs.Tdo.{ident_feed, tdo_given, tdo_driver}
-use Rattle.register_gates.proofs.ConstantBits.{counted}
+use Rattle.stitch_rows.specs.register_gates.declared.tdo.TheConstants.{TDO}
+use Rattle.stitch_rows.specs.register_gates.Registers.{user_size, captured_feeds}
+use Rattle.stitch_rows.specs.register_gates.Tdo.{ident_feed, tdo_given, tdo_driver}
+use Rattle.stitch_rows.proofs.register_gates.ConstantBits.{counted}
 use Rattle.stitch_rows.specs.instruction_register.Register.{pattern_bits, stages_size, opcodes_size, matched_instructions}
-use Rattle.boundary_cells.specs.Cells.{stage_table, cell_given}
-use Rattle.boundary_cells.specs.ThreeState.{bidir_table}
+use Rattle.stitch_rows.specs.boundary_cells.Cells.{stage_table, cell_given}
+use Rattle.stitch_rows.specs.boundary_cells.ThreeState.{bidir_table}
 use Rattle.stitch_ranks.specs.part_levels.Rows.{row_table, row_given}
 use Rattle.stitch_rows.specs.plan_fitting.declared.fitted.FitRow.{FitRow}
 use Rattle.stitch_rows.specs.plan_fitting.declared.fitted.Fitted.{Fitted}

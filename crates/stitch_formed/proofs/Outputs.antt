@@ -9,8 +9,8 @@ use Rattle.netlist_model.specs.declared.NetId.{NetId}
 use Rattle.netlist_model.specs.Lists.{CellView, NetlistView, cell_at, cell_count, Drives}
 use Rattle.gate_parts.specs.Parts.{part_cells}
 use Rattle.netlist_images.specs.Nested.{renamed_net}
-use Rattle.register_gates.specs.declared.tdo.TheConstants.{TDO}
-use Rattle.register_gates.specs.Tdo.{tdo_given, tdo_driver}
+use Rattle.stitch_rows.specs.register_gates.declared.tdo.TheConstants.{TDO}
+use Rattle.stitch_rows.specs.register_gates.Tdo.{tdo_given, tdo_driver}
 use Rattle.stitch_rows.specs.plan_fitting.declared.fitted.FitRow.{FitRow}
 use Rattle.stitch_rows.specs.plan_fitting.declared.fitted.Fitted.{Fitted}
 use Rattle.stitch_rows.specs.stitch_model.declared.Site.{Site}

@@ -10,10 +10,10 @@ use Rattle.netlist_model.specs.declared.PinBit.{PinBit}
 use Rattle.netlist_model.specs.Settled.{feed_value}
 use Rattle.plan_devices.specs.netlist_link.Linked.{LinkedView}
 use Rattle.surrounded_core.specs.boundary_runs.Rows.{BoundaryRow, observe_row, input_row, bidir_row, row_kind}
-use Rattle.wrapped_chip.specs.Cells.{net_of_bit}
-use Rattle.wrapped_chip.specs.Suits.{is_input, is_output}
+use Rattle.surrounded_core.specs.wrapped_chip.Cells.{net_of_bit}
+use Rattle.surrounded_core.specs.wrapped_chip.Suits.{is_input, is_output}
 use Rattle.surrounded_core.specs.Sites.{StandsAround}
-use Rattle.plan_texts.specs.declared.plan.Plan.{Plan}
+use Rattle.plan_devices.specs.plan_texts.declared.plan.Plan.{Plan}
 use Rattle.plan_devices.specs.plan_fitting.declared.fitted.FitRow.{FitRow}
 use Rattle.plan_devices.specs.plan_fitting.Pins.{PinSeen}
 use Rattle.plan_devices.specs.plan_fitting.Rows.{rows}

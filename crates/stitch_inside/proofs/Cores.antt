@@ -22,10 +22,10 @@ use Rattle.netlist_laws.specs.Ports.{BitHasDirection, DirectionHasBit}
 use Rattle.netlist_images.specs.Nested.{renamed_feed}
 use Rattle.plan_devices.specs.netlist_link.Linked.{LinkedView}
 use Rattle.bsdl_device.specs.declared.values.CellRow.{CellRow}
-use Rattle.wrapped_chip.specs.Suits.{is_input}
-use Rattle.wrapped_chip.specs.Cells.{net_of_row, names_control, core_datum, core_control, shared_control}
+use Rattle.surrounded_core.specs.wrapped_chip.Suits.{is_input}
+use Rattle.surrounded_core.specs.wrapped_chip.Cells.{net_of_row, names_control, core_datum, core_control, shared_control}
 use Rattle.surrounded_core.specs.Sites.{GivesAs}
-use Rattle.plan_texts.specs.declared.plan.Plan.{Plan}
+use Rattle.plan_devices.specs.plan_texts.declared.plan.Plan.{Plan}
 use Rattle.plan_devices.specs.plan_fitting.declared.fitted.FitRow.{FitRow}
 use Rattle.plan_devices.specs.plan_fitting.Pins.{PinSeen}
 use Rattle.plan_devices.specs.plan_fitting.Rows.{rows}

@@ -17,15 +17,15 @@ use Rattle.netlist_model.specs.Formed.{IsWellFormed}
 use Rattle.netlist_model.specs.Contained.{Has, HasCells}
 use Rattle.netlist_laws.specs.Contained.{ContainedParts}
 use Rattle.netlist_images.specs.Nested.{renamed_net, renamed_feed}
-use Rattle.gate_parts.specs.Parts.{part_cells}
+use Rattle.surrounded_core.specs.gate_parts.Parts.{part_cells}
 use Rattle.plan_devices.specs.netlist_link.Linked.{LinkedView}
-use Rattle.boundary_cells.specs.Cells.{stage_table, cell_given, choice_cell}
-use Rattle.boundary_cells.specs.declared.tables.TheConstants.{UPDATES}
+use Rattle.surrounded_core.specs.boundary_cells.Cells.{stage_table, cell_given, choice_cell}
+use Rattle.surrounded_core.specs.boundary_cells.declared.tables.TheConstants.{UPDATES}
 use Rattle.surrounded_core.specs.boundary_runs.Rows.{BoundaryRow, row_cells}
-use Rattle.wrapped_chip.specs.Cells.{net_of_bit, net_of_row, row_of}
-use Rattle.wrapped_chip.specs.Suits.{IsRead, inactive_level, Suits}
+use Rattle.surrounded_core.specs.wrapped_chip.Cells.{net_of_bit, net_of_row, row_of}
+use Rattle.surrounded_core.specs.wrapped_chip.Suits.{IsRead, inactive_level, Suits}
 use Rattle.surrounded_core.specs.Sites.{IsSeenOn, IsDataNet, IsPlain, IsControlled, IsDrivenBy}
-use Rattle.plan_texts.specs.declared.plan.Plan.{Plan}
+use Rattle.plan_devices.specs.plan_texts.declared.plan.Plan.{Plan}
 use Rattle.plan_devices.specs.plan_fitting.declared.fitted.FitRow.{FitRow}
 use Rattle.plan_devices.specs.plan_fitting.Pins.{PinSeen}
 use Rattle.plan_devices.specs.plan_fitting.Rows.{rows}

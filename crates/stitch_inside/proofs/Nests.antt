@@ -17,9 +17,9 @@ use Rattle.netlist_model.specs.Formed.{IsLaidOut, IsWellFormed, IsDriven}
 use Rattle.netlist_laws.specs.Drivers.{IsDriverOf, DriverDrives, DriverIsFound}
 use Rattle.netlist_laws.specs.Ports.{BitHasDirection, DirectionHasBit}
 use Rattle.netlist_images.specs.Nested.{renamed_net, renamed_feed, IsNested}
-use Rattle.gate_parts.proofs.Ports.{dir_stays, dir_of_more}
+use Rattle.surrounded_core.proofs.gate_parts.Ports.{dir_stays, dir_of_more}
 use Rattle.plan_devices.specs.netlist_link.Linked.{LinkedView}
-use Rattle.plan_texts.specs.declared.plan.Plan.{Plan}
+use Rattle.plan_devices.specs.plan_texts.declared.plan.Plan.{Plan}
 use Rattle.plan_devices.specs.plan_fitting.declared.fitted.FitRow.{FitRow}
 use Rattle.plan_devices.specs.plan_fitting.declared.fitted.Fitted.{Fitted}
 use Rattle.plan_devices.specs.plan_fitting.Pins.{PinSeen}

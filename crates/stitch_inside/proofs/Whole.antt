@@ -26,18 +26,18 @@ use Rattle.bsdl_device.specs.Instructions.{instruction_word, names_instruction, 
 use Rattle.bsdl_device.specs.Checks.{has_instruction, lacks_instruction}
 use Rattle.bsdl_device.specs.Canonical.{has_opcode}
 use Rattle.bsdl_device.specs.IsDevice.{opcode_entries, IsInstructionRegister}
-use Rattle.test_logic.specs.declared.TapInput.{TapInput}
-use Rattle.test_logic.specs.declared.TapInput.TheVariants.{Tck, Tms, Tdi, Trst}
-use Rattle.test_logic.specs.Instructions.{opcode_of}
+use Rattle.surrounded_core.specs.test_logic.declared.TapInput.{TapInput}
+use Rattle.surrounded_core.specs.test_logic.declared.TapInput.TheVariants.{Tck, Tms, Tdi, Trst}
+use Rattle.surrounded_core.specs.test_logic.Instructions.{opcode_of}
 use Rattle.surrounded_core.specs.instruction_register.Laws.{RegistersFit}
 use Rattle.surrounded_core.specs.boundary_runs.Rows.{BoundaryRow, row_cells}
-use Rattle.wrapped_chip.specs.Cells.{net_of_row, row_of}
-use Rattle.wrapped_chip.specs.Realises.{IsTapNet, tap_place}
+use Rattle.surrounded_core.specs.wrapped_chip.Cells.{net_of_row, row_of}
+use Rattle.surrounded_core.specs.wrapped_chip.Realises.{IsTapNet, tap_place}
 use Rattle.surrounded_core.proofs.instruction_register.Rules.{last_there}
 use Rattle.surrounded_core.specs.Places.{Places, input_net}
 use Rattle.surrounded_core.specs.Sites.{StandsAround, HasRowAt, IsDrivenBy}
 use Rattle.surrounded_core.specs.Surrounds.{HasPorts, HasCodes, HasRows}
-use Rattle.plan_texts.specs.declared.plan.Plan.{Plan}
+use Rattle.plan_devices.specs.plan_texts.declared.plan.Plan.{Plan}
 use Rattle.plan_devices.specs.plan_fitting.declared.fitted.FitRow.{FitRow}
 use Rattle.plan_devices.specs.plan_fitting.declared.fitted.Fitted.{Fitted}
 use Rattle.plan_devices.specs.plan_fitting.Pins.{PinSeen}

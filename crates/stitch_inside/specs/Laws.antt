@@ -7,9 +7,9 @@ use Rattle.netlist_model.specs.Formed.{IsLaidOut, IsWellFormed}
 use Rattle.netlist_model.specs.Contained.{IsDense}
 use Rattle.netlist_images.specs.Behind.{NestedBehind}
 use Rattle.plan_devices.specs.netlist_link.Linked.{LinkedView}
-use Rattle.wrapped_chip.specs.Beside.{HasPins}
+use Rattle.surrounded_core.specs.wrapped_chip.Beside.{HasPins}
 use Rattle.surrounded_core.specs.Surrounds.{SurroundsBy, Surrounds}
-use Rattle.plan_texts.specs.declared.plan.Plan.{Plan}
+use Rattle.plan_devices.specs.plan_texts.declared.plan.Plan.{Plan}
 use Rattle.plan_devices.specs.plan_fitting.Pins.{PinSeen}
 use Rattle.plan_devices.specs.plan_fitting.Devices.{fitted_of, device_of}
 use Rattle.plan_devices.specs.FittingPlan.{IsFitting}

@@ -3,10 +3,10 @@ use Rattle.std.proofs.Common.{◌≡◌, ℕ, ◌+◌, ◌<◌, ◌≤◌, ◌�
 use Rattle.std.specs.Prelude.{option_and_then}
 use Rattle.std.proofs.lemmas.Bool.{eqb-true}
 use Rattle.list_laws.proofs.Tests.{true_or_false}
-use Rattle.netlist_model.specs.declared.NetId.{NetId}
-use Rattle.netlist_model.specs.Lists.{PortView, CellView, NetlistView, cell_at}
-use Rattle.netlist_model.specs.Settled.{is_output}
-use Rattle.netlist_images.specs.Nested.{renamed_cell}
+use Rattle.netlist_laws.specs.netlist_model.declared.NetId.{NetId}
+use Rattle.netlist_laws.specs.netlist_model.Lists.{PortView, CellView, NetlistView, cell_at}
+use Rattle.netlist_laws.specs.netlist_model.Settled.{is_output}
+use Rattle.stitch_model.specs.netlist_images.Nested.{renamed_cell}
 use Rattle.stitch_model.specs.plan_fitting.declared.fitted.FitRow.{FitRow}
 use Rattle.stitch_model.specs.plan_fitting.declared.fitted.Fitted.{Fitted}
 use Rattle.stitch_model.specs.Sites.{Boundary, row_net, row_sides}

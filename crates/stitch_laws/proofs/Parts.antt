@@ -2,12 +2,12 @@
 use Rattle.std.proofs.Common.{◌≡◌, ℕ, zero, suc, ◌+◌, List, [], ◌∷◌, ◌++◌, map, take, drop, length, length-append, refl, sym, ◌∙◌, ap, Some, None, arith}
 use Rattle.std.specs.Prelude.{slice_get}
 use Rattle.std.proofs.lemmas.List.{append-nil}
-use Rattle.netlist_model.specs.declared.NetId.{NetId}
-use Rattle.netlist_model.specs.Lists.{PortView, CellView, NetlistView, cell_at, cell_count}
-use Rattle.netlist_model.specs.Contained.{HasCells}
+use Rattle.netlist_laws.specs.netlist_model.declared.NetId.{NetId}
+use Rattle.netlist_laws.specs.netlist_model.Lists.{PortView, CellView, NetlistView, cell_at, cell_count}
+use Rattle.netlist_laws.specs.netlist_model.Contained.{HasCells}
 use Rattle.netlist_laws.specs.Contained.{ContainedParts}
-use Rattle.gate_parts.proofs.LawProofs.{has_from}
-use Rattle.test_logic.specs.declared.ScanNets.{ScanNets}
+use Rattle.boundary_runs.proofs.gate_parts.LawProofs.{has_from}
+use Rattle.boundary_runs.specs.test_logic.declared.ScanNets.{ScanNets}
 use Rattle.boundary_runs.specs.Rows.{row_cells}
 use Rattle.stitch_model.specs.plan_fitting.declared.fitted.FitRow.{FitRow}
 use Rattle.stitch_model.specs.plan_fitting.declared.fitted.Fitted.{Fitted}

@@ -1,10 +1,10 @@
 -- What holds of the netlist with the test logic built in.
 -- IEEE Std 1149.1-2001: test logic architecture, boundary-scan register; the statements are own.
 use Rattle.std.specs.Prelude.{◌≡◌, ℕ, suc, ◌+◌, ◌<◌, false, ◌++◌, length, slice_get, Some, None, option_and_then}
-use Rattle.netlist_model.specs.declared.NetId.{NetId}
-use Rattle.netlist_model.specs.Lists.{CellView, NetlistView, cell_at, cell_count}
-use Rattle.netlist_model.specs.Contained.{HasCells, IsDense}
-use Rattle.netlist_images.specs.Nested.{IsNested}
+use Rattle.netlist_laws.specs.netlist_model.declared.NetId.{NetId}
+use Rattle.netlist_laws.specs.netlist_model.Lists.{CellView, NetlistView, cell_at, cell_count}
+use Rattle.netlist_laws.specs.netlist_model.Contained.{HasCells, IsDense}
+use Rattle.stitch_model.specs.netlist_images.Nested.{IsNested}
 use Rattle.boundary_runs.specs.Rows.{row_cells}
 use Rattle.stitch_model.specs.plan_fitting.declared.fitted.FitRow.{FitRow}
 use Rattle.stitch_model.specs.plan_fitting.declared.fitted.Fitted.{Fitted}

@@ -11,23 +11,23 @@ use Rattle.netlist_model.specs.declared.NetId.{NetId}
 use Rattle.netlist_model.specs.declared.Feed.{Feed}
 use Rattle.netlist_model.specs.declared.Feed.TheVariants.{Net, Const}
 use Rattle.netlist_model.specs.Lists.{CellView}
-use Rattle.gate_parts.specs.declared.Gate.{Gate}
-use Rattle.gate_parts.specs.Parts.{part_cells}
-use Rattle.test_logic.specs.declared.Codes.{Codes}
-use Rattle.test_logic.specs.declared.ScanNets.{ScanNets}
-use Rattle.test_logic.specs.declared.TapNets.{TapNets}
-use Rattle.test_logic.specs.Instructions.{opcode_of}
-use Rattle.tap_gates.specs.declared.table.TheConstants.{CONTROLLER}
-use Rattle.tap_gates.specs.Controller.{tap_given}
-use Rattle.register_bits.specs.declared.Steering.{Steering}
-use Rattle.register_bits.specs.declared.TheConstants.{SHIFT_BIT, CLEARED_BIT, PRESET_BIT}
-use Rattle.register_bits.specs.Bits.{shift_bit_given, shift_bit_cells, held_bit, held_bit_given}
-use Rattle.register_bits.specs.Chains.{chain_last, chain_cells}
-use Rattle.register_gates.specs.declared.TheConstants.{SELECTED}
-use Rattle.register_gates.specs.declared.ident.TheConstants.{INVERSE}
-use Rattle.register_gates.specs.declared.tdo.TheConstants.{TDO}
-use Rattle.register_gates.specs.Registers.{selected_given, selected_cells, selected_steering, bypass_cells, data_cells, user_size, inverse_cells, captured_feeds, ident_cells}
-use Rattle.register_gates.specs.Tdo.{tdo_given, tdo_driver}
+use Rattle.draft_laws.specs.gate_parts.declared.Gate.{Gate}
+use Rattle.draft_laws.specs.gate_parts.Parts.{part_cells}
+use Rattle.plan_devices.specs.test_logic.declared.Codes.{Codes}
+use Rattle.plan_devices.specs.test_logic.declared.ScanNets.{ScanNets}
+use Rattle.plan_devices.specs.test_logic.declared.TapNets.{TapNets}
+use Rattle.plan_devices.specs.test_logic.Instructions.{opcode_of}
+use Rattle.stitch_cells.specs.tap_gates.declared.table.TheConstants.{CONTROLLER}
+use Rattle.stitch_cells.specs.tap_gates.Controller.{tap_given}
+use Rattle.stitch_cells.specs.register_bits.declared.Steering.{Steering}
+use Rattle.stitch_cells.specs.register_bits.declared.TheConstants.{SHIFT_BIT, CLEARED_BIT, PRESET_BIT}
+use Rattle.stitch_cells.specs.register_bits.Bits.{shift_bit_given, shift_bit_cells, held_bit, held_bit_given}
+use Rattle.stitch_cells.specs.register_bits.Chains.{chain_last, chain_cells}
+use Rattle.stitch_cells.specs.register_gates.declared.TheConstants.{SELECTED}
+use Rattle.stitch_cells.specs.register_gates.declared.ident.TheConstants.{INVERSE}
+use Rattle.stitch_cells.specs.register_gates.declared.tdo.TheConstants.{TDO}
+use Rattle.stitch_cells.specs.register_gates.Registers.{selected_given, selected_cells, selected_steering, bypass_cells, data_cells, user_size, inverse_cells, captured_feeds, ident_cells}
+use Rattle.stitch_cells.specs.register_gates.Tdo.{tdo_given, tdo_driver}
 use Rattle.stitch_cells.specs.instruction_gates.declared.latches.Latching.{Latching}
 use Rattle.stitch_cells.specs.instruction_gates.declared.latches.TheConstants.{LOADED}
 use Rattle.stitch_cells.specs.instruction_gates.declared.matches.TheConstants.{EQUAL_BIT}
@@ -42,10 +42,10 @@ use Rattle.stitch_cells.specs.instruction_gates.Copies.{copy_given, copies_cells
 use Rattle.stitch_cells.specs.instruction_gates.Selections.{selections_given, selections_cells}
 use Rattle.stitch_cells.specs.instruction_gates.Stages.{loads_given, ir_steering, ir_latching, shift_stage_cells, stages_cells}
 use Rattle.stitch_cells.specs.instruction_register.Register.{pattern_bits, latches_from, cells_with, opcode_size, opcode_cells, matched_instructions, opcodes_cells, opcodes_told, opcodes_from, selections_from, copies_from, instruction_cells}
-use Rattle.boundary_cells.specs.declared.tables.Choice.{Choice}
-use Rattle.boundary_cells.specs.declared.tables.TheConstants.{BC_1, BC_2, UPDATES, BC_1_CONTROL, BC_2_CONTROL, BC_7_HIGH, BC_7_LOW, BC_1_LEVEL, BC_2_LEVEL}
-use Rattle.boundary_cells.specs.Cells.{steering_of, choice_cell, cells_onto, cell_given, output_cells}
-use Rattle.boundary_cells.specs.ThreeState.{control_given, control_cells, bidir_given, bidir_cells}
+use Rattle.stitch_cells.specs.boundary_cells.declared.tables.Choice.{Choice}
+use Rattle.stitch_cells.specs.boundary_cells.declared.tables.TheConstants.{BC_1, BC_2, UPDATES, BC_1_CONTROL, BC_2_CONTROL, BC_7_HIGH, BC_7_LOW, BC_1_LEVEL, BC_2_LEVEL}
+use Rattle.stitch_cells.specs.boundary_cells.Cells.{steering_of, choice_cell, cells_onto, cell_given, output_cells}
+use Rattle.stitch_cells.specs.boundary_cells.ThreeState.{control_given, control_cells, bidir_given, bidir_cells}
 use Rattle.draft_laws.specs.Tables.{is_plain}
 use Rattle.draft_laws.specs.Names.{IsNamedCell}
 use Rattle.draft_laws.specs.Sources.{PartIsNamed}

@@ -12,8 +12,8 @@ use Rattle.draft_laws.specs.netlist_link.WellNamed.{IsWellNamed}
 use Rattle.plan_devices.specs.netlist_unlink.Prefixes.{IsUsed}
 use Rattle.draft_laws.specs.Sources.{PartIsNamed}
 use Rattle.draft_laws.proofs.Named.{original_same}
-use Rattle.plan_texts.specs.declared.plan.Plan.{Plan}
-use Rattle.plan_texts.specs.declared.plan.TapLine.{TapLine}
+use Rattle.plan_devices.specs.plan_texts.declared.plan.Plan.{Plan}
+use Rattle.plan_devices.specs.plan_texts.declared.plan.TapLine.{TapLine}
 use Rattle.plan_devices.specs.plan_fitting.declared.fitted.Fitted.{Fitted}
 use Rattle.plan_devices.specs.plan_fitting.Pins.{PinSeen}
 use Rattle.plan_devices.specs.plan_fitting.Fits.{tap_lines}

@@ -11,7 +11,7 @@ use Rattle.netlist_model.specs.declared.Dir.TheVariants.{Input, Output}
 use Rattle.netlist_model.specs.Lists.{PortView, NetView, NetlistView, direction}
 use Rattle.netlist_model.specs.Formed.{IsLaidOut}
 use Rattle.netlist_model.specs.Contained.{IsDense}
-use Rattle.gate_parts.specs.Parts.{added_nets}
+use Rattle.draft_laws.specs.gate_parts.Parts.{added_nets}
 use Rattle.draft_laws.specs.Sources.{PartIsNamed}
 use Rattle.plan_devices.specs.plan_fitting.declared.fitted.Fitted.{Fitted}
 use Rattle.plan_devices.specs.plan_fitting.Devices.{fitted_of}

@@ -7,7 +7,7 @@ use Rattle.name_table.specs.Names.{IsOnce}
 use Rattle.draft_laws.specs.netlist_link.Linked.{LinkedView}
 use Rattle.draft_laws.specs.netlist_link.WellNamed.{IsWellNamed}
 use Rattle.plan_devices.specs.netlist_unlink.Prefixes.{IsFreePrefix}
-use Rattle.plan_texts.specs.declared.plan.Plan.{Plan}
+use Rattle.plan_devices.specs.plan_texts.declared.plan.Plan.{Plan}
 use Rattle.plan_devices.specs.plan_fitting.declared.fitted.Fitted.{Fitted}
 use Rattle.plan_devices.specs.plan_fitting.Pins.{PinSeen}
 use Rattle.plan_devices.specs.plan_fitting.Devices.{fitted_of}

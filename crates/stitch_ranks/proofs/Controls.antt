@@ -14,8 +14,8 @@ use Rattle.plan_devices.specs.netlist_link.Linked.{LinkedView}
 use Rattle.netlist_images.specs.Nested.{renamed_net}
 use Rattle.test_logic.specs.declared.TapInput.{TapInput}
 use Rattle.test_logic.specs.declared.TapInput.TheVariants.{Tck, Tms, Tdi, Trst}
-use Rattle.wrapped_chip.specs.Realises.{SameBit, tap_place, IsTapNet}
-use Rattle.wrapped_chip.specs.Legal.{IsClockOrReset, IsKeptControl, IsTapControl}
+use Rattle.plan_devices.specs.wrapped_chip.Realises.{SameBit, tap_place, IsTapNet}
+use Rattle.plan_devices.specs.wrapped_chip.Legal.{IsClockOrReset, IsKeptControl, IsTapControl}
 use Rattle.plan_texts.specs.declared.plan.Plan.{Plan}
 use Rattle.plan_devices.specs.plan_fitting.declared.fitted.FitRow.{FitRow}
 use Rattle.plan_devices.specs.plan_fitting.declared.fitted.Fitted.{Fitted}

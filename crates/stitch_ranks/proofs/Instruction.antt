@@ -11,8 +11,8 @@ use Rattle.test_logic.specs.declared.TapNets.{TapNets}
 use Rattle.test_logic.specs.declared.InstrNets.{InstrNets}
 use Rattle.test_logic.specs.declared.ScanNets.{ScanNets}
 use Rattle.test_logic.specs.Instructions.{opcode_of}
-use Rattle.register_bits.specs.Bits.{held_bit}
-use Rattle.register_bits.specs.Chains.{chain_last}
+use Rattle.stitch_cells.specs.register_bits.Bits.{held_bit}
+use Rattle.stitch_cells.specs.register_bits.Chains.{chain_last}
 use Rattle.stitch_cells.proofs.register_gates.ConstantBits.{counted}
 use Rattle.stitch_cells.specs.instruction_gates.declared.latches.TheConstants.{LOADED}
 use Rattle.stitch_cells.specs.instruction_gates.declared.stages.TheConstants.{LOADS}

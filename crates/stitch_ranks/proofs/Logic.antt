@@ -5,10 +5,10 @@ use Rattle.netlist_model.specs.declared.Feed.TheVariants.{Net}
 use Rattle.gate_parts.specs.Levels.{AreFeedsUpTo}
 use Rattle.test_logic.specs.declared.TapNets.{TapNets}
 use Rattle.test_logic.specs.declared.InstrNets.{InstrNets}
-use Rattle.tap_gates.specs.declared.table.TheConstants.{CONTROLLER}
-use Rattle.tap_gates.specs.Controller.{tap_cells, tap_nets}
-use Rattle.tap_gates.specs.Laws.{tap_levels}
-use Rattle.register_bits.specs.declared.TheConstants.{SHIFT_BIT}
+use Rattle.stitch_cells.specs.tap_gates.declared.table.TheConstants.{CONTROLLER}
+use Rattle.stitch_cells.specs.tap_gates.Controller.{tap_cells, tap_nets}
+use Rattle.stitch_cells.specs.tap_gates.Laws.{tap_levels}
+use Rattle.stitch_cells.specs.register_bits.declared.TheConstants.{SHIFT_BIT}
 use Rattle.stitch_cells.specs.register_gates.declared.TheConstants.{SELECTED}
 use Rattle.stitch_cells.specs.register_gates.declared.ident.TheConstants.{INVERSE}
 use Rattle.stitch_cells.specs.register_gates.declared.tdo.TheConstants.{TDO}

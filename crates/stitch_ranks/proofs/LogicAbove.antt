@@ -6,7 +6,7 @@ use Rattle.netlist_model.specs.declared.Feed.{Feed}
 use Rattle.netlist_model.specs.Lists.{CellView}
 use Rattle.gate_parts.specs.Levels.{AreFeedsUpTo}
 use Rattle.test_logic.specs.declared.TapNets.{TapNets}
-use Rattle.tap_gates.specs.Laws.{tap_levels}
+use Rattle.stitch_cells.specs.tap_gates.Laws.{tap_levels}
 use Rattle.stitch_cells.specs.register_gates.Registers.{user_size, captured_feeds, ident_cells, ident_last}
 use Rattle.stitch_cells.specs.register_gates.Tdo.{ident_feed}
 use Rattle.stitch_cells.specs.part_levels.Above.{AreAbove, PartsStandAbove}

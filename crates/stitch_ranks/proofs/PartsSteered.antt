@@ -18,23 +18,23 @@ use Rattle.test_logic.specs.declared.TapNets.{TapNets}
 use Rattle.test_logic.specs.declared.InstrNets.{InstrNets}
 use Rattle.test_logic.specs.declared.ScanNets.{ScanNets}
 use Rattle.test_logic.specs.Instructions.{opcode_of}
-use Rattle.tap_gates.specs.declared.table.TheConstants.{CONTROLLER}
-use Rattle.tap_gates.specs.Controller.{tap_given}
+use Rattle.stitch_cells.specs.tap_gates.declared.table.TheConstants.{CONTROLLER}
+use Rattle.stitch_cells.specs.tap_gates.Controller.{tap_given}
 use Rattle.stitch_cells.specs.register_gates.declared.TheConstants.{SELECTED}
 use Rattle.stitch_cells.specs.register_gates.declared.ident.TheConstants.{INVERSE}
 use Rattle.stitch_cells.specs.register_gates.declared.tdo.TheConstants.{TDO}
 use Rattle.stitch_cells.specs.register_gates.Registers.{selected_given, selected_cells, selected_steering, bypass_cells, data_cells, user_size, inverse_cells, captured_feeds, ident_cells}
 use Rattle.stitch_cells.specs.register_gates.Tdo.{tdo_given, tdo_driver, tdo_cells}
-use Rattle.register_bits.specs.Bits.{shift_bit_cells}
-use Rattle.register_bits.specs.Chains.{chain_cells}
+use Rattle.stitch_cells.specs.register_bits.Bits.{shift_bit_cells}
+use Rattle.stitch_cells.specs.register_bits.Chains.{chain_cells}
 use Rattle.stitch_cells.specs.instruction_gates.declared.stages.TheConstants.{LOADS}
 use Rattle.stitch_cells.specs.instruction_gates.declared.selections.TheConstants.{SELECTIONS}
 use Rattle.stitch_cells.specs.instruction_gates.Selections.{selections_given, selections_cells}
 use Rattle.stitch_cells.specs.instruction_gates.Stages.{loads_given, ir_steering, ir_latching, shift_stage_cells, stages_cells}
 use Rattle.stitch_cells.specs.instruction_register.Register.{pattern_bits, latches_from, cells_with, opcode_size, opcode_cells, matched_instructions, opcodes_cells, opcodes_told, opcodes_from, selections_from, copies_from, instruction_cells}
-use Rattle.boundary_cells.specs.declared.tables.TheConstants.{BC_1, UPDATES}
-use Rattle.boundary_cells.specs.Cells.{steering_of, stage_table, cell_given, output_cells}
-use Rattle.boundary_cells.specs.ThreeState.{control_table, control_choice, control_given, bidir_table, bidir_given}
+use Rattle.stitch_cells.specs.boundary_cells.declared.tables.TheConstants.{BC_1, UPDATES}
+use Rattle.stitch_cells.specs.boundary_cells.Cells.{steering_of, stage_table, cell_given, output_cells}
+use Rattle.stitch_cells.specs.boundary_cells.ThreeState.{control_table, control_choice, control_given, bidir_table, bidir_given}
 use Rattle.plan_devices.specs.plan_fitting.declared.fitted.FitRow.{FitRow}
 use Rattle.plan_devices.specs.plan_fitting.declared.fitted.Fitted.{Fitted}
 use Rattle.stitch_cells.specs.stitch_model.declared.TapPort.{TapPort}

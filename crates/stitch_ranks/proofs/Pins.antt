@@ -11,8 +11,8 @@ use Rattle.netlist_model.specs.Formed.{IsLaidOut}
 use Rattle.netlist_laws.specs.Ports.{DirectionHasBit}
 use Rattle.test_logic.specs.declared.TapInput.{TapInput}
 use Rattle.test_logic.specs.declared.TapInput.TheVariants.{Tck, Tms, Tdi, Trst}
-use Rattle.wrapped_chip.specs.Realises.{SameBit, tap_place, IsTapNet}
-use Rattle.wrapped_chip.specs.Beside.{PinOf, of_bit, of_tap, of_none}
+use Rattle.plan_devices.specs.wrapped_chip.Realises.{SameBit, tap_place, IsTapNet}
+use Rattle.plan_devices.specs.wrapped_chip.Beside.{PinOf, of_bit, of_tap, of_none}
 use Rattle.plan_devices.specs.plan_fitting.declared.fitted.Fitted.{Fitted}
 use Rattle.stitch_cells.specs.stitch_model.declared.TapNames.{TapNames}
 use Rattle.stitch_cells.specs.stitch_model.Stitched.{tap_port, tap_ports, stitched}

@@ -13,7 +13,7 @@ use Rattle.netlist_model.specs.declared.Feed.TheVariants.{Net, Const}
 use Rattle.netlist_model.specs.Lists.{NetlistView, direction}
 use Rattle.test_logic.specs.declared.Codes.{Codes}
 use Rattle.test_logic.specs.Instructions.{opcode_of}
-use Rattle.tap_gates.specs.Laws.{tap_levels}
+use Rattle.stitch_cells.specs.tap_gates.Laws.{tap_levels}
 use Rattle.stitch_cells.specs.instruction_register.Register.{matched_instructions}
 use Rattle.stitch_cells.specs.part_levels.Registers.{shift_levels, selected_levels, inverse_levels, selections_levels, tdo_levels}
 use Rattle.stitch_cells.specs.part_levels.Instructions.{one_level, held_levels, equal_levels}

@@ -19,7 +19,7 @@ use Rattle.netlist_model.specs.Cones.{IsControlPort}
 use Rattle.netlist_model.specs.Settled.{feed_values, is_output, driver_of}
 use Rattle.netlist_laws.specs.Drivers.{DriverIsFound}
 use Rattle.plan_devices.specs.netlist_link.Linked.{LinkedView}
-use Rattle.wrapped_chip.specs.Cells.{core_datum, row_of, Numbered}
+use Rattle.plan_devices.specs.wrapped_chip.Cells.{core_datum, row_of, Numbered}
 use Rattle.plan_texts.specs.declared.plan.Plan.{Plan}
 use Rattle.plan_devices.specs.plan_fitting.declared.fitted.FitRow.{FitRow}
 use Rattle.plan_devices.specs.plan_fitting.Pins.{PinSeen}

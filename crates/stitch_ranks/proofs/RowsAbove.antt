@@ -10,10 +10,10 @@ use Rattle.netlist_model.specs.Lists.{CellView}
 use Rattle.netlist_model.specs.Formed.{FeedsBelow}
 use Rattle.gate_parts.specs.Levels.{AreFeedsUpTo}
 use Rattle.test_logic.specs.declared.ScanNets.{ScanNets}
-use Rattle.register_bits.specs.declared.TheConstants.{SHIFT_BIT}
-use Rattle.boundary_cells.specs.declared.tables.TheConstants.{BC_1}
-use Rattle.boundary_cells.specs.Cells.{stage_table, cell_given, output_cells}
-use Rattle.boundary_cells.specs.ThreeState.{control_table, bidir_table}
+use Rattle.stitch_cells.specs.register_bits.declared.TheConstants.{SHIFT_BIT}
+use Rattle.stitch_cells.specs.boundary_cells.declared.tables.TheConstants.{BC_1}
+use Rattle.stitch_cells.specs.boundary_cells.Cells.{stage_table, cell_given, output_cells}
+use Rattle.stitch_cells.specs.boundary_cells.ThreeState.{control_table, bidir_table}
 use Rattle.stitch_cells.specs.boundary_runs.Rows.{observe_row, input_row, output_row, control_row, bidir_row}
 use Rattle.stitch_cells.specs.part_levels.Above.{AreAbove, PartsStandAbove}
 use Rattle.stitch_cells.specs.part_levels.Registers.{shift_levels}

@@ -16,9 +16,9 @@ use Rattle.netlist_model.specs.Cones.{GateReads, InCone, itself, behind, FlopRea
 use Rattle.netlist_model.specs.Contained.{HasCells}
 use Rattle.netlist_images.specs.Nested.{renamed_net, renamed_feed}
 use Rattle.test_logic.specs.declared.TapInput.{TapInput}
-use Rattle.wrapped_chip.specs.Realises.{tap_place}
-use Rattle.wrapped_chip.specs.Legal.{IsClockOrReset}
-use Rattle.tap_gates.specs.Controller.{tap_cells}
+use Rattle.plan_devices.specs.wrapped_chip.Realises.{tap_place}
+use Rattle.plan_devices.specs.wrapped_chip.Legal.{IsClockOrReset}
+use Rattle.stitch_cells.specs.tap_gates.Controller.{tap_cells}
 use Rattle.plan_devices.specs.plan_fitting.declared.fitted.Fitted.{Fitted}
 use Rattle.stitch_cells.specs.stitch_model.Sites.{Boundary}
 use Rattle.stitch_cells.specs.stitch_model.Sides.{core_side, feeds_behind, core_cell}

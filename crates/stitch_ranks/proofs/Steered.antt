@@ -13,10 +13,10 @@ use Rattle.gate_parts.specs.declared.Pin.{Pin}
 use Rattle.gate_parts.specs.declared.Pin.TheVariants.{Own, Given}
 use Rattle.gate_parts.specs.declared.Gate.{Gate}
 use Rattle.gate_parts.specs.Parts.{feed_of, pins_of, gate_cell, cells_from, part_cells}
-use Rattle.register_bits.specs.declared.Steering.{Steering}
-use Rattle.register_bits.specs.declared.TheConstants.{SHIFT_BIT}
-use Rattle.register_bits.specs.Bits.{shift_bit_given, shift_bit_cells, held_bit, held_bit_given}
-use Rattle.register_bits.specs.Chains.{chain_last, chain_cells}
+use Rattle.stitch_cells.specs.register_bits.declared.Steering.{Steering}
+use Rattle.stitch_cells.specs.register_bits.declared.TheConstants.{SHIFT_BIT}
+use Rattle.stitch_cells.specs.register_bits.Bits.{shift_bit_given, shift_bit_cells, held_bit, held_bit_given}
+use Rattle.stitch_cells.specs.register_bits.Chains.{chain_last, chain_cells}
 use Rattle.stitch_cells.specs.instruction_gates.declared.latches.Latching.{Latching}
 use Rattle.stitch_cells.specs.instruction_gates.declared.latches.TheConstants.{LOADED}
 use Rattle.stitch_cells.specs.instruction_gates.declared.matches.TheConstants.{EQUAL_BIT}
@@ -25,8 +25,8 @@ use Rattle.stitch_cells.specs.instruction_gates.Rows.{is_one}
 use Rattle.stitch_cells.specs.instruction_gates.Latches.{holding_of, loaded_given, latch_cells, latches_cells}
 use Rattle.stitch_cells.specs.instruction_gates.Matches.{match_before, equal_given, matches_cells}
 use Rattle.stitch_cells.specs.instruction_gates.Copies.{copy_given, copies_cells}
-use Rattle.boundary_cells.specs.declared.tables.Choice.{Choice}
-use Rattle.boundary_cells.specs.Cells.{choice_cell, cells_onto}
+use Rattle.stitch_cells.specs.boundary_cells.declared.tables.Choice.{Choice}
+use Rattle.stitch_cells.specs.boundary_cells.Cells.{choice_cell, cells_onto}
 use Rattle.stitch_cells.specs.Gates.{may_keep, is_given_at, is_clocked_by}
 
 -- A flip-flop that TCK clocks and TRST clears or presets, or a gate; and each net that it drives is one of these.

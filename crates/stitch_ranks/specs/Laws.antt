@@ -6,8 +6,8 @@ use Rattle.netlist_model.specs.Cones.{IsControlNet}
 use Rattle.netlist_model.specs.Formed.{IsLaidOut, IsNumbered, IsCombinational}
 use Rattle.netlist_model.specs.Contained.{IsDense}
 use Rattle.plan_devices.specs.netlist_link.Linked.{LinkedView}
-use Rattle.wrapped_chip.specs.Legal.{HasControls}
-use Rattle.wrapped_chip.specs.Beside.{HasPins}
+use Rattle.plan_devices.specs.wrapped_chip.Legal.{HasControls}
+use Rattle.plan_devices.specs.wrapped_chip.Beside.{HasPins}
 use Rattle.plan_texts.specs.declared.plan.Plan.{Plan}
 use Rattle.plan_devices.specs.plan_fitting.declared.fitted.Fitted.{Fitted}
 use Rattle.plan_devices.specs.plan_fitting.Pins.{PinSeen}

@@ -14,9 +14,9 @@ use Rattle.netlist_model.specs.declared.Feed.TheVariants.{Net}
 use Rattle.netlist_model.specs.Lists.{CellView, NetView, NetlistView, direction, Drives}
 use Rattle.netlist_model.specs.Formed.{IsDriven, IsWellFormed}
 use Rattle.first_faults.specs.First.{or_else}
-use Rattle.plan_fitting.specs.Pins.{PinSeen}
-use Rattle.plan_fitting.specs.Rows.{Driver, gate_driver, three_state, added_driver, output_driver}
-use Rattle.plan_fitting.proofs.Drivers.{gate_is}
+use Rattle.plan_devices.specs.plan_fitting.Pins.{PinSeen}
+use Rattle.plan_devices.specs.plan_fitting.Rows.{Driver, gate_driver, three_state, added_driver, output_driver}
+use Rattle.plan_devices.proofs.plan_fitting.Drivers.{gate_is}
 use Rattle.plan_devices.proofs.Rows.{side_driver, data_function, data_core}
 use Rattle.core_moves.specs.stitch_model.Sites.{is_own_net, output_site, site_by}
 use Rattle.core_moves.specs.stitch_model.Stitched.{with_nets}

@@ -9,11 +9,11 @@ use Rattle.netlist_model.specs.declared.Feed.{Feed}
 use Rattle.netlist_model.specs.Lists.{NetView}
 use Rattle.netlist_laws.proofs.Ports.{bit_has_direction}
 use Rattle.netlist_laws.proofs.Inside.{driver_found}
-use Rattle.netlist_link.specs.Linked.{LinkedView}
+use Rattle.plan_devices.specs.netlist_link.Linked.{LinkedView}
 use Rattle.plan_texts.specs.declared.plan.Plan.{Plan}
-use Rattle.plan_fitting.specs.declared.fitted.FitRow.{FitRow}
-use Rattle.plan_fitting.specs.Pins.{PinSeen}
-use Rattle.plan_fitting.specs.Rows.{rows, has_highz}
+use Rattle.plan_devices.specs.plan_fitting.declared.fitted.FitRow.{FitRow}
+use Rattle.plan_devices.specs.plan_fitting.Pins.{PinSeen}
+use Rattle.plan_devices.specs.plan_fitting.Rows.{rows, has_highz}
 use Rattle.plan_devices.specs.FittingPlan.{IsFitting}
 use Rattle.plan_devices.proofs.Lists.{all_from_places, none_there}
 use Rattle.plan_devices.proofs.Lined.{IsLined}

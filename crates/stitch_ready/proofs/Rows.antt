@@ -14,15 +14,15 @@ use Rattle.netlist_model.specs.declared.PinBit.{PinBit}
 use Rattle.netlist_model.specs.Lists.{NetlistView, bit_net}
 use Rattle.netlist_laws.proofs.Ports.{bit_has_direction}
 use Rattle.netlist_laws.proofs.Inside.{driver_found}
-use Rattle.netlist_link.specs.Linked.{LinkedView}
+use Rattle.plan_devices.specs.netlist_link.Linked.{LinkedView}
 use Rattle.wrapped_chip.specs.Cells.{Numbered, row_of}
 use Rattle.plan_texts.specs.declared.plan.Plan.{Plan}
-use Rattle.plan_fitting.specs.declared.fitted.FitRow.{FitRow}
-use Rattle.plan_fitting.specs.declared.fitted.Fitted.{Fitted}
-use Rattle.plan_fitting.specs.Pins.{PinSeen}
-use Rattle.plan_fitting.specs.Rows.{rows, has_highz}
-use Rattle.plan_fitting.specs.Devices.{fitted_of, cell_row, disable_by, device_of}
-use Rattle.plan_fitting.proofs.Controls.{control_cells_are_there, control_is}
+use Rattle.plan_devices.specs.plan_fitting.declared.fitted.FitRow.{FitRow}
+use Rattle.plan_devices.specs.plan_fitting.declared.fitted.Fitted.{Fitted}
+use Rattle.plan_devices.specs.plan_fitting.Pins.{PinSeen}
+use Rattle.plan_devices.specs.plan_fitting.Rows.{rows, has_highz}
+use Rattle.plan_devices.specs.plan_fitting.Devices.{fitted_of, cell_row, disable_by, device_of}
+use Rattle.plan_devices.proofs.plan_fitting.Controls.{control_cells_are_there, control_is}
 use Rattle.plan_devices.specs.FittingPlan.{IsFitting}
 use Rattle.plan_devices.proofs.Lined.{IsLined}
 use Rattle.plan_devices.proofs.Rows.{IsDataRow}

@@ -4,10 +4,10 @@ use Rattle.std.specs.Prelude.{◌+◌, ◌*◌, ◌^◌, ◌<◌, ◌≤◌, Lis
 use Rattle.netlist_model.specs.Lists.{NetView}
 use Rattle.netlist_model.specs.Formed.{IsLaidOut}
 use Rattle.netlist_arena.specs.Arena.{bit_count}
-use Rattle.netlist_link.specs.Linked.{LinkedView}
+use Rattle.plan_devices.specs.netlist_link.Linked.{LinkedView}
 use Rattle.plan_texts.specs.declared.plan.Plan.{Plan}
-use Rattle.plan_fitting.specs.Pins.{PinSeen}
-use Rattle.plan_fitting.specs.Rows.{rows}
+use Rattle.plan_devices.specs.plan_fitting.Pins.{PinSeen}
+use Rattle.plan_devices.specs.plan_fitting.Rows.{rows}
 use Rattle.plan_devices.specs.FittingPlan.{IsFitting}
 use Rattle.core_moves.specs.stitch_model.Sites.{sides_of}
 use Rattle.core_moves.specs.stitch_model.Stitched.{with_nets}

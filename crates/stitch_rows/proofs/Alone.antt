@@ -7,8 +7,8 @@ use Rattle.cell_library.specs.declared.codes.Function.{Function}
 use Rattle.cell_library.specs.declared.codes.Function.TheVariants as function
 use Rattle.netlist_model.specs.declared.Dir.{Dir}
 use Rattle.netlist_model.specs.declared.Dir.TheVariants as dir
-use Rattle.plan_texts.specs.declared.plan.Plan.{Plan}
-use Rattle.plan_texts.specs.declared.plan.PinLine.{PinLine}
+use Rattle.plan_devices.specs.plan_texts.declared.plan.Plan.{Plan}
+use Rattle.plan_devices.specs.plan_texts.declared.plan.PinLine.{PinLine}
 use Rattle.plan_devices.specs.plan_fitting.declared.fitted.FitRow.{FitRow}
 use Rattle.plan_devices.specs.plan_fitting.Pins.{PinSeen}
 use Rattle.plan_devices.specs.plan_fitting.Rows.{Driver, controls, controlled_by, output_rows, inout_rows, rows_at, rows_after, rows, output_driver, three_state, has_highz}

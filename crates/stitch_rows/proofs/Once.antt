@@ -7,8 +7,8 @@ use Rattle.netlist_model.specs.declared.PinBit.{PinBit}
 use Rattle.netlist_model.specs.Lists.{PortView, bit_net}
 use Rattle.netlist_laws.specs.Ports.{DirectionHasBit}
 use Rattle.plan_devices.specs.netlist_link.Linked.{LinkedView}
-use Rattle.wrapped_chip.specs.Cells.{Numbered, row_of}
-use Rattle.plan_texts.specs.declared.plan.Plan.{Plan}
+use Rattle.plan_devices.specs.wrapped_chip.Cells.{Numbered, row_of}
+use Rattle.plan_devices.specs.plan_texts.declared.plan.Plan.{Plan}
 use Rattle.plan_devices.specs.plan_fitting.declared.fitted.FitRow.{FitRow}
 use Rattle.plan_devices.specs.plan_fitting.Pins.{PinSeen}
 use Rattle.plan_devices.specs.plan_fitting.Rows.{rows}

@@ -20,7 +20,7 @@ use Rattle.netlist_laws.specs.Drivers.{DriverIsFound}
 use Rattle.plan_devices.specs.netlist_link.Linked.{LinkedView}
 use Rattle.bsdl_device.specs.RowRules.{is_function}
 use Rattle.first_faults.specs.First.{or_else}
-use Rattle.plan_texts.specs.declared.plan.Plan.{Plan}
+use Rattle.plan_devices.specs.plan_texts.declared.plan.Plan.{Plan}
 use Rattle.plan_devices.specs.plan_fitting.declared.fitted.FitRow.{FitRow}
 use Rattle.plan_devices.specs.plan_fitting.declared.fitted.Fitted.{Fitted}
 use Rattle.plan_devices.specs.plan_fitting.Pins.{PinSeen}

@@ -5,7 +5,7 @@ use Rattle.netlist_model.specs.Contained.{IsDense}
 use Rattle.stitch_inside.specs.netlist_link.Linked.{LinkedView}
 use Rattle.test_logic.specs.declared.TapState.{TapState}
 use Rattle.test_logic.specs.declared.TapState.TheVariants.{TestLogicReset, RunTestIdle, SelectDrScan, CaptureDr, ShiftDr, Exit1Dr, PauseDr, Exit2Dr, UpdateDr, SelectIrScan, CaptureIr, ShiftIr, Exit1Ir, PauseIr, Exit2Ir, UpdateIr}
-use Rattle.tap_gates.specs.Controller.{place}
+use Rattle.stitch_inside.specs.tap_gates.Controller.{place}
 use Rattle.plan_texts.specs.declared.plan.Plan.{Plan}
 use Rattle.stitch_inside.specs.plan_fitting.declared.fitted.Fitted.{Fitted}
 use Rattle.stitch_inside.specs.plan_fitting.Pins.{PinSeen}

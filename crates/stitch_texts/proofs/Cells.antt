@@ -11,8 +11,8 @@ use Rattle.netlist_model.specs.declared.Name.{Name}
 use Rattle.netlist_model.specs.declared.Name.TheVariants.{Original, Added}
 use Rattle.netlist_model.specs.Lists.{CellView, NetlistView, live_cell, cell_at}
 use Rattle.netlist_model.specs.Contained.{IsDense}
-use Rattle.netlist_unlink.specs.Trees.{Naming, cell_text}
-use Rattle.netlist_unlink.specs.Renumbered.{cells_from, new_cell}
+use Rattle.written_images.specs.netlist_unlink.Trees.{Naming, cell_text}
+use Rattle.written_images.specs.netlist_unlink.Renumbered.{cells_from, new_cell}
 use Rattle.written_images.specs.Laws.{new_place, DenseKeepsPlaces}
 use Rattle.wrapped_chip.specs.Realises.{IsCalled}
 use Rattle.stitch_texts.specs.Written.{spelt}

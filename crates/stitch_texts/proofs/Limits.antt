@@ -8,8 +8,8 @@ use Rattle.netlist_arena.specs.Arena.{bit_count}
 use Rattle.link_model.specs.Faults.{too_many}
 use Rattle.netlist_link.specs.Linked.{LinkedView}
 use Rattle.netlist_link.proofs.Rewrites.{few_cells, few_nets}
-use Rattle.netlist_unlink.specs.Renumbered.{port_numbers, passed_limit}
-use Rattle.plan_fitting.specs.declared.fitted.Fitted.{Fitted}
+use Rattle.written_images.specs.netlist_unlink.Renumbered.{port_numbers, passed_limit}
+use Rattle.stitch_names.specs.plan_fitting.declared.fitted.Fitted.{Fitted}
 use Rattle.stitch_names.specs.stitch_model.declared.TapNames.{TapNames}
 use Rattle.stitch_names.specs.stitch_model.Stitched.{tap_port, tap_ports, stitched}
 use Rattle.stitch_names.specs.stitch_cells.Sizes.{StitchedHasCounts}

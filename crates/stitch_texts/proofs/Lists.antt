@@ -6,7 +6,7 @@ use Rattle.std.proofs.lemmas.List.Sums.{sum_by-cons}
 use Rattle.netlist_model.specs.declared.NetId.{NetId}
 use Rattle.netlist_model.specs.Lists.{PortView, CellView, live_cell}
 use Rattle.netlist_arena.specs.Arena.{bit_count}
-use Rattle.netlist_unlink.specs.Renumbered.{port_numbers}
+use Rattle.written_images.specs.netlist_unlink.Renumbered.{port_numbers}
 use Rattle.stitch_names.proofs.stitch_laws.Places.{counts_live, counts_empty}
 
 -- Sums.

@@ -15,13 +15,13 @@ use Rattle.netlist_model.specs.Lists.{PortView, NetlistView}
 use Rattle.netlist_arena.specs.Arena.{bit_count}
 use Rattle.netlist_link.specs.Linked.{LinkedView}
 use Rattle.netlist_link.specs.WellNamed.{IsWellNamed}
-use Rattle.netlist_unlink.specs.Trees.{port_text as tree_text}
-use Rattle.netlist_unlink.specs.Renumbered.{new_net, new_port}
+use Rattle.written_images.specs.netlist_unlink.Trees.{port_text as tree_text}
+use Rattle.written_images.specs.netlist_unlink.Renumbered.{new_net, new_port}
 use Rattle.wrapped_chip.specs.Realises.{PortText, port_text, tap_ports as tap_texts}
 use Rattle.plan_texts.specs.declared.plan.Plan.{Plan}
-use Rattle.plan_fitting.specs.declared.fitted.Fitted.{Fitted}
-use Rattle.plan_fitting.specs.Pins.{PinSeen}
-use Rattle.plan_fitting.specs.Devices.{fitted_of}
+use Rattle.stitch_names.specs.plan_fitting.declared.fitted.Fitted.{Fitted}
+use Rattle.stitch_names.specs.plan_fitting.Pins.{PinSeen}
+use Rattle.stitch_names.specs.plan_fitting.Devices.{fitted_of}
 use Rattle.stitch_names.specs.stitch_model.declared.TapNames.{TapNames}
 use Rattle.stitch_names.specs.stitch_model.Stitched.{tap_port, tap_ports, stitched}
 use Rattle.stitch_names.specs.Prepared.{AreTapNames}

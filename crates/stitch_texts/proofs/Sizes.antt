@@ -5,9 +5,9 @@ use Rattle.cell_library.specs.declared.codes.Instr.TheVariants.{Extest, Sample, 
 use Rattle.netlist_model.specs.Lists.{PortView, NetlistView}
 use Rattle.test_logic.specs.declared.Codes.{Codes}
 use Rattle.test_logic.specs.Instructions.{opcode_of}
-use Rattle.instruction_register.specs.Register.{opcode_size, opcodes_size, matched_instructions, instruction_size}
-use Rattle.plan_fitting.specs.declared.fitted.FitRow.{FitRow}
-use Rattle.plan_fitting.specs.declared.fitted.Fitted.{Fitted}
+use Rattle.stitch_names.specs.instruction_register.Register.{opcode_size, opcodes_size, matched_instructions, instruction_size}
+use Rattle.stitch_names.specs.plan_fitting.declared.fitted.FitRow.{FitRow}
+use Rattle.stitch_names.specs.plan_fitting.declared.fitted.Fitted.{Fitted}
 use Rattle.stitch_names.specs.stitch_model.declared.Site.{Site}
 use Rattle.stitch_names.specs.stitch_model.declared.Site.TheVariants as site
 use Rattle.stitch_names.specs.stitch_model.Sites.{site_of, row_sides, sides_of}

@@ -19,14 +19,14 @@ use Rattle.netlist_link.specs.Linked.{LinkedView}
 use Rattle.netlist_link.specs.Links.{IsLinkOf}
 use Rattle.netlist_link.specs.WellNamed.{IsWellNamed}
 use Rattle.netlist_link.specs.ViewLaws.{LinkViewsAgree, LinkViewExists}
-use Rattle.netlist_unlink.specs.Trees.{Naming, naming_of}
-use Rattle.netlist_unlink.specs.Renumbered.{net_order, new_port, renumbered, IsWrittenAs}
+use Rattle.written_images.specs.netlist_unlink.Trees.{Naming, naming_of}
+use Rattle.written_images.specs.netlist_unlink.Renumbered.{net_order, new_port, renumbered, IsWrittenAs}
 use Rattle.written_images.specs.Laws.{DenseKeepsPlaces}
 use Rattle.wrapped_chip.specs.Realises.{Keeps}
 use Rattle.plan_texts.specs.declared.plan.Plan.{Plan}
-use Rattle.plan_fitting.specs.declared.fitted.Fitted.{Fitted}
-use Rattle.plan_fitting.specs.Pins.{PinSeen}
-use Rattle.plan_fitting.specs.Devices.{fitted_of}
+use Rattle.stitch_names.specs.plan_fitting.declared.fitted.Fitted.{Fitted}
+use Rattle.stitch_names.specs.plan_fitting.Pins.{PinSeen}
+use Rattle.stitch_names.specs.plan_fitting.Devices.{fitted_of}
 use Rattle.stitch_names.specs.plan_devices.Laws.{FittedIsFitting}
 use Rattle.stitch_names.specs.stitch_model.Stitched.{stitched}
 use Rattle.stitch_names.specs.stitch_cells.Sizes.{StitchedHasCounts}

@@ -7,12 +7,12 @@ use Rattle.cell_library.specs.Sound.{IsLibrary}
 use Rattle.netlist_model.specs.Formed.{IsLaidOut}
 use Rattle.netlist_link.specs.Linked.{LinkedView}
 use Rattle.netlist_link.specs.Links.{IsLinkOf}
-use Rattle.netlist_unlink.specs.Prefixes.{IsFreePrefix}
-use Rattle.netlist_unlink.specs.Renumbered.{passed_limit, IsWrittenAs}
+use Rattle.written_images.specs.netlist_unlink.Prefixes.{IsFreePrefix}
+use Rattle.written_images.specs.netlist_unlink.Renumbered.{passed_limit, IsWrittenAs}
 use Rattle.plan_texts.specs.declared.plan.Plan.{Plan}
 use Rattle.plan_texts.specs.Canonical.{IsPlan}
-use Rattle.plan_fitting.specs.declared.fitted.Fitted.{Fitted}
-use Rattle.plan_fitting.specs.Devices.{IsFitted}
+use Rattle.stitch_names.specs.plan_fitting.declared.fitted.Fitted.{Fitted}
+use Rattle.stitch_names.specs.plan_fitting.Devices.{IsFitted}
 use Rattle.stitch_names.specs.stitch_model.Stitched.{stitched}
 use Rattle.stitch_texts.specs.Written.{IsStitchedOf, HasStitchRoom, WritesStitched, IsNumberedAnew}
 

@@ -18,7 +18,7 @@ use Rattle.netlist_link.specs.ViewLaws.{IsSameView}
 use Rattle.bsdl_device.specs.declared.written.TapNames as device
 use Rattle.wrapped_chip.specs.Realises.{Keeps}
 use Rattle.plan_texts.specs.declared.plan.Plan.{Plan}
-use Rattle.plan_fitting.specs.declared.fitted.Fitted.{Fitted}
+use Rattle.stitch_names.specs.plan_fitting.declared.fitted.Fitted.{Fitted}
 use Rattle.stitch_names.specs.stitch_model.declared.TapNames.{TapNames}
 use Rattle.stitch_names.specs.stitch_model.Stitched.{stitched}
 use Rattle.stitch_names.specs.Prepared.{room_of, ports_of, with_tap_names, AreTapNames}

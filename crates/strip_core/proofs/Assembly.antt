@@ -13,13 +13,13 @@ use Rattle.gate_parts.specs.Parts.{part_cells}
 use Rattle.plan_fitting.specs.declared.fitted.Fitted.{Fitted}
 use Rattle.plan_fitting.specs.Devices.{cell_row}
 use Rattle.netlist_unlink.specs.Trees.{Naming, added, item_of, items_from, naming_of, tree_of}
-use Rattle.stitch_model.specs.declared.TapNames.{TapNames}
-use Rattle.stitch_model.specs.declared.TapPort.{TapPort}
-use Rattle.stitch_model.specs.Sites.{Boundary}
-use Rattle.stitch_model.specs.Sides.{core_cell}
-use Rattle.stitch_model.specs.Logic.{logic_size, logic_cells, tap_at, instruction_at, bypass_at, ident_at}
-use Rattle.stitch_model.specs.Rows.{nets_of_rows}
-use Rattle.stitch_model.specs.Stitched.{live_cells, boundary_at, first_net, tap_port, tap_ports, rows_part, tdo_part, boundary_last, test_logic_cells}
+use Rattle.stitch_rows.specs.stitch_model.declared.TapNames.{TapNames}
+use Rattle.stitch_rows.specs.stitch_model.declared.TapPort.{TapPort}
+use Rattle.stitch_rows.specs.stitch_model.Sites.{Boundary}
+use Rattle.stitch_rows.specs.stitch_model.Sides.{core_cell}
+use Rattle.stitch_rows.specs.stitch_model.Logic.{logic_size, logic_cells, tap_at, instruction_at, bypass_at, ident_at}
+use Rattle.stitch_rows.specs.stitch_model.Rows.{nets_of_rows}
+use Rattle.stitch_rows.specs.stitch_model.Stitched.{live_cells, boundary_at, first_net, tap_port, tap_ports, rows_part, tdo_part, boundary_last, test_logic_cells}
 use Rattle.strip_model.specs.Sides.{sides_in, sides}
 use Rattle.strip_model.specs.Core.{is_added, before_added, core_item, core_module}
 use Rattle.strip_model.specs.Prefix.{prefix_of}

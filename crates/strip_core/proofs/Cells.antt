@@ -11,9 +11,9 @@ use Rattle.netlist_model.specs.Lists.{CellView, live_cell}
 use Rattle.verilog_tree.specs.declared.tree.GateKind.{GateKind}
 use Rattle.verilog_tree.specs.declared.tree.Item.{Item}
 use Rattle.netlist_unlink.specs.Trees.{Naming, added, cell_text, gate_of, written, item_of, items_from}
-use Rattle.stitch_model.specs.Sites.{Boundary}
-use Rattle.stitch_model.specs.Sides.{core_cell}
-use Rattle.stitch_model.specs.Stitched.{same_place}
+use Rattle.stitch_rows.specs.stitch_model.Sites.{Boundary}
+use Rattle.stitch_rows.specs.stitch_model.Sides.{core_cell}
+use Rattle.stitch_rows.specs.stitch_model.Stitched.{same_place}
 use Rattle.strip_model.specs.Core.{begins, name_of, is_added, before_added, core_item}
 use Rattle.strip_model.specs.Prefix.{before_end, prefix_of}
 use Rattle.strip_core.specs.Pairs.{Pair, IsUndone}

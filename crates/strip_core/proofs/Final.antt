@@ -17,10 +17,10 @@ use Rattle.verilog_tree.specs.declared.tree.Port.{Port}
 use Rattle.plan_fitting.specs.declared.fitted.Fitted.{Fitted}
 use Rattle.netlist_unlink.specs.Rows.{is_original, has_port_name, row_of, rows}
 use Rattle.netlist_unlink.specs.Trees.{bit_of, operand_of, cell_text, port_of, wire_of, added_from, naming_of}
-use Rattle.stitch_model.specs.declared.TapNames.{TapNames}
-use Rattle.stitch_model.specs.declared.TapPort.{TapPort}
-use Rattle.stitch_model.specs.Sites.{sides_of}
-use Rattle.stitch_model.specs.Stitched.{boundary_at, scalar, tap_ports, test_logic_nets}
+use Rattle.stitch_rows.specs.stitch_model.declared.TapNames.{TapNames}
+use Rattle.stitch_rows.specs.stitch_model.declared.TapPort.{TapPort}
+use Rattle.stitch_rows.specs.stitch_model.Sites.{sides_of}
+use Rattle.stitch_rows.specs.stitch_model.Stitched.{boundary_at, scalar, tap_ports, test_logic_nets}
 use Rattle.strip_model.specs.Core.{is_own_wire}
 use Rattle.strip_core.specs.Pairs.{pairs_of}
 use Rattle.strip_core.proofs.Undone.{cell_undone}

@@ -6,12 +6,12 @@ use Rattle.netlist_model.specs.declared.Feed.{Feed}
 use Rattle.netlist_model.specs.declared.Feed.TheVariants.{Net}
 use Rattle.netlist_model.specs.Settled.{is_output}
 use Rattle.plan_fitting.specs.declared.fitted.FitRow.{FitRow}
-use Rattle.stitch_model.specs.declared.Site.{Site}
-use Rattle.stitch_model.specs.declared.Site.TheVariants as site
-use Rattle.stitch_model.specs.Sites.{Boundary, row_net, site_of, side_count, row_sides, sides_of}
-use Rattle.stitch_model.specs.Sides.{is_moved, moves, side_from, core_feed}
-use Rattle.stitch_model.specs.Rows.{net_at}
-use Rattle.stitch_model.proofs.Moves.{output_is, moved_here, moved_on, side_range}
+use Rattle.stitch_rows.specs.stitch_model.declared.Site.{Site}
+use Rattle.stitch_rows.specs.stitch_model.declared.Site.TheVariants as site
+use Rattle.stitch_rows.specs.stitch_model.Sites.{Boundary, row_net, site_of, side_count, row_sides, sides_of}
+use Rattle.stitch_rows.specs.stitch_model.Sides.{is_moved, moves, side_from, core_feed}
+use Rattle.stitch_rows.specs.stitch_model.Rows.{net_at}
+use Rattle.stitch_rows.proofs.stitch_model.Moves.{output_is, moved_here, moved_on, side_range}
 use Rattle.strip_core.specs.Pairs.{Pair, pair, pair_at, pairs_from, find_pair}
 
 -- A pair before others.

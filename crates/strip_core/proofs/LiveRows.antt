@@ -10,12 +10,12 @@ use Rattle.netlist_model.specs.Settled.{is_output}
 use Rattle.plan_fitting.specs.declared.fitted.FitRow.{FitRow}
 use Rattle.plan_fitting.specs.declared.fitted.Fitted.{Fitted}
 use Rattle.plan_fitting.specs.Devices.{fitted_of}
-use Rattle.stitch_model.specs.declared.Site.{Site}
-use Rattle.stitch_model.specs.declared.Site.TheVariants as site
-use Rattle.stitch_model.specs.Sites.{row_net, site_of}
-use Rattle.stitch_model.specs.Sides.{is_driven, drives}
-use Rattle.stitch_model.specs.Stitched.{boundary_at}
-use Rattle.stitch_model.proofs.Moves.{output_is}
+use Rattle.stitch_rows.specs.stitch_model.declared.Site.{Site}
+use Rattle.stitch_rows.specs.stitch_model.declared.Site.TheVariants as site
+use Rattle.stitch_rows.specs.stitch_model.Sites.{row_net, site_of}
+use Rattle.stitch_rows.specs.stitch_model.Sides.{is_driven, drives}
+use Rattle.stitch_rows.specs.stitch_model.Stitched.{boundary_at}
+use Rattle.stitch_rows.proofs.stitch_model.Moves.{output_is}
 use Rattle.stitch_rows.specs.Rows.{HasGate, HasControl, StandsAt, at_observed, at_input, at_output, at_added, at_driver, at_inout, at_control, RowsStandSomewhere}
 use Rattle.strip_core.specs.Pairs.{IsFeedUnder, IsDriverOf}
 use Rattle.strip_core.specs.Ready.{FittedCanBeUndone}

@@ -14,11 +14,11 @@ use Rattle.test_logic.specs.declared.ScanNets.{ScanNets}
 use Rattle.boundary_cells.specs.ThreeState.{bidir_cells}
 use Rattle.plan_fitting.specs.declared.fitted.FitRow.{FitRow}
 use Rattle.netlist_unlink.specs.Trees.{Naming, items_from}
-use Rattle.stitch_model.specs.declared.Site.{Site}
-use Rattle.stitch_model.specs.declared.Site.TheVariants as site
-use Rattle.stitch_model.specs.Sites.{Boundary, site_by, side_count}
-use Rattle.stitch_model.specs.Sides.{core_feed}
-use Rattle.stitch_model.specs.Rows.{site_cells, enable_of, is_active_high, net_at}
+use Rattle.stitch_rows.specs.stitch_model.declared.Site.{Site}
+use Rattle.stitch_rows.specs.stitch_model.declared.Site.TheVariants as site
+use Rattle.stitch_rows.specs.stitch_model.Sites.{Boundary, site_by, side_count}
+use Rattle.stitch_rows.specs.stitch_model.Sides.{core_feed}
+use Rattle.stitch_rows.specs.stitch_model.Rows.{site_cells, enable_of, is_active_high, net_at}
 use Rattle.strip_model.specs.declared.Side.{Side}
 use Rattle.strip_model.specs.Sides.{stand_at}
 use Rattle.strip_core.specs.Pairs.{Pair, pair_at}

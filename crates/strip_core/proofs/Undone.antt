@@ -8,11 +8,11 @@ use Rattle.netlist_model.specs.declared.Feed.TheVariants.{Net, Const}
 use Rattle.netlist_model.specs.Lists.{CellView}
 use Rattle.netlist_images.specs.Nested.{renamed_net, renamed_feed}
 use Rattle.plan_fitting.specs.declared.fitted.FitRow.{FitRow}
-use Rattle.stitch_model.specs.declared.Site.{Site}
-use Rattle.stitch_model.specs.declared.Site.TheVariants as site
-use Rattle.stitch_model.specs.Sites.{Boundary, site_of, row_sides, sides_of, side_at}
-use Rattle.stitch_model.specs.Sides.{is_driven, drives, level_net, driver_feeds, feeds_from, feeds_behind, core_side, core_cell, core_feed}
-use Rattle.stitch_model.proofs.Moves.{sides_cons, fed_here, fed_on}
+use Rattle.stitch_rows.specs.stitch_model.declared.Site.{Site}
+use Rattle.stitch_rows.specs.stitch_model.declared.Site.TheVariants as site
+use Rattle.stitch_rows.specs.stitch_model.Sites.{Boundary, site_of, row_sides, sides_of, side_at}
+use Rattle.stitch_rows.specs.stitch_model.Sides.{is_driven, drives, level_net, driver_feeds, feeds_from, feeds_behind, core_side, core_cell, core_feed}
+use Rattle.stitch_rows.proofs.stitch_model.Moves.{sides_cons, fed_here, fed_on}
 use Rattle.strip_core.specs.Pairs.{pair, pair_at, pairs_from, pairs_of, find_pair, once, twice, IsUndone, IsFeedUnder, CanBeUndone}
 use Rattle.strip_core.proofs.FoundPairs.{find_here, find_past, find_below, moved_found}
 

@@ -10,11 +10,11 @@ use Rattle.plan_fitting.specs.declared.fitted.FitRow.{FitRow}
 use Rattle.plan_fitting.specs.declared.fitted.Fitted.{Fitted}
 use Rattle.plan_fitting.specs.Devices.{cell_row}
 use Rattle.netlist_unlink.specs.Trees.{Naming, item_of, items_from}
-use Rattle.stitch_model.specs.declared.Site.{Site}
-use Rattle.stitch_model.specs.declared.Site.TheVariants as site
-use Rattle.stitch_model.specs.Sites.{Boundary, row_net, is_own_net, site_of, row_sides, sides_of}
-use Rattle.stitch_model.specs.Rows.{row_cells, rows_cells, nets_of_rows, last_bit}
-use Rattle.stitch_model.proofs.Moves.{sides_cons}
+use Rattle.stitch_rows.specs.stitch_model.declared.Site.{Site}
+use Rattle.stitch_rows.specs.stitch_model.declared.Site.TheVariants as site
+use Rattle.stitch_rows.specs.stitch_model.Sites.{Boundary, row_net, is_own_net, site_of, row_sides, sides_of}
+use Rattle.stitch_rows.specs.stitch_model.Rows.{row_cells, rows_cells, nets_of_rows, last_bit}
+use Rattle.stitch_rows.proofs.stitch_model.Moves.{sides_cons}
 use Rattle.strip_model.specs.declared.Side.{Side}
 use Rattle.strip_model.specs.declared.Stand.{Stand}
 use Rattle.strip_model.specs.Sides.{stand_at, sides_in, with_side}

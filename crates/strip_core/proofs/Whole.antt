@@ -14,14 +14,14 @@ use Rattle.plan_fitting.specs.declared.fitted.FitRow.{FitRow}
 use Rattle.plan_fitting.specs.declared.fitted.Fitted.{Fitted}
 use Rattle.netlist_unlink.specs.Rows.{rows}
 use Rattle.netlist_unlink.specs.Trees.{original}
-use Rattle.stitch_model.specs.declared.TapNames.{TapNames}
-use Rattle.stitch_model.specs.Sites.{Boundary, site_of, side_count, row_sides, sides_of}
-use Rattle.stitch_model.specs.Sides.{core_feed}
-use Rattle.stitch_model.specs.declared.Site.{Site}
-use Rattle.stitch_model.specs.declared.Site.TheVariants as site
-use Rattle.stitch_model.specs.Rows.{net_at}
-use Rattle.stitch_model.specs.Stitched.{boundary_at, tap_net_views, test_logic_nets}
-use Rattle.stitch_model.proofs.Moves.{sides_cons}
+use Rattle.stitch_rows.specs.stitch_model.declared.TapNames.{TapNames}
+use Rattle.stitch_rows.specs.stitch_model.Sites.{Boundary, site_of, side_count, row_sides, sides_of}
+use Rattle.stitch_rows.specs.stitch_model.Sides.{core_feed}
+use Rattle.stitch_rows.specs.stitch_model.declared.Site.{Site}
+use Rattle.stitch_rows.specs.stitch_model.declared.Site.TheVariants as site
+use Rattle.stitch_rows.specs.stitch_model.Rows.{net_at}
+use Rattle.stitch_rows.specs.stitch_model.Stitched.{boundary_at, tap_net_views, test_logic_nets}
+use Rattle.stitch_rows.proofs.stitch_model.Moves.{sides_cons}
 use Rattle.strip_model.specs.Core.{begins}
 use Rattle.strip_core.specs.Pairs.{Pair, pair_at, pairs_from}
 use Rattle.strip_core.specs.Told.{IsOwn, CanBeTold}

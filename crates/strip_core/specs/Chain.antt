@@ -9,8 +9,8 @@ use Rattle.plan_fitting.specs.declared.fitted.FitRow.{FitRow}
 use Rattle.plan_fitting.specs.declared.fitted.Fitted.{Fitted}
 use Rattle.plan_fitting.specs.Devices.{cell_row}
 use Rattle.netlist_unlink.specs.Trees.{Naming, added, operand_of, items_from}
-use Rattle.stitch_model.specs.Sites.{Boundary, sides_of}
-use Rattle.stitch_model.specs.Rows.{rows_cells}
+use Rattle.stitch_rows.specs.stitch_model.Sites.{Boundary, sides_of}
+use Rattle.stitch_rows.specs.stitch_model.Rows.{rows_cells}
 use Rattle.strip_model.specs.declared.Side.{Side}
 use Rattle.strip_model.specs.Sides.{sides_in}
 use Rattle.strip_core.specs.Pairs.{Pair, pairs_from}

@@ -8,11 +8,11 @@ use Rattle.netlist_model.specs.declared.Feed.{Feed}
 use Rattle.netlist_model.specs.declared.Feed.TheVariants.{Net, Const}
 use Rattle.netlist_model.specs.Lists.{CellView}
 use Rattle.plan_fitting.specs.declared.fitted.FitRow.{FitRow}
-use Rattle.stitch_model.specs.declared.Site.{Site}
-use Rattle.stitch_model.specs.declared.Site.TheVariants as site
-use Rattle.stitch_model.specs.Sites.{Boundary, site_of, row_sides}
-use Rattle.stitch_model.specs.Sides.{core_feed, core_cell, drives}
-use Rattle.stitch_model.specs.Rows.{net_at}
+use Rattle.stitch_rows.specs.stitch_model.declared.Site.{Site}
+use Rattle.stitch_rows.specs.stitch_model.declared.Site.TheVariants as site
+use Rattle.stitch_rows.specs.stitch_model.Sites.{Boundary, site_of, row_sides}
+use Rattle.stitch_rows.specs.stitch_model.Sides.{core_feed, core_cell, drives}
+use Rattle.stitch_rows.specs.stitch_model.Rows.{net_at}
 
 -- own: a net, and what the core had in its place
 pub record Pair : Type 0 where

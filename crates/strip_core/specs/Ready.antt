@@ -7,8 +7,8 @@ use Rattle.netlist_link.specs.Linked.{LinkedView}
 use Rattle.plan_texts.specs.declared.plan.Plan.{Plan}
 use Rattle.plan_fitting.specs.Pins.{PinSeen}
 use Rattle.plan_fitting.specs.Devices.{fitted_of}
-use Rattle.plan_devices.specs.FittingPlan.{IsFitting}
-use Rattle.stitch_model.specs.Stitched.{boundary_at}
+use Rattle.stitch_rows.specs.plan_devices.FittingPlan.{IsFitting}
+use Rattle.stitch_rows.specs.stitch_model.Stitched.{boundary_at}
 use Rattle.strip_core.specs.Pairs.{CanBeUndone}
 
 abbrev pub FittedCanBeUndone : Type 0

@@ -12,8 +12,8 @@ use Rattle.netlist_link.specs.Linked.{LinkedView}
 use Rattle.plan_fitting.specs.declared.fitted.Fitted.{Fitted}
 use Rattle.plan_fitting.specs.Devices.{cell_row}
 use Rattle.netlist_unlink.specs.Trees.{original, naming_of, tree_of}
-use Rattle.stitch_model.specs.declared.TapNames.{TapNames}
-use Rattle.stitch_model.specs.Stitched.{boundary_at, stitched}
+use Rattle.stitch_rows.specs.stitch_model.declared.TapNames.{TapNames}
+use Rattle.stitch_rows.specs.stitch_model.Stitched.{boundary_at, stitched}
 use Rattle.strip_model.specs.declared.Side.{Side}
 use Rattle.strip_model.specs.Sides.{sides}
 use Rattle.strip_model.specs.Core.{begins, core_module}

@@ -29,11 +29,11 @@ use Rattle.plan_fitting.specs.Names.{port_names, net_names, name_of_cell, cell_n
 use Rattle.plan_fitting.specs.Fits.{missing_fault, bit_fault, twice_fault, cell_fault, barred_after, tap_lines, names_of, begun_fault, fault_with}
 use Rattle.first_faults.specs.First.{or_else, first_in}
 use Rattle.plan_fitting.specs.Devices.{fitted_of, device_of_fitted}
-use Rattle.stitch_model.specs.declared.TapNames.{TapNames}
-use Rattle.stitch_model.specs.Stitched.{live_cells, same_place, tap_port, tap_ports, tap_net_views, test_logic_nets, test_logic_cells, stitched}
-use Rattle.stitch_model.specs.Sites.{Boundary, sides_of}
-use Rattle.stitch_model.specs.Sides.{core_cell}
-use Rattle.stitch_names.specs.Prepared.{room_of, ports_of, with_tap_names, AreTapNames}
+use Rattle.inserted_netlists.specs.stitch_model.declared.TapNames.{TapNames}
+use Rattle.inserted_netlists.specs.stitch_model.Stitched.{live_cells, same_place, tap_port, tap_ports, tap_net_views, test_logic_nets, test_logic_cells, stitched}
+use Rattle.inserted_netlists.specs.stitch_model.Sites.{Boundary, sides_of}
+use Rattle.inserted_netlists.specs.stitch_model.Sides.{core_cell}
+use Rattle.inserted_netlists.specs.stitch_names.Prepared.{room_of, ports_of, with_tap_names, AreTapNames}
 use Rattle.inserted_netlists.specs.Inserted.{with_test_logic}
 use Rattle.strip_gives.specs.Gives.{GivesAt}
 use Rattle.strip_gives.proofs.Same.{SameLists, turned, filtered, drivers_same, counted, clock_port, control_port}

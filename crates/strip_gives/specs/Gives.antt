@@ -14,8 +14,8 @@ use Rattle.plan_texts.specs.declared.plan.Plan.{Plan}
 use Rattle.plan_texts.specs.Canonical.{IsPlan}
 use Rattle.plan_fitting.specs.Fits.{Fits}
 use Rattle.plan_fitting.specs.Devices.{fitted_of, device_of}
-use Rattle.stitch_model.specs.declared.TapNames.{TapNames}
-use Rattle.stitch_names.specs.Prepared.{room_of, ports_of, with_tap_names, AreTapNames}
+use Rattle.inserted_netlists.specs.stitch_model.declared.TapNames.{TapNames}
+use Rattle.inserted_netlists.specs.stitch_names.Prepared.{room_of, ports_of, with_tap_names, AreTapNames}
 use Rattle.inserted_netlists.specs.Inserted.{with_test_logic}
 
 -- own: the plan fits the netlist, in which there is room; the netlist with the test logic is written as this module,

@@ -1,2 +1,3 @@
+pub use Rattle.inserted_netlists.specs as inserted_netlists
 pub mod Gives
 pub mod Laid

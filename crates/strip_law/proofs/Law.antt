@@ -16,7 +16,7 @@ use Rattle.stitch_names.specs.Prepared.{room_of, ports_of, with_tap_names, AreTa
 use Rattle.strip_plans.specs.Told.{told_plan, SameIsFitted}
 use Rattle.strip_plans.specs.Again.{ToldPlanFits}
 use Rattle.strip_plans.specs.Spell.{ToldPlanIsSpelled}
-use Rattle.inserted_netlists.specs.Inserted.{with_test_logic}
+use Rattle.strip_gives.specs.inserted_netlists.Inserted.{with_test_logic}
 use Rattle.strip_gives.specs.Laid.{LinkViewIsLaidOut}
 use Rattle.strip_law.specs.Law.{RecoveredIsTheNetlist, LawOfStripping, OneNetlistGives}
 use Rattle.link_model.specs.Denoted.{denoted}

@@ -11,7 +11,7 @@ use Rattle.plan_fitting.specs.Pins.{PinSeen}
 use Rattle.plan_fitting.specs.Devices.{fitted_of, device_of}
 use Rattle.plan_devices.specs.FittingPlan.{IsFitting}
 use Rattle.plan_devices.specs.Laws.{FittedIsFitting}
-use Rattle.stitch_model.specs.Stitched.{stitched}
+use Rattle.strip_core.specs.stitch_model.Stitched.{stitched}
 use Rattle.stitch_names.specs.Prepared.{room_of, ports_of, with_tap_names}
 use Rattle.stitch_names.specs.Taken.{StitchedFitsRoom}
 use Rattle.strip_gives.specs.Laid.{LinkViewIsLaidOut}

@@ -13,8 +13,8 @@ use Rattle.plan_texts.specs.declared.plan.Plan.{Plan}
 use Rattle.plan_fitting.specs.Pins.{PinSeen}
 use Rattle.plan_fitting.specs.Devices.{fitted_of}
 use Rattle.plan_devices.specs.FittingPlan.{IsFitting}
-use Rattle.stitch_model.specs.declared.TapNames.{TapNames}
-use Rattle.stitch_model.specs.Stitched.{stitched}
+use Rattle.strip_core.specs.stitch_model.declared.TapNames.{TapNames}
+use Rattle.strip_core.specs.stitch_model.Stitched.{stitched}
 use Rattle.stitch_names.specs.Prepared.{with_tap_names, AreTapNames}
 use Rattle.strip_model.specs.Recovered.{recovered}
 use Rattle.strip_core.specs.Told.{CanBeTold}

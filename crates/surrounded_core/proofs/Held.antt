@@ -8,9 +8,9 @@ use Rattle.netlist_model.specs.declared.Dir.{Dir}
 use Rattle.netlist_model.specs.Lists.{PortView, direction}
 use Rattle.netlist_model.specs.Settled.{follows_pin}
 use Rattle.wrapped_chip.specs.Realises.{SameBit}
-use Rattle.bsdl_device.specs.declared.values.CellRow.{CellRow}
-use Rattle.test_logic.specs.Registers.{shifted}
-use Rattle.test_logic.specs.Machine.{in_effect}
+use Rattle.wrapped_chip.specs.bsdl_device.declared.values.CellRow.{CellRow}
+use Rattle.wrapped_chip.specs.test_logic.Registers.{shifted}
+use Rattle.wrapped_chip.specs.test_logic.Machine.{in_effect}
 use Rattle.boundary_cells.specs.Laws.{CarriesMode}
 use Rattle.boundary_cells.specs.MachineRows.{bit_at}
 use Rattle.boundary_runs.specs.Rows.{IsRowOf, IsSteered, HoldsRow}

@@ -15,19 +15,19 @@ use Rattle.netlist_model.specs.declared.Feed.{Feed}
 use Rattle.netlist_model.specs.Lists.{NetlistView}
 use Rattle.netlist_model.specs.Settled.{IsSettled}
 use Rattle.netlist_model.specs.Runs.{Moment, PinEvent, IsStep, FlopsStart}
-use Rattle.bsdl_device.specs.declared.values.CellRow.{CellRow}
-use Rattle.bsdl_device.specs.declared.values.Device.{Device}
-use Rattle.test_logic.specs.declared.Codes.{Codes}
-use Rattle.test_logic.specs.declared.Levels.{Levels}
-use Rattle.test_logic.specs.declared.TapState.{TapState}
-use Rattle.test_logic.specs.declared.TapState.TheVariants.{TestLogicReset}
-use Rattle.test_logic.specs.Instructions.{bits_of, pattern, reset_opcode}
-use Rattle.test_logic.specs.Registers.{latched_after}
-use Rattle.test_logic.specs.Rises.{is_rise, rises, RisesWithOnes}
-use Rattle.test_logic.specs.Machine.{Machine, TestLogic, reset, edge_of, clocked, step_under, machine_step, test_logic_of, code_bits}
+use Rattle.wrapped_chip.specs.bsdl_device.declared.values.CellRow.{CellRow}
+use Rattle.wrapped_chip.specs.bsdl_device.declared.values.Device.{Device}
+use Rattle.wrapped_chip.specs.test_logic.declared.Codes.{Codes}
+use Rattle.wrapped_chip.specs.test_logic.declared.Levels.{Levels}
+use Rattle.wrapped_chip.specs.test_logic.declared.TapState.{TapState}
+use Rattle.wrapped_chip.specs.test_logic.declared.TapState.TheVariants.{TestLogicReset}
+use Rattle.wrapped_chip.specs.test_logic.Instructions.{bits_of, pattern, reset_opcode}
+use Rattle.wrapped_chip.specs.test_logic.Registers.{latched_after}
+use Rattle.wrapped_chip.specs.test_logic.Rises.{is_rise, rises, RisesWithOnes}
+use Rattle.wrapped_chip.specs.test_logic.Machine.{Machine, TestLogic, reset, edge_of, clocked, step_under, machine_step, test_logic_of, code_bits}
 use Rattle.tap_gates.specs.Laws.{HoldsState}
 use Rattle.tap_gates.specs.Home.{IsCourse, HoldsBits, TapFindsHome}
-use Rattle.register_bits.specs.Chains.{chain_values}
+use Rattle.boundary_cells.specs.register_bits.Chains.{chain_values}
 use Rattle.instruction_register.specs.register_gates.Constants.{ConstantsAreBits}
 use Rattle.instruction_register.specs.register_gates.Registers.{user_size}
 use Rattle.instruction_register.specs.register_gates.Laws.{IdentFollows}

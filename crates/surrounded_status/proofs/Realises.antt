@@ -17,7 +17,7 @@ use Rattle.wrapped_chip.specs.Realises.{IsRunBeside}
 use Rattle.status_parts.specs.surrounded_core.Places.{Places, selection_nets}
 use Rattle.status_parts.specs.surrounded_core.Surrounds.{SurroundsBy}
 use Rattle.status_parts.specs.surrounded_core.Open.{FollowsChip, SurroundedFollows}
-use Rattle.status_fitting.specs.declared.fitted.FittedRegister.{FittedRegister}
+use Rattle.status_parts.specs.status_fitting.declared.fitted.FittedRegister.{FittedRegister}
 use Rattle.status_parts.specs.status_runs.Extended.{StatusRegister, is_latched, tdo_at}
 use Rattle.status_parts.specs.status_runs.Placed.{Placed, IsPlaced, IsFree, shown_by}
 use Rattle.status_parts.specs.status_runs.Laws.{ExtendedTdoFollows}

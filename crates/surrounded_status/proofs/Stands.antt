@@ -15,7 +15,7 @@ use Rattle.instruction_gates.specs.Copies.{row_values}
 use Rattle.instruction_gates.specs.Matches.{AreKnown}
 use Rattle.status_parts.specs.surrounded_core.Places.{Places, selection_nets}
 use Rattle.status_parts.specs.surrounded_core.Surrounds.{SurroundsBy}
-use Rattle.status_fitting.specs.declared.fitted.FittedRegister.{FittedRegister}
+use Rattle.status_parts.specs.status_fitting.declared.fitted.FittedRegister.{FittedRegister}
 use Rattle.status_parts.specs.status_runs.Extended.{StatusRegister, is_latched}
 use Rattle.status_parts.specs.status_runs.Placed.{Placed, IsPlaced}
 use Rattle.status_parts.specs.status_gates.Opcodes.{AreInverses, InversesTell}

@@ -7,7 +7,7 @@ use Rattle.bsdl_device.specs.declared.values.Device.{Device}
 use Rattle.wrapped_chip.specs.Legal.{HasControls}
 use Rattle.status_parts.specs.surrounded_core.Places.{Places}
 use Rattle.status_parts.specs.surrounded_core.Surrounds.{SurroundsBy}
-use Rattle.status_fitting.specs.declared.fitted.FittedRegister.{FittedRegister}
+use Rattle.status_parts.specs.status_fitting.declared.fitted.FittedRegister.{FittedRegister}
 use Rattle.status_parts.specs.Laws.{status_of}
 use Rattle.surrounded_status.specs.Realises.{RealisesStatus}
 use Rattle.surrounded_status.specs.Stands.{FitsBeside, HoldsRegisters}

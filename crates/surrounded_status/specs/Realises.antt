@@ -7,7 +7,7 @@ use Rattle.bsdl_device.specs.declared.values.Device.{Device}
 use Rattle.wrapped_chip.specs.ChipRuns.{ChipMoment}
 use Rattle.wrapped_chip.specs.Realises.{RealisesBy}
 use Rattle.status_parts.specs.status_runs.Extended.{tdo_at}
-use Rattle.status_fitting.specs.declared.fitted.FittedRegister.{FittedRegister}
+use Rattle.status_parts.specs.status_fitting.declared.fitted.FittedRegister.{FittedRegister}
 use Rattle.status_parts.specs.Laws.{status_of}
 
 -- TDO at each moment of a run of the chip, where these registers stand beside the base device's

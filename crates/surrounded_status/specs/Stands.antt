@@ -8,7 +8,7 @@ use Rattle.netlist_model.specs.Contained.{HasCells}
 use Rattle.netlist_model.specs.Runs.{Moment}
 use Rattle.bsdl_device.specs.declared.values.Device.{Device}
 use Rattle.status_parts.specs.surrounded_core.Places.{Places, controller_nets, selection_nets, bypass_bit}
-use Rattle.status_fitting.specs.declared.fitted.FittedRegister.{FittedRegister}
+use Rattle.status_parts.specs.status_fitting.declared.fitted.FittedRegister.{FittedRegister}
 use Rattle.status_parts.specs.status_runs.Extended.{StatusRegister}
 use Rattle.status_parts.specs.status_runs.Placed.{IsCoreWire, IsFree}
 use Rattle.status_parts.specs.status_gates.Opcodes.{inverses_cells}

@@ -1,9 +1,9 @@
 -- The controller's cells follow the test logic.
 use Rattle.std.proofs.Common.{◌≡◌, ℕ, zero, suc, ◌+◌, ◌≤◌, Bool, true, false, List, [], ◌∷◌, length, refl, ap, ◌∙◌, arith}
 use Rattle.std.specs.Prelude.{Some, slice_get, if◌then◌else◌}
-use Rattle.signal_values.specs.declared.Sig.{Sig}
-use Rattle.signal_values.specs.declared.Sig.TheVariants.{Zero, One}
-use Rattle.signal_values.specs.Values.{bit}
+use Rattle.test_logic.specs.signal_values.declared.Sig.{Sig}
+use Rattle.test_logic.specs.signal_values.declared.Sig.TheVariants.{Zero, One}
+use Rattle.test_logic.specs.signal_values.Values.{bit}
 use Rattle.test_logic.specs.cell_library.declared.Kind.TheVariants.{Flop}
 use Rattle.test_logic.specs.cell_library.declared.FlopKind.{FlopKind}
 use Rattle.test_logic.specs.cell_library.declared.Edge.TheVariants.{Rise}

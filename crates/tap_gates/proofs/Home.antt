@@ -1,8 +1,8 @@
 -- From any bits: with TMS at 1 each state that a flip-flop stands for comes nearer to Test-Logic-Reset, and no state leads there too.
 use Rattle.std.proofs.Common.{◌≡◌, ℕ, zero, suc, ◌+◌, ◌<◌, ◌≤◌, ◌⊎◌, Bool, true, false, not, ◌&&◌, ◌||◌, if◌then◌else◌, List, [], ◌∷◌, length, Some, refl, sym, ap, ◌∙◌, inl, inr, arith}
 use Rattle.std.specs.Prelude.{slice_get}
-use Rattle.signal_values.specs.declared.Sig.{Sig}
-use Rattle.signal_values.specs.Values.{bit}
+use Rattle.test_logic.specs.signal_values.declared.Sig.{Sig}
+use Rattle.test_logic.specs.signal_values.Values.{bit}
 use Rattle.test_logic.specs.cell_library.Flops.{reset_or}
 use Rattle.test_logic.specs.cell_library.Gates.{flop_of}
 use Rattle.test_logic.specs.cell_library.Laws.{IsKnown}

@@ -2,8 +2,8 @@
 -- IEEE Std 1149.1-2001: TAP controller (five rising edges of TCK with TMS at 1); what sixteen flip-flops
 -- may hold is own.
 use Rattle.std.specs.Prelude.{◌≡◌, ℕ, suc, ◌≤◌, true, false, List, length, slice_get, Some}
-use Rattle.signal_values.specs.declared.Sig.{Sig}
-use Rattle.signal_values.specs.declared.Sig.TheVariants.{Zero}
+use Rattle.test_logic.specs.signal_values.declared.Sig.{Sig}
+use Rattle.test_logic.specs.signal_values.declared.Sig.TheVariants.{Zero}
 use Rattle.test_logic.specs.cell_library.declared.FlopKind.{FlopKind}
 use Rattle.test_logic.specs.cell_library.Gates.{flop_of}
 use Rattle.test_logic.specs.cell_library.Laws.{IsKnown}

@@ -1,3 +1,4 @@
+pub use Rattle.verilog_lexicon.specs as verilog_lexicon
 pub mod Canonical
 pub mod IsTree
 pub mod Sources

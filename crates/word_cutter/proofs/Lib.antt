@@ -1,3 +1,4 @@
+pub use Rattle.list_laws.proofs as list_laws
 pub mod Runs
 pub mod Language
 pub mod KeptWords

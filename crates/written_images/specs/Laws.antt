@@ -6,8 +6,8 @@ use Rattle.netlist_model.specs.Lists.{CellView, NetlistView, cell_at}
 use Rattle.netlist_model.specs.Formed.{IsLaidOut}
 use Rattle.netlist_model.specs.Contained.{IsDense}
 use Rattle.link_model.specs.Denoted.{IsNamed, denoted}
-use Rattle.netlist_link.specs.Linked.{LinkedView}
-use Rattle.netlist_link.specs.Links.{IsLinkOf}
+use Rattle.netlist_unlink.specs.netlist_link.Linked.{LinkedView}
+use Rattle.netlist_unlink.specs.netlist_link.Links.{IsLinkOf}
 use Rattle.netlist_unlink.specs.Trees.{Naming}
 use Rattle.netlist_unlink.specs.Renumbered.{net_order, place_of, IsWritten, IsWrittenAs}
 use Rattle.netlist_images.specs.Renumbered.{IsRenumbering}

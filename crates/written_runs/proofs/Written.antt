@@ -6,14 +6,14 @@ use Rattle.netlist_model.specs.Lists.{NetlistView, cell_at}
 use Rattle.netlist_model.specs.Formed.{IsLaidOut, IsWellFormed}
 use Rattle.netlist_link.specs.Linked.{LinkedView}
 use Rattle.netlist_link.specs.Links.{IsLinkOf}
-use Rattle.netlist_unlink.specs.Renumbered.{IsWrittenAs}
+use Rattle.stitch_texts.specs.netlist_unlink.Renumbered.{IsWrittenAs}
 use Rattle.wrapped_chip.specs.Realises.{Realises, Alone}
 use Rattle.wrapped_chip.specs.Legal.{HasControls}
 use Rattle.wrapped_chip.specs.Home.{FindsHome, HomeIsAlone}
 use Rattle.realised_copies.specs.Laws.{KeepsNumbers, RenumberedRealises, RenumberedAlone, RenumberedControls, RenumberedFindsHome}
 use Rattle.plan_texts.specs.declared.plan.Plan.{Plan}
-use Rattle.plan_fitting.specs.declared.fitted.Fitted.{Fitted}
-use Rattle.plan_fitting.specs.Devices.{device_of}
+use Rattle.stitch_runs.specs.plan_fitting.declared.fitted.Fitted.{Fitted}
+use Rattle.stitch_runs.specs.plan_fitting.Devices.{device_of}
 use Rattle.stitch_runs.specs.plan_devices.FittingPlan.{IsFitting}
 use Rattle.stitch_runs.specs.plan_devices.Laws.{FittedIsFitting, PlansSuitNetlists}
 use Rattle.stitch_runs.specs.stitch_model.declared.TapNames.{TapNames}

@@ -7,13 +7,13 @@ use Rattle.verilog_tree.specs.declared.tree.Module.{Module}
 use Rattle.netlist_model.specs.Formed.{IsLaidOut}
 use Rattle.netlist_link.specs.Linked.{LinkedView}
 use Rattle.netlist_link.specs.Links.{IsLinkOf}
-use Rattle.netlist_unlink.specs.Renumbered.{IsWrittenAs}
+use Rattle.stitch_texts.specs.netlist_unlink.Renumbered.{IsWrittenAs}
 use Rattle.wrapped_chip.specs.Realises.{Realises, Alone}
 use Rattle.wrapped_chip.specs.Legal.{HasControls}
 use Rattle.wrapped_chip.specs.Home.{FindsHome, AloneFromHome}
 use Rattle.plan_texts.specs.declared.plan.Plan.{Plan}
-use Rattle.plan_fitting.specs.declared.fitted.Fitted.{Fitted}
-use Rattle.plan_fitting.specs.Devices.{device_of}
+use Rattle.stitch_runs.specs.plan_fitting.declared.fitted.Fitted.{Fitted}
+use Rattle.stitch_runs.specs.plan_fitting.Devices.{device_of}
 use Rattle.stitch_texts.specs.Laws.{IsStitching}
 
 -- through any events that are legal in the chip every pin reads as the chip's, and the core's flip-flops hold

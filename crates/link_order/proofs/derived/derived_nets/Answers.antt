@@ -1,6 +1,6 @@
 use Rattle.std.proofs.Common.{◌≡◌, ◌∙◌, sym, ap, length}
 use Rattle.std.proofs.lemmas.List.{length-map}
-use Rattle.list_laws.proofs.Lists.{front_of}
+use Rattle.link_drivers.proofs.list_laws.Lists.{front_of}
 use Rattle.link_drivers.specs.link_model.Faults.{cells_in}
 use Rattle.link_order.specs.Cones.{is_inout_net}
 use Rattle.link_order.proofs.Cells.{kept}
