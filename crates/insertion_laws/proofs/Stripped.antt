@@ -9,7 +9,7 @@ use Rattle.insertion_laws.specs.Laws.{InsertionGives, InsertionIsStripped, Inser
 
 pub insertion : InsertionGives
 insertion library net plan verilog bsdl report i = record {
-  is = i.is.is;
+  is = i.can_be_written;
   listed = subst IsLibrary (sym i.is.library_is) i.is.listed;
   links = i.is.links;
   plan = (plan, i.is.spells_plan);

@@ -1,21 +1,22 @@
 -- What an insertion wrote belongs together.
 use Rattle.std.proofs.Common.{refl, sym, subst}
 use Rattle.cell_library.specs.Sound.{IsLibrary}
+use Rattle.verilog_reading.specs.Conditions.{SpelledTreesKeepConditions}
 use Rattle.plan_fitting.specs.Devices.{fitted_of, device_of}
 use Rattle.plan_devices.specs.Laws.{FittedIsFitting}
 use Rattle.insertion_laws.specs.Laws.{InsertionsBelongTogether}
 
-pub insertions_belong_together : FittedIsFitting → InsertionsBelongTogether
-insertions_belong_together fitting library net plan verilog bsdl report i = record {
+pub insertions_belong_together : FittedIsFitting → SpelledTreesKeepConditions → InsertionsBelongTogether
+insertions_belong_together fitting keep library net plan verilog bsdl i = record {
   linked = i.written;
   read = record { tree = i.written_tree; spells = i.spells_written; listed = i.listed; library_is = i.written_library; links = i.links_written };
   device = device_of i.linked i.wanted i.fits.seen;
-  spells = i.device.spells;
+  spells = i.spells_device;
   chip = record {
     core = i.linked;
     plan = i.wanted;
     seen = i.fits.seen;
-    fits = fitting i.tree i.linked i.wanted (fitted_of i.linked i.wanted i.fits.seen) i.is (subst IsLibrary (sym i.library_is) i.listed) i.links (plan, i.spells_plan)
+    fits = fitting i.tree i.linked i.wanted (fitted_of i.linked i.wanted i.fits.seen) (keep net i.tree i.spells) (subst IsLibrary (sym i.library_is) i.listed) i.links (plan, i.spells_plan)
         (record { seen = i.fits.seen; are_seen = i.fits.are_seen; faultless = i.fits.faultless; is = refl });
     device_is = refl;
     keeps = i.keeps;

@@ -36,4 +36,4 @@ InsertionComesBack = (library : List ListedCell) (net plan verilog bsdl report :
 
 -- what an insertion writes are texts that belong together
 abbrev pub InsertionsBelongTogether : Type 0
-InsertionsBelongTogether = (library : List ListedCell) (net plan verilog bsdl report : List ℕ) → IsInsertion library net plan verilog bsdl report → BelongTogether library verilog bsdl
+InsertionsBelongTogether = (library : List ListedCell) (net plan verilog bsdl : List ℕ) → IsInsertion library net plan verilog bsdl → BelongTogether library verilog bsdl

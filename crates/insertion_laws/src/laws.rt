@@ -21,4 +21,5 @@ pub fn insertions_belong_together()
     ensures { InsertionsBelongTogether }
 {
     fitted_is_fitting();
+    spelled_trees_keep_the_conditions();
 }

@@ -127,26 +127,31 @@ device_kept text before readied p f d made = subst IsDevice (sym made.device_is)
 
 -- The whole.
 
+-- what it tells
+report_made : (report : List ℕ) (before after written : LinkedView) (f : Fitted) (d e : Device) → report ≡ report_of (bit_count after.arena.lists.ports) f.kept d
+    → bit_count after.arena.lists.ports ≡ bit_count written.arena.lists.ports → f.kept ≡ cell_count before.arena.lists → d ≡ e
+    → report ≡ report_of (bit_count written.arena.lists.ports) (cell_count before.arena.lists) e
+report_made report before after written f d e told bits kept same =
+    told ∙ ap (λ (n : ℕ). report_of n f.kept d) bits ∙ ap (λ (n : ℕ). report_of (bit_count written.arena.lists.ports) n d) kept
+    ∙ ap (λ (other : Device). report_of (bit_count written.arena.lists.ports) (cell_count before.arena.lists) other) same
+
 -- what it does
-insertion_does : SpelledOnce → StitchedIsWritten → WrittenRealises → WrittenIsAlone → WrittenHasControls → WrittenFindsHome → WrittenIsAloneFromHome → (library : List ListedCell) (net text verilog bsdl report : List ℕ) (before after : LinkedView) (p : Plan) (f : Fitted) (d : Device) → (is : IsNetlistOf library net before)
+insertion_does : SpelledOnce → StitchedIsWritten → WrittenRealises → WrittenIsAlone → WrittenHasControls → WrittenFindsHome → WrittenIsAloneFromHome → (library : List ListedCell) (net text verilog bsdl : List ℕ) (before after : LinkedView) (p : Plan) (f : Fitted) (d : Device) → (is : IsNetlistOf library net before)
     → (s : IsStitching is.tree before p f after) → IsLaidOut after.arena.lists → SpellsPlan text p → d ≡ device_of before p s.fits.seen → IsNetlistText after p.prefix verilog → IsDeviceText d bsdl
-    → report ≡ report_of (bit_count after.arena.lists.ports) f.kept d → IsInsertion library net text verilog bsdl report
-insertion_does once law realise single steer find stay library net text verilog bsdl report before after p f d is s laid_after spelled device_is out device told =
+    → IsInsertion library net text verilog bsdl
+insertion_does once law realise single steer find stay library net text verilog bsdl before after p f d is s laid_after spelled device_is out device =
     let w : WritesStitched before p out.tree = law is.tree before p f after s out.tree out.is out.writes in
-    written_made once realise single steer find stay library net text verilog bsdl report before after p f d is s laid_after spelled device_is out device told w w.linked.0 w.linked.1 w.linked.2
+    written_made once realise single steer find stay library net text verilog bsdl before after p f d is s laid_after spelled device_is out device w w.linked.0 w.linked.1 w.linked.2
   where
-    written_made : SpelledOnce → WrittenRealises → WrittenIsAlone → WrittenHasControls → WrittenFindsHome → WrittenIsAloneFromHome → (library : List ListedCell) (net text verilog bsdl report : List ℕ) (before after : LinkedView) (p : Plan) (f : Fitted) (d : Device) → (is : IsNetlistOf library net before)
+    written_made : SpelledOnce → WrittenRealises → WrittenIsAlone → WrittenHasControls → WrittenFindsHome → WrittenIsAloneFromHome → (library : List ListedCell) (net text verilog bsdl : List ℕ) (before after : LinkedView) (p : Plan) (f : Fitted) (d : Device) → (is : IsNetlistOf library net before)
         → (s : IsStitching is.tree before p f after) → IsLaidOut after.arena.lists → SpellsPlan text p → d ≡ device_of before p s.fits.seen → (out : IsNetlistText after p.prefix verilog) → IsDeviceText d bsdl
-        → report ≡ report_of (bit_count after.arena.lists.ports) f.kept d → WritesStitched before p out.tree → (written : LinkedView)
-        → written.arena.lists.library ≡ before.arena.lists.library → IsLinkOf out.tree written → IsInsertion library net text verilog bsdl report
-    written_made once realise single steer find stay library net text verilog bsdl report before after p f d is s laid_after spelled device_is out device told w written same links =
-        let bits : bit_count after.arena.lists.ports ≡ bit_count written.arena.lists.ports = five_more before after f s.is ∙ sym (w.bits written same links) in
-        let kept : f.kept ≡ cell_count before.arena.lists = ap (λ (g : Fitted). g.kept) s.fits.is in
+        → WritesStitched before p out.tree → (written : LinkedView)
+        → written.arena.lists.library ≡ before.arena.lists.library → IsLinkOf out.tree written → IsInsertion library net text verilog bsdl
+    written_made once realise single steer find stay library net text verilog bsdl before after p f d is s laid_after spelled device_is out device w written same links =
         record {
           tree = is.tree;
           spells = is.spells;
           only = is.only;
-          is = is.is;
           linked = before;
           listed = is.listed;
           library_is = is.library_is;
@@ -156,7 +161,6 @@ insertion_does once law realise single steer find stay library net text verilog 
           only_plan = λ other spells. once text other p spells spelled;
           fits = record { seen = s.fits.seen; are_seen = s.fits.are_seen; faultless = s.fits.faultless };
           written_tree = out.tree;
-          verilog_is = out.text_is;
           spells_written = subst (λ (t : List ℕ). SpellsText t out.tree) (sym out.text_is) w.spells;
           only_written = λ other spells. w.only other (subst (λ (t : List ℕ). SpellsText t other) out.text_is spells);
           written = written;
@@ -164,9 +168,8 @@ insertion_does once law realise single steer find stay library net text verilog 
           links_written = links;
           one = λ other other_same other_links. w.one written other same (other_same ∙ sym is.library_is) links other_links;
           keeps = w.keeps written same links;
-          device = subst (λ (e : Device). IsDeviceText e bsdl) device_is device;
-          report_is = told ∙ ap (λ (n : ℕ). report_of n f.kept d) bits ∙ ap (λ (n : ℕ). report_of (bit_count written.arena.lists.ports) n d) kept
-              ∙ ap (λ (e : Device). report_of (bit_count written.arena.lists.ports) (cell_count before.arena.lists) e) device_is;
+          spells_device = subst (λ (e : Device). SpellsDeviceText bsdl e) device_is device.spells;
+          only_device = λ other spells. device.only other spells ∙ device_is;
           realises = realise is.tree before p f after s laid_after out.tree out.writes written same links;
           alone = single is.tree before p f after s laid_after out.tree out.writes written same links;
           controls = steer is.tree before p f after s laid_after out.tree out.writes written same links;
@@ -184,13 +187,23 @@ pub insertion_made : SpelledOnce → StitchedIsWritten → WrittenRealises → W
     → (s : IsStitching is.tree before p f after) → after.module_name ≡ before.module_name → IsLaidOut after.arena.lists → SpellsPlan text p → d ≡ device_of before p s.fits.seen → IsNetlistText after p.prefix verilog
     → IsDeviceText d bsdl → report ≡ report_of (bit_count after.arena.lists.ports) f.kept d → IsInsertionText library net text verilog bsdl report
 unfolding insertion_does
-insertion_made once law realise single steer find stay library net text verilog bsdl report before after p f d is s title laid_after spelled device_is out device told = record {
-  is = insertion_does once law realise single steer find stay library net text verilog bsdl report before after p f d is s laid_after spelled device_is out device told;
-  room = subst (λ (g : Fitted). too_many before.arena.lists (room_of g) (room_of g) (ports_of g) ≡ None) s.fits.is s.room;
-  names = s.is.names;
-  names_are = subst (λ (g : Fitted). AreTapNames (with_tap_names g before.names) g s.is.names) s.fits.is s.is.are;
-  written_is = written_tree is.tree before after p f s title out.tree out.tree_is;
-}
+insertion_made once law realise single steer find stay library net text verilog bsdl report before after p f d is s title laid_after spelled device_is out device told =
+    let w : WritesStitched before p out.tree = law is.tree before p f after s out.tree out.is out.writes in
+    let does = insertion_does once law realise single steer find stay library net text verilog bsdl before after p f d is s laid_after spelled device_is out device in
+    let written = does.written in
+    let bits : bit_count after.arena.lists.ports ≡ bit_count written.arena.lists.ports =
+        five_more before after f s.is ∙ sym (w.bits written (does.written_library ∙ sym is.library_is) does.links_written) in
+    record {
+      is = does;
+      can_be_written = is.is;
+      verilog_is = out.text_is;
+      bsdl_is = device.text_is ∙ ap canonical_device device_is;
+      report_is = report_made report before after written f d (device_of before p s.fits.seen) told bits (ap (λ (g : Fitted). g.kept) s.fits.is) device_is;
+      room = subst (λ (g : Fitted). too_many before.arena.lists (room_of g) (room_of g) (ports_of g) ≡ None) s.fits.is s.room;
+      names = s.is.names;
+      names_are = subst (λ (g : Fitted). AreTapNames (with_tap_names g before.names) g s.is.names) s.fits.is s.is.are;
+      written_is = written_tree is.tree before after p f s title out.tree out.tree_is;
+    }
 
 -- The device's text.
 

@@ -54,17 +54,15 @@ pub record IsDeviceText (device : Device) (text : List ℕ) : Type 0 where
 -- The whole.
 
 -- The netlist's bytes spell one tree, which is linked with the library to this netlist, and the plan's bytes spell one
--- plan, which fits it. The written text is the canonical text of a tree, which it spells alone; no fault stands in that
--- tree, which has one netlist with the same library, and that keeps the first one's ports and cells, with the test
--- access port. The BSDL text is the canonical text of the plan's device, which it spells alone. The report is on that
--- device. The written netlist behaves as the first one wrapped in that device's test logic, and as the first one alone
--- while a transparent instruction is in effect; its control ports are the first one's, TCK and TRST. Five ones on TMS
--- lead it there from whatever its test logic holds.
-pub record IsInsertion (library : List ListedCell) (net plan verilog bsdl report : List ℕ) : Type 0 where
+-- plan, which fits it. The written text spells one tree; no fault stands in that tree, which has one netlist with the
+-- same library, and that keeps the first one's ports and cells, with the test access port. The BSDL text spells the
+-- plan's device alone. The written netlist behaves as the first one wrapped in that device's test logic, and as the
+-- first one alone while a transparent instruction is in effect; its control ports are the first one's, TCK and TRST.
+-- Five ones on TMS lead it there from whatever its test logic holds.
+pub record IsInsertion (library : List ListedCell) (net plan verilog bsdl : List ℕ) : Type 0 where
   pub tree : Module
   pub spells : SpellsText net tree
   pub only : (other : Module) → SpellsText net other → other ≡ tree
-  pub is : IsTree tree
   pub linked : LinkedView
   pub listed : IsLibrary library
   pub library_is : linked.arena.lists.library ≡ library
@@ -74,7 +72,6 @@ pub record IsInsertion (library : List ListedCell) (net plan verilog bsdl report
   pub only_plan : (other : Plan) → SpellsPlan plan other → other ≡ wanted
   pub fits : Fits linked wanted
   pub written_tree : Module
-  pub verilog_is : verilog ≡ canonical written_tree
   pub spells_written : SpellsText verilog written_tree
   pub only_written : (other : Module) → SpellsText verilog other → other ≡ written_tree
   pub written : LinkedView
@@ -82,8 +79,8 @@ pub record IsInsertion (library : List ListedCell) (net plan verilog bsdl report
   pub links_written : IsLinkOf written_tree written
   pub one : (other : LinkedView) → other.arena.lists.library ≡ library → IsLinkOf written_tree other → IsSameView written other
   pub keeps : Keeps written.arena.lists linked.arena.lists (spelt written.names) (spelt linked.names) (tap_of wanted)
-  pub device : IsDeviceText (device_of linked wanted fits.seen) bsdl
-  pub report_is : report ≡ report_of (bit_count written.arena.lists.ports) (cell_count linked.arena.lists) (device_of linked wanted fits.seen)
+  pub spells_device : SpellsDeviceText bsdl (device_of linked wanted fits.seen)
+  pub only_device : (other : Device) → SpellsDeviceText bsdl other → other ≡ device_of linked wanted fits.seen
   -- through any legal events every pin of the written netlist reads as the netlist's wrapped in the device's test
   -- logic, and as the netlist's alone while a transparent instruction is in effect
   pub realises : Realises written.arena.lists (device_of linked wanted fits.seen) linked.arena.lists
@@ -101,14 +98,19 @@ pub record IsInsertion (library : List ListedCell) (net plan verilog bsdl report
 -- The whole, byte by byte.
 
 -- own: what was fitted
-abbrev pub fitted_in : {library : List ListedCell} {net plan verilog bsdl report : List ℕ} → IsInsertion library net plan verilog bsdl report → Fitted
+abbrev pub fitted_in : {library : List ListedCell} {net plan verilog bsdl : List ℕ} → IsInsertion library net plan verilog bsdl → Fitted
 fitted_in i = fitted_of i.linked i.wanted i.fits.seen
 
--- The insertion, of which the written text tells the gates of the test logic one by one: it is the canonical text of
--- the tree of the netlist with the test logic built in, under the module's own name, where added nets and cells have
--- the plan's prefix. There was room for the test logic.
+-- The insertion, and its texts byte by byte. The BSDL text is the canonical one of the device, and the report is on that
+-- device. The written text tells the gates of the test logic one by one: it is the canonical text of the tree of the
+-- netlist with the test logic built in, under the module's own name, where added nets and cells have the plan's prefix.
+-- There was room for the test logic. The tree that was read can be written.
 pub record IsInsertionText (library : List ListedCell) (net plan verilog bsdl report : List ℕ) : Type 0 where
-  pub is : IsInsertion library net plan verilog bsdl report
+  pub is : IsInsertion library net plan verilog bsdl
+  pub can_be_written : IsTree is.tree
+  pub verilog_is : verilog ≡ canonical is.written_tree
+  pub bsdl_is : bsdl ≡ canonical_device (device_of is.linked is.wanted is.fits.seen)
+  pub report_is : report ≡ report_of (bit_count is.written.arena.lists.ports) (cell_count is.linked.arena.lists) (device_of is.linked is.wanted is.fits.seen)
   pub room : too_many is.linked.arena.lists (room_of (fitted_in is)) (room_of (fitted_in is)) (ports_of (fitted_in is)) ≡ None
   pub names : TapNames
   pub names_are : AreTapNames (with_tap_names (fitted_in is) is.linked.names) (fitted_in is) names
