@@ -1,4 +1,4 @@
-use Rattle.std.proofs.Common.{◌≡◌, ℕ, Bool, true, false, not, ◌&&◌, ◌||◌, List, [], ◌∷◌, ◌++◌, map, Bor, refl, sym, ap, subst, ◌∙◌, arith}
+use Rattle.std.proofs.Common.{◌≡◌, ℕ, Bool, true, false, not, ◌&&◌, ◌||◌, ◌<◌, List, [], ◌∷◌, ◌++◌, length, get_or, map, Bor, refl, sym, ap, subst, ◌∙◌, arith}
 use Rattle.std.specs.Prelude.{◌==◌, if◌then◌else◌}
 use Rattle.std.specs.List.{list_all, list_any}
 use Rattle.std.proofs.lemmas.List.Folds.{list_any-append}
@@ -6,8 +6,8 @@ use Rattle.std.proofs.lemmas.Bool.{eqb-true}
 use Rattle.list_laws.proofs.Lists.{any_map}
 use Rattle.list_laws.proofs.Tests.{and_left, and_right, neither, not_true, or_false}
 use Rattle.bsdl_lexicon.specs.Names.{lower, is_same_name}
-use Rattle.bsdl_lexicon.specs.Reserved.{is_reserved, is_among, reserved_words, with_a, with_b, with_c, with_d, with_e, with_f, with_g, with_i, with_l, with_m, with_n, with_o, with_p, with_r, with_s, with_t, with_u, with_v, with_w, with_x}
-use Rattle.bsdl_lexicon.specs.Laws.{ReservedAreListed}
+use Rattle.bsdl_lexicon.specs.Reserved.{is_reserved, reserved_words}
+use Rattle.bsdl_lexicon.specs.ByLetter.{is_among, reserved_with, with_a, with_b, with_c, with_d, with_e, with_f, with_g, with_i, with_l, with_m, with_n, with_o, with_p, with_r, with_s, with_t, with_u, with_v, with_w, with_x}
 use Rattle.bsdl_lexicon.proofs.SameNames.{is_same_name-false, differs_at}
 
 -- a name among words, as they stand in a list of texts
@@ -101,10 +101,16 @@ found_is_enough b bytes (group ∷ groups) right =
 abbrev by_letter : Groups
 by_letter = (97, with_a) ∷ (98, with_b) ∷ (99, with_c) ∷ (100, with_d) ∷ (101, with_e) ∷ (102, with_f) ∷ (103, with_g) ∷ (105, with_i) ∷ (108, with_l) ∷ (109, with_m) ∷ (110, with_n) ∷ (111, with_o) ∷ (112, with_p) ∷ (114, with_r) ∷ (115, with_s) ∷ (116, with_t) ∷ (117, with_u) ∷ (118, with_v) ∷ (119, with_w) ∷ (120, with_x) ∷ []
 
-no_word_is_empty : is_among reserved_words [] ≡ false
-no_word_is_empty = refl
+all_by_letter : all_of by_letter ≡ reserved_words
+all_by_letter = refl
 
-pub reserved_are_listed : ReservedAreListed
+-- a name is looked for among the words of its letter alone
+pub found_by_letter : (name : List ℕ) → is_among (reserved_with (lower (get_or name 0 0))) name ≡ is_reserved name
 unfolding is_reserved
-reserved_are_listed [] = sym no_word_is_empty
-reserved_are_listed (b ∷ bytes) = found_is_enough b bytes by_letter refl
+found_by_letter [] = refl
+found_by_letter (b ∷ bytes) = found_is_enough b bytes by_letter refl ∙ ap (λ (l : List (List ℕ)). is_among l (b ∷ bytes)) all_by_letter
+
+pub empty_is_free : (name : List ℕ) → length name < 1 → is_reserved name ≡ false
+unfolding is_reserved
+empty_is_free [] short = refl
+empty_is_free (b ∷ bytes) short = absurd (omega arith)

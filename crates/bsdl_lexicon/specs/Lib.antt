@@ -3,6 +3,6 @@ pub mod Bytes
 pub mod Names
 pub mod NameKeys
 pub mod Reserved
+pub mod ByLetter
 pub mod Words
 pub mod Pieces
-pub mod Laws

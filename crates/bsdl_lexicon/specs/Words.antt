@@ -24,44 +24,24 @@ plain words = map (λ s. s.word) words
 -- an identifier that isn't reserved
 abbrev pub name_in : BsdlToken → Option (List ℕ)
 name_in (word.Name name) = if is_reserved name then None else Some name
-name_in (word.Integer value) = None
-name_in (word.Real real) = None
-name_in (word.Quoted contents) = None
-name_in (word.Symbol symbol) = None
-name_in word.Becomes = None
+name_in _ = None
 
 -- something where the word is this identifier
 abbrev pub key_in : List ℕ → BsdlToken → Option (Unit {0})
 key_in wanted (word.Name name) = if is_same_name name wanted then Some tt else None
-key_in wanted (word.Integer value) = None
-key_in wanted (word.Real real) = None
-key_in wanted (word.Quoted contents) = None
-key_in wanted (word.Symbol symbol) = None
-key_in wanted word.Becomes = None
+key_in wanted _ = None
 
 abbrev pub integer_in : BsdlToken → Option ℕ
-integer_in (word.Name name) = None
 integer_in (word.Integer value) = Some value
-integer_in (word.Real real) = None
-integer_in (word.Quoted contents) = None
-integer_in (word.Symbol symbol) = None
-integer_in word.Becomes = None
+integer_in _ = None
 
 abbrev pub real_in : BsdlToken → Option (List ℕ)
-real_in (word.Name name) = None
-real_in (word.Integer value) = None
 real_in (word.Real real) = Some real
-real_in (word.Quoted contents) = None
-real_in (word.Symbol symbol) = None
-real_in word.Becomes = None
+real_in _ = None
 
 abbrev pub quoted_in : BsdlToken → Option (List ℕ)
-quoted_in (word.Name name) = None
-quoted_in (word.Integer value) = None
-quoted_in (word.Real real) = None
 quoted_in (word.Quoted contents) = Some contents
-quoted_in (word.Symbol symbol) = None
-quoted_in word.Becomes = None
+quoted_in _ = None
 
 -- the byte that a symbol is written by
 abbrev pub symbol_byte : BsdlSymbol → ℕ
@@ -75,21 +55,13 @@ symbol_byte Dot = 46
 
 -- something where the word is this symbol
 abbrev pub symbol_in : BsdlSymbol → BsdlToken → Option (Unit {0})
-symbol_in wanted (word.Name name) = None
-symbol_in wanted (word.Integer value) = None
-symbol_in wanted (word.Real real) = None
-symbol_in wanted (word.Quoted contents) = None
 symbol_in wanted (word.Symbol symbol) = if symbol_byte symbol == symbol_byte wanted then Some tt else None
-symbol_in wanted word.Becomes = None
+symbol_in wanted _ = None
 
 -- something where the word is `:=`
 abbrev pub becomes_in : BsdlToken → Option (Unit {0})
-becomes_in (word.Name name) = None
-becomes_in (word.Integer value) = None
-becomes_in (word.Real real) = None
-becomes_in (word.Quoted contents) = None
-becomes_in (word.Symbol symbol) = None
 becomes_in word.Becomes = Some tt
+becomes_in _ = None
 
 -- what the first word is seen as; nothing where none is left
 abbrev pub front : {X : Type 0} → (BsdlToken → Option X) → List BsdlToken → Option X

@@ -5,20 +5,16 @@
 //
 // - `same_name` says yes exactly where two names have the same bytes, but for the case of ASCII letters; `lower`
 //   is the byte in lower case.
-// - `is_reserved` says yes exactly for the listed reserved words, in any case.
-// - A law: a name is reserved exactly where it is one of the listed words, in any case of letters
-//   (`reserved_words_are_listed`).
+// - `is_reserved` says yes exactly where the name is one of the listed reserved words, in any case of letters.
 // - `BsdlToken`'s questions (`name`, `is_key`, `integer`, `real`, `quoted`, `is_symbol`, `is_becomes`) and
 //   `BsdlSymbol::byte` answer exactly what the word is; `name` has no reserved word.
 // - `BsdlWords::len` is the count of words, and `place_of` the offset of a word, or the text's length where there
 //   is none.
 // - `BsdlReader` is the list of words that are left: each `peek_…` sees the first, each `take_…` takes it exactly
 //   where it is what was asked for, and leaves the rest as it was.
-// By the contract of `same_name`, `lower`, `is_reserved`, `BsdlToken`, `BsdlSymbol`, `BsdlWords`, `BsdlReader` and
-// its law function.
+// By the contract of `same_name`, `lower`, `is_reserved`, `BsdlToken`, `BsdlSymbol`, `BsdlWords` and `BsdlReader`.
 #![tactic(auto)]
 
-mod laws;
 pub mod name_key;
 pub mod names;
 pub mod reader;
@@ -27,7 +23,6 @@ pub mod symbol;
 pub mod token;
 pub mod words;
 
-pub use laws::reserved_words_are_listed;
 pub use name_key::NameKey;
 pub use names::same_name;
 pub use reader::BsdlReader;

@@ -2,6 +2,7 @@ ghost use Rattle.std.specs.Prelude.{◌≡◌, map};
 ghost use Rattle.std.specs.List.{list_any};
 ghost use Rattle.bsdl_lexicon.specs.Names.{is_same_name};
 ghost use Rattle.bsdl_lexicon.specs.Reserved as reserved;
+ghost use Rattle.bsdl_lexicon.specs.ByLetter as letters;
 
 use crate::names::{lower, same_name};
 
@@ -85,7 +86,7 @@ const WITH_X: [&[u8]; 2] = [b"xnor", b"xor"];
 
 // The reserved words that begin by this letter, which is in lower case.
 fn words_with(first: u8) -> &'static [&'static [u8]]
-    ensures { map (λ w. w.now) result.now ≡ reserved.reserved_with first }
+    ensures { map (λ w. w.now) result.now ≡ letters.reserved_with first }
 {
     match first {
         b'a' => WITH_A.as_slice(),
@@ -121,13 +122,12 @@ fn is_among(name: &[u8], words: &[&[u8]]) -> bool
 
 // Whether the name is a reserved word that begins by this letter.
 fn is_reserved_with(first: u8, name: &[u8]) -> bool
-    ensures { result ≡ reserved.is_among (reserved.reserved_with first) name.now }
+    ensures { result ≡ letters.is_among (letters.reserved_with first) name.now }
 {
     is_among(name, words_with(first))
 }
 
 /// Whether the identifier is a reserved word of VHDL-93, in any case of its letters: one that is can't be a name.
-#[tactic(auto, unfolding(crate::specs::Reserved::is_reserved))]
 pub fn is_reserved(name: &[u8]) -> bool
     ensures { result ≡ reserved.is_reserved name.now }
 {

@@ -5,7 +5,7 @@ use Rattle.std.proofs.lemmas.Slice.Eq.{bytes_eq-Decides}
 use Rattle.std.proofs.lemmas.Bool.{leb-true}
 use Rattle.verilog_lexicon.specs.declared.reserved.Reserved.{Reserved}
 use Rattle.verilog_lexicon.specs.declared.reserved.Reserved.TheVariants as key
-use Rattle.verilog_lexicon.specs.Keywords.{spelling_of, reserved_of, words_with}
+use Rattle.verilog_lexicon.specs.Keywords.{spelling_of, reserved_of, reserved_words}
 
 -- each reserved word is found by its spelling
 pub reserved_of-spelling_of : (r : Reserved) → reserved_of (spelling_of r) ≡ Some r
@@ -150,9 +150,7 @@ found_among bytes (word ∷ words) r is = step (bytes_eq bytes (spelling_of word
 -- what is found is spelled by the bytes
 reserved_of-found : (bytes : List ℕ) (r : Reserved) → reserved_of bytes ≡ Some r → bytes ≡ spelling_of r
 unfolding reserved_of
-reserved_of-found [] r is = absurd (cc)
-reserved_of-found (first ∷ bytes) r is =
-    found_among (first ∷ bytes) (words_with first) r is
+reserved_of-found bytes r is = found_among bytes reserved_words r is
 
 -- a reserved word is found for its own bytes, and for no others
 pub found_by_bytes : (bytes : List ℕ) (r : Reserved) → (reserved_of bytes ≡ Some r) ↔ (bytes ≡ spelling_of r)

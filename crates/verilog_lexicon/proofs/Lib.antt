@@ -1,3 +1,4 @@
 pub mod Entries
 pub mod KeyWordLaws
+pub mod ByLetter
 pub mod ReadWords

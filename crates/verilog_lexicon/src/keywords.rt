@@ -1,6 +1,7 @@
 ghost use Rattle.std.specs.Prelude.{◌≡◌};
 ghost use Rattle.std.specs.List.{list_all};
 ghost use Rattle.verilog_lexicon.specs.Keywords as keys;
+ghost use Rattle.verilog_lexicon.specs.ByLetter as letters;
 ghost use Rattle.verilog_lexicon.specs.Bytes as bytes;
 
 use crate::reserved::Reserved;
@@ -173,7 +174,7 @@ const WITH_X: [Reserved; 2] = [Reserved::Xnor, Reserved::Xor];
 
 // The reserved words that begin with this byte.
 fn words_with(first: u8) -> &'static [Reserved]
-    ensures { result.now ≡ keys.words_with first }
+    ensures { result.now ≡ letters.words_with first }
 {
     match first {
         b'a' => WITH_A.as_slice(),
@@ -204,13 +205,12 @@ fn words_with(first: u8) -> &'static [Reserved]
 
 // The one of these words that has these bytes.
 fn spelled_by(name: &[u8], words: &[Reserved]) -> Option<Reserved>
-    ensures { result ≡ keys.spelled_by name.now words.now }
+    ensures { result ≡ letters.spelled_by name.now words.now }
 {
     words.iter().copied().find(|word| name == word.spelling())
 }
 
 /// The reserved word with these bytes, if there is one.
-#[tactic(auto, unfolding(crate::specs::Keywords::reserved_of))]
 pub fn reserved_of(name: &[u8]) -> Option<Reserved>
     ensures { result ≡ keys.reserved_of name.now }
 {

@@ -3,9 +3,9 @@
 // (specs/Keywords.antt); specs/Pieces.antt is the word grammar. IEEE Std 1364-2001: lexical conventions, and the
 // annex on key words.
 //
-// - `reserved_of` gives the key word that a table in the definitions gives for these bytes; `Reserved::spelling`
-//   and `Symbol::byte` give the bytes of the tables.
-// - A law: the table has each reserved word for its own bytes, and for no others.
+// - `reserved_of` gives the first key word of the definitions' list that is spelled by these bytes;
+//   `Reserved::spelling` and `Symbol::byte` give the bytes of the tables.
+// - A law: the list has each reserved word for its own bytes, and for no others.
 // - `is_letter`, `is_name_byte`, `is_simple_name` are their definitions.
 // - `Words` is a list of words, each with its place and length in the text, and the text's length: each push adds
 //   one word at the end (a simple name that is a key word is added as that), and where memory is refused nothing

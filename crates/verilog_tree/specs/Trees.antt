@@ -33,10 +33,7 @@ ports_after head (p ∷ ps) = port_of (unwrap_or p.head head) p.name ∷ ports_a
 -- what the direction items declare, in order
 abbrev pub declared_by : ItemSource → List Port
 declared_by (directions head first more) = map (port_of head) (first ∷ more)
-declared_by (wires range first more) = []
-declared_by (assigns first more) = []
-declared_by (gates kind first more) = []
-declared_by (instances cell first more) = []
+declared_by _ = []
 
 abbrev pub declarations : Source → List Port
 declarations s = flat_map declared_by s.items
@@ -57,10 +54,8 @@ header_ports (names first more) declared = map (declared_port declared) (first �
 
 -- the names that direction items are to declare
 abbrev pub header_names : Header → List (List ℕ)
-header_names absent = []
-header_names empty = []
-header_names (ansi head first more) = []
 header_names (names first more) = first ∷ more
+header_names _ = []
 
 -- Each declared name stands in the header, and none was declared before.
 abbrev pub declares_from : List (List ℕ) → List Port → Bool
@@ -88,11 +83,8 @@ abbrev pub gate_inputs : GateSource → List Operand
 gate_inputs g = g.first ∷ g.more
 
 abbrev pub item_fits : ItemSource → Bool
-item_fits (directions head first more) = true
-item_fits (wires range first more) = true
-item_fits (assigns first more) = true
 item_fits (gates kind first more) = list_all (λ g. takes_inputs kind (length (gate_inputs g))) (first ∷ more)
-item_fits (instances cell first more) = true
+item_fits _ = true
 
 -- a written module that keeps the rules on direction items and on gates' inputs
 pub record IsSource (s : Source) : Type 0 where
@@ -112,11 +104,8 @@ abbrev pub wire_of : Option Range → List ℕ → Wire
 wire_of range name = record { name = name; range = range }
 
 abbrev pub item_wires : ItemSource → List Wire
-item_wires (directions head first more) = []
 item_wires (wires range first more) = map (wire_of range) (first ∷ more)
-item_wires (assigns first more) = []
-item_wires (gates kind first more) = []
-item_wires (instances cell first more) = []
+item_wires _ = []
 
 abbrev pub is_port_net : List Port → Wire → Bool
 is_port_net ports wire = list_any (λ port. bytes_eq port.name wire.name && range_eq port.range wire.range) ports
@@ -133,11 +122,10 @@ abbrev pub assign_of : AssignSource → Item
 assign_of a = item.Assign a.output a.input
 
 abbrev pub item_items : ItemSource → List Item
-item_items (directions head first more) = []
-item_items (wires range first more) = []
 item_items (assigns first more) = map assign_of (first ∷ more)
 item_items (gates kind first more) = map (gate_of kind) (first ∷ more)
 item_items (instances cell first more) = map (instance_of cell) (first ∷ more)
+item_items _ = []
 
 abbrev pub ports_of : Source → List Port
 ports_of s = header_ports s.header (declarations s)

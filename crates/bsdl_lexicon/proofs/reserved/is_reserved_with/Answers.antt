@@ -1,5 +1,5 @@
 use Rattle.std.proofs.Common.{◌∙◌}
-use Rattle.bsdl_lexicon.specs.Reserved.{reserved_with}
+use Rattle.bsdl_lexicon.specs.ByLetter.{reserved_with}
 use Rattle.bsdl_lexicon.proofs.ReservedWords.{among_words}
 use Rattle.bsdl_lexicon.proofs.reserved.is_reserved_with.Goals as goal
 
