@@ -13,12 +13,13 @@ use Rattle.plan_texts.specs.declared.plan.Plan.{Plan}
 use Rattle.strip_model.specs.Recovered.{recovered}
 use Rattle.strip_law.specs.strip_gives.Gives.{Gives, GivesByTheView}
 use Rattle.strip_law.specs.Answer.{IsNotInserted, RefusedByAll}
+use Rattle.strip_law.specs.Law.{RecoveredIsTheNetlist}
 use Rattle.netlist_recovery.specs.declared.recovery.Recovered.{Recovered}
 use Rattle.netlist_recovery.specs.Pairs.{pair_of}
 use Rattle.strip_law.specs.Tree.{CoreIsTree}
 use Rattle.scan_strip.specs.declared.fault.StripFault.{StripFault}
 use Rattle.scan_strip.specs.declared.fault.StripFault.TheVariants.{NotInserted}
-use Rattle.scan_strip.specs.Stripped.{GivesBy, IsFound, IsGivenBy, IsStripped}
+use Rattle.scan_strip.specs.Stripped.{GivesBy, IsFound, IsGivenBy, IsStripped, IsStrippedTree}
 
 inside : (x y : Module × Plan) → ◌≡◌ {A = Option (Module × Plan)} (Some x) (Some y) → x ≡ y
 inside x y e = cc
@@ -50,23 +51,6 @@ not_given refused agree view library core q linked inserted d is found links lib
     let g : Gives core L q inserted d = recovered_gives core q inserted d found pair L rec gives in
     let one : IsSameView L linked = agree core L linked (same ∙ sym library_is) g.links links in
     cannot (record { plan = g.plan; at = view L linked q inserted d one g.at }))
-
--- it does
-pub given : LinkViewsAgree → GivesByTheView → (library : List ListedCell) (core : Module) (q : Plan) (linked answer : LinkedView) (inserted : Module) (d : Device) → IsTree core → IsLibrary library
-    → Some (core, q) ≡ recovered inserted d → IsLinkOf core linked → linked.arena.lists.library ≡ library → GivesBy linked q inserted d → IsLinkOf core answer → answer.arena.lists.library ≡ library
-    → IsStripped library inserted d answer q
-given agree view library core q linked answer inserted d is listed found links library_is by answers answer_is = record {
-  tree = core;
-  found = sym found;
-  library_is = answer_is;
-  gives = record {
-    is = is;
-    listed = subst IsLibrary (sym answer_is) listed;
-    links = answers;
-    plan = by.plan;
-    at = view linked answer q inserted d (agree core linked answer (library_is ∙ sym answer_is) links answers) by.at;
-  };
-}
 
 pub ok_with : {T E : Type 0} (r : Result T E) (P Q : T → Type 0) → ((x : T) → P x → Q x) → IfOk r P → IfOk r Q
 ok_with (Ok x) P Q law is = law x is
@@ -103,11 +87,48 @@ pub told_by : (r : Result (Unit {0}) StripFault) (P Q : StripFault → Type 0) �
 told_by (Ok done) P Q law is = tt
 told_by (Err f) P Q law is = law f is
 
+-- what gives the two is its netlist as it is written
+pub stripped_tree : RecoveredIsTheNetlist → (library : List ListedCell) (core : Module) (q : Plan) (inserted : Module) (d : Device) → IsTree core → IsLibrary library
+    → recovered inserted d ≡ Some (core, q) → IsGivenBy library core q inserted d → IsStrippedTree library inserted d core q
+stripped_tree law library core q inserted d is listed found g =
+    let gives : Gives core g.linked q inserted d = record {
+      is = is;
+      listed = subst IsLibrary (sym g.library_is) listed;
+      links = g.links;
+      plan = g.by.plan;
+      at = g.by.at;
+    } in
+    record {
+      linked = g.linked;
+      found = found;
+      library_is = g.library_is;
+      gives = gives;
+      written = ap (λ (pair : Module × Plan). pair.0) (inside (core, q) _ (sym found ∙ law core g.linked q inserted d gives));
+    }
+
+-- Of a module and a plan that give the two.
+
+-- it can be linked
+pub tree_links : (library : List ListedCell) (core : Module) (q : Plan) (inserted : Module) (d : Device) → IsStrippedTree library inserted d core q → IsLinkable library core
+tree_links library core q inserted d s = subst (λ (l : List ListedCell). IsLinkable l core) s.library_is s.gives.links.linkable
+
 -- what is linked anew gives the two as well
-pub stripped : LinkViewsAgree → GivesByTheView → (library : List ListedCell) (core : Module) (q : Plan) (answer : LinkedView) (inserted : Module) (d : Device) → IsTree core → IsLibrary library
-    → recovered inserted d ≡ Some (core, q) → IsGivenBy library core q inserted d → IsLinkOf core answer → answer.arena.lists.library ≡ library → IsStripped library inserted d answer q
-stripped agree view library core q answer inserted d is listed found g answers answer_is =
-    given agree view library core q g.linked answer inserted d is listed (sym found) g.links g.library_is g.by answers answer_is
+pub stripped : LinkViewsAgree → GivesByTheView → (library : List ListedCell) (core : Module) (q : Plan) (answer : LinkedView) (inserted : Module) (d : Device)
+    → IsStrippedTree library inserted d core q → IsLinkOf core answer → answer.arena.lists.library ≡ library → IsStripped library inserted d answer q
+stripped agree view library core q answer inserted d s answers answer_is =
+    let same = s.library_is ∙ sym answer_is in
+    record {
+      tree = core;
+      found = s.found;
+      library_is = answer_is;
+      gives = record {
+        is = s.gives.is;
+        listed = subst IsLibrary same s.gives.listed;
+        links = answers;
+        plan = s.gives.plan;
+        at = view s.linked answer q inserted d (agree core s.linked answer same s.gives.links answers) s.gives.at;
+      };
+    }
 
 -- What `recover` answers.
 

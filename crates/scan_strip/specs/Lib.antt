@@ -1,4 +1,3 @@
-pub use Rattle.strip_law.specs.strip_gives.Gives
 pub use Rattle.strip_law.specs.Answer
 pub mod Refusals
 pub mod Stripped

@@ -25,6 +25,15 @@ pub record IsStripped (library : List ListedCell) (inserted : Module) (d : Devic
   pub library_is : L.arena.lists.library ≡ library
   pub gives : Gives tree L p inserted d
 
+-- The module and the plan that are recovered give the module with test logic and the device, by the netlist that the
+-- module denotes with this library; and the module is the one that this netlist is written as.
+pub record IsStrippedTree (library : List ListedCell) (inserted : Module) (d : Device) (tree : Module) (p : Plan) : Type 0 where
+  pub linked : LinkedView
+  pub found : recovered inserted d ≡ Some (tree, p)
+  pub library_is : linked.arena.lists.library ≡ library
+  pub gives : Gives tree linked p inserted d
+  pub written : tree ≡ tree_of linked p.prefix
+
 -- own: some text spells the plan, and the netlist and the plan give these
 pub record GivesBy (L : LinkedView) (p : Plan) (inserted : Module) (d : Device) : Type 0 where
   pub plan : IsPlan p

@@ -5,7 +5,7 @@ ghost use Rattle.netlist_link.specs.Links.{IsLinkOf};
 ghost use Rattle.strip_model.specs.Recovered.{recovered};
 ghost use Rattle.strip_law.specs.Answer.{IsNotInserted};
 ghost use Rattle.scan_strip.specs.declared.fault.StripFault.TheVariants.{NotInserted};
-ghost use Rattle.scan_strip.specs.Stripped.{IsGivenBy, IsStripped};
+ghost use Rattle.scan_strip.specs.Stripped.{IsGivenBy, IsStripped, IsStrippedTree};
 
 use crate::again::{give_again, link_core};
 use crate::fault::StripFault;
@@ -15,12 +15,19 @@ use netlist_link::{Linked, link_views_agree};
 use netlist_recovery::{Recovered, recover};
 use plan_texts::Plan;
 use std::alloc::Global;
-use strip_law::{core_is_tree, gives_by_the_view, refused_by_all};
+use strip_law::{core_is_tree, gives_by_the_view, recovered_is_the_netlist, refused_by_all};
 use verilog_tree::Module;
+
+/// A module without test logic, and the plan of the test logic.
+#[derive(Drop)]
+pub struct Stripped {
+    pub module: Module,
+    pub plan: Plan,
+}
 
 /// A netlist without test logic, and the plan of the test logic.
 #[derive(Drop)]
-pub struct Stripped {
+pub struct StrippedNetlist {
     pub linked: Linked,
     pub plan: Plan,
 }
@@ -49,7 +56,7 @@ fn gives(
     give_again(alloc, plan, &mut linked, inserted, device)
 }
 
-// What was recovered, linked with this library, if it gives the module and the device.
+// What was recovered, if it gives the module and the device.
 fn strip_found(
     alloc: Global,
     found: Recovered,
@@ -60,22 +67,18 @@ fn strip_found(
     requires core { IsTree found.module }
     requires tree { IsTree inserted.now }
     requires found { recovered inserted.now device.now ≡ Some (found.module, found.plan) }
-    ensures stripped { IfOk result (λ answer. IsStripped library.now inserted.now device.now answer.linked answer.plan) }
+    ensures stripped { IfOk result (λ answer. IsStrippedTree library.now inserted.now device.now answer.module answer.plan) }
     ensures refused { IfErr result (λ fault. fault ≡ NotInserted → IsNotInserted library.now inserted.now device.now) }
 {
-    gives_by_the_view();
-    link_views_agree();
-    refused_by_all();
+    recovered_is_the_netlist();
     // Asked so that the proof knows that it is a library.
     let _count = library.count();
-    let Recovered { module: core, plan } = found;
-    gives(alloc, &core, &plan, library, inserted, device)?;
-    let linked = link_core(alloc, &core, library)?;
-    Ok(Stripped { linked, plan })
+    let Recovered { module, plan } = found;
+    gives(alloc, &module, &plan, library, inserted, device)?;
+    Ok(Stripped { module, plan })
 }
 
-/// The netlist and the plan that a module with test logic and its device were made from; the netlist is linked
-/// with this library.
+/// The module and the plan that a module with test logic and its device were made from, with the cells of this library.
 pub fn strip_tree(
     alloc: Global,
     inserted: &Module,
@@ -83,7 +86,7 @@ pub fn strip_tree(
     device: &Device,
 ) -> Result<Stripped, StripFault>
     requires { IsTree inserted.now }
-    ensures stripped { IfOk result (λ answer. IsStripped library.now inserted.now device.now answer.linked answer.plan) }
+    ensures stripped { IfOk result (λ answer. IsStrippedTree library.now inserted.now device.now answer.module answer.plan) }
     ensures refused { IfErr result (λ fault. fault ≡ NotInserted → IsNotInserted library.now inserted.now device.now) }
 {
     core_is_tree();
@@ -101,7 +104,7 @@ pub fn strip(
     inserted: &Module,
     linked: &Linked,
     device: &Device,
-) -> Result<Stripped, StripFault>
+) -> Result<StrippedNetlist, StripFault>
     requires tree { IsTree inserted.now }
     requires linked { IsLinkOf inserted.now linked.now }
     ensures stripped { IfOk result (λ answer. IsStripped linked.now.arena.lists.library
@@ -109,5 +112,13 @@ pub fn strip(
     ensures refused { IfErr result (λ fault. fault ≡ NotInserted
         → IsNotInserted linked.now.arena.lists.library inserted.now device.now) }
 {
-    strip_tree(alloc, inserted, linked.netlist().library(), device)
+    gives_by_the_view();
+    link_views_agree();
+    let library = linked.netlist().library();
+    let stripped = strip_tree(alloc, inserted, library, device)?;
+    let core = link_core(alloc, &stripped.module, library)?;
+    Ok(StrippedNetlist {
+        linked: core,
+        plan: stripped.plan,
+    })
 }

@@ -1,5 +1,5 @@
 -- What is known of `strip` from its parts.
-use Rattle.std.proofs.Common.{◌≡◌, ℕ, List, [], ◌∷◌, refl, sym, subst}
+use Rattle.std.proofs.Common.{◌≡◌, ℕ, List, [], ◌∷◌, refl, sym, ap, subst}
 use Rattle.verilog_texts.specs.TextOutcome.{IsReadAs}
 use Rattle.verilog_tree.specs.declared.tree.Module.{Module}
 use Rattle.verilog_tree.specs.Canonical.{canonical}
@@ -7,20 +7,14 @@ use Rattle.cell_library.specs.declared.listed.ListedCell.{ListedCell}
 use Rattle.link_model.specs.Late.{IsLinkable}
 use Rattle.netlist_link.specs.Linked.{LinkedView}
 use Rattle.netlist_link.specs.Links.{IsLinkOf}
-use Rattle.netlist_unlink.specs.Prefixes.{IsFreePrefix}
-use Rattle.netlist_unlink.specs.Trees.{tree_of}
 use Rattle.bsdl_device.specs.declared.fault.DeviceTextFault.{DeviceTextFault}
 use Rattle.bsdl_device.specs.declared.values.Device.{Device}
 use Rattle.bsdl_values.specs.TextOutcome.{IsDeviceReadAs}
 use Rattle.bsdl_values.specs.TextFaults.{IsDeviceTextFault}
 use Rattle.plan_texts.specs.declared.plan.Plan.{Plan}
 use Rattle.plan_texts.specs.Canonical.{canonical_plan}
-use Rattle.plan_devices.specs.plan_fitting.Devices.{IsFitted, fitted_of}
-use Rattle.plan_devices.specs.plan_fitting.Fits.{Fits}
-use Rattle.plan_devices.specs.Laws.{FittedIsFitting, PrefixesAreFree}
-use Rattle.scan_strip.specs.Gives.{IsGiven}
 use Rattle.scan_strip.specs.Answer.{IsNotInserted}
-use Rattle.scan_strip.specs.Stripped.{IsStripped}
+use Rattle.scan_strip.specs.Stripped.{IsStrippedTree}
 use Rattle.command_faults.specs.declared.fault.Fault.{Fault}
 use Rattle.command_faults.specs.declared.fault.Fault.TheVariants as fault
 use Rattle.command_faults.specs.declared.status.Status.{Status}
@@ -64,26 +58,18 @@ both_stands library net text tree d f read can device none = absurd none
 
 -- The texts of an answer.
 
-pub is_given : (library : List ListedCell) (tree : Module) (d : Device) (linked : LinkedView) (p : Plan) → IsStripped library tree d linked p → IsGiven linked p
-is_given library tree d linked p s = record { tree = s.tree; inserted = tree; device = d; gives = s.gives }
-
-pub prefix_is_free : FittedIsFitting → PrefixesAreFree → (linked : LinkedView) (p : Plan) → IsGiven linked p → IsFreePrefix linked p.prefix
-prefix_is_free fitting free linked p g =
-    let fits : Fits linked p = g.gives.at.fits in
-    let is : IsFitted linked p (fitted_of linked p fits.seen) = record { seen = fits.seen; are_seen = fits.are_seen; faultless = fits.faultless; is = refl } in
-    (free linked p fits.seen (fitting g.tree linked p (fitted_of linked p fits.seen) g.gives.is g.gives.listed g.gives.links g.gives.plan is)).netlist
-
-pub texts_made : (library : List ListedCell) (net text : List ℕ) (tree : Module) (d : Device) (linked : LinkedView) (p : Plan) (outputs : List (List ℕ)) (put : List ℕ) (end : Status)
-    → IsReadAs net tree → IsLinkable library tree → IsDeviceReadAs text d → IsStripped library tree d linked p → outputs ≡ canonical (tree_of linked p.prefix) ∷ canonical_plan p ∷ [] → end ≡ Done
+-- the module is its netlist as it is written
+pub texts_made : (library : List ListedCell) (net text : List ℕ) (tree : Module) (d : Device) (core : Module) (p : Plan) (outputs : List (List ℕ)) (put : List ℕ) (end : Status)
+    → IsReadAs net tree → IsLinkable library tree → IsDeviceReadAs text d → IsStrippedTree library tree d core p → outputs ≡ canonical core ∷ canonical_plan p ∷ [] → end ≡ Done
     → IsStrippedTexts library net text outputs put end
 unfolding told
-texts_made library net text tree d linked p outputs put end read can device s are done =
-    let is : IsStripping library net text (canonical (tree_of linked p.prefix)) (canonical_plan p) = record {
+texts_made library net text tree d core p outputs put end read can device s are done =
+    let is : IsStripping library net text (canonical core) (canonical_plan p) = record {
       tells = told library net text tree d read can device;
-      linked = linked;
+      linked = s.linked;
       plan = p;
-      stripped = s;
-      net_is = refl;
+      stripped = record { tree = core; found = s.found; library_is = s.library_is; gives = s.gives };
+      net_is = ap canonical s.written;
       plan_is = refl;
     } in
     subst (λ (texts : List (List ℕ)). IsStrippedTexts library net text texts put end) (sym are) (is, done)

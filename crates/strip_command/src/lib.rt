@@ -3,8 +3,8 @@
 // Its task stands in specs/Tasks.antt, over specs/Strippings.antt and specs/Faults.antt.
 // IEEE Std 1364-2001 for the netlists, IEEE Std 1149.1-2001, the annex on BSDL, for the device; plans are own.
 //
-// - The netlist's text is the canonical one of the module that the answer is written as with the plan's prefix, and the
-//   plan's text is canonical; nothing is put.
+// - The netlist's text is the canonical one of the module that is recovered, which is the one that its netlist is
+//   written as with the plan's prefix. The plan's text is canonical; nothing is put.
 // By the contract of `make` and its law function.
 #![tactic(auto)]
 

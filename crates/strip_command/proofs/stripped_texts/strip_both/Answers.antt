@@ -1,15 +1,15 @@
 use Rattle.list_laws.proofs.Options.{err_is}
 use Rattle.command_faults.specs.declared.fault.Fault.TheVariants as fault
 use Rattle.strip_command.specs.Faults.{StandsInBoth}
-use Rattle.strip_command.proofs.Made.{is_given, texts_made}
+use Rattle.strip_command.proofs.Made.{texts_made}
 use Rattle.strip_command.proofs.stripped_texts.strip_both.Goals as goal
 
 pub write_answer-requires : goal.write_answer-requires
-write_answer-requires c = is_given c.args.library.now c.args.tree.now c.args.device.now c.in-Ok.answer.linked c.in-Ok.answer.plan c.in-Ok.ensures.stripped
+write_answer-requires c = c.in-Ok.ensures.stripped.gives.plan
 
 pub returns-in_ok-write_answer-in-Ok-clause-made : goal.returns-in_ok-write_answer-in-Ok-clause-made
 returns-in_ok-write_answer-in-Ok-clause-made c = λ net text read can device.
-    texts_made c.args.library.now net text c.args.tree.now c.args.device.now c.in-Ok.answer.linked c.in-Ok.answer.plan
+    texts_made c.args.library.now net text c.args.tree.now c.args.device.now c.in-Ok.answer.module c.in-Ok.answer.plan
     c.in_ok-write_answer-in-Ok.field-0.outputs c.in_ok-write_answer-in-Ok.field-0.put c.in_ok-write_answer-in-Ok.field-0.status read can device
     c.in-Ok.ensures.stripped c.in_ok-write_answer-in-Ok.ensures.outputs c.in_ok-write_answer-in-Ok.ensures.done
 
