@@ -192,7 +192,7 @@ insertion_made once law realise single steer find stay library net text verilog 
     let does = insertion_does once law realise single steer find stay library net text verilog bsdl before after p f d is s laid_after spelled device_is out device in
     let written = does.written in
     let bits : bit_count after.arena.lists.ports ≡ bit_count written.arena.lists.ports =
-        five_more before after f s.is ∙ sym (w.bits written (does.written_library ∙ sym is.library_is) does.links_written) in
+    five_more before after f s.is ∙ sym (w.bits written (does.written_library ∙ sym is.library_is) does.links_written) in
     record {
       is = does;
       can_be_written = is.is;
