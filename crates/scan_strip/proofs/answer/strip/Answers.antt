@@ -20,10 +20,10 @@ returns-in_err-stripped-clause-refused c =
 
 pub returns-in_err-core-clause-refused : goal.returns-in_err-core-clause-refused
 returns-in_err-core-clause-refused c =
-    let stripped = c.in_ok-stripped.stripped in
+    let found = c.in_ok-stripped.stripped in
     err_is c.from_residual-in_err-core.result c.in_err-core.field-0.0 (λ f. f ≡ NotInserted → IsNotInserted c.args.linked.now.arena.lists.library c.args.inserted.now c.args.device.now)
     c.from_residual-in_err-core.ensures.1
-    (λ told. absurd (c.in_err-core.ensures.fault told (tree_links _ stripped.module stripped.plan c.args.inserted.now c.args.device.now c.in_ok-stripped.ensures.stripped)))
+    (λ told. absurd (c.in_err-core.ensures.fault told (tree_links _ found.module found.plan c.args.inserted.now c.args.device.now c.in_ok-stripped.ensures.stripped)))
 
 pub returns-clause-stripped : goal.returns-clause-stripped
 returns-clause-stripped c =
