@@ -13,7 +13,7 @@ link_core-requires c = c.in_ok-stripped.ensures.stripped.gives.is
 
 pub returns-in_err-stripped-clause-refused : goal.returns-in_err-stripped-clause-refused
 returns-in_err-stripped-clause-refused c =
-    let same = c.library.ensures ∙ ap (λ (a : ArenaView). a.lists.library) c.netlist.ensures.netlist in
+    let same = c.library-library.ensures ∙ ap (λ (a : ArenaView). a.lists.library) c.netlist.ensures.netlist in
     err_is c.from_residual.result c.in_err-stripped.field-0.0 (λ f. f ≡ NotInserted → IsNotInserted c.args.linked.now.arena.lists.library c.args.inserted.now c.args.device.now)
     c.from_residual.ensures.1
     (λ told. subst (λ (library : List ListedCell). IsNotInserted library c.args.inserted.now c.args.device.now) same (c.in_err-stripped.ensures.refused told))
@@ -28,7 +28,7 @@ returns-in_err-core-clause-refused c =
 pub returns-clause-stripped : goal.returns-clause-stripped
 returns-clause-stripped c =
     let found = c.in_ok-stripped.stripped in
-    let same = c.library.ensures ∙ ap (λ (a : ArenaView). a.lists.library) c.netlist.ensures.netlist in
+    let same = c.library-library.ensures ∙ ap (λ (a : ArenaView). a.lists.library) c.netlist.ensures.netlist in
     subst (λ (library : List ListedCell). IsStripped library c.args.inserted.now c.args.device.now c.in_ok-core.core found.plan) same
     (stripped c.link_views_agree.ensures c.gives_by_the_view.ensures _ found.module found.plan c.in_ok-core.core c.args.inserted.now c.args.device.now c.in_ok-stripped.ensures.stripped
     c.in_ok-core.ensures.linked c.in_ok-core.ensures.library)
