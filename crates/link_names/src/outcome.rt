@@ -12,7 +12,6 @@ ghost use Rattle.link_names.specs.Outcomes.{head_fault, bit_fault, item_fault, I
 use crate::bits::{BitTest, bits_are_clear, find_bit};
 use crate::cell_numbers::numbers_of;
 use crate::cells::cells_of;
-use crate::counts::find_too_many;
 use crate::declarations::{Declaration, declare};
 use crate::instances::find_instance_fault;
 use crate::names::find_name_twice;
@@ -22,7 +21,7 @@ use crate::widths::find_width;
 use indexmap::IndexMap;
 use link_model::lower_cell_library::Library;
 use link_model::lower_verilog_tree::{Item, Module};
-use link_model::{ItemCell, LinkFault, NetBit};
+use link_model::{ItemCell, LinkFault, NetBit, find_too_many};
 use std::alloc::Global;
 use texts::OutOfMemory;
 

@@ -2,7 +2,6 @@ mod Lists
 mod Gates
 mod Kept
 mod Plain
-mod Controls
 mod BitPlaces
 mod Collected
 mod PortBits
@@ -11,4 +10,3 @@ mod Barred
 mod Whole
 mod PortLists
 mod TakenKeys
-mod ControlKeys

@@ -1,18 +1,9 @@
--- own: what tables are searched for.
-use Rattle.std.specs.Prelude.{◌≡◌, ℕ, ◌+◌, ◌<◌, ◌^◌, ◌==◌, ◌&&◌, Bool, false, List, map, length, position}
+-- own: what the table of bits is searched for.
+use Rattle.std.specs.Prelude.{◌≡◌, ℕ, ◌==◌, ◌&&◌, Bool, List, map, position}
 use Rattle.std.specs.Map.{lookup}
 use Rattle.netlist_model.specs.declared.PinBit.{PinBit}
-use Rattle.netlist_model.specs.declared.Feed.{Feed}
-use Rattle.netlist_model.specs.declared.Feed.TheVariants.{Net, Const}
-use Rattle.plan_fitting.specs.declared.fitted.FitRow.{FitRow}
 use Rattle.plan_fitting.specs.Pins.{PinSeen, same_bit}
-use Rattle.plan_fitting.specs.Rows.{Driver, controls, same_bool}
 use Rattle.pin_plan.specs.declared.keys.BitKey.{BitKey}
-use Rattle.pin_plan.specs.declared.keys.OperandKey.{OperandKey}
-use Rattle.pin_plan.specs.declared.keys.OperandKey.TheVariants as operand
-use Rattle.pin_plan.specs.declared.keys.ControlKey.{ControlKey}
-
--- Bits.
 
 abbrev pub key_of_bit : PinBit → BitKey
 key_of_bit pin = record { port = pin.port.0; bit = pin.bit }
@@ -26,25 +17,3 @@ same_bit_key a b = a.port == b.port && a.bit == b.bit
 -- the place of the first pin line of each bit stands under the bit
 pub record FindsBits (pins : List PinSeen) (entries : List (BitKey × ℕ)) : Type 0 where
   pub places : (pin : PinBit) → lookup (same_bit_key (key_of_bit pin)) entries ≡ position (λ (one : PinSeen). same_bit one.pin pin) pins
-
--- Control cells.
-
-abbrev pub operand_key : Feed → OperandKey
-operand_key (Net net) = operand.Net net.0
-operand_key (Const value) = operand.Const value
-
-abbrev pub control_key_of : Driver → ControlKey
-control_key_of d = record { operand = operand_key d.operand; active_high = d.active_high }
-
-abbrev pub same_operand : OperandKey → OperandKey → Bool
-same_operand (operand.Net a) (operand.Net b) = a == b
-same_operand (operand.Const a) (operand.Const b) = same_bool a b
-same_operand _ _ = false
-
-abbrev pub same_control : ControlKey → ControlKey → Bool
-same_control a b = same_operand a.operand b.operand && same_bool a.active_high b.active_high
-
--- the number of the control cell of each driver stands under its operand and polarity
-pub record FindsControls (rows : List FitRow) (entries : List (ControlKey × ℕ)) : Type 0 where
-  pub numbers : (d : Driver) → lookup (same_control (control_key_of d)) entries ≡ position (controls d) rows
-  pub few : length rows + 1 < 2 ^ 32

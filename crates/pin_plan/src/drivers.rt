@@ -7,29 +7,11 @@ ghost use Rattle.pin_plan.specs.Tables as tables;
 ghost use Rattle.pin_plan.specs.Tables.{AreDrivers, AreDriversAmong, with_driver};
 
 use cell_library::Kind;
+use control_cells::Driver;
 use netlist_arena::Netlist;
 use netlist_model::{CellId, Feed};
 use std::alloc::Global;
-use std::marker::Model;
 use texts::OutOfMemory;
-
-/// The driver of a pin: its data operand, its control operand, and whether 1 enables it.
-#[derive(Clone, Copy, Drop)]
-pub struct Driver {
-    pub core: Feed,
-    pub operand: Feed,
-    pub active_high: bool,
-}
-
-impl Model for Driver {
-    ghost use Rattle.plan_fitting.specs.Rows.{Driver};
-
-    ghost Value = { Driver };
-
-    ghost view = { λ d. record { core = d.core; operand = d.operand; active_high = d.active_high } };
-
-    ghost inverse = { λ d. record { core = d.core; operand = d.operand; active_high = d.active_high } };
-}
 
 // Whether 1 enables the gate, if it is a three-state gate.
 fn polarity(kind: Kind) -> Option<bool>

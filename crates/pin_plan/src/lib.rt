@@ -8,8 +8,8 @@
 //   exactly the plan's boundary cells, in their order and with their control cells, the netlist's ports with their
 //   pins, and the plan's names and codes. There are fewer than 2^32 cells.
 // - It answers a fault only where that is the first (`IsFault`), with its word; `OutOfMemory` says nothing.
-// - One table of three-state gates is made in one pass over the cells, and one of names; control cells and pin
-//   lines are found by an index, which the contracts tie to the first cell or line of the definition.
+// - One table of three-state gates is made in one pass over the cells, and one of names; pin lines are found by an
+//   index, which the contracts tie to the first line of the definition, as control_cells finds control cells.
 // By the contract of `fit`.
 #![tactic(auto)]
 
@@ -32,7 +32,6 @@ mod codes;
 mod copies;
 mod plan_fit;
 mod ports;
-mod row_table;
 mod rows;
 
 pub use plan_fit::fit;

@@ -4,7 +4,8 @@ ghost use Rattle.netlist_model.specs.Lists.{bit_net};
 ghost use Rattle.pin_plan.specs.Tables.{AreDrivers};
 ghost use Rattle.pin_plan.specs.Seen.{ArePinsOf, IsLineFault, IsPinOf, IsPinOfLine, IsPortFault};
 
-use crate::drivers::{Driver, drivers_of};
+use crate::drivers::drivers_of;
+use control_cells::Driver;
 use netlist_link::Linked;
 use netlist_model::{Dir, NetId, PinBit};
 use plan_fitting::FitFault;

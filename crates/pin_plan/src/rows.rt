@@ -4,10 +4,9 @@ ghost use Rattle.bsdl_device.specs.RowRules.{is_function};
 ghost use Rattle.plan_fitting.specs.Rows as boundary;
 
 use crate::codes::has_highz;
-use crate::drivers::Driver;
 use crate::pins::PinAt;
-use crate::row_table::RowTable;
 use cell_library::{BoundaryKind, Function};
+use control_cells::{Driver, RowTable};
 use netlist_model::{Dir, Feed};
 use plan_fitting::FitRow;
 use plan_texts::{PinLine, Plan};

@@ -8,9 +8,9 @@ use Rattle.netlist_model.specs.declared.Feed.TheVariants.{Net, Const}
 use Rattle.plan_fitting.specs.declared.fitted.FitRow.{FitRow}
 use Rattle.plan_fitting.specs.Rows.{Driver, controls, control_row, same_bool, same_feed}
 use Rattle.plan_fitting.proofs.Drivers.{same_bool_is}
-use Rattle.pin_plan.specs.declared.keys.ControlKey.{ControlKey}
-use Rattle.pin_plan.specs.Keys.{FindsControls, control_key_of, operand_key, same_control, same_operand}
-use Rattle.pin_plan.proofs.Lists.{position-last_no, position-last_yes}
+use Rattle.control_cells.specs.declared.keys.ControlKey.{ControlKey}
+use Rattle.control_cells.specs.Keys.{FindsControls, control_key_of, operand_key, same_control, same_operand}
+use Rattle.control_cells.proofs.Places.{position-last_no, position-last_yes}
 
 operand_is : (x y : Feed) → same_operand (operand_key x) (operand_key y) ≡ same_feed x y
 operand_is (Net a) (Net b) = refl

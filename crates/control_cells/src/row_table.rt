@@ -3,9 +3,9 @@ ghost use Rattle.std.specs.Prelude.{◌≡◌, ◌+◌, ◌++◌, ◌∷◌, ◌
 ghost use Rattle.indexmap.specs.IndexMap.{get};
 ghost use Rattle.bsdl_device.specs.RowRules.{is_function};
 ghost use Rattle.plan_fitting.specs.Rows.{controls, control_row};
-ghost use Rattle.pin_plan.specs.Keys.{control_key_of};
+ghost use Rattle.control_cells.specs.Keys.{control_key_of};
 
-use crate::drivers::Driver;
+use crate::driver::Driver;
 use crate::keys::{ControlKey, OperandKey};
 use cell_library::{BoundaryKind, Function};
 use indexmap::IndexMap;
@@ -27,7 +27,7 @@ pub struct RowTable {
 impl Model for RowTable {
     ghost use Rattle.std.specs.Prelude.{List};
     ghost use Rattle.plan_fitting.specs.declared.fitted.FitRow.{FitRow};
-    ghost use Rattle.pin_plan.specs.Keys.{FindsControls};
+    ghost use Rattle.control_cells.specs.Keys.{FindsControls};
 
     ghost Value = { List FitRow };
 

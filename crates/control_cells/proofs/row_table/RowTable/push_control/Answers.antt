@@ -1,9 +1,9 @@
 use Rattle.std.proofs.Common.{◌≡◌, ◌∙◌, ◌+◌, ◌<◌, ◌^◌, ◌++◌, ◌∷◌, [], List, length, position, ap, arith, None}
 use Rattle.plan_fitting.specs.declared.fitted.FitRow.{FitRow}
 use Rattle.plan_fitting.specs.Rows.{controls}
-use Rattle.pin_plan.proofs.Controls.{control_noted}
-use Rattle.pin_plan.proofs.ControlKeys.{noted_is}
-use Rattle.pin_plan.proofs.row_table.RowTable.push_control.Goals as goal
+use Rattle.control_cells.proofs.Controls.{control_noted}
+use Rattle.control_cells.proofs.ControlKeys.{noted_is}
+use Rattle.control_cells.proofs.row_table.RowTable.push_control.Goals as goal
 
 pub invariant_of-self-2 : goal.invariant_of-self-2
 invariant_of-self-2 c =

@@ -1,11 +1,11 @@
 -- Keys of control cells are compared as operands and polarities are.
 use Rattle.std.proofs.Common.{◌≡◌, ℕ, Bool, true, false, cond, List, refl, ap, sym, ◌∙◌, Option, Some, if◌then◌else◌}
 use Rattle.std.specs.Map.{lookup}
-use Rattle.pin_plan.specs.declared.keys.OperandKey.{OperandKey}
-use Rattle.pin_plan.specs.declared.keys.OperandKey.TheVariants as operand
-use Rattle.pin_plan.specs.declared.keys.ControlKey.{ControlKey}
-use Rattle.pin_plan.specs.Keys.{same_control}
-use Rattle.pin_plan.specs.contracts.keys.ControlKeyPartialEq.TheImpl.{eq-value}
+use Rattle.control_cells.specs.declared.keys.OperandKey.{OperandKey}
+use Rattle.control_cells.specs.declared.keys.OperandKey.TheVariants as operand
+use Rattle.control_cells.specs.declared.keys.ControlKey.{ControlKey}
+use Rattle.control_cells.specs.Keys.{same_control}
+use Rattle.control_cells.specs.contracts.keys.ControlKeyPartialEq.TheImpl.{eq-value}
 
 abbrev pub same_key : ControlKey → ControlKey → Bool
 same_key = eq-value.it

@@ -2,10 +2,10 @@ use Rattle.std.proofs.Common.{List, position, ◌∙◌, ap}
 use Rattle.std.specs.Map.{lookup}
 use Rattle.plan_fitting.specs.declared.fitted.FitRow.{FitRow}
 use Rattle.plan_fitting.specs.Rows.{controls}
-use Rattle.pin_plan.specs.declared.keys.ControlKey.{ControlKey}
-use Rattle.pin_plan.specs.Keys.{control_key_of}
-use Rattle.pin_plan.proofs.ControlKeys.{same_key, lookup_is}
-use Rattle.pin_plan.proofs.row_table.RowTable.control_of.Goals as goal
+use Rattle.control_cells.specs.declared.keys.ControlKey.{ControlKey}
+use Rattle.control_cells.specs.Keys.{control_key_of}
+use Rattle.control_cells.proofs.ControlKeys.{same_key, lookup_is}
+use Rattle.control_cells.proofs.row_table.RowTable.control_of.Goals as goal
 
 pub returns : goal.returns
 returns c =
