@@ -1,4 +1,4 @@
-ghost use Rattle.std.specs.Prelude.{◌≡◌, ℕ, ◌+◌, ◌^◌, ◌<◌, ◌≤◌, [], ◌∷◌, ◌++◌, length, take, Some, OnOk, IfErr, IsTrue, slice_index};
+ghost use Rattle.std.specs.Prelude.{◌≡◌, ◌↔◌, ℕ, ◌+◌, ◌^◌, ◌<◌, ◌≤◌, [], ◌∷◌, ◌++◌, length, take, Some, OnOk, IfErr, IsTrue, slice_index};
 ghost use Rattle.std.specs.List.{prefix_len};
 ghost use Rattle.verilog_lexicon.specs.Bytes.{is_digit, is_letter, is_name_byte, is_escaped_byte, clings};
 ghost use Rattle.std.specs.Bool.{IsFalse};
@@ -650,17 +650,28 @@ impl WordMachine {
         count + blanks
     }
 
-    // A name, a number, or one byte that begins another piece, and the blanks after it.
+    // Whether nothing was begun.
+    fn is_between(&self) -> bool
+        ensures { IsTrue result ↔ (self.now.mode ≡ Mode.Between) }
+    {
+        matches!(self.mode, Mode::Between)
+    }
+
+    // Names, numbers and bytes that begin other pieces, each with the blanks after it, as long as nothing else is begun.
     fn take_between(&mut self, at: u64, piece: &[u8]) -> Result<usize, CutFault>
         requires between { self.old.mode ≡ Mode.Between }
         requires some { 0 < length piece.now }
         requires room { at + length piece.now < 2 ^ 64 }
         ensures { Takes self.new (state_of self.old) at piece.now result }
     {
-        match self.take_piece(at, piece) {
-            Ok(count) => Ok(self.with_blanks(piece, count)),
-            Err(e) => Err(e),
+        let mut done = 0;
+        while done < piece.len() && self.is_between() {
+            match self.take_piece(at + done as u64, &piece[done..]) {
+                Ok(count) => done = self.with_blanks(piece, done + count),
+                Err(e) => return Err(e),
+            }
         }
+        Ok(done)
     }
 
     // What comes after `(`.
