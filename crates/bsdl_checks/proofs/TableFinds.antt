@@ -1,5 +1,5 @@
 -- What tables find, by the lists that they are made of.
-use Rattle.std.proofs.Common.{◌≡◌, ℕ, Bool, true, false, ◌==◌, nat_eq, List, map, position, Option, refl, ap, sym, ◌∙◌}
+use Rattle.std.proofs.Common.{◌≡◌, ℕ, Bool, ◌==◌, nat_eq, List, map, position, ap, ◌∙◌}
 use Rattle.std.specs.Map.{lookup}
 use Rattle.list_laws.proofs.Numbers.{eqb-sym}
 use Rattle.bsdl_lexicon.specs.Names.{is_same_name}

@@ -1,5 +1,5 @@
 -- What is read of a file's sections is what their strings hold.
-use Rattle.std.proofs.Common.{◌≡◌, ℕ, Bool, true, false, List, [], ◌∷◌, ◌++◌, Option, Some, None, Result, Ok, Err, refl, sym, subst, ap, ◌∙◌}
+use Rattle.std.proofs.Common.{◌≡◌, ℕ, Bool, true, List, [], ◌∷◌, ◌++◌, Option, Some, None, Result, Ok, Err, refl, sym, subst, ap, ◌∙◌}
 use Rattle.std.specs.Prelude.{◌&&◌}
 use Rattle.std.specs.List.{list_all, AllByRecursion}
 use Rattle.std.specs.Option.{option_map}
@@ -27,7 +27,7 @@ use Rattle.bsdl_reading.proofs.Listed.{AreSome}
 use Rattle.bsdl_reading.proofs.Views.{Free, all_free}
 use Rattle.bsdl_contents.specs.Laws.{HoldOneContents}
 use Rattle.bsdl_contents.specs.Reader as reading
-use Rattle.bsdl_contents.specs.Reader.{section_at, whole_at, contents_from, contents_at}
+use Rattle.bsdl_contents.specs.Reader.{section_at, contents_from, contents_at}
 use Rattle.bsdl_contents.proofs.Chosen.{whole_sound, whole_complete}
 use Rattle.bsdl_contents.proofs.EntryLaws.{ArePins, IsPinEntry, IsAccessEntry, list_law, pin_entry_law, opcode_law, bits_law, code_law, access_law}
 use Rattle.bsdl_contents.proofs.RowLaws.{row_law}

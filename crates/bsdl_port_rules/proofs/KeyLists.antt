@@ -1,15 +1,10 @@
 -- Lists of keys: repeats, first places and counts.
-use Rattle.std.proofs.Common.{◌≡◌, ℕ, zero, suc, ◌+◌, ◌-◌, ◌<◌, ◌≤◌, Bool, true, false, cond, ◌||◌, ◌==◌, List, [], ◌∷◌, ◌++◌, length, take, drop, get_or, count_by, map, position, Option, Some, None, if◌then◌else◌, refl, ap, sym, ◌∙◌, add-one, arith, eqb-true}
-use Rattle.std.specs.List.{list_any, position_from, position_or_len}
-use Rattle.std.specs.Map.{lookup}
+use Rattle.std.proofs.Common.{◌≡◌, ℕ, zero, suc, ◌+◌, ◌-◌, ◌<◌, ◌≤◌, Bool, true, false, ◌||◌, ◌==◌, List, [], ◌∷◌, ◌++◌, length, take, get_or, count_by, Some, if◌then◌else◌, refl, ap, sym, ◌∙◌, add-one, arith, eqb-true}
+use Rattle.std.specs.List.{list_any}
 use Rattle.std.specs.Cmp.{IsEquivalence}
-use Rattle.std.proofs.Math.Seq.{drop-cons}
 use Rattle.std.proofs.lemmas.List.Folds.{list_any-append}
 use Rattle.std.proofs.lemmas.List.Sums.{count_by_more_yes, count_by_more_no}
-use Rattle.std.proofs.lemmas.Iterator.Adapters.{position_from-zero}
 use Rattle.bsdl_device.specs.Checks.{any_pair}
-use Rattle.bsdl_port_rules.specs.declared.keys.Uses.{Uses}
-use Rattle.bsdl_port_rules.specs.declared.keys.Uses.TheVariants.{Once, Several}
 use Rattle.bsdl_port_rules.specs.Keys.{repeats_after, once_more, uses_for, is_once}
 
 swap_ors : (a b c d : Bool) → (a || (b || false)) || (c || d) ≡ (a || c) || (b || d)

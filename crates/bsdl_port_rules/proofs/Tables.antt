@@ -1,17 +1,15 @@
 -- What tables find under names, by the lists that they are made of.
-use Rattle.std.proofs.Common.{◌≡◌, ℕ, suc, ◌+◌, ◌<◌, Bool, true, false, cond, not, ◌||◌, ◌==◌, find, get_or, List, [], ◌∷◌, length, map, count_by, position, Option, Some, None, refl, ap, sym, ◌∙◌, ltb-true, ltb-false}
-use Rattle.std.specs.Prelude.{nat_lt, slice_get}
+use Rattle.std.proofs.Common.{◌≡◌, ℕ, suc, ◌+◌, ◌<◌, Bool, true, false, cond, not, ◌||◌, ◌==◌, find, get_or, List, [], ◌∷◌, length, map, count_by, position, Some, None, refl, ap, sym, ◌∙◌, ltb-true, ltb-false}
+use Rattle.std.specs.Prelude.{nat_lt}
 use Rattle.std.proofs.lemmas.Option.{slice_get-get_or, slice_get_past}
 use Rattle.std.proofs.lemmas.List.Folds.{find_at}
 use Rattle.std.proofs.lemmas.List.Sums.{sum_by-cons}
-use Rattle.std.specs.Str.{bytes_eq}
-use Rattle.std.proofs.lemmas.Slice.Eq.{bytes_eq-Decides}
 use Rattle.std.specs.List.{list_any, position_or_len}
 use Rattle.bsdl_lexicon.specs.Names.{is_same_name}
 use Rattle.bsdl_lexicon.specs.NameKeys.{names_in}
 use Rattle.bsdl_device.specs.declared.written.DeclaredPort.{DeclaredPort}
 use Rattle.bsdl_device.specs.declared.entries.PinEntry.{PinEntry}
-use Rattle.bsdl_device.specs.Ports.{place_named, port_names}
+use Rattle.bsdl_device.specs.Ports.{port_names}
 use Rattle.bsdl_device.specs.Checks.{port_not_mapped_once}
 use Rattle.bsdl_lexicon.specs.declared.name_key.NameKey.{NameKey}
 use Rattle.bsdl_lexicon.proofs.SameNames.{same_turned}

@@ -24,7 +24,7 @@ use Rattle.bsdl_device.specs.declared.entries.PinEntry.{PinEntry}
 use Rattle.bsdl_device.specs.declared.entries.RowEntry.{RowEntry}
 use Rattle.bsdl_device.specs.Patterns.{is_filled}
 use Rattle.bsdl_device.specs.Ports as declared
-use Rattle.bsdl_device.specs.Ports.{declared_ports, port_bits, has_bit, is_within}
+use Rattle.bsdl_device.specs.Ports.{declared_ports, port_bits, has_bit}
 use Rattle.bsdl_device.specs.Checks.{any_pair, is_repeated, port_named_twice, port_named_as_unit, has_too_many_bits, names_other_entity, names_other_package, name_fails, port_not_mapped_once, entry_misfits, all_pins, pin_map_fails, is_scalar_port, tap_names, tap_port_misfits, tap_fails, length_fails, opcode_is_unknown, opcode_named_twice, lacks_instruction, has_other_length, bypass_is_not_ones, opcodes_clash, opcode_fails, capture_fails, has_instruction, code_is_barred, idcode_fails, usercode_fails, numbers_misfit, boundary_fails}
 use Rattle.bsdl_device.specs.RowRules.{is_function, row_misfits, bit_not_in_one_row, system_bits, rows_disagree, highz_fails, row_fails}
 use Rattle.bsdl_device.specs.Denoted.{device_of, port_of, cell_of, place_of, ordered_rows}

@@ -18,7 +18,7 @@ use Rattle.bsdl_device.specs.declared.entries.PinEntry.{PinEntry}
 use Rattle.bsdl_device.specs.Patterns.{is_filled}
 use Rattle.bsdl_device.specs.Grammar.{has_pins}
 use Rattle.bsdl_device.specs.Ports as declared
-use Rattle.bsdl_device.specs.Ports.{port_named, port_bits, width}
+use Rattle.bsdl_device.specs.Ports.{port_bits, width}
 use Rattle.bsdl_device.specs.Checks.{is_repeated, entry_pins, has_pins_for, port_not_mapped_once, entry_misfits, all_pins}
 use Rattle.bsdl_device.specs.Denoted.{port_of}
 use Rattle.bsdl_device.specs.Canonical.{bits_text}

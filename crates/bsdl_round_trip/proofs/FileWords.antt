@@ -15,7 +15,7 @@ use Rattle.bsdl_device.specs.declared.written.File.{File}
 use Rattle.bsdl_device.specs.Patterns as matching
 use Rattle.bsdl_device.specs.Patterns.{is_filled}
 use Rattle.bsdl_device.specs.Shape as shape
-use Rattle.bsdl_device.specs.Shape.{Pattern, KeyWord, NameOf, StringOf, Mark, declaration_words, strings_words, joined, sections, file_words, IsFile, is_declaration}
+use Rattle.bsdl_device.specs.Shape.{Pattern, StringOf, Mark, declaration_words, strings_words, joined, sections, file_words, IsFile, is_declaration}
 use Rattle.bsdl_device.specs.Spelled.{SpellsFile}
 use Rattle.bsdl_round_trip.proofs.FileAtoms.{FileAtom, file_patterns, patterns_of, pieces_of, atoms_match}
 use Rattle.bsdl_round_trip.proofs.Held.{GoodDevice, AreStrings, opcodes_filled, filled_map}

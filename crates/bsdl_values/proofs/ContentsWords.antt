@@ -2,7 +2,6 @@
 use Rattle.std.proofs.Common.{◌≡◌, ℕ, ◌+◌, length, refl}
 use Rattle.bsdl_device.specs.declared.written.File.{File}
 use Rattle.bsdl_device.specs.Shape.{code_words}
-use Rattle.bsdl_contents.specs.declared.fault.HeldSection.{HeldSection}
 use Rattle.bsdl_contents.specs.declared.fault.HeldSection.TheVariants as section
 use Rattle.bsdl_checks.specs.Counts.{first_word}
 use Rattle.bsdl_values.specs.Places.{contents_word}

@@ -1,7 +1,6 @@
 -- From the faults of a file and its contents to those of a device.
 use Rattle.std.proofs.Common.{◌≡◌, ℕ, List, [], ◌∷◌, ◌++◌, length, suc, IfOk, Option, Some, None, Result, Ok, Err, refl, sym, ap, subst, ◌∙◌}
 use Rattle.std.proofs.lemmas.List.{length-map}
-use Rattle.std.specs.List.{AllByRecursion}
 use Rattle.std.specs.Option.{option_map}
 use Rattle.bsdl_lexicon.specs.declared.words.BsdlWords.{BsdlWords}
 use Rattle.bsdl_lexicon.specs.declared.token.BsdlToken.{BsdlToken}

@@ -1,8 +1,7 @@
 -- From the words of a text to the device that it spells, and from the faults of parts to those of a text.
-use Rattle.std.proofs.Common.{◌≡◌, ℕ, List, [], Some, refl, sym, ap, subst, ◌∙◌}
+use Rattle.std.proofs.Common.{◌≡◌, ℕ, List, [], subst, ◌∙◌}
 use Rattle.bsdl_lexicon.specs.declared.token.BsdlSpanned.{BsdlSpanned}
 use Rattle.bsdl_lexicon.specs.declared.words.BsdlWords.{BsdlWords}
-use Rattle.bsdl_lexicon.specs.Pieces.{words_of}
 use Rattle.bsdl_device.specs.declared.values.Device.{Device}
 use Rattle.bsdl_device.specs.Canonical.{canonical_device}
 use Rattle.bsdl_device.specs.Spelled.{SpellsDevice, SpellsText}

@@ -1,7 +1,7 @@
 -- The ports of cells that have a name, found by their names.
-use Rattle.std.proofs.Common.{◌≡◌, ◌≤◌, ◌<◌, ℕ, zero, suc, true, false, get_or, All, List, [], ◌∷◌, length, refl, sym, ap, ◌∙◌, subst, if◌then◌else◌}
+use Rattle.std.proofs.Common.{◌≡◌, ◌≤◌, ◌<◌, ℕ, zero, suc, true, false, get_or, List, [], ◌∷◌, length, refl, sym, ap, ◌∙◌, subst, if◌then◌else◌}
 use Rattle.std.specs.Prelude.{Option, Some, None, IsSome, MatchOption, slice_get, codes}
-use Rattle.std.specs.Option.{option_map, option_map_or}
+use Rattle.std.specs.Option.{option_map}
 use Rattle.std.specs.List.{list_any, position}
 use Rattle.std.specs.Str.{bytes_eq}
 use Rattle.std.specs.Cmp.Lexicographic.{bytes_decides}
@@ -11,10 +11,9 @@ use Rattle.std.proofs.lemmas.List.Elements.{All-get_or}
 use Rattle.list_laws.proofs.Bytes.{bytes_eq-same, bytes_eq-sym}
 use Rattle.list_laws.proofs.Lists.{all_at, any_at, position_none}
 use Rattle.cell_library.specs.declared.Kind.{Kind}
-use Rattle.cell_library.specs.declared.Kind.TheVariants.{And, Or, Nand, Nor, Xor, Xnor, Buf, Not, Bufif0, Bufif1, Assign, Mux2, Flop, Listed}
+use Rattle.cell_library.specs.declared.Kind.TheVariants.{Mux2, Flop, Listed}
 use Rattle.cell_library.specs.declared.listed.ListedCell.{ListedCell}
 use Rattle.cell_library.specs.Listed.{no_cell, listed}
-use Rattle.cell_library.specs.declared.PortPlace.{PortPlace}
 use Rattle.cell_library.specs.declared.PortPlace.TheVariants.{Output, Input}
 use Rattle.cell_library.specs.declared.ResetTo.{ResetTo}
 use Rattle.cell_library.specs.declared.ResetTo.TheVariants.{Nothing, Zero, One}

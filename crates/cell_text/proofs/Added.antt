@@ -1,9 +1,9 @@
 -- Cells of lines make a library.
-use Rattle.std.proofs.Common.{◌≡◌, ◌≢◌, ◌≤◌, ◌<◌, ℕ, zero, suc, ◌+◌, Bool, true, false, not, List, [], ◌∷◌, ◌++◌, map, take, length, slice_get, is_some, is_none, Option, Some, None, IsTrue, All, Bor, refl, sym, ap, ◌∙◌, subst, inl, inr, arith}
+use Rattle.std.proofs.Common.{◌≡◌, ◌≢◌, ◌≤◌, ◌<◌, ℕ, zero, suc, ◌+◌, false, not, List, [], ◌∷◌, ◌++◌, map, take, length, slice_get, is_some, is_none, Option, Some, None, All, refl, sym, ap, ◌∙◌, inl, inr, arith}
 use Rattle.std.specs.List.{list_all}
 use Rattle.std.proofs.lemmas.Bool.Decides.{leb_tells}
 use Rattle.std.proofs.lemmas.List.{length-map}
-use Rattle.std.proofs.lemmas.List.Elements.{All-nil, All-cons, All-head, All-tail}
+use Rattle.std.proofs.lemmas.List.Elements.{All-nil, All-cons}
 use Rattle.list_laws.proofs.Tests.{and_left, both_false, not_false}
 use Rattle.first_faults.specs.Repeated.{repeated}
 use Rattle.cell_library.specs.declared.listed.ListedCell.{ListedCell}
@@ -11,7 +11,7 @@ use Rattle.cell_library.specs.Laws.{OwnNamesAreExact}
 use Rattle.cell_library.specs.Library.{own_kind_named}
 use Rattle.cell_library.specs.Sound.{is_cell_name, is_port_name, IsSoundCell, IsLibrary, IsNewTo}
 use Rattle.cell_text.specs.Words.{Words}
-use Rattle.cell_text.specs.Cells.{are_ports, cell_in}
+use Rattle.cell_text.specs.Cells.{cell_in}
 use Rattle.cell_text.specs.Rules.{name_in, is_unfit, barred_after}
 use Rattle.cell_text.specs.Reader.{CanBeCells}
 use Rattle.cell_text.proofs.Barred.{IsFree, free_at}

@@ -1,7 +1,7 @@
 -- A cell's words, read again.
-use Rattle.std.proofs.Common.{◌≡◌, ◌≤◌, ◌<◌, ℕ, zero, suc, ◌+◌, ◌-◌, Bool, true, false, ◌&&◌, ◌==◌, not, if◌then◌else◌, List, [], ◌∷◌, ◌++◌, map, length, codes, slice_get, slice_index_or, get_or, position, is_none, is_some, nat_le, nat_lt, Option, Some, None, option_and_then, IsTrue, All, refl, sym, ap, ◌∙◌, arith, eq-eqb, eqb-true, leb-true, ltb-true}
+use Rattle.std.proofs.Common.{◌≡◌, ◌≤◌, ◌<◌, ℕ, suc, ◌+◌, ◌-◌, Bool, true, false, ◌&&◌, ◌==◌, not, if◌then◌else◌, List, [], ◌∷◌, ◌++◌, map, length, codes, slice_get, slice_index_or, get_or, position, is_none, nat_le, Option, Some, None, option_and_then, All, refl, sym, ap, ◌∙◌, arith, eq-eqb, eqb-true, leb-true, ltb-true}
 use Rattle.std.specs.Str.{bytes_eq}
-use Rattle.std.specs.List.{list_all, list_any, AllByRecursion}
+use Rattle.std.specs.List.{list_all, AllByRecursion}
 use Rattle.std.proofs.lemmas.Slice.Eq.{bytes_eq-Decides}
 use Rattle.std.proofs.lemmas.List.{length-map}
 use Rattle.std.proofs.lemmas.List.Elements.{All-nil, All-cons, All-head, All-tail}
@@ -9,7 +9,7 @@ use Rattle.std.proofs.lemmas.List.Quantifiers.{position-Some}
 use Rattle.std.proofs.lemmas.Option.{slice_get-get_or}
 use Rattle.list_laws.proofs.Bytes.{bytes_eq-same, bytes_eq-sym}
 use Rattle.list_laws.proofs.Lists.{any_at, position_none, slice_get_there, test_at, all_at}
-use Rattle.list_laws.proofs.Tests.{and_left, and_right, and_true, neither, both_false, not_true}
+use Rattle.list_laws.proofs.Tests.{and_left, and_right, and_true, neither, both_false}
 use Rattle.verilog_lexicon.specs.Keywords as keys
 use Rattle.first_faults.specs.Repeated.{has_name, repeated_after, repeated}
 use Rattle.first_faults.proofs.Tables.{not_before}
@@ -25,11 +25,11 @@ use Rattle.cell_library.specs.declared.listed.Body.TheVariants as body
 use Rattle.cell_library.specs.declared.listed.ListedCell.{ListedCell}
 use Rattle.cell_library.specs.Gates.{flop_operand_count}
 use Rattle.cell_library.specs.Library.{flop_name}
-use Rattle.cell_library.specs.Ports.{IsNoneOf, AreApart}
+use Rattle.cell_library.specs.Ports.{AreApart}
 use Rattle.cell_library.specs.Sound.{is_port_name, IsPort, wants, is_of, leaves_one, is_sound_body, IsSoundCell}
 use Rattle.cell_library.proofs.PortLaws.{apart_once}
 use Rattle.cell_text.specs.Words.{Words, is_colon, flop_named, step_word, step_named, step_of, input_or}
-use Rattle.cell_text.specs.Lines.{parted, takes, is_cell_line}
+use Rattle.cell_text.specs.Lines.{takes, is_cell_line}
 use Rattle.cell_text.specs.Cells.{are_ports, put_before, steps_of, sound_steps, cell_of, with_ports, gate_of, flop_of, cell_in}
 use Rattle.cell_text.specs.Grammar.{body_words, cell_words}
 use Rattle.cell_text.proofs.Borrowed.{index_at}

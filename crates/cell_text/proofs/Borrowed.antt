@@ -1,5 +1,5 @@
 -- Lists of borrowed words, by the bytes of the words.
-use Rattle.std.proofs.Common.{◌≡◌, ℕ, zero, suc, List, [], ◌∷◌, ◌++◌, map, take, drop, length, slice_get, slice_index_or, get_or, position, nat_lt, ◌+◌, ◌&&◌, Bool, not, cond, ◌<◌, ◌≤◌, Some, None, Bor, refl, ap, ◌∙◌, arith}
+use Rattle.std.proofs.Common.{◌≡◌, ℕ, zero, suc, List, [], ◌∷◌, ◌++◌, take, drop, length, slice_get, slice_index_or, get_or, position, nat_lt, ◌+◌, ◌&&◌, Bool, not, cond, ◌<◌, ◌≤◌, Some, None, Bor, refl, ap, ◌∙◌, arith}
 use Rattle.std.specs.List.{list_all, position_or_len}
 use Rattle.first_faults.specs.Repeated.{texts}
 

@@ -1,9 +1,9 @@
 -- A text has no more kept lines than bytes.
-use Rattle.std.proofs.Common.{◌≡◌, ◌≤◌, ◌<◌, ℕ, zero, suc, ◌+◌, ◌-◌, Bool, true, false, cond, List, [], ◌∷◌, length, take, drop, map, filter, refl, ap, inl, inr, arith, length-drop}
+use Rattle.std.proofs.Common.{◌≡◌, ◌≤◌, ◌<◌, ℕ, zero, suc, ◌+◌, ◌-◌, Bool, true, false, cond, List, [], ◌∷◌, length, drop, map, filter, refl, ap, inl, inr, arith, length-drop}
 use Rattle.std.specs.List.{position_or_len, enumerate_from}
 use Rattle.std.proofs.lemmas.Bool.Decides.{leb_tells}
 use Rattle.std.proofs.lemmas.List.{length-map}
-use Rattle.line_texts.specs.Words.{is_line_end, lines_of, words_of, is_kept, kept_from, kept_lines}
+use Rattle.line_texts.specs.Words.{is_line_end, lines_of, words_of, is_kept, kept_lines}
 use Rattle.line_texts.specs.Ahead.{rest_of}
 use Rattle.line_texts.proofs.Cut.{line_within, line_to_end}
 

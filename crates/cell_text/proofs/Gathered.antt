@@ -1,5 +1,5 @@
 -- Words that are gathered, and lines that are kept.
-use Rattle.std.proofs.Common.{◌≡◌, ◌≢◌, ◌≤◌, ◌<◌, ℕ, zero, suc, ◌+◌, ◌-◌, Bool, true, false, ◌&&◌, ◌==◌, if◌then◌else◌, List, [], ◌∷◌, ◌++◌, map, take, drop, length, is_some, codes, Option, Some, None, Bor, refl, sym, ap, ◌∙◌, inl, inr, arith, append_assoc, append-nil, length-append, subst, eqb-true}
+use Rattle.std.proofs.Common.{◌≡◌, ◌≢◌, ◌≤◌, ◌<◌, ℕ, zero, suc, ◌+◌, ◌-◌, Bool, true, false, ◌&&◌, ◌==◌, if◌then◌else◌, List, [], ◌∷◌, ◌++◌, map, take, length, is_some, codes, Option, Some, None, Bor, refl, sym, ap, ◌∙◌, inl, inr, arith, append_assoc, append-nil, length-append, subst, eqb-true}
 use Rattle.std.specs.Str.{bytes_eq}
 use Rattle.std.specs.Option.{option_map_or}
 use Rattle.std.proofs.lemmas.Bool.Decides.{leb_tells}
@@ -10,7 +10,6 @@ use Rattle.list_laws.proofs.Options.{first_in-append}
 use Rattle.list_laws.proofs.Tests.{and_right, true_or_false}
 use Rattle.line_texts.specs.Words.{words_of}
 use Rattle.line_texts.specs.Cut.{after_word}
-use Rattle.line_texts.specs.Ahead.{first_number, rest_of}
 use Rattle.first_faults.specs.Repeated.{texts}
 use Rattle.cell_library.specs.declared.FlopKind.{FlopKind}
 use Rattle.cell_library.specs.declared.ResetTo.{ResetTo}

@@ -1,5 +1,5 @@
 -- The loop that adds the cells of lines.
-use Rattle.std.proofs.Common.{◌≡◌, ◌≤◌, ◌<◌, ℕ, zero, suc, ◌+◌, Bool, true, false, if◌then◌else◌, List, [], ◌∷◌, ◌++◌, map, take, drop, length, slice_get, is_none, Option, Some, None, All, Bor, refl, sym, ap, ◌∙◌, take-append-drop}
+use Rattle.std.proofs.Common.{◌≡◌, ◌≤◌, ◌<◌, ℕ, zero, suc, ◌+◌, true, if◌then◌else◌, List, [], ◌∷◌, ◌++◌, map, take, drop, length, slice_get, is_none, Option, Some, None, All, Bor, refl, sym, ap, ◌∙◌, take-append-drop}
 use Rattle.std.proofs.lemmas.List.Elements.{All-head, All-tail}
 use Rattle.list_laws.specs.Options.{or_else, first_in}
 use Rattle.list_laws.proofs.Lists.{taken_more, left_at, map_push, front_all}

@@ -1,9 +1,7 @@
 -- Words that are parted at a colon.
 use Rattle.std.proofs.Common.{◌≡◌, ◌≤◌, ◌<◌, ℕ, zero, suc, ◌+◌, ◌-◌, Bool, true, false, ◌&&◌, not, if◌then◌else◌, nat_le, List, [], ◌∷◌, ◌++◌, length, take, drop, slice_get, slice_index_or, codes, is_some, Option, Some, None, option_and_then, Result, Ok, Err, IfOk, refl, sym, ap, ◌∙◌, arith, subst, Bor, append_assoc, append-nil, length-append, length-drop, leb-true, le-leb}
 use Rattle.std.specs.List.{list_all}
-use Rattle.std.specs.Str.{bytes_eq}
 use Rattle.std.proofs.lemmas.Slice.Eq.{bytes_eq-Decides}
-use Rattle.list_laws.proofs.Bytes.{bytes_eq-same}
 use Rattle.list_laws.proofs.Lists.{slice_get_there, left_at, taken_more, none_left, front_all}
 use Rattle.list_laws.proofs.Tests.{and_left, and_right, not_true}
 use Rattle.cell_text.specs.Words.{Words, is_colon, is_step_count}

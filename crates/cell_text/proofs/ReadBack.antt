@@ -1,5 +1,5 @@
 -- What was read, and what is told of the text.
-use Rattle.std.proofs.Common.{◌≡◌, ◌≤◌, ◌<◌, ℕ, ◌+◌, Bool, true, false, if◌then◌else◌, List, [], ◌∷◌, map, take, length, Option, Some, None, refl, sym, ap, ◌∙◌, subst, arith}
+use Rattle.std.proofs.Common.{◌≡◌, ◌≤◌, ◌<◌, ℕ, ◌+◌, Bool, true, false, if◌then◌else◌, List, [], ◌∷◌, map, length, Some, None, refl, sym, ap, ◌∙◌, subst, arith}
 use Rattle.list_laws.specs.Options.{first_in}
 use Rattle.list_laws.proofs.Lists.{front_all}
 use Rattle.line_texts.specs.Words.{kept_lines}
@@ -11,7 +11,7 @@ use Rattle.cell_text.specs.declared.fault.LibFault.TheVariants as fault
 use Rattle.cell_text.specs.declared.reader.Kept.{Kept}
 use Rattle.cell_text.specs.Words.{Words}
 use Rattle.cell_text.specs.Cells.{cell_in}
-use Rattle.cell_text.specs.Rules.{name_in, barred_after, body_fault, rule_fault}
+use Rattle.cell_text.specs.Rules.{name_in, barred_after, body_fault}
 use Rattle.cell_text.specs.Faults.{end_of, other_form, line_fault, cell_rows, first_fault, IsFault}
 use Rattle.cell_text.specs.Grammar.{SpellsLibrary}
 use Rattle.cell_text.specs.Reader.{rows_of, is_begun, IsKept, IsBadLine, AreLines, CanBeCells, IsFirst}

@@ -1,7 +1,7 @@
 -- The rows of a library's text are words, and read back.
-use Rattle.std.proofs.Common.{◌≡◌, ◌≢◌, ◌≤◌, ◌<◌, ℕ, zero, suc, ◌+◌, ◌-◌, Bool, true, false, ◌&&◌, cond, not, nat_le, List, [], ◌∷◌, ◌++◌, map, take, length, codes, slice_get, slice_index_or, is_some, Option, Some, None, IsTrue, All, refl, sym, ap, ◌∙◌, subst, arith, append_assoc, append-nil, ltb-true}
+use Rattle.std.proofs.Common.{◌≡◌, ◌≢◌, ◌≤◌, ◌<◌, ℕ, zero, suc, ◌+◌, ◌-◌, Bool, true, false, ◌&&◌, cond, not, nat_le, List, [], ◌∷◌, ◌++◌, map, take, length, codes, slice_get, is_some, Some, None, All, refl, sym, ap, ◌∙◌, subst, arith, append_assoc, append-nil, ltb-true}
 use Rattle.std.specs.Str.{bytes_eq}
-use Rattle.std.specs.List.{list_all, enumerate_from, flat_map}
+use Rattle.std.specs.List.{list_all, enumerate_from}
 use Rattle.std.proofs.lemmas.Bool.Decides.{nat_tests}
 use Rattle.std.proofs.lemmas.List.Elements.{All-nil, All-cons, All-head, All-tail, All-append}
 use Rattle.std.proofs.lemmas.Grind.{flat_map-append}
@@ -9,10 +9,9 @@ use Rattle.list_laws.proofs.Lists.{slice_get_there, taken_more, front_all, map_p
 use Rattle.list_laws.proofs.Tests.{and_left, and_right}
 use Rattle.verilog_lexicon.specs.Bytes.{is_name_byte, is_letter, is_simple_name}
 use Rattle.verilog_lexicon.specs.Keywords.{reserved_of}
-use Rattle.line_texts.specs.Words.{is_line_end, is_blank_byte, is_kept}
+use Rattle.line_texts.specs.Words.{is_line_end, is_blank_byte}
 use Rattle.line_texts.specs.Rows.{IsWordByte, IsWord, IsRow, row_text, rows_text}
 use Rattle.line_texts.specs.Laws.{ReadsBack, RowsReadBack}
-use Rattle.cell_library.specs.declared.FlopKind.{FlopKind}
 use Rattle.cell_library.specs.declared.Edge.{Edge}
 use Rattle.cell_library.specs.declared.Edge.TheVariants.{Rise, Fall}
 use Rattle.cell_library.specs.declared.ResetTo.{ResetTo}
@@ -23,7 +22,7 @@ use Rattle.cell_library.specs.declared.listed.Body.{Body}
 use Rattle.cell_library.specs.declared.listed.Body.TheVariants as body
 use Rattle.cell_library.specs.declared.listed.ListedCell.{ListedCell}
 use Rattle.cell_library.specs.Library.{flop_name}
-use Rattle.cell_library.specs.Sound.{is_cell_name, is_port_name, IsPort, wants, is_of, leaves_one, is_sound_body, IsSoundCell, IsLibrary}
+use Rattle.cell_library.specs.Sound.{is_cell_name, IsPort, wants, is_of, leaves_one, is_sound_body, IsSoundCell, IsLibrary}
 use Rattle.cell_text.specs.Words.{Words, step_word}
 use Rattle.cell_text.specs.Faults.{words_in}
 use Rattle.cell_text.specs.Grammar.{body_words, cell_words, version_words, library_rows, SpellsLibrary, canonical_library}

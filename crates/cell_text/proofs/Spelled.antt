@@ -1,5 +1,5 @@
 -- Spelling and faults of a library's text.
-use Rattle.std.proofs.Common.{◌≡◌, ◌≢◌, ◌↔◌, ◌⊎◌, ◌≤◌, ◌<◌, ℕ, zero, suc, ◌+◌, Bool, true, false, ◌&&◌, not, if◌then◌else◌, List, [], ◌∷◌, ◌++◌, map, take, length, slice_get, codes, is_some, is_none, nat_lt, Option, Some, None, All, refl, sym, ap, ◌∙◌, subst, inl, inr, arith, eqb-true, eq-eqb, ltb-false, le-ltb, lt-ltb}
+use Rattle.std.proofs.Common.{◌≡◌, ◌≢◌, ◌↔◌, ◌⊎◌, ◌≤◌, ◌<◌, ℕ, zero, suc, ◌+◌, Bool, true, false, ◌&&◌, not, if◌then◌else◌, List, [], ◌∷◌, ◌++◌, map, length, slice_get, codes, is_some, is_none, nat_lt, Option, Some, None, All, refl, sym, ap, ◌∙◌, subst, inl, inr, arith, eqb-true, eq-eqb, ltb-false, le-ltb, lt-ltb}
 use Rattle.std.specs.Option.{option_map, option_map_or}
 use Rattle.std.specs.Str.{bytes_eq}
 use Rattle.std.proofs.lemmas.Slice.Eq.{bytes_eq-Decides}
@@ -7,15 +7,14 @@ use Rattle.std.proofs.lemmas.List.{length-map}
 use Rattle.std.proofs.lemmas.List.Elements.{All-nil, All-cons, All-head, All-tail}
 use Rattle.list_laws.specs.Options.{or_else, first_in}
 use Rattle.list_laws.proofs.Options.{or_else-parts}
-use Rattle.list_laws.proofs.Tests.{and_left, and_right, and_true, neither}
+use Rattle.list_laws.proofs.Tests.{and_left, and_right, neither}
 use Rattle.line_texts.specs.Words.{kept_lines}
 use Rattle.line_texts.specs.Ahead.{rest_of}
-use Rattle.first_faults.specs.Repeated.{has_name}
 use Rattle.cell_library.specs.declared.FlopKind.{FlopKind}
 use Rattle.cell_library.specs.declared.listed.ListedCell.{ListedCell}
 use Rattle.cell_library.specs.Gates.{flop_operand_count}
 use Rattle.cell_library.specs.Laws.{OwnNamesAreExact}
-use Rattle.cell_library.specs.Library.{own_kind_named, flop_name}
+use Rattle.cell_library.specs.Library.{own_kind_named}
 use Rattle.cell_library.specs.Sound.{is_cell_name, IsSoundCell, IsLibrary}
 use Rattle.cell_text.specs.declared.fault.LibFault.{LibFault}
 use Rattle.cell_text.specs.declared.fault.LibFault.TheVariants as fault
@@ -24,7 +23,7 @@ use Rattle.cell_text.specs.Lines.{parted, takes, is_version, is_gate, is_flop, i
 use Rattle.cell_text.specs.Cells.{cell_in}
 use Rattle.cell_text.specs.Rules.{name_in, is_unfit, barred_after, too_many, name_fault, body_fault, rule_fault}
 use Rattle.cell_text.specs.Faults.{words_in, end_of, other_form, line_fault, cell_rows, first_fault}
-use Rattle.cell_text.specs.Grammar.{cell_words, version_words, library_rows, SpellsLibrary}
+use Rattle.cell_text.specs.Grammar.{cell_words, version_words, SpellsLibrary}
 use Rattle.cell_text.specs.Reader.{CanBeCells}
 use Rattle.cell_text.specs.Laws.{SpelledOnce, SpelledIsFaultless, FaultlessIsSpelled, GateForm, FlopForm, LinesHaveForms}
 use Rattle.cell_text.proofs.Barred.{none_barred}

@@ -1,11 +1,11 @@
 -- The cell of a line, and the words of its line.
-use Rattle.std.proofs.Common.{◌≡◌, ◌≤◌, ◌<◌, ℕ, zero, suc, ◌+◌, Bool, true, false, ◌&&◌, ◌==◌, not, if◌then◌else◌, List, [], ◌∷◌, ◌++◌, map, length, codes, is_none, nat_le, Option, Some, None, option_and_then, IsTrue, All, refl, sym, ap, ◌∙◌, subst, arith, eqb-true, eq-eqb, le-leb}
+use Rattle.std.proofs.Common.{◌≡◌, ◌≤◌, ◌<◌, ℕ, suc, ◌+◌, Bool, true, false, ◌&&◌, ◌==◌, if◌then◌else◌, List, [], ◌∷◌, ◌++◌, map, length, codes, Option, Some, None, option_and_then, refl, sym, ap, ◌∙◌, subst, arith, eqb-true, eq-eqb, le-leb}
 use Rattle.std.specs.Str.{bytes_eq}
 use Rattle.std.proofs.lemmas.Slice.Eq.{bytes_eq-Decides}
 use Rattle.std.proofs.lemmas.List.{length-map}
 use Rattle.cell_library.specs.declared.FlopKind.{FlopKind}
 use Rattle.cell_library.specs.declared.Kind.{Kind}
-use Rattle.cell_library.specs.declared.Kind.TheVariants.{And, Or, Nand, Nor, Xor, Xnor, Buf, Not, Bufif0, Bufif1, Assign, Mux2, Flop}
+use Rattle.cell_library.specs.declared.Kind.TheVariants.{Flop}
 use Rattle.cell_library.specs.declared.listed.Step.{Step}
 use Rattle.cell_library.specs.declared.listed.Body.{Body}
 use Rattle.cell_library.specs.declared.listed.Body.TheVariants as body
@@ -16,7 +16,7 @@ use Rattle.cell_library.specs.Laws.{OwnNamesAreExact}
 use Rattle.cell_library.specs.Sound.{leaves_one, is_sound_body}
 use Rattle.cell_text.specs.Words.{Words, of_kind, flop_named, step_word}
 use Rattle.cell_text.specs.Lines.{parted, takes}
-use Rattle.cell_text.specs.Cells.{are_ports, steps_of, sound_steps, cell_of, with_ports, behind, gate_of, flop_of, gate_in, flop_in, cell_in}
+use Rattle.cell_text.specs.Cells.{are_ports, steps_of, sound_steps, cell_of, with_ports, gate_of, flop_of, gate_in, flop_in, cell_in}
 use Rattle.cell_text.specs.Rules.{name_in}
 use Rattle.cell_text.specs.Grammar.{body_words, cell_words}
 use Rattle.cell_text.proofs.Parts.{parts_of}

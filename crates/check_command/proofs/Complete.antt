@@ -2,7 +2,6 @@
 use Rattle.std.proofs.Common.{◌≡◌, ℕ, List, [], ◌∷◌, Some, None, inl, inr, refl, sym, subst, ◌∙◌}
 use Rattle.command_edges.proofs.Memory.{text_memory, has_link_memory, library_memory, one_library}
 use Rattle.cell_text.specs.Laws as libraries
-use Rattle.command_edges.specs.Libraries.{IsLibraryOf, StandsInLibrary}
 use Rattle.check_command.specs.Tasks.{HaveFault, AreCheckableTexts}
 use Rattle.verilog_tree.specs.declared.tree.Module.{Module}
 use Rattle.cell_library.specs.declared.listed.ListedCell.{ListedCell}

@@ -1,5 +1,5 @@
 -- How far a script was judged: the moments so far are those of its run.
-use Rattle.std.proofs.Common.{◌≡◌, ◌≢◌, ℕ, zero, suc, ◌+◌, ◌<◌, ◌≤◌, nat_le, true, false, Bool, List, [], ◌∷◌, ◌++◌, length, take, filter, refl, sym, ◌∙◌, ap, arith, append_assoc, append-nil, add-one, Some, None, inl, inr}
+use Rattle.std.proofs.Common.{◌≡◌, ◌≢◌, ℕ, suc, ◌+◌, ◌<◌, ◌≤◌, nat_le, true, false, Bool, List, [], ◌∷◌, ◌++◌, length, take, filter, refl, sym, ◌∙◌, ap, arith, append-nil, Some, None, inl, inr}
 use Rattle.std.specs.Prelude.{if◌then◌else◌}
 use Rattle.std.specs.List.{slice_get}
 use Rattle.std.proofs.lemmas.Bool.{cases_lt}
@@ -9,16 +9,14 @@ use Rattle.std.proofs.lemmas.Option.{same_Some, slice_get_within}
 use Rattle.list_laws.proofs.Lists.{slice_get-append_left, slice_get-append_right, taken_more, front_all}
 use Rattle.netlist_model.specs.declared.NetId.{NetId}
 use Rattle.netlist_model.specs.Lists.{NetlistView}
-use Rattle.netlist_model.specs.Runs.{Moment, PinEvent, IsStart, IsStep, reading_at}
-use Rattle.signal_values.specs.declared.Sig.TheVariants.{Unknown}
+use Rattle.netlist_model.specs.Runs.{Moment, PinEvent, IsStep, reading_at}
 use Rattle.scan_vectors.specs.declared.lines.Act.{Act}
 use Rattle.scan_vectors.specs.declared.lines.Act.TheVariants.{Start, Set, Expect}
 use Rattle.event_scripts.specs.declared.script.ScriptLine.{ScriptLine}
 use Rattle.netlist_meaning.specs.Pins.{net_of}
-use Rattle.netlist_meaning.specs.Events.{IsEventStep}
-use Rattle.sim_runs.specs.Runs.{net_number, event_of, events_at, events_of, HasStarts, IsRunOf}
+use Rattle.sim_runs.specs.Runs.{net_number, event_of, events_of}
 use Rattle.sim_runs.specs.Outputs.{sets_with}
-use Rattle.sim_runs.specs.PlayedScript.{IsFirst, Moves, line_event}
+use Rattle.sim_runs.specs.PlayedScript.{IsFirst, Moves}
 use Rattle.conformance_report.specs.declared.verdict.Missed.{Missed}
 use Rattle.conformance_report.specs.declared.verdict.Verdict.{Verdict}
 use Rattle.conformance_report.specs.Verdicts.{Judges, IsVerdict, expected_by, expected, expectation, is_met, is_missed}

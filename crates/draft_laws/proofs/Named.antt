@@ -1,12 +1,10 @@
 -- A well-named netlist stays so where something is added.
-use Rattle.std.proofs.Common.{◌≡◌, ◌≢◌, ℕ, zero, suc, ◌+◌, ◌-◌, ◌<◌, ◌≤◌, ◌⊎◌, true, false, Bool, cond, List, [], ◌∷◌, ◌++◌, length, refl, ap, sym, subst, ◌∙◌, inl, inr, arith, Option, length-append}
+use Rattle.std.proofs.Common.{◌≡◌, ◌≢◌, ℕ, zero, suc, ◌+◌, ◌-◌, ◌<◌, ◌≤◌, ◌⊎◌, List, [], ◌∷◌, ◌++◌, length, refl, ap, sym, subst, ◌∙◌, inl, inr, arith, Option}
 use Rattle.std.specs.Prelude.{Some, None, slice_get, IsSome, IfSome}
 use Rattle.std.specs.List.{list_any}
 use Rattle.std.specs.Str.{bytes_eq}
 use Rattle.std.proofs.lemmas.Bool.{cases_Bool}
-use Rattle.std.proofs.lemmas.Option.{slice_get_within}
 use Rattle.list_laws.proofs.Lists.{at_push, last_push, before_push}
-use Rattle.cell_library.specs.declared.Kind.TheVariants.{Assign}
 use Rattle.cell_library.specs.declared.listed.ListedCell.{ListedCell}
 use Rattle.cell_library.specs.Library.{cell_name}
 use Rattle.cell_library.specs.Sound.{IsLibrary}
@@ -14,8 +12,8 @@ use Rattle.netlist_model.specs.declared.Dir.{Dir}
 use Rattle.netlist_model.specs.declared.NetId.{NetId}
 use Rattle.netlist_model.specs.declared.Name.{Name}
 use Rattle.netlist_model.specs.declared.Name.TheVariants.{Original, Added}
-use Rattle.netlist_model.specs.Lists.{PortView, NetView, CellView, NetlistView, cell_at, bit_net, direction, Drives, Reads}
-use Rattle.netlist_model.specs.Formed.{IsLaidOut, IsWellFormed}
+use Rattle.netlist_model.specs.Lists.{PortView, NetView, CellView, NetlistView, direction}
+use Rattle.netlist_model.specs.Formed.{IsWellFormed}
 use Rattle.netlist_laws.specs.Ports.{DirectionHasBit}
 use Rattle.gate_parts.specs.netlist_arena.Arena.{ArenaView}
 use Rattle.gate_parts.specs.netlist_arena.Adds.{with_net, with_port}
@@ -24,7 +22,7 @@ use Rattle.gate_parts.specs.Parts.{added_nets}
 use Rattle.gate_parts.specs.Laws.{AppendedGrows}
 use Rattle.gate_parts.specs.Appended.{Appended}
 use Rattle.gate_parts.proofs.Ports.{no_port_past}
-use Rattle.netlist_link.specs.WellNamed.{IsKnown, IsShortRange, index_from, IsWireNet, IsWire, IsWireName, IsWellNamed}
+use Rattle.netlist_link.specs.WellNamed.{IsKnown, IsShortRange, index_from, IsWireNet, IsWireName, IsWellNamed}
 use Rattle.draft_laws.specs.Grown.{IsOneOf, AddsCells}
 use Rattle.draft_laws.specs.Pins.{scalar}
 use Rattle.draft_laws.specs.Names.{IsUnused, EnteredIsUnused, named_net, IsLoneWire, WireIsFormed, WireIsNamed, PortIsNamed, IsNamedCell, AppendedIsNamed, LoneWireStays}

@@ -1,10 +1,10 @@
 -- What is appended in two parts was appended first with the one, and then with the other.
-use Rattle.std.proofs.Common.{◌≡◌, ℕ, zero, suc, ◌+◌, ◌-◌, ◌<◌, ◌≤◌, true, false, List, [], ◌∷◌, ◌++◌, take, length, length-append, Option, Some, None, refl, sym, ap, ◌∙◌, arith, inl, inr, append_assoc}
+use Rattle.std.proofs.Common.{◌≡◌, ℕ, zero, suc, ◌+◌, ◌-◌, ◌<◌, ◌≤◌, true, false, List, [], ◌∷◌, ◌++◌, take, length, length-append, Option, Some, None, refl, sym, ◌∙◌, arith, inl, inr, append_assoc}
 use Rattle.std.specs.Prelude.{slice_get, count_by, is_some, IsSome, if◌then◌else◌}
 use Rattle.std.proofs.lemmas.Bool.{cases_lt}
 use Rattle.std.proofs.lemmas.List.Sums.{sum_by-cons}
 use Rattle.list_laws.proofs.Lists.{slice_get-append_left}
-use Rattle.netlist_model.specs.Lists.{CellView, NetlistView, live_cell, cell_at, cell_count}
+use Rattle.netlist_model.specs.Lists.{CellView, live_cell, cell_at, cell_count}
 use Rattle.gate_parts.specs.netlist_arena.Arena.{ArenaView}
 use Rattle.gate_parts.proofs.netlist_arena.Walks.{slice_get-append_right}
 use Rattle.gate_parts.specs.Parts.{added_nets}

@@ -8,21 +8,19 @@ use Rattle.signal_values.specs.Values.{see, join}
 use Rattle.cell_library.specs.declared.Kind.{Kind}
 use Rattle.cell_library.specs.declared.listed.ListedCell.{ListedCell}
 use Rattle.cell_library.specs.declared.FlopKind.{FlopKind}
-use Rattle.cell_library.specs.Gates.{flop_of, is_flop, operand}
-use Rattle.cell_library.specs.Flops.{reset_or, flop_next, flop_start, is_edge}
+use Rattle.cell_library.specs.Gates.{flop_of, operand}
+use Rattle.cell_library.specs.Flops.{flop_next, flop_start, is_edge}
 use Rattle.netlist_model.specs.declared.Dir.{Dir}
 use Rattle.netlist_model.specs.declared.Dir.TheVariants.{Input, Output, Inout}
 use Rattle.netlist_model.specs.Lists.{CellView, NetlistView, cell_at, direction, Drives, IsUndriven}
-use Rattle.netlist_model.specs.Settled.{feed_values, follows_pin, cell_value, cell_drive, pin_rule, IsSettled}
+use Rattle.netlist_model.specs.Settled.{feed_values, follows_pin, cell_value, pin_rule, IsSettled}
 use Rattle.netlist_model.specs.Formed.{IsWellFormed, IsDriven}
-use Rattle.netlist_model.specs.Runs.{PinEvent, pins_after, IsLegal, FlopsStep}
 use Rattle.netlist_laws.specs.Runs.{kind_next, next_if}
 use Rattle.netlist_laws.proofs.Search.{driver_of-driven}
 use Rattle.netlist_laws.proofs.Flops.{reset_or-twice, flop_next-same}
 use Rattle.netlist_laws.proofs.Pins.{pin_kinds, pin_rule-input, pin_rule-inout, cell_drive-three_state}
 use Rattle.netlist_settling.specs.Passes.{undriven_value, driven_value}
-use Rattle.event_laws.specs.Turns.{WaitsOn, AreTurns}
-use Rattle.event_laws.specs.Work.{Event, IsDone, IsWaiting, IsPending, IsAtRest, TakesPin, IsFirst, IsFrontier}
+use Rattle.event_laws.specs.Work.{Event, IsDone}
 use Rattle.event_laws.specs.Laws.{StartsRest, EventQueues, EventSteps}
 use Rattle.event_laws.proofs.Inputs.{SameWaited, sig_cases, next_same, driven_same, drive_same}
 

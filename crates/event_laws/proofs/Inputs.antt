@@ -10,13 +10,11 @@ use Rattle.cell_library.specs.declared.Kind.TheVariants.{Bufif0, Bufif1}
 use Rattle.cell_library.specs.declared.listed.ListedCell.{ListedCell}
 use Rattle.cell_library.specs.declared.FlopKind.{FlopKind}
 use Rattle.cell_library.specs.Gates.{flop_of, is_flop, is_three_state}
-use Rattle.cell_library.specs.Flops.{flop_next}
 use Rattle.netlist_model.specs.declared.NetId.{NetId}
 use Rattle.netlist_model.specs.declared.Dir.{Dir}
 use Rattle.netlist_model.specs.declared.Dir.TheVariants.{Input, Output, Inout}
-use Rattle.netlist_model.specs.declared.Feed.{Feed}
 use Rattle.netlist_model.specs.declared.Feed.TheVariants.{Net}
-use Rattle.netlist_model.specs.Lists.{CellView, NetlistView, cell_at, direction, Drives, Reads}
+use Rattle.netlist_model.specs.Lists.{CellView, NetlistView, cell_at, Drives}
 use Rattle.netlist_model.specs.Settled.{feed_values, cell_drive}
 use Rattle.netlist_laws.proofs.KindLaws.{flop_or_gate, three_state_gate, cell_value-flop}
 use Rattle.netlist_laws.specs.Runs.{kind_next, next_if}

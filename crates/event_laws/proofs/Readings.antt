@@ -8,9 +8,9 @@ use Rattle.signal_values.specs.Values.{pin_of}
 use Rattle.cell_library.specs.declared.Kind.{Kind}
 use Rattle.cell_library.specs.declared.Kind.TheVariants.{Bufif0, Bufif1}
 use Rattle.cell_library.specs.Gates.{is_three_state}
-use Rattle.netlist_model.specs.Lists.{CellView, NetlistView, direction, Drives}
+use Rattle.netlist_model.specs.Lists.{CellView, NetlistView, direction}
 use Rattle.netlist_model.specs.Settled.{feed_values, cell_drive, drive_by, driver_of}
-use Rattle.netlist_model.specs.Readings.{reading, reading_of}
+use Rattle.netlist_model.specs.Readings.{reading_of}
 use Rattle.netlist_laws.specs.Drivers.{IsDriverOf}
 use Rattle.netlist_laws.proofs.Inside.{driver_drives}
 use Rattle.netlist_laws.proofs.Pins.{cell_drive-three_state}

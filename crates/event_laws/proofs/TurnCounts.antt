@@ -3,7 +3,6 @@ use Rattle.std.proofs.Common.{◌≡◌, ◌≢◌, ◌⊎◌, ℕ, zero, suc, �
 use Rattle.std.specs.Prelude.{slice_get}
 use Rattle.std.proofs.lemmas.Bool.{cases_eq, lt-ltb, ltb-true}
 use Rattle.list_laws.proofs.Tests.{both_true, and_true, or_more, true_or_false}
-use Rattle.list_laws.proofs.Options.{some_same}
 use Rattle.signal_values.specs.declared.Sig.{Sig}
 use Rattle.signal_values.specs.declared.Sig.TheVariants.{Zero, One, Unknown}
 use Rattle.cell_library.specs.declared.listed.ListedCell.{ListedCell}
@@ -11,13 +10,12 @@ use Rattle.cell_library.specs.Gates.{is_flop}
 use Rattle.netlist_model.specs.declared.NetId.{NetId}
 use Rattle.netlist_model.specs.declared.Feed.{Feed}
 use Rattle.netlist_model.specs.declared.Feed.TheVariants.{Net, Const}
-use Rattle.netlist_model.specs.Lists.{CellView, NetlistView, cell_at, live_cell, Drives, Reads}
-use Rattle.netlist_model.specs.Formed.{IsWellFormed}
-use Rattle.event_laws.specs.Turns.{WaitsOn, AreTurns}
-use Rattle.event_laws.specs.Work.{Event, IsWaiting, IsPending, TakesTurn}
-use Rattle.event_laws.specs.Counts.{differs, any_differs, is_gate, is_touched, passing, gate_count, touched_count, is_passed, IsCounted}
-use Rattle.event_laws.specs.Laws.{steps_of, CountBegins, TurnCounts, CountEnds, TouchedAreGates, NoneIsTouched}
-use Rattle.event_laws.proofs.Inputs.{output_cases, waits_elsewhere}
+use Rattle.netlist_model.specs.Lists.{CellView, cell_at, live_cell, Drives}
+use Rattle.event_laws.specs.Turns.{WaitsOn}
+use Rattle.event_laws.specs.Work.{IsWaiting}
+use Rattle.event_laws.specs.Counts.{differs, any_differs, is_gate, is_touched, passing, is_passed}
+use Rattle.event_laws.specs.Laws.{CountBegins, TurnCounts, CountEnds, TouchedAreGates, NoneIsTouched}
+use Rattle.event_laws.proofs.Inputs.{output_cases}
 
 -- a test that passes wherever another does passes at least as often
 more_pass : (test other : ℕ → Bool) (n : ℕ) → ((k : ℕ) → k < n → test k ≡ true → other k ≡ true) → passing test n ≤ passing other n

@@ -3,14 +3,11 @@ use Rattle.std.proofs.Common.{◌≡◌, ◌≢◌, ◌⊎◌, ◌↔◌, ℕ, �
 use Rattle.std.proofs.lemmas.Bool.{cases_eq}
 use Rattle.signal_values.specs.declared.Sig.{Sig}
 use Rattle.signal_values.specs.declared.PinSig.{PinSig}
-use Rattle.netlist_model.specs.Lists.{CellView, NetlistView, cell_at, direction, Drives, IsUndriven}
-use Rattle.netlist_model.specs.Formed.{IsWellFormed}
+use Rattle.netlist_model.specs.Lists.{CellView, NetlistView, cell_at, direction, Drives}
 use Rattle.netlist_model.specs.Settled.{feed_values}
-use Rattle.netlist_laws.specs.Runs.{kind_next}
 use Rattle.netlist_laws.proofs.Search.{cell_at_once}
 use Rattle.netlist_settling.specs.Passes.{driven_value}
-use Rattle.event_laws.specs.Turns.{WaitsOn, AreTurns}
-use Rattle.event_laws.specs.Work.{Event, IsDone, IsWaiting, IsPending, TakesTurn, IsWoken, Requeues}
+use Rattle.event_laws.specs.Work.{Event, IsDone, IsWaiting, TakesTurn}
 use Rattle.event_laws.specs.Laws.{TurnKeeps}
 use Rattle.event_laws.proofs.Inputs.{SameWaited, sig_cases, next_same, driven_same, drive_same, output_cases, waits_elsewhere}
 

@@ -2,7 +2,7 @@
 use Rattle.std.proofs.Common.{◌≡◌, ◌≢◌, ◌⊎◌, ℕ, zero, suc, ◌+◌, ◌*◌, ◌<◌, ◌≤◌, Bool, true, false, ◌||◌, List, [], ◌∷◌, length, Option, Some, None, refl, sym, ap, ◌∙◌, inl, inr, arith, if◌then◌else◌}
 use Rattle.std.specs.Prelude.{slice_get}
 use Rattle.std.proofs.lemmas.Option.{slice_get_within}
-use Rattle.list_laws.proofs.Tests.{true_or_false, or_more, both_false}
+use Rattle.list_laws.proofs.Tests.{true_or_false, both_false}
 use Rattle.cell_library.specs.declared.listed.ListedCell.{ListedCell}
 use Rattle.cell_library.specs.declared.FlopKind.{FlopKind}
 use Rattle.cell_library.specs.Gates.{flop_of, is_flop}
@@ -10,14 +10,14 @@ use Rattle.netlist_model.specs.declared.NetId.{NetId}
 use Rattle.netlist_model.specs.declared.CellId.{CellId}
 use Rattle.netlist_model.specs.declared.Feed.{Feed}
 use Rattle.netlist_model.specs.declared.Feed.TheVariants.{Net, Const}
-use Rattle.netlist_model.specs.Lists.{CellView, NetlistView, cell_at, Drives, Reads, IsUndriven}
-use Rattle.netlist_model.specs.Cones.{IsControlNet, FlopReads, GateReads, InCone, itself, behind}
-use Rattle.netlist_model.specs.Formed.{IsWellFormed, IsDriven, IsCombinational}
+use Rattle.netlist_model.specs.Lists.{CellView, NetlistView, cell_at, Drives, Reads}
+use Rattle.netlist_model.specs.Cones.{IsControlNet, GateReads, itself, behind}
+use Rattle.netlist_model.specs.Formed.{IsWellFormed, IsDriven}
 use Rattle.netlist_model.specs.Orders.{StandsAt, IsCellOrder}
 use Rattle.netlist_laws.proofs.KindLaws.{flop_or_gate}
-use Rattle.netlist_laws.proofs.Search.{Found, search_driver, cell_at_once}
-use Rattle.event_laws.specs.Turns.{WaitsOn, AreTurns}
-use Rattle.event_order.specs.Order.{has_late, AreLate, class_of, AreTurnsOf, TurnsRise}
+use Rattle.netlist_laws.proofs.Search.{search_driver, cell_at_once}
+use Rattle.event_laws.specs.Turns.{WaitsOn}
+use Rattle.event_order.specs.Order.{has_late, AreLate, class_of, TurnsRise}
 
 -- an operand of a cell without late operands isn't late
 operand_early : (late : ℕ → Bool) (feeds : List Feed) (k net : ℕ) → has_late late feeds ≡ false → slice_get feeds k ≡ Some (Net (record { 0 = net })) → late net ≡ false

@@ -1,6 +1,6 @@
 -- The turns of cells by their places in an order: gates behind which no flip-flop stands, then flip-flops, then
 -- the other gates.
-use Rattle.std.specs.Prelude.{◌≡◌, ℕ, ◌+◌, ◌*◌, Bool, true, false, ◌||◌, List, [], ◌∷◌, length, Some, if◌then◌else◌}
+use Rattle.std.specs.Prelude.{◌≡◌, ℕ, ◌+◌, ◌*◌, Bool, false, ◌||◌, List, [], ◌∷◌, length, Some, if◌then◌else◌}
 use Rattle.cell_library.specs.declared.listed.ListedCell.{ListedCell}
 use Rattle.cell_library.specs.Gates.{is_flop}
 use Rattle.netlist_model.specs.declared.CellId.{CellId}

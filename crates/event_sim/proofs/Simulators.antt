@@ -1,5 +1,5 @@
 -- What events note, and what a simulator is made of.
-use Rattle.std.proofs.Common.{◌≡◌, ◌≢◌, ◌⊎◌, ℕ, ◌+◌, ◌*◌, ◌<◌, ◌≤◌, true, List, length, Option, Some, None, refl, sym, ap, ◌∙◌, inl, inr, arith, if◌then◌else◌}
+use Rattle.std.proofs.Common.{◌≡◌, ◌≢◌, ◌⊎◌, ℕ, ◌+◌, ◌*◌, ◌<◌, ◌≤◌, List, length, Option, Some, None, refl, sym, ap, ◌∙◌, inl, inr, arith, if◌then◌else◌}
 use Rattle.std.specs.Option.{option_and_then, option_map}
 use Rattle.std.specs.Prelude.{slice_get}
 use Rattle.std.proofs.lemmas.Bool.{cases_eq}
@@ -15,12 +15,12 @@ use Rattle.netlist_model.specs.declared.CellId.{CellId}
 use Rattle.netlist_model.specs.declared.NetId.{NetId}
 use Rattle.netlist_model.specs.declared.PinBit.{PinBit}
 use Rattle.netlist_model.specs.declared.Range.{Range}
-use Rattle.netlist_model.specs.Lists.{CellView, PortView, NetlistView, cell_at, bit_net, direction}
+use Rattle.netlist_model.specs.Lists.{CellView, PortView, NetlistView, cell_at, direction}
 use Rattle.netlist_model.specs.Settled.{driver_of}
 use Rattle.netlist_model.specs.Formed.{IsLaidOut, width_of}
 use Rattle.netlist_model.specs.Readings.{reading, reading_of}
 use Rattle.netlist_model.specs.Runs.{PinEvent, pins_after}
-use Rattle.netlist_model.specs.Orders.{IsCellOrder, StandsAt}
+use Rattle.netlist_model.specs.Orders.{IsCellOrder}
 use Rattle.netlist_settling.specs.Values.{value_at, pin_at}
 use Rattle.netlist_link.specs.Linked.{LinkedView}
 use Rattle.netlist_meaning.specs.Pins.{net_of}
@@ -29,7 +29,6 @@ use Rattle.netlist_meaning.proofs.Flops.{all_kept}
 use Rattle.turn_queue.specs.Queues.{IsIn, bit_of}
 use Rattle.event_laws.specs.Work.{IsAtRest, kept_drive}
 use Rattle.event_laws.proofs.Readings.{rest_reads}
-use Rattle.event_turns.specs.Circuits.{CircuitView, FitsCircuit}
 use Rattle.event_turns.specs.Logs.{Logs}
 
 kept_same : (found : Option CellView) (value value' : ℕ → Sig) (drive drive' : ℕ → PinSig) (net : ℕ) → value' net ≡ value net → drive' net ≡ drive net → kept_drive found value drive net ≡ kept_drive found value' drive' net

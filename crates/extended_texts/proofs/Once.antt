@@ -1,5 +1,5 @@
 -- Words and bytes spell one device with registers of its own at most.
-use Rattle.std.proofs.Common.{◌≡◌, ℕ, List, length, sym, ap, subst, ◌∙◌}
+use Rattle.std.proofs.Common.{◌≡◌, ℕ, List, sym, ap, subst, ◌∙◌}
 use Rattle.bsdl_lexicon.specs.declared.token.BsdlSpanned.{BsdlSpanned}
 use Rattle.bsdl_lexicon.specs.Words.{plain}
 use Rattle.bsdl_device.specs.declared.written.File.{File}
@@ -9,7 +9,7 @@ use Rattle.bsdl_words.specs.Laws.{AreOneList}
 use Rattle.extended_device.specs.declared.values.RegisterEntry.{RegisterEntry}
 use Rattle.extended_device.specs.declared.values.Extended.{Extended}
 use Rattle.extended_device.specs.Entries.{HasExtendedContents}
-use Rattle.extended_device.specs.Spelled.{extended_of, SpellsExtended, SpellsExtendedText}
+use Rattle.extended_device.specs.Spelled.{extended_of, SpellsExtended}
 use Rattle.bsdl_extended.specs.extended_entries.declared.parted.Parted.{Parted}
 use Rattle.bsdl_extended.specs.extended_entries.BaseFile.{with_access, IsParted}
 use Rattle.bsdl_extended.proofs.Faults.{AreOne, some_strings}

@@ -38,7 +38,7 @@ use Rattle.hier_solutions.specs.Trees.{FlatModulesKeepTheConditions}
 use Rattle.hier_solutions.proofs.Blocks.{Listed, found_listed}
 use Rattle.hier_solutions.proofs.Places.{Stands, EntryStands, entries_stand}
 use Rattle.hier_solutions.proofs.OwnBits as bits
-use Rattle.hier_solutions.proofs.OwnBits.{all_flat, all_both}
+use Rattle.hier_solutions.proofs.OwnBits.{all_both}
 use Rattle.hier_solutions.proofs.OwnLinks.{LinkOwn, links_are_own}
 use Rattle.hier_solutions.proofs.FlatNames.{IsFit, CheckFits, declared_once, declared_fit, turns_fit}
 use Rattle.hier_solutions.proofs.EntryTrees.{IsPath, PlaceTree, EntryTree, named_tree, visits_tree, places_tree, entries_tree}

@@ -1,5 +1,5 @@
 -- What a table of modules finds under names.
-use Rattle.std.proofs.Common.{◌≡◌, ℕ, suc, ◌+◌, Bool, true, false, cond, not, find, get_or, List, [], ◌∷◌, length, map, position, Option, Some, None, Bor, refl, ap, sym, ◌∙◌, ltb-true, ltb-false}
+use Rattle.std.proofs.Common.{◌≡◌, ℕ, suc, ◌+◌, Bool, true, false, cond, not, find, get_or, List, [], ◌∷◌, length, map, position, Some, None, Bor, refl, ap, sym, ◌∙◌, ltb-true, ltb-false}
 use Rattle.std.specs.Prelude.{nat_lt}
 use Rattle.std.specs.Map.{lookup}
 use Rattle.std.specs.List.{position_or_len}

@@ -1,6 +1,6 @@
 -- The hierarchy of a module in flat order, as a recursion over it.
 -- IEEE Std 1364-2001: module instances, hierarchical names; the flat order is own.
-use Rattle.std.specs.Prelude.{ℕ, zero, suc, List, [], ◌∷◌, ◌++◌, find, Option, Some, None, Bool, true, false}
+use Rattle.std.specs.Prelude.{ℕ, zero, suc, List, [], ◌∷◌, ◌++◌, find, Option, None, Bool, true, false}
 use Rattle.std.specs.List.{flat_map, list_all}
 use Rattle.std.specs.Option.{option_map, option_map_or}
 use Rattle.std.specs.Str.{bytes_eq}

@@ -1,5 +1,5 @@
 -- The task of each command. Own.
-use Rattle.std.specs.Prelude.{ℕ, List}
+use Rattle.std.specs.Prelude.{ℕ}
 use Rattle.command_edges.specs.Tasks.{Task}
 use Rattle.convert_command.specs.Tasks.{convert_task}
 use Rattle.extended_command.specs.Tasks.{statusbsdl_task}

@@ -1,9 +1,8 @@
 -- A fault that stands where both texts are free of faults is want of memory.
-use Rattle.std.proofs.Common.{◌≡◌, ℕ, List, [], ◌∷◌, Result, Ok, Err, IfOk, inl, inr, None, sym, subst, ◌∙◌, refl}
+use Rattle.std.proofs.Common.{◌≡◌, ℕ, List, [], ◌∷◌, Result, Ok, Err, IfOk, inl, inr, sym, subst, ◌∙◌, refl}
 use Rattle.list_laws.proofs.Options.{none_some}
 use Rattle.command_edges.proofs.Memory.{text_memory, has_link_memory, library_memory, one_library}
 use Rattle.cell_text.specs.Laws as libraries
-use Rattle.command_edges.specs.Libraries.{IsLibraryOf, StandsInLibrary}
 use Rattle.insert_command.specs.Tasks.{HaveFault, AreInsertable}
 use Rattle.verilog_tree.specs.declared.tree.Module.{Module}
 use Rattle.cell_library.specs.declared.listed.ListedCell.{ListedCell}

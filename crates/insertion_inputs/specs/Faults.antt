@@ -11,7 +11,6 @@ use Rattle.netlist_link.specs.Links.{HasLinkFault}
 use Rattle.plan_texts.specs.declared.plan.Plan.{Plan}
 use Rattle.plan_texts.specs.Grammar.{SpellsPlan}
 use Rattle.plan_texts.specs.Faults as texts
-use Rattle.plan_fitting.specs.declared.fault.FitFault.{FitFault}
 use Rattle.plan_fitting.specs.declared.fitted.Fitted.{Fitted}
 use Rattle.plan_fitting.specs.Devices.{IsFitted}
 use Rattle.plan_fitting.specs.Fits as fits

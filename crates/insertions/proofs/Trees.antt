@@ -1,5 +1,5 @@
 -- The tree of a netlist is that of each netlist with the same library, ports, nets and live cells.
-use Rattle.std.proofs.Common.{◌≡◌, ℕ, zero, suc, ◌+◌, List, [], ◌∷◌, ◌++◌, map, refl, ap, ◌∙◌, Option, Some, None, slice_get}
+use Rattle.std.proofs.Common.{◌≡◌, ℕ, suc, ◌+◌, List, [], ◌∷◌, ◌++◌, map, refl, ap, ◌∙◌, Option, Some, None, slice_get}
 use Rattle.verilog_tree.specs.declared.tree.Item.{Item}
 use Rattle.verilog_tree.specs.declared.tree.Module.{Module}
 use Rattle.cell_library.specs.declared.listed.ListedCell.{ListedCell}

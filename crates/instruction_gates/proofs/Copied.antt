@@ -1,14 +1,8 @@
 -- The copies carry what is latched, and are added one after the other.
 use Rattle.std.proofs.Common.{◌≡◌, ℕ, zero, suc, ◌+◌, ◌-◌, ◌*◌, ◌<◌, ◌≤◌, List, [], ◌∷◌, ◌++◌, length, refl, sym, ap, subst, ◌∙◌, arith}
 use Rattle.signal_values.specs.declared.Sig.{Sig}
-use Rattle.netlist_model.specs.declared.NetId.{NetId}
 use Rattle.netlist_model.specs.declared.Feed.{Feed}
-use Rattle.netlist_model.specs.declared.Feed.TheVariants.{Net}
-use Rattle.netlist_model.specs.Lists.{CellView, NetlistView, cell_count}
-use Rattle.netlist_model.specs.Settled.{IsSettled}
-use Rattle.netlist_model.specs.Formed.{IsWellFormed}
-use Rattle.netlist_model.specs.Contained.{HasCells}
-use Rattle.netlist_model.specs.Runs.{Moment}
+use Rattle.netlist_model.specs.Lists.{CellView, cell_count}
 use Rattle.register_gates.specs.netlist_laws.Contained.{ContainedParts}
 use Rattle.register_gates.specs.netlist_arena.Arena.{ArenaView}
 use Rattle.register_gates.specs.gate_parts.Appended.{Appended}
@@ -16,7 +10,6 @@ use Rattle.register_gates.specs.gate_parts.Parts.{part_cells}
 use Rattle.register_gates.specs.gate_parts.PartLaws.{ContainedPartMeets}
 use Rattle.register_gates.specs.Steps.{AddedInTurn}
 use Rattle.instruction_gates.specs.declared.copies.TheConstants.{COPY}
-use Rattle.instruction_gates.specs.Latches.{latch_values}
 use Rattle.instruction_gates.specs.Copies.{row_values, copy_given, copies_cells, CopiesTell}
 
 pub carried : ContainedParts → ContainedPartMeets → CopiesTell

@@ -1,11 +1,10 @@
 -- Walks along links, and ranges that grow.
-use Rattle.std.proofs.Common.{◌≡◌, ◌≢◌, ◌⊎◌, ℕ, suc, ◌+◌, ◌<◌, ◌≤◌, List, [], ◌∷◌, ◌++◌, length, get_or, slice_index, Option, Some, None, refl, sym, ap, ◌∙◌, inl, inr, arith, length-append}
-use Rattle.std.specs.Prelude.{slice_get}
-use Rattle.std.proofs.lemmas.Bool.{cases_eq, cases_lt}
+use Rattle.std.proofs.Common.{◌≡◌, ◌≢◌, ◌⊎◌, ℕ, ◌+◌, ◌<◌, ◌≤◌, List, [], ◌∷◌, ◌++◌, length, slice_index, Option, Some, None, ap, ◌∙◌, inl, inr, arith}
+use Rattle.std.proofs.lemmas.Bool.{cases_eq}
 use Rattle.std.proofs.lemmas.Option.{get_or_from_slice_get}
 use Rattle.std.proofs.lemmas.List.{get_or_append_left}
 use Rattle.list_laws.proofs.Lists.{last_push}
-use Rattle.key_places.specs.Keys.{IsKey, IsLast, link_at, Grows, IsRange}
+use Rattle.key_places.specs.Keys.{IsKey, IsLast, link_at, Grows}
 
 -- an element is this number or not
 pub key_cases : (found : Option ℕ) (key : ℕ) → (found ≡ Some key) ⊎ (found ≢ Some key)

@@ -3,15 +3,15 @@ use Rattle.std.proofs.Common.{◌≡◌, ℕ, List, [], ◌∷◌, Option, None,
 use Rattle.first_faults.proofs.list_laws.Options.{or_else-parts}
 use Rattle.link_model.specs.verilog_tree.declared.tree.Bit.{Bit}
 use Rattle.link_model.specs.verilog_tree.declared.tree.Item.{Item}
-use Rattle.link_model.specs.Lists.{or_else, first_in}
-use Rattle.link_model.specs.Nets.{Declared, declared_as}
+use Rattle.link_model.specs.Lists.{first_in}
+use Rattle.link_model.specs.Nets.{Declared}
 use Rattle.link_model.specs.cell_library.declared.listed.ListedCell.{ListedCell}
 use Rattle.link_model.specs.verilog_tree.declared.tree.Instance.{Instance}
 use Rattle.link_model.specs.verilog_tree.declared.tree.Item.TheVariants as item
-use Rattle.link_model.specs.Faults.{item_bits, item_width, at_bit, name_unknown, bit_outside, wrong_width}
+use Rattle.link_model.specs.Faults.{item_bits, item_width, at_bit, name_unknown, bit_outside}
 use Rattle.link_names.specs.declared.bits.BitTest.{BitTest}
 use Rattle.link_names.specs.declared.bits.BitTest.TheVariants.{NameUnknown, BitOutside, WrongWidth, Any}
-use Rattle.link_names.specs.Tests.{any_fault, bit_test, first_at, are_clear}
+use Rattle.link_names.specs.Tests.{bit_test, first_at}
 
 pub is_nothing : {X : Type 0} (o : Option X) → is_none o ≡ true → o ≡ None
 is_nothing None h = refl

@@ -8,7 +8,6 @@ use Rattle.std.proofs.lemmas.Bool.{lt-ltb, le-ltb}
 use borrow.Author.Tests.{ltb-true}
 use Rattle.std.proofs.lemmas.Slice.Eq.{bytes_eq-Decides}
 use Rattle.list_laws.proofs.Bytes.{bytes_eq-same}
-use Rattle.list_laws.proofs.Lists.{position_none}
 use Rattle.name_table.specs.Names.{number_of, with_name, IsOnce}
 
 -- a name is there where its place is inside the list

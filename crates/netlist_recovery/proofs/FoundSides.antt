@@ -1,11 +1,10 @@
 -- What the table of the nets between finds.
-use Rattle.std.proofs.Common.{◌≡◌, ℕ, Bool, true, false, cond, List, [], ◌∷◌, map, position, find, get_or, refl, sym, ◌∙◌, ap, Option, Some, None, option_map}
+use Rattle.std.proofs.Common.{◌≡◌, ℕ, Bool, true, false, List, [], ◌∷◌, map, position, find, get_or, refl, sym, ◌∙◌, ap, Some, None, option_map}
 use Rattle.std.specs.Borrow.{Bor}
 use Rattle.std.specs.Map.{lookup}
 use Rattle.std.specs.Str.{bytes_eq}
 use Rattle.bsdl_checks.proofs.Tables.{found, not_found, position-map}
 use Rattle.first_faults.specs.Repeated.{texts}
-use Rattle.verilog_tree.specs.declared.tree.Operand.{Operand}
 use Rattle.strip_model.specs.declared.Side.{Side}
 use Rattle.strip_model.specs.Core.{find_side}
 use Rattle.netlist_recovery.specs.Tables.{FindsSides}

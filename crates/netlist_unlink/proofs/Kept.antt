@@ -11,7 +11,7 @@ use Rattle.cell_library.specs.Gates.{Takes}
 use Rattle.cell_library.specs.Library.{cell_name, kind_named, operand_ports, output_port}
 use Rattle.cell_library.proofs.NameLaws.{named_is_found}
 use Rattle.netlist_model.specs.declared.Name.{Name}
-use Rattle.netlist_model.specs.Lists.{CellView, NetlistView, cell_at}
+use Rattle.netlist_model.specs.Lists.{CellView, NetlistView}
 use Rattle.netlist_model.specs.Formed.{IsWellFormed}
 use Rattle.netlist_link.specs.link_model.Nets.{Declared}
 use Rattle.netlist_link.specs.link_model.Cells.{cell_of, feed_of, kind_of_gate, port_feed}

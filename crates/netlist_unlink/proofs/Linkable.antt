@@ -31,7 +31,7 @@ use Rattle.netlist_link.specs.link_model.Denoted.{NamedNetlist, denoted, net_id}
 use Rattle.netlist_link.specs.link_model.Faults.{cells_in, driver_fault}
 use Rattle.netlist_link.specs.link_model.Late as late
 use Rattle.netlist_link.specs.link_model.Late.InCone.{itself as late_itself, behind as late_behind}
-use Rattle.netlist_link.specs.link_model.Late.{ControlLink, IsDerivedAt, IsLinkable, IsLoop, bit_links, control_links, flop_links, item_links}
+use Rattle.netlist_link.specs.link_model.Late.{ControlLink, IsLinkable, IsLoop, flop_links, item_links}
 use Rattle.netlist_link.specs.link_drivers.Drivers.{DrivesNet, HasDriver, HasItsDrivers, ReadsNet, dir_at}
 use Rattle.netlist_link.specs.Linked.{LinkedView}
 use Rattle.netlist_link.proofs.Drivers.{no_driver_fault}

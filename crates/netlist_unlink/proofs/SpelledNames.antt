@@ -1,5 +1,5 @@
 -- Names that can be written.
-use Rattle.std.proofs.Common.{◌≡◌, ℕ, ◌+◌, ◌%◌, ◌^◌, ◌<◌, ◌≤◌, ◌||◌, ◌&&◌, Bool, true, false, not, List, [], ◌∷◌, length, sym, ◌∙◌, inl, inr, arith, All, Some, IsTrue, length-append, lit<}
+use Rattle.std.proofs.Common.{◌≡◌, ℕ, ◌+◌, ◌%◌, ◌^◌, ◌<◌, ◌≤◌, ◌||◌, ◌&&◌, true, false, not, List, [], ◌∷◌, length, sym, ◌∙◌, inl, inr, arith, All, Some, IsTrue, length-append, lit<}
 use Rattle.std.specs.Prelude.{slice_get, nat_le, is_some, codes}
 use Rattle.std.specs.Str.{bytes_eq}
 use Rattle.std.specs.List.{AllByRecursion, list_all}

@@ -11,16 +11,15 @@ use Rattle.netlist_model.specs.declared.NetId.{NetId}
 use Rattle.netlist_model.specs.declared.Feed.{Feed}
 use Rattle.netlist_model.specs.declared.Feed.TheVariants.{Net, Const}
 use Rattle.netlist_model.specs.Lists.{CellView, NetlistView, cell_at, cell_count, Drives}
-use Rattle.netlist_model.specs.Below.{IsFeedBelow, AreFeedsBelow}
+use Rattle.netlist_model.specs.Below.{IsFeedBelow}
 use Rattle.netlist_model.specs.Formed.{IsWellFormed}
-use Rattle.netlist_model.specs.Contained.{HasCells}
 use Rattle.netlist_laws.specs.Contained.{ContainedParts}
 use Rattle.netlist_arena.specs.Arena.{ArenaView}
 use Rattle.gate_parts.specs.declared.Gate.{Gate}
 use Rattle.gate_parts.specs.Laws.{FlopOn}
 use Rattle.gate_parts.specs.declared.Pin.TheVariants.{Given}
 use Rattle.gate_parts.specs.declared.Pins.TheVariants.{One}
-use Rattle.gate_parts.specs.Parts.{is_flop_kind, part_cells}
+use Rattle.gate_parts.specs.Parts.{is_flop_kind}
 use Rattle.gate_parts.specs.PartLaws.{ContainedPartHasFlops}
 use Rattle.draft_laws.specs.Grown.{GrownIsFormed}
 use Rattle.draft_laws.specs.Readable.{CanBeRead}
@@ -29,7 +28,7 @@ use Rattle.register_bits.specs.declared.TheConstants.{SHIFT_BIT}
 use Rattle.register_bits.specs.Bits.{shift_bit_given, shift_bit_cells}
 use Rattle.open_runs.specs.register_gates.Registers.{selected_cells, selected_steering}
 use Rattle.plan_fitting.specs.declared.fitted.Fitted.{Fitted}
-use Rattle.reconnected.specs.Laws.{Reconnects, ReadsFlop, IsReadable, HasLowNets, ReconnectedToLow}
+use Rattle.reconnected.specs.Laws.{Reconnects, ReadsFlop, HasLowNets, ReconnectedToLow}
 use Rattle.open_runs.specs.stitch_model.declared.TapNames.{TapNames}
 use Rattle.open_runs.specs.stitch_model.Rows.{nets_of_rows}
 use Rattle.open_runs.specs.stitch_model.Logic.{bypass_from, logic_size, code_size, tap_at, instruction_at, bypass_at}
@@ -37,10 +36,9 @@ use Rattle.open_runs.specs.stitch_model.Stitched.{boundary_at, first_net, test_l
 use Rattle.open_runs.specs.stitch_laws.Places.{port_of, bypass_number}
 use Rattle.open_runs.specs.stitch_laws.Laws.{StitchedHoldsParts}
 use Rattle.scan_stitch.proofs.Known.{same_is_formed}
-use Rattle.open_runs.specs.Connected.{shows}
 use Rattle.open_runs.proofs.Connected.{choice_at}
 use Rattle.open_stitch.specs.declared.TheConstants.{THROUGH}
-use Rattle.open_stitch.specs.Open.{through_net, through_cell}
+use Rattle.open_stitch.specs.Open.{through_cell}
 use Rattle.open_stitch.proofs.Places.{Steps, net_number, listed, buffer_at, choice_there, other_at, shown_at}
 
 pub record FormedLaws : Type 0 where

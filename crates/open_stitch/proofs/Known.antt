@@ -2,13 +2,12 @@
 use Rattle.std.proofs.Common.{◌≡◌, ℕ, ◌≤◌, List, length, refl, sym, ◌∙◌, subst, ap, arith}
 use Rattle.netlist_model.specs.Formed.{IsLaidOut, IsWellFormed}
 use Rattle.netlist_model.specs.declared.Feed.{Feed}
-use Rattle.netlist_model.specs.Lists.{NetView, NetlistView, cell_at}
+use Rattle.netlist_model.specs.Lists.{NetView, NetlistView}
 use Rattle.netlist_link.specs.Linked.{LinkedView}
 use Rattle.netlist_link.specs.WellNamed.{IsWellNamed}
 use Rattle.draft_laws.specs.Grown.{GrownIsFormed}
-use Rattle.bsdl_device.specs.declared.values.Device.{Device}
 use Rattle.plan_fitting.specs.declared.fitted.Fitted.{Fitted}
-use Rattle.plan_fitting.specs.Devices.{fitted_of, device_of, device_of_fitted}
+use Rattle.plan_fitting.specs.Devices.{device_of_fitted}
 use Rattle.open_runs.specs.stitch_model.declared.TapNames.{TapNames}
 use Rattle.open_runs.specs.stitch_model.Stitched.{stitched}
 use Rattle.scan_stitch.specs.stitch_names.Prepared.{AreTapNames}

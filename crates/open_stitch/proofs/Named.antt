@@ -1,5 +1,5 @@
 -- The netlist with the buffer is well named.
-use Rattle.std.proofs.Common.{◌≡◌, ◌≢◌, ℕ, ◌==◌, ◌⊎◌, inl, inr, Bool, true, false, List, [], ◌∷◌, length, Option, Some, None, refl, ap, sym, ◌∙◌, subst, eqb-true, eq-eqb}
+use Rattle.std.proofs.Common.{◌≡◌, ◌≢◌, ℕ, ◌==◌, ◌⊎◌, Bool, true, false, List, [], ◌∷◌, length, Option, Some, refl, ap, sym, ◌∙◌, subst, eqb-true, eq-eqb}
 use Rattle.std.specs.Prelude.{IsSome}
 use Rattle.cell_library.specs.declared.listed.ListedCell.{ListedCell}
 use Rattle.cell_library.specs.Library.{cell_name}
@@ -11,7 +11,7 @@ use Rattle.netlist_model.specs.declared.Feed.TheVariants.{Net}
 use Rattle.netlist_model.specs.Lists.{PortView, NetView, CellView, NetlistView, cell_at, cell_count}
 use Rattle.netlist_arena.specs.Arena.{ArenaView}
 use Rattle.gate_parts.specs.Parts.{part_cells}
-use Rattle.netlist_link.specs.WellNamed.{IsWellNamed, IsWireNet, IsWireName, IsWire}
+use Rattle.netlist_link.specs.WellNamed.{IsWellNamed, IsWireNet, IsWireName}
 use Rattle.draft_laws.specs.Names.{AppendedIsNamed}
 use Rattle.draft_laws.specs.Sources.{PartIsNamed}
 use Rattle.plan_fitting.specs.declared.fitted.Fitted.{Fitted}

@@ -1,34 +1,31 @@
 -- How the netlists behave that extend the one with the buffer.
-use Rattle.std.proofs.Common.{◌≡◌, ◌≢◌, ℕ, zero, suc, ◌+◌, ◌<◌, ◌≤◌, Bool, true, false, ◌⊎◌, inl, inr, List, [], ◌∷◌, ◌++◌, length, length-append, Option, Some, None, refl, ap, sym, ◌∙◌, subst, arith}
-use Rattle.std.specs.Prelude.{slice_get}
+use Rattle.std.proofs.Common.{◌≡◌, ◌≢◌, ℕ, zero, suc, ◌+◌, ◌<◌, ◌≤◌, Bool, true, false, ◌⊎◌, inl, inr, List, [], ◌∷◌, ◌++◌, length, Option, Some, None, refl, ap, sym, ◌∙◌, subst, arith}
 use Rattle.std.proofs.lemmas.Option.{slice_get_within}
 use Rattle.list_laws.proofs.Lists.{slice_get-append_left, slice_get-append_right}
 use Rattle.signal_values.specs.declared.Sig.{Sig}
 use Rattle.signal_values.specs.declared.PinSig.{PinSig}
-use Rattle.cell_library.specs.declared.listed.ListedCell.{ListedCell}
 use Rattle.cell_library.specs.Gates.{is_three_state}
 use Rattle.netlist_model.specs.declared.NetId.{NetId}
 use Rattle.netlist_model.specs.declared.Dir.{Dir}
 use Rattle.netlist_model.specs.declared.Dir.TheVariants.{Output, Inout}
 use Rattle.netlist_model.specs.declared.Feed.{Feed}
-use Rattle.netlist_model.specs.declared.Feed.TheVariants.{Net, Const}
+use Rattle.netlist_model.specs.declared.Feed.TheVariants.{Net}
 use Rattle.netlist_model.specs.Lists.{PortView, CellView, NetlistView, cell_at, bit_net, direction, Drives, IsUndriven}
 use Rattle.netlist_model.specs.Settled.{feed_value, driver_of, follows_pin}
-use Rattle.netlist_model.specs.Formed.{IsLaidOut, IsWellFormed}
-use Rattle.netlist_model.specs.Contained.{HasCells, IsDense}
+use Rattle.netlist_model.specs.Formed.{IsWellFormed}
+use Rattle.netlist_model.specs.Contained.{HasCells}
 use Rattle.netlist_model.specs.Runs.{Moment, reading_at}
 use Rattle.netlist_laws.specs.Drivers.{IsDriverOf, DriverDrives}
 use Rattle.netlist_laws.specs.Ports.{DirectionHasBit}
 use Rattle.netlist_laws.specs.Runs.{RunHasMoments}
-use Rattle.netlist_arena.specs.Moves.{with_feed}
 use Rattle.netlist_link.specs.Linked.{LinkedView}
 use Rattle.gate_parts.specs.PartLaws.{ContainedPartMeets}
 use Rattle.gate_parts.specs.Parts.{part_cells}
 use Rattle.open_runs.specs.instruction_gates.Copies.{row_values}
 use Rattle.bsdl_device.specs.declared.values.Device.{Device}
 use Rattle.wrapped_chip.specs.Beside.{HasPins}
-use Rattle.wrapped_chip.specs.ChipRuns.{ChipEvent, ChipMoment, IsChipRun}
-use Rattle.wrapped_chip.specs.Realises.{IsRunBeside, ReadsTdo}
+use Rattle.wrapped_chip.specs.ChipRuns.{ChipEvent, ChipMoment}
+use Rattle.wrapped_chip.specs.Realises.{IsRunBeside}
 use Rattle.plan_texts.specs.declared.plan.Plan.{Plan}
 use Rattle.plan_fitting.specs.declared.fitted.Fitted.{Fitted}
 use Rattle.plan_fitting.specs.Pins.{PinSeen}
@@ -37,7 +34,7 @@ use Rattle.open_runs.specs.plan_devices.FittingPlan.{IsFitting}
 use Rattle.open_runs.specs.surrounded_core.Places.{Places}
 use Rattle.open_runs.specs.surrounded_core.Laws.{core_value}
 use Rattle.test_logic.specs.Machine.{test_logic_of}
-use Rattle.open_runs.specs.surrounded_core.Open.{HoldsAsChip, FollowsChip, tdo_step}
+use Rattle.open_runs.specs.surrounded_core.Open.{HoldsAsChip, tdo_step}
 use Rattle.open_runs.specs.status_runs.Placed.{IsCoreWire}
 use Rattle.open_runs.specs.stitch_model.declared.TapNames.{TapNames}
 use Rattle.open_runs.specs.stitch_model.Logic.{bypass_at}
@@ -48,10 +45,9 @@ use Rattle.open_runs.specs.stitch_inside.Places.{places_in}
 use Rattle.scan_stitch.specs.stitch_ranks.Laws.{StitchedHasPins}
 use Rattle.open_runs.specs.Laws.{OpenNetlistsFollow, DrivenWiresStay, PinsByPorts}
 use Rattle.open_runs.proofs.Connected.{opened_length}
-use Rattle.open_stitch.specs.declared.Parts.{Parts}
 use Rattle.open_stitch.specs.declared.TheConstants.{THROUGH}
 use Rattle.open_stitch.specs.Open.{through_number, through_net, through_cell, open_cells, stitched_open, parts_at}
-use Rattle.open_stitch.specs.Runs.{Extends, HoldsOpen, FollowsOpen, IsOpen}
+use Rattle.open_stitch.specs.Runs.{Extends, HoldsOpen}
 use Rattle.open_stitch.specs.Laws.{FittingPlansAreOpen}
 use Rattle.wrapped_chip.proofs.Known.{run_settled}
 use Rattle.scan_stitch.specs.stitch_cells.Directions.{StitchedDirections}

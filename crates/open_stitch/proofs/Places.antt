@@ -1,6 +1,6 @@
 -- The steps of building in the test logic and the buffer, and what stands where.
 use Rattle.std.proofs.Common.{◌≡◌, ◌≢◌, ℕ, zero, suc, ◌+◌, ◌<◌, ◌≤◌, List, [], ◌∷◌, ◌++◌, set, length, length-append, Option, Some, None, refl, ap, sym, ◌∙◌, subst, arith, option_map, ◌==◌, Bool, true, false, eqb-true, eq-eqb}
-use Rattle.std.specs.Prelude.{slice_get, slice_set, count_by, is_some, IsSome}
+use Rattle.std.specs.Prelude.{slice_get, count_by, is_some, IsSome}
 use Rattle.cell_library.specs.declared.Kind.TheVariants.{Buf}
 use Rattle.netlist_model.specs.declared.Name.TheVariants.{Added}
 use Rattle.netlist_model.specs.declared.NetId.{NetId}

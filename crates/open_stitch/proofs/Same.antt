@@ -1,14 +1,13 @@
 -- The steps come to the netlist of specs/Open.antt.
-use Rattle.std.proofs.Common.{◌≡◌, ◌≢◌, ℕ, zero, suc, ◌+◌, ◌-◌, ◌<◌, ◌≤◌, ◌==◌, ◌⊎◌, inl, inr, Bool, true, false, List, [], ◌∷◌, ◌++◌, length, Option, Some, None, refl, ap, sym, ◌∙◌, subst, arith, eqb-true, eq-eqb}
-use Rattle.std.specs.Prelude.{slice_get, IsSome}
+use Rattle.std.proofs.Common.{◌≡◌, ◌≢◌, ℕ, zero, suc, ◌+◌, ◌-◌, ◌<◌, ◌≤◌, ◌==◌, ◌⊎◌, inl, inr, List, [], ◌∷◌, ◌++◌, length, Option, Some, refl, ap, sym, ◌∙◌, subst, arith}
+use Rattle.std.specs.Prelude.{slice_get}
 use Rattle.std.proofs.lemmas.Bool.{cases_lt}
 use Rattle.std.proofs.lemmas.Option.{slice_get_within}
 use Rattle.list_laws.proofs.Lists.{slice_get-append_left, slice_get-append_right}
 use Rattle.netlist_model.specs.declared.NetId.{NetId}
 use Rattle.netlist_model.specs.declared.Feed.TheVariants.{Net}
-use Rattle.netlist_model.specs.Lists.{PortView, NetView, CellView, NetlistView, cell_at, cell_count}
+use Rattle.netlist_model.specs.Lists.{NetView, CellView, NetlistView, cell_at, cell_count}
 use Rattle.netlist_arena.specs.Arena.{ArenaView}
-use Rattle.gate_parts.specs.Appended.{Appended}
 use Rattle.gate_parts.specs.Parts.{added_nets}
 use Rattle.plan_fitting.specs.declared.fitted.Fitted.{Fitted}
 use Rattle.open_runs.specs.stitch_model.declared.TapNames.{TapNames}
@@ -18,7 +17,7 @@ use Rattle.open_runs.proofs.stitch_laws.Places.{listed_at}
 use Rattle.scan_stitch.specs.stitch_names.Same.{IsSameNetlist}
 use Rattle.open_runs.specs.Connected.{shows, Connects, ConnectedExtends}
 use Rattle.open_runs.proofs.Connected.{choice_at, choice_stands, opened_length}
-use Rattle.open_stitch.specs.Open.{through_number, through_net, through_cell, open_cells, stitched_open}
+use Rattle.open_stitch.specs.Open.{through_net, through_cell, open_cells, stitched_open}
 use Rattle.open_stitch.proofs.Places.{Steps, net_number, listed, buffer_at, other_at, shown_at}
 
 -- C has the cells of the stitched netlist, but that TDO's gate reads the buffer's net

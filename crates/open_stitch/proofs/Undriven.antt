@@ -1,5 +1,5 @@
 -- Wires of the core that nothing drives.
-use Rattle.std.proofs.Common.{◌≡◌, ◌≢◌, ℕ, ◌+◌, ◌<◌, ◌≤◌, ◌==◌, inl, inr, Bool, true, false, List, ◌∷◌, [], ◌++◌, length, length-append, Option, Some, None, refl, ap, sym, ◌∙◌, subst, arith, eqb-true, eq-eqb}
+use Rattle.std.proofs.Common.{◌≡◌, ◌≢◌, ℕ, ◌+◌, ◌<◌, ◌≤◌, ◌==◌, inl, inr, Bool, true, false, List, ◌∷◌, [], ◌++◌, length, length-append, Option, Some, None, refl, ap, sym, ◌∙◌, arith, eqb-true, eq-eqb}
 use Rattle.std.specs.Prelude.{slice_get}
 use Rattle.list_laws.proofs.Lists.{slice_get-append_left, slice_get-append_right}
 use Rattle.std.proofs.lemmas.Option.{slice_get_within}
@@ -9,7 +9,7 @@ use Rattle.netlist_model.specs.declared.Dir.{Dir}
 use Rattle.netlist_model.specs.declared.Dir.TheVariants.{Output}
 use Rattle.netlist_model.specs.declared.Feed.{Feed}
 use Rattle.netlist_model.specs.declared.Feed.TheVariants.{Net}
-use Rattle.netlist_model.specs.Lists.{NetView, CellView, NetlistView, cell_at, direction, Drives, IsUndriven}
+use Rattle.netlist_model.specs.Lists.{CellView, NetlistView, cell_at, direction, Drives, IsUndriven}
 use Rattle.netlist_arena.specs.Moves.{with_feed}
 use Rattle.gate_parts.specs.Parts.{added_nets}
 use Rattle.plan_fitting.specs.declared.fitted.Fitted.{Fitted}
@@ -21,7 +21,7 @@ use Rattle.open_runs.specs.stitch_model.Stitched.{boundary_at, first_net, test_l
 use Rattle.open_runs.proofs.stitch_laws.Places.{listed_at}
 use Rattle.scan_stitch.proofs.stitch_formed.Context.{FitsWell}
 use Rattle.scan_stitch.proofs.stitch_formed.Places.{PinDriver, own_pin, cell_pin, added_pin, DriverOf, of_pin, of_tdo_pin, of_side, of_logic, of_row_net, of_tdo_net}
-use Rattle.scan_stitch.proofs.stitch_formed.OneDriver.{place_of, Within, within}
+use Rattle.scan_stitch.proofs.stitch_formed.OneDriver.{within}
 use Rattle.scan_stitch.proofs.stitch_formed.Laid.{driver_in}
 use Rattle.open_runs.proofs.Connected.{opened_length, opened_output}
 use Rattle.open_stitch.specs.Open.{through_number, through_net, through_cell, open_cells, stitched_open}

@@ -1,12 +1,11 @@
 -- A chain grows by the bit before it.
-use Rattle.std.proofs.Common.{◌≡◌, ℕ, suc, ◌+◌, ◌-◌, ◌*◌, ◌<◌, ◌≤◌, List, [], ◌∷◌, ◌++◌, length, drop, get_or, refl, sym, ◌∙◌, ap, subst, Some, arith}
+use Rattle.std.proofs.Common.{◌≡◌, ℕ, suc, ◌+◌, ◌-◌, ◌*◌, ◌<◌, ◌≤◌, List, [], ◌∷◌, ◌++◌, length, drop, refl, sym, ◌∙◌, ap, subst, Some, arith}
 use Rattle.std.proofs.Math.Seq.{drop-cons, drop-length}
 use Rattle.std.proofs.lemmas.List.{length-drop}
 use Rattle.std.proofs.lemmas.Option.{slice_get_within, get_or_from_slice_get}
 use Rattle.std.specs.List.{slice_get}
 use Rattle.test_logic.specs.netlist_model.declared.NetId.{NetId}
 use Rattle.test_logic.specs.netlist_model.declared.Feed.{Feed}
-use Rattle.test_logic.specs.netlist_model.declared.Feed.TheVariants.{Const}
 use Rattle.test_logic.specs.netlist_model.Lists.{CellView, cell_count}
 use Rattle.test_logic.specs.netlist_model.Contained.{IsDense}
 use Rattle.gate_parts.specs.Arena.{ArenaView}

@@ -2,8 +2,8 @@
 use Rattle.std.proofs.Common.{◌≡◌, ℕ, ◌+◌, Bool, true, false, ◌∷◌, [], refl, arith}
 use Rattle.std.specs.Prelude.{if◌then◌else◌}
 use Rattle.test_logic.specs.signal_values.declared.Sig.{Sig}
-use Rattle.test_logic.specs.signal_values.declared.Sig.TheVariants.{Zero, One, Unknown}
-use Rattle.test_logic.specs.signal_values.Values.{bit, sig_mux, sig_and, sig_or, sig_not}
+use Rattle.test_logic.specs.signal_values.declared.Sig.TheVariants.{Zero, One}
+use Rattle.test_logic.specs.signal_values.Values.{bit, sig_mux}
 use Rattle.test_logic.proofs.signal_values.Laws.{mux-one, mux-zero}
 use Rattle.test_logic.specs.cell_library.declared.Edge.TheVariants.{Rise}
 use Rattle.test_logic.specs.cell_library.declared.ResetTo.TheVariants.{Zero as ToZero}

@@ -16,7 +16,7 @@ use Rattle.test_logic.specs.netlist_model.Contained.{HasCells}
 use Rattle.test_logic.specs.netlist_model.Runs.{Moment, PinEvent, IsStart, IsStep}
 use Rattle.test_logic.specs.declared.Levels.{Levels}
 use Rattle.test_logic.specs.declared.Action.{Action}
-use Rattle.test_logic.specs.declared.Action.TheVariants.{Captures, Shifts, Keeps}
+use Rattle.test_logic.specs.declared.Action.TheVariants.{Captures, Shifts}
 use Rattle.test_logic.specs.Controller.{act}
 use Rattle.test_logic.specs.Machine.{edge_of}
 use Rattle.register_bits.specs.declared.Steering.{Steering}

@@ -1,12 +1,11 @@
 -- The nets that boundary cells give values: nothing of the core drives them, and none stands twice.
-use Rattle.std.proofs.Common.{◌≡◌, ◌≢◌, ℕ, zero, suc, ◌+◌, ◌<◌, ◌≤◌, ◌⊎◌, inl, inr, Bool, true, false, List, [], ◌∷◌, ◌++◌, length, refl, sym, ◌∙◌, ap, subst, arith, Option, Some, None}
+use Rattle.std.proofs.Common.{◌≡◌, ◌≢◌, ℕ, suc, ◌+◌, ◌<◌, ◌≤◌, ◌⊎◌, inl, inr, Bool, true, false, List, [], ◌∷◌, ◌++◌, length, refl, sym, ◌∙◌, ap, subst, arith, Option, Some, None}
 use Rattle.std.specs.Prelude.{◌&&◌, slice_get, ⊤}
 use Rattle.std.proofs.lemmas.Bool.{eqb-true, eqb-false}
 use Rattle.netlist_model.specs.declared.Dir.TheVariants.{Input}
 use Rattle.netlist_model.specs.declared.NetId.{NetId}
 use Rattle.netlist_model.specs.Lists.{CellView, NetlistView, direction, IsUndriven, Drives}
 use Rattle.netlist_model.specs.Settled.{is_output}
-use Rattle.netlist_arena.specs.Adds.{IsFree}
 use Rattle.plan_fitting.specs.declared.fitted.FitRow.{FitRow}
 use Rattle.scan_sides.specs.stitch_model.declared.Site.{Site}
 use Rattle.scan_sides.specs.stitch_model.declared.Site.TheVariants as site
@@ -14,7 +13,6 @@ use Rattle.scan_sides.specs.stitch_model.Sites.{Boundary, row_net, site_of, side
 use Rattle.scan_sides.specs.stitch_model.Sides.{is_moved, moves, side_from}
 use Rattle.scan_sides.specs.stitch_model.Rows.{net_at}
 use Rattle.std.proofs.lemmas.List.Sums.{sum_by-cons}
-use Rattle.std.specs.List.{sum_by}
 use Rattle.scan_sides.proofs.stitch_model.Moves.{moved_counts, side_range, moved_here, moved_on}
 use Rattle.list_laws.proofs.Tests.{both_true, true_or_false}
 use Rattle.scan_parts.specs.Rows.{into_at, into_of, into_from, IsApart, AreApart, AreFree}

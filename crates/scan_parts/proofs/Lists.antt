@@ -1,6 +1,5 @@
 -- Nets that are apart and free, in lists that are joined.
 use Rattle.std.proofs.Common.{◌≡◌, ◌≢◌, ℕ, suc, zero, ◌+◌, ◌<◌, ◌≤◌, List, [], ◌∷◌, ◌++◌, length, drop, subst, arith}
-use Rattle.std.specs.List.{sum_by}
 use Rattle.std.proofs.lemmas.List.Sums.{sum_by-cons}
 use Rattle.netlist_model.specs.Lists.{NetlistView}
 use Rattle.netlist_arena.specs.Adds.{IsFree}

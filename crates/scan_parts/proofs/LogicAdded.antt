@@ -19,7 +19,7 @@ use Rattle.register_gates.specs.Constants.{ConstantsAreBits}
 use Rattle.register_gates.specs.Registers.{bypass_cells, user_size, captured_feeds, ident_size, ident_cells, ident_last}
 use Rattle.register_gates.specs.Tdo.{AreIdentBelow}
 use Rattle.boundary_cells.specs.Cells.{AreScanNetsBelow}
-use Rattle.instruction_register.specs.Register.{pattern_bits, selections_from, instruction_size, instruction_cells, instruction_nets}
+use Rattle.instruction_register.specs.Register.{pattern_bits, instruction_size, instruction_cells, instruction_nets}
 use Rattle.plan_fitting.specs.declared.fitted.Fitted.{Fitted}
 use Rattle.scan_sides.specs.stitch_model.declared.TapPort.{TapPort}
 use Rattle.scan_sides.specs.stitch_model.declared.Logic.{Logic}
@@ -27,7 +27,7 @@ use Rattle.scan_sides.specs.stitch_model.Rows.{behind}
 use Rattle.scan_sides.specs.stitch_model.Logic.{instruction_from, bypass_from, ident_from, code_size, logic_size, tap_at, instruction_at, bypass_at, ident_at, logic_at, controller_part, instruction_part, bypass_part, ident_part, logic_cells}
 use Rattle.scan_sides.proofs.stitch_model.Few.{captured_counted, ident_few}
 use Rattle.scan_parts.specs.Logic.{IsPortBelow, IsLogicBelow}
-use Rattle.scan_parts.proofs.Outputs.{DrivesFrom, drives_none, drives_both, drives_later, controller_drives, instruction_drives, bypass_drives, ident_drives, free_before}
+use Rattle.scan_parts.proofs.Outputs.{DrivesFrom, drives_none, drives_both, controller_drives, instruction_drives, bypass_drives, ident_drives, free_before}
 use Rattle.scan_parts.proofs.Sizes.{instruction_length, ident_length}
 
 -- What one part hands to the next is there.

@@ -1,5 +1,5 @@
 -- The cells of the controller and of the registers beside the boundary register drive nets of their own.
-use Rattle.std.proofs.Common.{◌≡◌, ◌≢◌, ℕ, suc, zero, ◌+◌, ◌*◌, ◌<◌, ◌≤◌, List, [], ◌∷◌, ◌++◌, length, Option, Some, None, false, sym, ◌∙◌, ap, arith}
+use Rattle.std.proofs.Common.{◌≡◌, ◌≢◌, ℕ, suc, zero, ◌+◌, ◌*◌, ◌<◌, ◌≤◌, List, [], ◌∷◌, ◌++◌, length, Option, Some, None, false, ◌∙◌, ap, arith}
 use Rattle.std.specs.List.{slice_get}
 use Rattle.cell_library.specs.declared.codes.Bits.{Bits}
 use Rattle.cell_library.specs.declared.codes.Instr.{Instr}
@@ -29,12 +29,11 @@ use Rattle.instruction_register.specs.instruction_gates.declared.latches.Latchin
 use Rattle.instruction_register.specs.instruction_gates.declared.latches.TheConstants.{LOADED}
 use Rattle.instruction_register.specs.instruction_gates.declared.matches.TheConstants.{EQUAL_BIT}
 use Rattle.instruction_register.specs.instruction_gates.declared.copies.TheConstants.{COPY}
-use Rattle.instruction_register.specs.instruction_gates.declared.selections.Matched.{Matched}
 use Rattle.instruction_register.specs.instruction_gates.declared.selections.TheConstants.{SELECTIONS}
 use Rattle.instruction_register.specs.instruction_gates.declared.stages.TheConstants.{LOADS}
 use Rattle.instruction_register.specs.instruction_gates.Rows.{is_one, row_cells, placed}
 use Rattle.instruction_register.specs.instruction_gates.Latches.{holding_of, loaded_given, latch_cells, latches_cells}
-use Rattle.instruction_register.specs.instruction_gates.Matches.{match_before, equal_given, match_cells, matches_cells}
+use Rattle.instruction_register.specs.instruction_gates.Matches.{match_before, equal_given, match_cells}
 use Rattle.instruction_register.specs.instruction_gates.Copies.{copy_given, copies_cells}
 use Rattle.instruction_register.specs.instruction_gates.Selections.{selections_given, selections_cells}
 use Rattle.instruction_register.specs.instruction_gates.Stages.{loads_given, ir_steering, ir_latching, shift_stage_cells, stages_cells}

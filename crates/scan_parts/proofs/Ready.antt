@@ -1,15 +1,13 @@
 -- What a row reads stays there as nets are added, and what its cell gives a value.
-use Rattle.std.proofs.Common.{◌≡◌, ◌≢◌, ℕ, ◌+◌, ◌≤◌, List, [], ◌∷◌, length, sym, subst, arith}
-use Rattle.netlist_model.specs.Lists.{NetlistView}
-use Rattle.netlist_arena.specs.Adds.{IsFree}
+use Rattle.std.proofs.Common.{◌≡◌, ◌≢◌, ℕ, ◌+◌, ◌≤◌, List, [], ◌∷◌, sym, subst, arith}
 use Rattle.boundary_cells.proofs.AddedTables.{feed_more}
 use Rattle.plan_fitting.specs.declared.fitted.FitRow.{FitRow}
 use Rattle.scan_sides.specs.stitch_model.declared.Site.{Site}
 use Rattle.scan_sides.specs.stitch_model.declared.Site.TheVariants as site
-use Rattle.scan_sides.specs.stitch_model.Sites.{Boundary, site_of, side_count, row_sides}
+use Rattle.scan_sides.specs.stitch_model.Sites.{Boundary, site_of}
 use Rattle.scan_sides.specs.stitch_model.Sides.{core_feed}
-use Rattle.scan_sides.specs.stitch_model.Rows.{net_at, enable_of}
-use Rattle.scan_parts.specs.Rows.{into_at, into_of, IsApart, AreApart, AreFree, IsReady}
+use Rattle.scan_sides.specs.stitch_model.Rows.{enable_of}
+use Rattle.scan_parts.specs.Rows.{into_at, into_of, IsReady}
 
 pub ready_more : (B : Boundary) (n m : ℕ) (row : FitRow) → n ≤ m → IsReady B n row → IsReady B m row
 ready_more B n m row more ready =

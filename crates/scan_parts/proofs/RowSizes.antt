@@ -1,6 +1,5 @@
 -- How many nets and cells the rows of the boundary register take.
-use Rattle.std.proofs.Common.{◌≡◌, ℕ, zero, suc, ◌+◌, ◌*◌, ◌<◌, ◌≤◌, Bool, true, false, List, [], ◌∷◌, ◌++◌, length, drop, length-append, length-drop, refl, arith}
-use Rattle.std.specs.List.{sum_by}
+use Rattle.std.proofs.Common.{◌≡◌, ℕ, zero, suc, ◌+◌, ◌*◌, ◌<◌, ◌≤◌, Bool, true, false, List, [], ◌∷◌, ◌++◌, length, drop, length-append, refl, arith}
 use Rattle.std.proofs.lemmas.List.Sums.{sum_by-cons}
 use Rattle.cell_library.specs.declared.codes.BoundaryKind.{BoundaryKind}
 use Rattle.cell_library.specs.declared.codes.BoundaryKind.TheVariants.{Bc1, Bc2, Bc4, Bc7}
@@ -16,7 +15,7 @@ use Rattle.scan_sides.specs.stitch_model.declared.Site.{Site}
 use Rattle.scan_sides.specs.stitch_model.declared.Site.TheVariants as site
 use Rattle.scan_sides.specs.stitch_model.Sites.{Boundary, site_of, row_sides, sides_of}
 use Rattle.scan_sides.specs.stitch_model.Sides.{core_feed, level_net}
-use Rattle.scan_sides.specs.stitch_model.Rows.{nets_by, row_nets, nets_of_rows, behind, net_at, enable_of, is_active_high, added_driver, site_cells, row_cells, last_bit, rows_cells}
+use Rattle.scan_sides.specs.stitch_model.Rows.{nets_by, row_nets, nets_of_rows, net_at, enable_of, is_active_high, added_driver, site_cells, row_cells, last_bit, rows_cells}
 use Rattle.scan_sides.proofs.stitch_model.Moves.{count_few}
 use Rattle.scan_sides.proofs.stitch_model.Few.{nets_by_few}
 

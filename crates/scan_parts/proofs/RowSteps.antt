@@ -1,5 +1,5 @@
 -- One turn of the loop over the rows: what its cell needs is there.
-use Rattle.std.proofs.Common.{◌≡◌, ◌≢◌, ℕ, suc, ◌+◌, ◌-◌, ◌*◌, ◌^◌, ◌<◌, ◌≤◌, List, [], ◌∷◌, length, drop, Bool, false, refl, sym, ◌∙◌, ap, subst, Option, Some, None, arith}
+use Rattle.std.proofs.Common.{◌≡◌, ◌≢◌, ℕ, ◌+◌, ◌-◌, ◌*◌, ◌^◌, ◌<◌, ◌≤◌, List, [], ◌∷◌, length, drop, Bool, false, sym, ◌∙◌, ap, subst, Option, Some, None, arith}
 use Rattle.std.specs.List.{slice_get}
 use Rattle.std.specs.Option.{option_map_or}
 use Rattle.cell_library.specs.declared.codes.BoundaryKind.TheVariants.{Bc1}
@@ -7,7 +7,7 @@ use Rattle.cell_library.specs.declared.codes.Function.TheVariants as function
 use Rattle.netlist_model.specs.declared.NetId.{NetId}
 use Rattle.netlist_model.specs.declared.Feed.{Feed}
 use Rattle.netlist_model.specs.declared.Feed.TheVariants.{Const}
-use Rattle.netlist_model.specs.Lists.{PortView, CellView, cell_count}
+use Rattle.netlist_model.specs.Lists.{PortView, cell_count}
 use Rattle.netlist_model.specs.Contained.{IsDense}
 use Rattle.netlist_arena.specs.Arena.{ArenaView}
 use Rattle.netlist_arena.specs.Adds.{IsFree}
@@ -20,10 +20,9 @@ use Rattle.scan_sides.specs.stitch_model.declared.Site.TheVariants as site
 use Rattle.scan_sides.specs.stitch_model.Sites.{Boundary, row_sides, sides_of}
 use Rattle.scan_sides.specs.stitch_model.Sides.{core_feed}
 use Rattle.scan_sides.specs.stitch_model.Rows.{net_at, control_row, enable_of, is_active_high, row_nets, site_cells, row_cells}
-use Rattle.scan_sides.specs.Pins.{between}
-use Rattle.scan_parts.specs.Rows.{into_of, into_from, IsApart, AreApart, AreFree, CanTakeRows}
+use Rattle.scan_parts.specs.Rows.{into_of, IsApart, AreApart, AreFree, CanTakeRows}
 use Rattle.scan_parts.proofs.RowSizes.{last_sides, sides_behind, last_there}
-use Rattle.scan_parts.proofs.RowsAdded.{RowsAdded, rows_step, row_before, sides_before, free_at, apart_at, nets_left, cells_left}
+use Rattle.scan_parts.proofs.RowsAdded.{RowsAdded, rows_step, sides_before, free_at, apart_at}
 
 -- what indexing gives past the end
 abbrev pub blank_row : FitRow

@@ -1,11 +1,11 @@
 -- The boundary register grows by the cell before it.
-use Rattle.std.proofs.Common.{◌≡◌, ◌≢◌, ℕ, suc, ◌+◌, ◌-◌, ◌*◌, ◌<◌, ◌≤◌, List, [], ◌∷◌, ◌++◌, length, drop, get_or, length-append, length-drop, refl, sym, ◌∙◌, ap, subst, Some, arith}
+use Rattle.std.proofs.Common.{◌≡◌, ◌≢◌, ℕ, suc, ◌+◌, ◌-◌, ◌*◌, ◌<◌, ◌≤◌, List, [], ◌∷◌, ◌++◌, length, drop, length-drop, refl, sym, ◌∙◌, ap, subst, Some, arith}
 use Rattle.std.proofs.Math.Seq.{drop-cons, drop-length}
 use Rattle.std.proofs.lemmas.Option.{slice_get_within, get_or_from_slice_get}
 use Rattle.std.proofs.lemmas.List.Sums.{sum_by-cons}
-use Rattle.std.specs.List.{slice_get, sum_by}
+use Rattle.std.specs.List.{slice_get}
 use Rattle.netlist_model.specs.declared.NetId.{NetId}
-use Rattle.netlist_model.specs.Lists.{PortView, CellView, cell_count}
+use Rattle.netlist_model.specs.Lists.{PortView, cell_count}
 use Rattle.netlist_model.specs.Contained.{IsDense}
 use Rattle.netlist_arena.specs.Arena.{ArenaView}
 use Rattle.netlist_arena.specs.Adds.{IsFree}
@@ -16,7 +16,7 @@ use Rattle.plan_fitting.specs.declared.fitted.FitRow.{FitRow}
 use Rattle.scan_sides.specs.stitch_model.Sites.{Boundary, row_sides, sides_of}
 use Rattle.scan_sides.specs.stitch_model.Rows.{row_nets, nets_of_rows, row_cells, last_bit, rows_cells}
 use Rattle.scan_parts.specs.Rows.{into_of, into_from, IsApart, AreApart, AreFree}
-use Rattle.scan_parts.proofs.Lists.{apart_left, apart_right, apart_front, apart_back, free_front, free_back, free_kept, of_last_rows}
+use Rattle.scan_parts.proofs.Lists.{apart_left, apart_right, apart_front, apart_back, free_back, free_kept, of_last_rows}
 use Rattle.scan_parts.proofs.LogicAdded.{behind_added, counted_as}
 use Rattle.scan_parts.proofs.RowSizes.{nets_few, cells_few}
 

@@ -1,9 +1,7 @@
 -- The registers, the boundary register and TDO are added one behind the other.
 use Rattle.std.proofs.Common.{◌≡◌, ◌≢◌, ℕ, zero, suc, ◌+◌, ◌*◌, ◌<◌, ◌≤◌, List, [], ◌∷◌, ◌++◌, length, refl, sym, ◌∙◌, ap, subst, arith, Option, Some, None}
-use Rattle.std.specs.Prelude.{All}
-use Rattle.std.specs.List.{slice_get, sum_by}
+use Rattle.std.specs.List.{slice_get}
 use Rattle.std.proofs.lemmas.List.Elements.{All-weaker}
-use Rattle.std.proofs.lemmas.List.Sums.{sum_by-cons}
 use Rattle.netlist_model.specs.declared.NetId.{NetId}
 use Rattle.netlist_model.specs.Lists.{PortView, CellView, cell_count}
 use Rattle.netlist_arena.specs.Arena.{ArenaView}
@@ -16,19 +14,17 @@ use Rattle.test_logic.specs.declared.TapNets.{TapNets}
 use Rattle.test_logic.specs.declared.InstrNets.{InstrNets}
 use Rattle.register_gates.specs.declared.tdo.TheConstants.{TDO}
 use Rattle.register_gates.specs.Tdo.{AreIdentBelow, tdo_given, tdo_driver, tdo_cells}
-use Rattle.boundary_cells.specs.register_bits.Bits.{AreNetsBelow}
-use Rattle.boundary_cells.specs.Cells.{AreScanNetsBelow}
 use Rattle.plan_fitting.specs.declared.fitted.FitRow.{FitRow}
 use Rattle.plan_fitting.specs.declared.fitted.Fitted.{Fitted}
 use Rattle.scan_sides.specs.stitch_model.declared.TapPort.{TapPort}
 use Rattle.scan_sides.specs.stitch_model.declared.Logic.{Logic}
-use Rattle.scan_sides.specs.stitch_model.Sites.{Boundary, site_of, sides_of}
-use Rattle.scan_sides.specs.stitch_model.Rows.{behind, nets_by, row_nets, nets_of_rows, last_bit, rows_cells}
+use Rattle.scan_sides.specs.stitch_model.Sites.{Boundary}
+use Rattle.scan_sides.specs.stitch_model.Rows.{behind, nets_of_rows, last_bit, rows_cells}
 use Rattle.scan_sides.specs.stitch_model.Logic.{logic_size, logic_at, logic_cells}
 use Rattle.scan_sides.specs.stitch_model.Stitched.{rows_part, boundary_last, tdo_part, test_logic_nets, test_logic_cells}
 use Rattle.scan_sides.specs.Pins.{between}
-use Rattle.scan_parts.specs.Logic.{logic_room, IsLogicBelow}
-use Rattle.scan_parts.specs.Rows.{into_from, IsApart, AreApart, AreFree, IsBoundary, IsReady, CanTakeRows}
+use Rattle.scan_parts.specs.Logic.{logic_room}
+use Rattle.scan_parts.specs.Rows.{into_from, IsApart, AreFree, IsReady, CanTakeRows}
 use Rattle.scan_parts.specs.Whole.{CanTakeLogic}
 use Rattle.scan_parts.proofs.Outputs.{DrivesFrom, part_drives, net_number}
 use Rattle.scan_parts.proofs.LogicAdded.{behind_added}

@@ -1,6 +1,6 @@
 -- What was fitted to a netlist can be built into it.
 use Rattle.std.proofs.Common.{◌≡◌, ◌≢◌, ℕ, ◌+◌, ◌*◌, ◌^◌, ◌<◌, ◌≤◌, inl, inr, ◌&&◌, Bool, true, false, not, List, [], ◌++◌, length, length-append, get_or, refl, sym, ◌∙◌, ap, subst, arith, Option, Some, None}
-use Rattle.std.specs.Prelude.{slice_get, option_map, option_and_then, MatchOption, IsSome, ⊤, if◌then◌else◌}
+use Rattle.std.specs.Prelude.{slice_get, option_map, MatchOption, IsSome, ⊤, if◌then◌else◌}
 use Rattle.std.specs.Option.{option_map_or}
 use Rattle.std.proofs.lemmas.Bool.{eqb-true}
 use Rattle.std.proofs.lemmas.Option.{slice_get-get_or}
@@ -19,7 +19,7 @@ use Rattle.netlist_model.specs.declared.NetId.{NetId}
 use Rattle.netlist_model.specs.Below.{IsFeedBelow}
 use Rattle.netlist_model.specs.Contained.{IsDense}
 use Rattle.netlist_model.specs.Formed.{IsLaidOut}
-use Rattle.netlist_model.specs.Lists.{NetView, CellView, NetlistView, cell_at, bit_net, Drives}
+use Rattle.netlist_model.specs.Lists.{NetView, CellView, NetlistView, cell_at}
 use Rattle.netlist_model.specs.Settled.{driver_of}
 use Rattle.netlist_laws.specs.Drivers.{IsDriverOf}
 use Rattle.netlist_laws.proofs.Inside.{driver_found, driver_drives}
@@ -31,13 +31,13 @@ use Rattle.plan_texts.specs.declared.plan.Plan.{Plan}
 use Rattle.plan_texts.specs.declared.plan.PinLine.{PinLine}
 use Rattle.plan_fitting.specs.declared.fitted.FitRow.{FitRow}
 use Rattle.plan_fitting.specs.Pins.{PinSeen}
-use Rattle.plan_fitting.specs.Rows.{Driver, three_state, added_driver, output_driver, same_feed, controls, rows, has_highz}
+use Rattle.plan_fitting.specs.Rows.{Driver, three_state, added_driver, same_feed, controls, rows, has_highz}
 use Rattle.plan_fitting.specs.Devices.{fitted_of, cell_row, disable_by, device_of}
 use Rattle.plan_fitting.proofs.Controls.{control_cells_are_there}
 use Rattle.plan_fitting.proofs.Drivers.{gate_is}
 use Rattle.stitch_ready.specs.plan_devices.FittingPlan.{IsFitting}
 use Rattle.stitch_ready.proofs.plan_devices.Lined.{IsLined}
-use Rattle.stitch_ready.proofs.plan_devices.Rows.{side_driver, data_function, data_core, Controlled, IsDataRow, IsControlRow}
+use Rattle.stitch_ready.proofs.plan_devices.Rows.{side_driver, data_core, Controlled, IsDataRow, IsControlRow}
 use Rattle.stitch_ready.proofs.plan_devices.RowPlaces.{net_of_line}
 use Rattle.stitch_ready.proofs.plan_devices.Facts.{Facts, facts_of}
 use Rattle.scan_parts.specs.stitch_model.declared.TapNames.{TapNames}

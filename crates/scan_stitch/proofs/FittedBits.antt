@@ -1,19 +1,18 @@
 -- The bits of what was fitted are those that the pin lines name.
-use Rattle.std.proofs.Common.{◌≡◌, ℕ, suc, zero, ◌+◌, ◌<◌, List, [], ◌∷◌, ◌++◌, length, map, refl, sym, ◌∙◌, ap, subst, Option, Some, None, Bool, true, false, arith}
+use Rattle.std.proofs.Common.{◌≡◌, ℕ, suc, zero, ◌+◌, ◌<◌, List, [], ◌∷◌, ◌++◌, length, map, refl, sym, ◌∙◌, ap, subst, Option, Some, None, Bool, arith}
 use Rattle.std.specs.Prelude.{option_and_then, position}
 use Rattle.std.specs.Option.{MatchOption, IsSome}
 use Rattle.std.specs.List.{All, slice_get, enumerate_from}
 use Rattle.std.proofs.lemmas.List.Elements.{All-nil, All-cons, All-append}
-use Rattle.std.proofs.lemmas.Option.{slice_get_within, slice_get-get_or}
+use Rattle.std.proofs.lemmas.Option.{slice_get_within}
 use Rattle.cell_library.specs.declared.codes.BoundaryKind.{BoundaryKind}
 use Rattle.cell_library.specs.declared.codes.Function.{Function}
 use Rattle.cell_library.specs.declared.codes.Function.TheVariants as function
 use Rattle.netlist_model.specs.declared.Dir.{Dir}
 use Rattle.netlist_model.specs.declared.Dir.TheVariants as dir
-use Rattle.netlist_model.specs.declared.NetId.{NetId}
 use Rattle.netlist_model.specs.declared.PinBit.{PinBit}
 use Rattle.netlist_model.specs.declared.Range.{Range}
-use Rattle.netlist_model.specs.Lists.{PortView, NetlistView}
+use Rattle.netlist_model.specs.Lists.{PortView}
 use Rattle.netlist_model.specs.Formed.{width_of, IsLaidOut}
 use Rattle.netlist_link.specs.Linked.{LinkedView}
 use Rattle.plan_texts.specs.declared.plan.Plan.{Plan}
@@ -21,12 +20,12 @@ use Rattle.plan_texts.specs.declared.plan.PinLine.{PinLine}
 use Rattle.plan_fitting.specs.declared.fitted.FitRow.{FitRow}
 use Rattle.plan_fitting.specs.declared.fitted.FitPort.{FitPort}
 use Rattle.plan_fitting.specs.declared.fitted.Fitted.{Fitted}
-use Rattle.plan_fitting.specs.Pins.{PinSeen, IsSeen, AreSeen}
+use Rattle.plan_fitting.specs.Pins.{PinSeen, IsSeen}
 use Rattle.plan_fitting.specs.Rows.{Driver, controls, input_row, two_state_row, data_row, control_row, controlled_by, output_rows, inout_rows, rows_at, rows_after, output_driver, three_state, has_highz}
-use Rattle.plan_fitting.specs.Devices.{fit_port, fitted_of, range_at, IsFitted}
+use Rattle.plan_fitting.specs.Devices.{fit_port, fitted_of, range_at}
 use Rattle.scan_parts.specs.stitch_model.Sites.{pin_net}
-use Rattle.scan_parts.specs.scan_sides.Pins.{IsPinThere, ArePinsThere}
-use Rattle.scan_stitch.specs.Ready.{IsBitInRange, IsRowInRange, AreBitsInRange}
+use Rattle.scan_parts.specs.scan_sides.Pins.{ArePinsThere}
+use Rattle.scan_stitch.specs.Ready.{IsBitInRange, AreBitsInRange}
 use Rattle.scan_stitch.specs.Laws.{FittedBitsAreThere}
 
 -- this holds of the row's bit

@@ -1,13 +1,12 @@
 -- The steps of stitching a netlist, and the netlist that they come to.
 use Rattle.std.proofs.Common.{◌≡◌, ℕ, suc, ◌+◌, ◌-◌, ◌<◌, ◌≤◌, inl, inr, List, [], ◌∷◌, ◌++◌, length, length-append, append_assoc, refl, sym, ◌∙◌, ap, subst, arith, Option, Some, None}
 use Rattle.std.specs.Prelude.{map, slice_get, IsSome}
-use Rattle.std.specs.List.{sum_by}
 use Rattle.std.specs.Option.{option_map}
 use Rattle.std.proofs.lemmas.Bool.{cases_lt}
 use Rattle.netlist_model.specs.declared.NetId.{NetId}
 use Rattle.netlist_model.specs.Contained.{IsDense}
 use Rattle.netlist_model.specs.Lists.{PortView, NetView, CellView, NetlistView, cell_at, cell_count}
-use Rattle.netlist_arena.specs.Arena.{ArenaView, SpareView}
+use Rattle.netlist_arena.specs.Arena.{ArenaView}
 use Rattle.netlist_arena.proofs.Walks.{slice_get-append_right}
 use Rattle.gate_parts.specs.Parts.{added_nets}
 use Rattle.gate_parts.specs.Appended.{Appended}
@@ -15,7 +14,7 @@ use Rattle.gate_parts.proofs.Steps.{length-added_nets, added_nets-add}
 use Rattle.plan_fitting.specs.declared.fitted.FitRow.{FitRow}
 use Rattle.plan_fitting.specs.declared.fitted.Fitted.{Fitted}
 use Rattle.scan_parts.specs.stitch_model.declared.TapNames.{TapNames}
-use Rattle.scan_parts.specs.stitch_model.Sites.{Boundary, boundary_of, sides_of}
+use Rattle.scan_parts.specs.stitch_model.Sites.{Boundary, sides_of}
 use Rattle.scan_parts.specs.stitch_model.Sides.{core_cell}
 use Rattle.scan_parts.specs.stitch_model.Stitched.{tap_port, tap_ports, tap_net_views, live_cells, boundary_at, first_net, test_logic_nets, test_logic_cells, stitched, with_nets}
 use Rattle.stitch_names.specs.stitch_laws.Laws.{StitchedHoldsTheCore}

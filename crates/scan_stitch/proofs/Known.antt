@@ -1,16 +1,13 @@
 -- What linking, fitting and preparing give stitching.
 use Rattle.std.proofs.Common.{◌≡◌, ℕ, ◌+◌, ◌^◌, ◌<◌, ◌≤◌, max, List, [], length, sym, ◌∙◌, ap, subst, arith, inl}
-use Rattle.std.specs.Prelude.{slice_get}
 use Rattle.cell_library.specs.declared.listed.ListedCell.{ListedCell}
 use Rattle.cell_library.specs.Gates.{is_flop}
-use Rattle.netlist_model.specs.Formed.{IsWellFormed, IsNumbered, IsLaidOut, FeedsBelow}
-use Rattle.netlist_model.specs.Contained.{IsDense}
-use Rattle.netlist_model.specs.Lists.{CellView, NetlistView, cell_at, cell_count, Drives}
+use Rattle.netlist_model.specs.Formed.{IsWellFormed, IsNumbered, IsLaidOut}
+use Rattle.netlist_model.specs.Lists.{CellView, NetlistView, cell_count, Drives}
 use Rattle.netlist_laws.specs.Settle.{IsDrivenOnce}
-use Rattle.netlist_arena.specs.Arena.{ArenaView, SpareView}
-use Rattle.netlist_arena.specs.Room.{raised}
+use Rattle.netlist_arena.specs.Arena.{ArenaView}
 use Rattle.cell_order.specs.Tables.{RoomView, FitsRoom}
-use Rattle.draft_laws.specs.Grown.{IsOneOf, AddsCells, GrownIsFormed}
+use Rattle.draft_laws.specs.Grown.{GrownIsFormed}
 use Rattle.netlist_link.specs.Linked.{LinkedView}
 use Rattle.netlist_link.specs.WellNamed.{IsWellNamed}
 use Rattle.netlist_link.proofs.Rewrites.{few_nets}

@@ -1,11 +1,11 @@
 -- What each step of stitching a netlist finds there.
-use Rattle.std.proofs.Common.{◌≡◌, ◌≢◌, ℕ, ◌+◌, ◌*◌, ◌<◌, ◌≤◌, List, ◌++◌, map, length, length-append, refl, sym, ◌∙◌, ap, subst, arith, Option, Some, None}
+use Rattle.std.proofs.Common.{◌≡◌, ◌≢◌, ℕ, ◌+◌, ◌*◌, ◌<◌, ◌≤◌, List, ◌++◌, map, length, length-append, refl, sym, ◌∙◌, ap, subst, arith, Option, None}
 use Rattle.std.specs.Prelude.{IsSome}
 use Rattle.netlist_model.specs.declared.Dir.TheVariants.{Input, Output}
 use Rattle.netlist_model.specs.declared.NetId.{NetId}
 use Rattle.netlist_model.specs.Formed.{IsLaidOut}
 use Rattle.netlist_model.specs.Contained.{IsDense}
-use Rattle.netlist_model.specs.Lists.{PortView, NetView, CellView, NetlistView, cell_at, direction, cell_count}
+use Rattle.netlist_model.specs.Lists.{PortView, CellView, NetlistView, cell_at, direction, cell_count}
 use Rattle.netlist_arena.specs.Arena.{ArenaView}
 use Rattle.netlist_arena.specs.Adds.{IsFree, CanBePin}
 use Rattle.gate_parts.specs.Appended.{Appended}
@@ -19,7 +19,7 @@ use Rattle.scan_parts.specs.stitch_model.Sites.{Boundary, boundary_of, sides_of}
 use Rattle.scan_parts.specs.stitch_model.Sides.{core_cell}
 use Rattle.scan_parts.specs.stitch_model.declared.Logic.{Logic}
 use Rattle.scan_parts.specs.stitch_model.Logic.{logic_at}
-use Rattle.scan_parts.specs.stitch_model.Stitched.{tap_port, tap_ports, first_net, live_cells, test_logic_nets, test_logic_cells, stitched_cells}
+use Rattle.scan_parts.specs.stitch_model.Stitched.{tap_port, first_net, live_cells, test_logic_nets, test_logic_cells, stitched_cells}
 use Rattle.scan_parts.proofs.stitch_model.Moves.{sides_few}
 use Rattle.stitch_names.proofs.stitch_cells.Cells.{core_length}
 use Rattle.stitch_names.specs.Prepared.{room_of}

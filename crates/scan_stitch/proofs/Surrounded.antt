@@ -2,7 +2,6 @@
 use Rattle.std.proofs.Common.{◌≡◌, ◌≢◌, ℕ, suc, ◌+◌, ◌==◌, ◌<◌, ◌≤◌, ◌⊎◌, inl, inr, Bool, true, false, List, [], ◌∷◌, ◌++◌, length, length-append, get_or, refl, sym, ◌∙◌, ap, subst, arith, Option, Some, None}
 use Rattle.std.specs.Prelude.{map, slice_get, count_by, is_some, option_and_then, unwrap_or, MatchOption, IsSome, ⊤, if◌then◌else◌}
 use Rattle.std.specs.Option.{option_map, option_map_or}
-use Rattle.std.specs.List.{sum_by}
 use Rattle.std.proofs.lemmas.Option.{slice_get-get_or, slice_get_within}
 use Rattle.std.proofs.lemmas.Bool.{ne_eqb}
 use Rattle.std.proofs.lemmas.List.Sums.{sum_by-cons}
@@ -18,7 +17,7 @@ use Rattle.netlist_model.specs.declared.PinBit.{PinBit}
 use Rattle.netlist_model.specs.Below.{IsFeedBelow}
 use Rattle.netlist_model.specs.Contained.{IsDense}
 use Rattle.netlist_model.specs.Formed.{IsLaidOut}
-use Rattle.netlist_model.specs.Lists.{PortView, NetView, CellView, NetlistView, live_cell, cell_at, cell_count, bit_net, direction, is_among, IsUndriven, Drives}
+use Rattle.netlist_model.specs.Lists.{PortView, NetView, CellView, NetlistView, live_cell, cell_at, cell_count, direction, is_among, Drives}
 use Rattle.netlist_arena.specs.Arena.{ArenaView}
 use Rattle.netlist_arena.specs.Adds.{IsFree}
 use Rattle.netlist_arena.proofs.Laid.{All-slice_get}
@@ -30,12 +29,12 @@ use Rattle.plan_fitting.specs.declared.fitted.Fitted.{Fitted}
 use Rattle.scan_parts.specs.stitch_model.declared.Site.{Site}
 use Rattle.scan_parts.specs.stitch_model.declared.Site.TheVariants as site
 use Rattle.scan_parts.specs.stitch_model.declared.TapNames.{TapNames}
-use Rattle.scan_parts.specs.stitch_model.Sites.{Boundary, boundary_of, pin_net, row_net, is_own_net, input_site, output_site, site_by, site_of, side_count, row_sides, sides_of, side_at}
-use Rattle.scan_parts.specs.stitch_model.Sides.{is_moved, side_from, core_side, level_net, core_cell, core_feed}
+use Rattle.scan_parts.specs.stitch_model.Sites.{Boundary, boundary_of, pin_net, row_net, is_own_net, site_by, site_of, side_count, row_sides, sides_of, side_at}
+use Rattle.scan_parts.specs.stitch_model.Sides.{is_moved, core_side, core_cell, core_feed}
 use Rattle.scan_parts.specs.stitch_model.Rows.{net_at}
 use Rattle.scan_parts.specs.stitch_model.Stitched.{tap_port, tap_net_views, with_nets}
 use Rattle.scan_parts.proofs.stitch_model.Moves.{sides_within, side_range}
-use Rattle.scan_parts.specs.scan_sides.Pins.{IsPinThere, ArePinsThere}
+use Rattle.scan_parts.specs.scan_sides.Pins.{IsPinThere}
 use Rattle.stitch_ready.specs.core_moves.Ready.{IsDrivenAt, IsControlAt, HasControl}
 use Rattle.stitch_ready.proofs.core_moves.Behind.{mapped_at}
 use Rattle.scan_parts.specs.Rows.{into_from, IsApart, IsReady}

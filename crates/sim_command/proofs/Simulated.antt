@@ -1,5 +1,5 @@
 -- What is known of `sim` from its parts.
-use Rattle.std.proofs.Common.{◌≡◌, ℕ, Result, Ok, Err, IfOk, IfErr, List, [], ◌∷◌, Option, true, inl, inr, sym, subst, refl}
+use Rattle.std.proofs.Common.{◌≡◌, ℕ, Result, Ok, Err, IfOk, IfErr, List, [], ◌∷◌, Option, inl, inr, sym, subst, refl}
 use Rattle.command_faults.specs.declared.fault.Fault.{Fault}
 use Rattle.command_faults.specs.declared.fault.Fault.TheVariants as fault
 use Rattle.command_faults.specs.declared.status.Status.{Status}
@@ -13,15 +13,15 @@ use Rattle.netlist_link.specs.Links.{IsLinkOf}
 use Rattle.edge_io.specs.Shelf.{SameTold}
 use Rattle.command_edges.specs.Ends.{run_status}
 use Rattle.command_edges.specs.Seen.{ShelfSeen, SinkSeen}
-use Rattle.command_edges.specs.Spelled.{SpellsLinkable, StandsInNetlist}
+use Rattle.command_edges.specs.Spelled.{StandsInNetlist}
 use Rattle.command_edges.specs.Texts.{AreRead}
-use Rattle.command_edges.specs.Libraries.{IsLibraryOf, StandsBehindTwo, AreTwo}
-use Rattle.command_edges.specs.Tasks.{Task, Finishes, Stands, Completes, StandsInGiving}
+use Rattle.command_edges.specs.Libraries.{IsLibraryOf, StandsBehindTwo}
+use Rattle.command_edges.specs.Tasks.{Finishes, Stands, Completes}
 use Rattle.command_edges.proofs.Outcome.{refusal_completes, giving_completes}
 use Rattle.sim_command.specs.Simulations.{IsSimulation}
 use Rattle.sim_command.specs.Faults.{StandsInBoth}
-use Rattle.sim_command.specs.Tasks.{ArePlayed, HaveFault, sim_of}
-use Rattle.sim_command.specs.Played.{IsRunOn, IsPlayedOn, IsCutShortOn, StandsInEvents, FailsToPlayOn, IsPlayed, IsCutShort, FailsToPlay}
+use Rattle.sim_command.specs.Tasks.{HaveFault, sim_of}
+use Rattle.sim_command.specs.Played.{IsRunOn, IsPlayedOn, StandsInEvents, FailsToPlayOn, IsPlayed, FailsToPlay}
 use Rattle.sim_command.proofs.Complete.{Laws, texts_memory}
 
 -- From a netlist to its bytes.

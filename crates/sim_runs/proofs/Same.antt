@@ -1,10 +1,8 @@
 -- Moments that are the same read the same, and so do those that follow by one event.
-use Rattle.std.proofs.Common.{◌≡◌, ℕ, true, List, Option, Some, None, refl, ◌∙◌, ap}
-use Rattle.std.specs.List.{flat_map}
+use Rattle.std.proofs.Common.{◌≡◌, ℕ, List, Option, Some, None, refl, ◌∙◌, ap}
 use Rattle.signal_values.specs.declared.Sig.{Sig}
 use Rattle.signal_values.specs.declared.PinSig.{PinSig}
 use Rattle.signal_values.specs.Values.{pin_of, join}
-use Rattle.netlist_model.specs.declared.NetId.{NetId}
 use Rattle.netlist_model.specs.declared.Dir.{Dir}
 use Rattle.netlist_model.specs.declared.Dir.TheVariants.{Input, Output, Inout}
 use Rattle.netlist_model.specs.Lists.{CellView, NetlistView, direction}

@@ -1,7 +1,7 @@
 -- The start of a script, and that each of its lines can be played.
-use Rattle.std.proofs.Common.{◌≡◌, ◌≢◌, ℕ, zero, suc, ◌+◌, ◌<◌, ◌≤◌, true, List, [], ◌∷◌, ◌++◌, length, refl, sym, ◌∙◌, ap, arith, Option, Some, None, inl, inr}
+use Rattle.std.proofs.Common.{◌≡◌, ◌≢◌, ℕ, suc, ◌+◌, ◌<◌, ◌≤◌, true, List, [], ◌∷◌, ◌++◌, length, refl, sym, ◌∙◌, ap, arith, Option, Some, None, inl, inr}
 use Rattle.std.specs.Option.{option_map, option_and_then}
-use Rattle.std.specs.List.{slice_get, flat_map, All, AllByRecursion}
+use Rattle.std.specs.List.{slice_get, All, AllByRecursion}
 use Rattle.std.proofs.lemmas.Bool.{cases_lt}
 use Rattle.std.proofs.lemmas.Bool.Decides.{eqb_tells}
 use Rattle.std.proofs.lemmas.List.Elements.{All-from_recursion}
@@ -9,7 +9,6 @@ use Rattle.std.proofs.lemmas.Option.{same_Some}
 use Rattle.list_laws.proofs.Options.{some_there}
 use Rattle.signal_values.specs.declared.Sig.{Sig}
 use Rattle.signal_values.specs.declared.Sig.TheVariants.{Unknown}
-use Rattle.signal_values.specs.declared.PinSig.{PinSig}
 use Rattle.cell_library.specs.Flops.{flop_start}
 use Rattle.netlist_model.specs.declared.NetId.{NetId}
 use Rattle.netlist_model.specs.declared.PinBit.{PinBit}
@@ -18,16 +17,16 @@ use Rattle.netlist_model.specs.declared.Dir.TheVariants.{Input, Output, Inout}
 use Rattle.netlist_model.specs.Lists.{PortView, NetlistView, bit_net}
 use Rattle.netlist_model.specs.Settled.{feed_values, follows_pin}
 use Rattle.netlist_model.specs.Formed.{IsWellFormed}
-use Rattle.netlist_model.specs.Runs.{Moment, PinEvent, IsKnownPin, IsLegal, IsStart, IsRun, pins_after}
+use Rattle.netlist_model.specs.Runs.{Moment, IsLegal, IsStart}
 use Rattle.netlist_laws.specs.Runs.{SameMoment}
 use Rattle.netlist_laws.proofs.Runs.{run_exists, start_same}
 use Rattle.scan_vectors.specs.declared.lines.Act.{Act}
 use Rattle.scan_vectors.specs.declared.lines.Act.TheVariants.{Start, Set, Expect}
 use Rattle.event_scripts.specs.declared.script.ScriptLine.{ScriptLine}
 use Rattle.event_scripts.specs.Scripts.{IsPlayable, IsStartAt}
-use Rattle.netlist_meaning.specs.Pins.{PinsView, ArePinsOf, AreFirstPins, IsDrivenPin, SetsPin, net_of, outside}
-use Rattle.sim_runs.specs.Runs.{net_number, event_of, events_at, events_of, HasStarts, IsRunOf}
-use Rattle.sim_runs.specs.PlayedScript.{AreKnown, CanPlay, CanStart, HaveStarts, IsFirst, TakesStart, line_event}
+use Rattle.netlist_meaning.specs.Pins.{PinsView, ArePinsOf, AreFirstPins, SetsPin, net_of, outside}
+use Rattle.sim_runs.specs.Runs.{net_number, event_of, events_at, events_of, IsRunOf}
+use Rattle.sim_runs.specs.PlayedScript.{AreKnown, CanPlay, CanStart, IsFirst, TakesStart}
 
 -- each line can be played
 pub can_play : (N : NetlistView) (script : List ScriptLine) (place : ℕ) (line : ScriptLine) → IsPlayable N script → slice_get script place ≡ Some line → CanPlay line.act N line

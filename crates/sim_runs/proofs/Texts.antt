@@ -1,11 +1,10 @@
 -- What is put of bits and lines, in terms of the run.
-use Rattle.std.proofs.Common.{◌≡◌, ℕ, zero, suc, ◌+◌, ◌<◌, List, [], ◌∷◌, ◌++◌, length, ◌≤◌, map, take, drop, set, get_or, add-one, refl, sym, ◌∙◌, ap, arith, append_assoc, append-nil, Option, Some, None}
+use Rattle.std.proofs.Common.{◌≡◌, ℕ, ◌+◌, ◌<◌, List, [], ◌∷◌, ◌++◌, length, ◌≤◌, take, drop, set, get_or, add-one, refl, sym, ◌∙◌, ap, arith, append-nil, Option, Some, None}
 use Rattle.std.specs.Option.{option_map}
 use Rattle.std.specs.List.{slice_get, flat_map}
 use Rattle.std.proofs.lemmas.Option.{slice_get_within, get_or_from_slice_get, same_Some}
 use Rattle.edge_io.specs.Shelf.{appended}
 use Rattle.signal_values.specs.declared.PinSig.{PinSig}
-use Rattle.signal_values.specs.Values.{show_byte}
 use Rattle.netlist_model.specs.declared.NetId.{NetId}
 use Rattle.netlist_model.specs.declared.PinBit.{PinBit}
 use Rattle.netlist_meaning.specs.Pins.{net_of}
@@ -20,7 +19,7 @@ use Rattle.event_scripts.specs.declared.script.ScriptLine.{ScriptLine}
 use Rattle.sim_runs.specs.declared.shown.Shown.{Shown}
 use Rattle.sim_runs.specs.Shown.{shown_nets}
 use Rattle.sim_runs.specs.Runs.{net_number}
-use Rattle.sim_runs.specs.Outputs.{reading_line, first_readings, changed_line, changed_readings, set_text, mark_text, expect_text, expect_misses, line_text, line_misses, sets_with}
+use Rattle.sim_runs.specs.Outputs.{reading_line, first_readings, changed_line, changed_readings, mark_text, expect_text, expect_misses, line_text, line_misses, sets_with}
 use Rattle.sim_runs.specs.Bits.{net_at, AreBits, untold, told_at, told_line, told_of, bit_line, bits_text}
 use Rattle.sim_runs.proofs.Lists.{front_next, flat_map-over, flat_map-same, flat_map-push, renewed_at, renewed_next, mapped_at}
 use Rattle.sim_runs.proofs.Same.{reading_same}

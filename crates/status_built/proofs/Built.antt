@@ -2,16 +2,14 @@
 use Rattle.std.proofs.Common.{◌≡◌, ◌≢◌, ℕ, zero, suc, ◌+◌, ◌<◌, ◌≤◌, List, [], ◌∷◌, ◌++◌, length, length-append, Option, Some, None, true, false, refl, ap, sym, ◌∙◌, subst, arith, option_and_then}
 use Rattle.std.specs.Prelude.{slice_get, All, IsSome}
 use Rattle.netlist_model.specs.declared.NetId.{NetId}
-use Rattle.netlist_model.specs.declared.Feed.{Feed}
 use Rattle.netlist_model.specs.declared.Feed.TheVariants.{Net}
 use Rattle.netlist_model.specs.Lists.{CellView, NetlistView, cell_at, cell_count}
-use Rattle.netlist_model.specs.Below.{IsNetBelow}
 use Rattle.netlist_model.specs.Contained.{IsDense}
 use Rattle.netlist_laws.specs.Contained.{DenseNumbers}
 use Rattle.netlist_arena.specs.Arena.{ArenaView}
 use Rattle.netlist_arena.specs.Looks.{feed_at}
 use Rattle.netlist_arena.specs.Moves.{with_feed, connected}
-use Rattle.gate_parts.specs.Appended.{Appended, Grows}
+use Rattle.gate_parts.specs.Appended.{Appended}
 use Rattle.gate_parts.specs.Laws.{AppendedGrows}
 use Rattle.register_gates.specs.Constants.{ConstantsAreBits}
 use Rattle.register_gates.specs.Steps.{AddedInTurn}

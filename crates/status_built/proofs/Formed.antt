@@ -1,25 +1,23 @@
 -- The netlist stays well formed.
-use Rattle.std.proofs.Common.{◌≡◌, ◌≢◌, ℕ, zero, suc, ◌+◌, ◌<◌, ◌≤◌, ◌⊎◌, inl, inr, List, [], ◌∷◌, ◌++◌, length, Option, Some, None, refl, ap, sym, ◌∙◌, subst, arith}
+use Rattle.std.proofs.Common.{◌≡◌, ◌≢◌, ℕ, zero, suc, ◌+◌, ◌<◌, ◌≤◌, ◌⊎◌, inr, List, [], ◌∷◌, ◌++◌, length, Option, Some, None, ap, sym, ◌∙◌, arith}
 use Rattle.std.specs.Prelude.{slice_get, slice_set, All}
-use Rattle.std.proofs.lemmas.List.Elements.{All-head, All-tail}
 use Rattle.cell_library.specs.declared.listed.ListedCell.{ListedCell}
 use Rattle.cell_library.specs.Gates.{is_flop}
 use Rattle.netlist_model.specs.declared.Dir.{Dir}
-use Rattle.netlist_model.specs.declared.Dir.TheVariants.{Input, Output}
+use Rattle.netlist_model.specs.declared.Dir.TheVariants.{Output}
 use Rattle.netlist_model.specs.declared.NetId.{NetId}
 use Rattle.netlist_model.specs.declared.Feed.{Feed}
 use Rattle.netlist_model.specs.declared.Feed.TheVariants.{Net}
-use Rattle.netlist_model.specs.Lists.{CellView, NetlistView, cell_at, cell_count, direction, Drives}
+use Rattle.netlist_model.specs.Lists.{CellView, NetlistView, cell_at, cell_count, direction}
 use Rattle.netlist_model.specs.Formed.{IsDriven, IsLaidOut, IsWellFormed}
 use Rattle.netlist_model.specs.Contained.{HasCells}
-use Rattle.netlist_arena.specs.Arena.{ArenaView}
 use Rattle.netlist_arena.specs.Moves.{connected}
-use Rattle.gate_parts.specs.Appended.{Appended, Grows}
+use Rattle.gate_parts.specs.Appended.{Grows}
 use Rattle.gate_parts.specs.Laws.{AppendedCount, AppendedGrows, AppendedIsThere}
 use Rattle.draft_laws.specs.Readable.{IsPure}
 use Rattle.draft_laws.specs.Sources.{InputIsPure}
 use Rattle.draft_laws.specs.Parts.{IsGrown}
-use Rattle.reconnected.specs.Laws.{Reconnects, ReadsFlop, IsReadable}
+use Rattle.reconnected.specs.Laws.{Reconnects, ReadsFlop}
 use Rattle.status_fitting.specs.declared.fitted.FittedRegister.{FittedRegister}
 use Rattle.status_formed.specs.status_parts.declared.SharedNets.{SharedNets}
 use Rattle.status_formed.specs.status_parts.Registers.{registers_size, shown_of}

@@ -1,5 +1,5 @@
 -- A fault that stands where all three texts are free of faults is want of memory.
-use Rattle.std.proofs.Common.{◌≡◌, ℕ, List, [], ◌∷◌, Result, Ok, Err, IfOk, inl, inr, sym, subst, ◌∙◌, refl}
+use Rattle.std.proofs.Common.{◌≡◌, ℕ, List, [], ◌∷◌, inl, inr, sym, subst, ◌∙◌, refl}
 use Rattle.list_laws.proofs.Options.{none_some}
 use Rattle.insert_command.proofs.command_edges.Memory.{text_memory, has_link_memory, library_memory, one_library}
 use Rattle.cell_text.specs.Laws as libraries
@@ -19,7 +19,6 @@ use Rattle.status_texts.specs.declared.fault.StatusFault.TheVariants as line
 use Rattle.status_texts.specs.declared.plan.StatusPlan.{StatusPlan}
 use Rattle.status_texts.specs.Exactly as registers
 use Rattle.status_texts.specs.Grammar.{SpellsStatus}
-use Rattle.insert_command.specs.command_edges.Libraries.{IsLibraryOf, StandsInLibrary}
 use Rattle.insert_command.specs.command_faults.declared.fault.Fault.{Fault}
 use Rattle.insert_command.specs.command_faults.declared.status.Status.TheVariants as status
 use Rattle.insert_command.specs.command_faults.Statuses.{status_of, fit_status, registers_status}

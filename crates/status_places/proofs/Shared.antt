@@ -15,7 +15,6 @@ use Rattle.instruction_gates.specs.Latches.{latches_cells}
 use Rattle.instruction_gates.specs.Selections.{selections_cells}
 use Rattle.instruction_gates.specs.Stages.{ir_latching, shift_stage_cells, stages_cells}
 use Rattle.instruction_register.specs.Register.{pattern_bits, latches_from, opcodes_cells, opcodes_told, matched_instructions, opcodes_from, selections_from, copies_from, instruction_cells}
-use Rattle.plan_fitting.specs.declared.fitted.Fitted.{Fitted}
 use Rattle.stitch_laws.specs.stitch_model.Sides.{core_side, core_cell}
 use Rattle.stitch_laws.specs.stitch_model.Logic.{instruction_from, bypass_from, tap_at}
 use Rattle.stitch_laws.specs.stitch_model.Stitched.{boundary_at, first_net}

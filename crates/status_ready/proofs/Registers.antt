@@ -1,5 +1,5 @@
 -- Registers that were fitted.
-use Rattle.std.proofs.Common.{◌≡◌, ℕ, zero, suc, ◌+◌, ◌<◌, ◌≤◌, ◌==◌, ◌||◌, Bool, true, false, List, [], ◌∷◌, ◌++◌, map, take, drop, length, Option, Some, None, refl, ap, sym, ◌∙◌, subst, arith, eqb-true, get_or}
+use Rattle.std.proofs.Common.{◌≡◌, ℕ, suc, ◌+◌, ◌<◌, ◌≤◌, ◌==◌, ◌||◌, Bool, true, false, List, [], ◌∷◌, ◌++◌, map, take, drop, length, Option, Some, None, refl, ap, sym, ◌∙◌, subst, arith, eqb-true, get_or}
 use Rattle.std.specs.Prelude.{slice_get, All}
 use Rattle.std.specs.List.{AllByRecursion, list_any}
 use Rattle.std.proofs.lemmas.List.{length-map}
@@ -25,17 +25,16 @@ use Rattle.status_texts.specs.declared.plan.StatusRow.{StatusRow}
 use Rattle.status_texts.specs.declared.plan.StatusPlan.{StatusPlan}
 use Rattle.status_texts.specs.Grammar.{RegisterWords, IsRegister as IsWritten, register_of}
 use Rattle.status_fitting.specs.declared.fitted.FittedRegister.{FittedRegister}
-use Rattle.status_fitting.specs.declared.fitted.FittedStatus.{FittedStatus}
 use Rattle.status_fitting.specs.First.{Stands}
 use Rattle.status_fitting.specs.Steps.{fault_behind, name_fault, opcode_fault}
 use Rattle.status_fitting.specs.Names.{name_of, all_given, is_barred}
 use Rattle.status_fitting.specs.Opcodes.{opcodes_of, is_taken}
 use Rattle.status_fitting.specs.Wires.{IsNamed}
-use Rattle.status_fitting.specs.Faults.{IsSpelled, words_of, in_name, in_opcode, HasNoFault}
-use Rattle.status_fitting.specs.Fitted.{IsNetOf, IsRegister, IsFitted}
+use Rattle.status_fitting.specs.Faults.{words_of, in_name, in_opcode, HasNoFault}
+use Rattle.status_fitting.specs.Fitted.{IsNetOf, IsRegister}
 use Rattle.status_fitting.proofs.Firsts.{no_fault_stands, first_fault}
 use Rattle.status_fitting.proofs.Rows.{split_at, rows_named}
-use Rattle.status_ready.specs.Ready.{IsCaptured, CanBeBuilt, AreBuildable}
+use Rattle.status_ready.specs.Ready.{IsCaptured, CanBeBuilt}
 use Rattle.status_ready.specs.Laws.{FittedCanBeBuilt}
 use Rattle.status_ready.proofs.Wires.{captured}
 

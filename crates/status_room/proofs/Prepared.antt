@@ -2,13 +2,11 @@
 use Rattle.std.proofs.Common.{◌≡◌, ℕ, ◌+◌, ◌≤◌, max, List, length, Option, Some, None, Result, Ok, Err, refl, sym, ◌∙◌, ap, subst, arith}
 use Rattle.std.specs.Prelude.{MatchOption, IsOkUnless, OnOk}
 use Rattle.netlist_model.specs.Lists.{NetlistView, cell_count}
-use Rattle.netlist_arena.specs.Arena.{ArenaView, SpareView}
 use Rattle.netlist_arena.specs.Room.{too_many}
 use Rattle.netlist_arena.specs.declared.room.ReserveFault.{ReserveFault}
 use Rattle.netlist_arena.specs.declared.room.ReserveFault.TheVariants as reserve
 use Rattle.netlist_link.specs.Drafts.{reserved}
 use Rattle.netlist_link.specs.Linked.{LinkedView}
-use Rattle.cell_order.specs.Tables.{RoomView}
 use Rattle.plan_fitting.specs.declared.fitted.Fitted.{Fitted}
 use Rattle.scan_stitch.specs.stitch_names.Prepared.{room_of, ports_of, prepared}
 use Rattle.status_room.specs.Prepared.{prepared_with}

@@ -13,7 +13,6 @@ use Rattle.bsdl_values.specs.TextOutcome.{IsDeviceReadAs}
 use Rattle.bsdl_values.specs.TextFaults.{IsDeviceTextFault}
 use Rattle.plan_texts.specs.declared.plan.Plan.{Plan}
 use Rattle.plan_texts.specs.Canonical.{canonical_plan}
-use Rattle.scan_strip.specs.Answer.{IsNotInserted}
 use Rattle.scan_strip.specs.Stripped.{IsStrippedTree}
 use Rattle.command_faults.specs.declared.fault.Fault.{Fault}
 use Rattle.command_faults.specs.declared.fault.Fault.TheVariants as fault

@@ -40,10 +40,3 @@ pub record Gives (tree : Module) (L : LinkedView) (p : Plan) (inserted : Module)
 -- own: it doesn't depend on how the netlist is kept
 abbrev pub GivesByTheView : Type 0
 GivesByTheView = (one other : LinkedView) (p : Plan) (inserted : Module) (d : Device) → IsSameView one other → GivesAt one p inserted d → GivesAt other p inserted d
-
--- own: the netlist and the plan give something
-pub record IsGiven (L : LinkedView) (p : Plan) : Type 0 where
-  pub tree : Module
-  pub inserted : Module
-  pub device : Device
-  pub gives : Gives tree L p inserted device

@@ -1,5 +1,5 @@
 -- Laws of bits in words of 64.
-use Rattle.std.proofs.Common.{◌≡◌, ◌≢◌, ◌↔◌, ◌⊎◌, inl, inr, ◌∙◌, sym, ap, refl, ℕ, suc, zero, ◌<◌, ◌≤◌, ◌+◌, ◌*◌, ◌/◌, ◌%◌, ◌^◌, ◌-◌, List, ◌++◌, length, get_or, w64, arith, get_or-set_other, get_or-set_same, bit_and}
+use Rattle.std.proofs.Common.{◌≡◌, ◌≢◌, ◌↔◌, ◌⊎◌, inl, inr, ◌∙◌, sym, ap, refl, ℕ, ◌<◌, ◌≤◌, ◌+◌, ◌*◌, ◌/◌, ◌%◌, ◌^◌, ◌-◌, List, ◌++◌, length, get_or, w64, arith, get_or-set_other, get_or-set_same, bit_and}
 use Rattle.std.proofs.Math.Seq.{take-append_seam}
 use Rattle.std.proofs.Math.ListN.{take, set, replicate, length-set, length-replicate}
 use Rattle.std.proofs.lemmas.List.{get_or-replicate, get_or_past}

@@ -1,4 +1,4 @@
-use Rattle.std.proofs.Common.{ℕ, Bool, sym, ap, ◌∙◌}
+use Rattle.std.proofs.Common.{ℕ, sym, ap, ◌∙◌}
 use Rattle.bsdl_lexicon.specs.ByLetter.{is_among, reserved_with}
 use Rattle.bsdl_lexicon.proofs.ReservedWords.{empty_is_free, found_by_letter}
 use Rattle.bsdl_lexicon.proofs.reserved.is_reserved.Goals as goal

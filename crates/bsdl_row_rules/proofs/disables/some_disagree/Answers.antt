@@ -1,5 +1,4 @@
-use Rattle.std.proofs.Common.{ℕ, nat_eq, ◌∙◌, ap}
-use Rattle.std.specs.List.{list_any}
+use Rattle.std.proofs.Common.{ℕ, ◌∙◌}
 use Rattle.bsdl_row_rules.proofs.Disagreements.{disagree_by_sets}
 use Rattle.bsdl_row_rules.proofs.disables.some_disagree.Goals as goal
 

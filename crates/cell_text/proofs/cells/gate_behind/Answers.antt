@@ -1,4 +1,4 @@
-use Rattle.std.proofs.Common.{ℕ, ◌+◌, ◌-◌, List, length, take, drop, refl}
+use Rattle.std.proofs.Common.{ℕ, ◌+◌, ◌-◌, length, take, drop, refl}
 use Rattle.cell_text.proofs.Parts.{gate_parted, rest_all}
 use Rattle.cell_text.proofs.cells.gate_behind.Goals as goal
 

@@ -1,4 +1,4 @@
-use Rattle.std.proofs.Common.{ℕ, List, Bor, sym, ◌∙◌}
+use Rattle.std.proofs.Common.{ℕ, sym, ◌∙◌}
 use Rattle.first_faults.specs.Repeated.{texts}
 use Rattle.cell_text.proofs.Borrowed.{word_at}
 use Rattle.cell_text.proofs.Bodies.{no_step, step_taken}

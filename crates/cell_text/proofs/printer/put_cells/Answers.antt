@@ -1,4 +1,4 @@
-use Rattle.std.proofs.Common.{ℕ, List}
+use Rattle.std.proofs.Common.{ℕ}
 use Rattle.cell_text.proofs.Rows.{cell_put}
 use Rattle.cell_text.proofs.printer.put_cells.Goals as goal
 

@@ -1,4 +1,4 @@
-use Rattle.std.proofs.Common.{ℕ, List, [], map, Option, Some, Bor, sym, ap, ◌∙◌, arith}
+use Rattle.std.proofs.Common.{ℕ, List, [], map, Some, Bor, sym, ap, ◌∙◌, arith}
 use Rattle.first_faults.specs.Repeated.{bytes_of}
 use Rattle.cell_text.specs.Rules.{barred_after, name_in}
 use Rattle.cell_text.specs.Reader.{rows_of}

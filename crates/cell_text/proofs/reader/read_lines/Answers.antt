@@ -1,4 +1,4 @@
-use Rattle.std.proofs.Common.{◌≤◌, length, arith}
+use Rattle.std.proofs.Common.{◌≤◌, arith}
 use Rattle.cell_text.proofs.ReadBack.{rows_fit}
 use Rattle.cell_text.proofs.reader.read_lines.Goals as goal
 

@@ -6,7 +6,6 @@ use Rattle.netlist_model.specs.Runs.{Moment}
 use Rattle.scan_vectors.specs.declared.lines.Act.TheVariants.{Start}
 use Rattle.event_scripts.specs.declared.script.ScriptLine.{ScriptLine}
 use Rattle.netlist_meaning.specs.Sims.{moment_of}
-use Rattle.sim_runs.specs.Outputs.{sets_with}
 use Rattle.sim_runs.proofs.Starts.{can_play}
 use Rattle.sim_runs.proofs.Texts.{sets_more}
 use Rattle.conformance_report.proofs.Played.{all_judged, line_judged, met_most, none_judged}

@@ -1,4 +1,4 @@
-use Rattle.std.proofs.Common.{◌≡◌, ◌≤◌, ◌∙◌, sym, refl, length, arith}
+use Rattle.std.proofs.Common.{◌≡◌, ◌≤◌, ◌∙◌, sym, arith}
 use Rattle.std.proofs.lemmas.Option.{slice_get-get_or, get_or_from_slice_get}
 use Rattle.signal_values.specs.declared.Sig.TheVariants.{Unknown}
 use Rattle.event_sim.proofs.EmptiedLog.{none_emptied, one_emptied, all_emptied, none_left}

@@ -1,4 +1,4 @@
-use Rattle.std.proofs.Common.{◌≡◌, ◌<◌, ◌∙◌, ℕ, sym, ap, length, arith}
+use Rattle.std.proofs.Common.{◌≡◌, ◌<◌, ◌∙◌, ℕ, sym}
 use Rattle.event_sim.proofs.Simulators.{anew_logged, logged_nets}
 use Rattle.event_sim.proofs.events.take_event.Goals as goal
 

@@ -1,6 +1,6 @@
-use Rattle.std.proofs.Common.{◌≡◌, ◌≤◌, length, arith}
+use Rattle.std.proofs.Common.{◌≡◌, ◌≤◌, arith}
 use Rattle.std.proofs.lemmas.Option.{slice_get-get_or}
-use Rattle.event_sim.proofs.NetPlaces.{none_placed, one_placed, all_placed}
+use Rattle.event_sim.proofs.NetPlaces.{one_placed, all_placed}
 use Rattle.event_sim.proofs.places.places_of.Goals as goal
 
 pub loop-place-preserved : goal.loop-place-preserved

@@ -1,5 +1,5 @@
-use Rattle.std.proofs.Common.{◌+◌, ◌*◌, arith, length}
-use Rattle.instruction_gates.proofs.Copied.{none_copied, one_left, one_copied}
+use Rattle.std.proofs.Common.{◌+◌, ◌*◌, arith}
+use Rattle.instruction_gates.proofs.Copied.{none_copied, one_copied}
 use Rattle.instruction_gates.proofs.copies.+add_copies.Goals as goal
 
 pub returns-then-count-eq0-clause-added : goal.returns-then-count-eq0-clause-added

@@ -1,4 +1,3 @@
-use Rattle.std.proofs.Common.{arith}
 use Rattle.name_table.proofs.Numbers.{number_of-at}
 use Rattle.name_table.proofs.NameTable.find_near.Goals as goal
 

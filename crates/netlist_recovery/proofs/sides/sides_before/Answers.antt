@@ -1,4 +1,4 @@
-use Rattle.std.proofs.Common.{rules, ◌≡◌, ◌∙◌, ap, sym, arith}
+use Rattle.std.proofs.Common.{rules, ◌≡◌, ◌∙◌}
 use Rattle.netlist_recovery.proofs.Walk.{turn, no_turn}
 use Rattle.netlist_recovery.proofs.sides.sides_before.Goals as goal
 

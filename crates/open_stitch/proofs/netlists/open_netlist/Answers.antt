@@ -1,4 +1,4 @@
-use Rattle.std.proofs.Common.{◌≡◌, ℕ, ◌+◌, ◌<◌, length, refl, sym, ◌∙◌, ap, subst, arith}
+use Rattle.std.proofs.Common.{◌≡◌, ℕ, ◌+◌, ◌<◌, length, ◌∙◌, ap, arith}
 use Rattle.netlist_model.specs.Lists.{NetlistView, cell_count}
 use Rattle.netlist_arena.specs.Arena.{SpareView}
 use Rattle.open_runs.specs.stitch_model.declared.Logic.{Logic}

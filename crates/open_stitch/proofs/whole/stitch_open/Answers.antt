@@ -1,6 +1,6 @@
 use Rattle.std.proofs.Common.{◌≡◌, ℕ, ◌+◌, ◌≤◌, List, length, sym, ◌∙◌, ap, subst}
 use Rattle.netlist_model.specs.Formed.{IsLaidOut, IsWellFormed}
-use Rattle.netlist_model.specs.Lists.{NetlistView, cell_count}
+use Rattle.netlist_model.specs.Lists.{cell_count}
 use Rattle.netlist_arena.specs.Arena.{ArenaView}
 use Rattle.netlist_link.specs.WellNamed.{IsWellNamed}
 use Rattle.plan_fitting.specs.Devices.{device_of_fitted}
@@ -9,7 +9,6 @@ use Rattle.scan_stitch.specs.stitch_names.Prepared.{room_of}
 use Rattle.scan_stitch.specs.stitch_names.Same.{IsSameNetlist}
 use Rattle.scan_stitch.specs.Stitched.{CanBeStitched, HasStitchRoom}
 use Rattle.scan_stitch.proofs.Known.{names_entered, can_of, room_made, fits_room_at}
-use Rattle.open_stitch.specs.declared.Parts.{Parts}
 use Rattle.open_stitch.specs.Open.{stitched_open, parts_at}
 use Rattle.open_stitch.specs.Runs.{IsOpen}
 use Rattle.open_stitch.proofs.Known.{stitched_formed, stitched_named, open_of}

@@ -1,4 +1,4 @@
-use Rattle.std.proofs.Common.{◌≡◌, Option, Some, length, ℕ, sym, subst, arith}
+use Rattle.std.proofs.Common.{◌≡◌, Option, length, ℕ, sym, subst, arith}
 use Rattle.register_bits.specs.netlist_model.Lists.{cell_count}
 use Rattle.register_bits.specs.gate_parts.Appended.{Appended}
 use Rattle.register_gates.specs.Registers.{ident_size, ident_cells}

@@ -1,4 +1,4 @@
-use Rattle.std.proofs.Common.{◌≡◌, ℕ, ◌+◌, length, sym, ◌∙◌, ap, arith}
+use Rattle.std.proofs.Common.{◌≡◌, ℕ, ◌+◌, length, ◌∙◌, arith}
 use Rattle.scan_parts.proofs.LogicAdded.{tap_below, instruction_below, tap_room, instruction_room, bypass_room, logic_is, logic_added, logic_leaves_free, handed_on}
 use Rattle.scan_parts.proofs.logic.add_logic.Goals as goal
 

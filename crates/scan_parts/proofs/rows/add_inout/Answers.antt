@@ -1,4 +1,4 @@
-use Rattle.std.proofs.Common.{get_or, refl, arith}
+use Rattle.std.proofs.Common.{get_or, refl}
 use Rattle.std.proofs.lemmas.Option.{slice_get-get_or}
 use Rattle.scan_sides.specs.Pins.{between}
 use Rattle.scan_parts.proofs.RowSteps.{blank_row, inout_added}

@@ -1,10 +1,10 @@
-use Rattle.std.proofs.Common.{◌≡◌, ℕ, ◌-◌, List, length, drop, get_or, sym, ◌∙◌, ap, subst, arith}
+use Rattle.std.proofs.Common.{◌≡◌, ℕ, ◌-◌, List, drop, get_or, sym, ◌∙◌, ap, arith}
 use Rattle.std.proofs.lemmas.Option.{slice_get-get_or}
 use Rattle.netlist_model.specs.Lists.{PortView}
 use Rattle.plan_fitting.specs.declared.fitted.FitRow.{FitRow}
-use Rattle.scan_sides.specs.stitch_model.Sites.{side_count, row_sides, sides_of}
+use Rattle.scan_sides.specs.stitch_model.Sites.{side_count, row_sides}
 use Rattle.scan_sides.specs.Pins.{between}
-use Rattle.scan_parts.proofs.RowsAdded.{RowsAdded, rows_none, no_rows_left, nets_left, cells_left}
+use Rattle.scan_parts.proofs.RowsAdded.{rows_none, no_rows_left, nets_left, cells_left}
 use Rattle.scan_parts.proofs.RowSteps.{blank_row, RowHere, enough, ends, side_fits, next_there, free_here, apart_here, rows_here, all_rows}
 use Rattle.scan_parts.proofs.rows.add_rows.Goals as goal
 

@@ -1,4 +1,4 @@
-use Rattle.std.proofs.Common.{◌≡◌, ℕ, length, sym, ◌∙◌, ap, subst, refl, arith}
+use Rattle.std.proofs.Common.{◌≡◌, ℕ, length, sym, ◌∙◌, subst, refl, arith}
 use Rattle.scan_sides.specs.stitch_model.Sites.{Boundary}
 use Rattle.scan_sides.specs.Pins.{between}
 use Rattle.scan_parts.specs.Rows.{CanTakeRows}

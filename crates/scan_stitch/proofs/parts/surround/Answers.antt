@@ -1,5 +1,4 @@
 use Rattle.std.proofs.Common.{◌≡◌, ℕ, ◌+◌, ◌-◌, List, length, sym, ◌∙◌, ap, subst, arith}
-use Rattle.netlist_model.specs.declared.NetId.{NetId}
 use Rattle.netlist_model.specs.Lists.{PortView, NetlistView}
 use Rattle.netlist_arena.specs.Arena.{SpareView}
 use Rattle.plan_fitting.specs.declared.fitted.FitRow.{FitRow}

@@ -1,7 +1,6 @@
-use Rattle.std.proofs.Common.{◌≡◌, List, length, sym, ◌∙◌, ap, subst, arith}
+use Rattle.std.proofs.Common.{◌≡◌, sym, ◌∙◌, subst}
 use Rattle.netlist_model.specs.Formed.{IsLaidOut}
-use Rattle.netlist_model.specs.Lists.{NetlistView}
-use Rattle.wrapped_chip.specs.Home.{FindsHome, AloneFromHome}
+use Rattle.wrapped_chip.specs.Home.{FindsHome}
 use Rattle.wrapped_chip.specs.Realises.{Realises, Alone}
 use Rattle.plan_fitting.specs.Devices.{device_of_fitted}
 use Rattle.netlist_arena.specs.Arena.{ArenaView}

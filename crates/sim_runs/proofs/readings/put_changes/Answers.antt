@@ -1,13 +1,12 @@
-use Rattle.std.proofs.Common.{◌≡◌, ◌≤◌, ◌<◌, ◌∙◌, ℕ, refl, length, length-set, arith, Option, Some, None}
+use Rattle.std.proofs.Common.{◌≡◌, ◌≤◌, ◌<◌, ◌∙◌, ℕ, refl, length-set, arith, Some, None}
 use Rattle.std.specs.Prelude.{slice_index_or}
 use Rattle.std.specs.List.{slice_get}
 use Rattle.std.proofs.lemmas.Option.{slice_get-get_or}
-use Rattle.signal_values.specs.declared.PinSig.{PinSig}
 use Rattle.netlist_model.specs.Formed.{IsLaidOut}
 use Rattle.netlist_model.specs.Runs.{Moment, reading_at}
 use Rattle.netlist_meaning.specs.Sims.{moment_of}
 use Rattle.sim_runs.specs.declared.shown.Shown.{Shown}
-use Rattle.sim_runs.specs.Bits.{IsToldBefore, told_at, told_line, bit_line}
+use Rattle.sim_runs.specs.Bits.{told_at, bit_line}
 use Rattle.sim_runs.proofs.Texts.{appended-none, reading_is, last_is, told_is, told_next, given_next, given_cut}
 use Rattle.sim_runs.proofs.Changes.{none_told, told_to, told_further, all_told}
 use Rattle.sim_runs.proofs.readings.put_changes.Goals as goal

@@ -1,5 +1,4 @@
-use Rattle.std.proofs.Common.{◌≡◌, ℕ, refl, take}
-use Rattle.edge_io.specs.Shelf.{appended}
+use Rattle.std.proofs.Common.{◌≡◌, ℕ, refl}
 use Rattle.netlist_model.specs.Runs.{Moment}
 use Rattle.netlist_meaning.specs.Sims.{moment_of}
 use Rattle.sim_runs.specs.Runs.{IsRunOf}

@@ -3,7 +3,7 @@ use Rattle.edge_io.specs.Shelf.{appended}
 use Rattle.netlist_model.specs.Runs.{Moment}
 use Rattle.netlist_meaning.specs.Sims.{moment_of}
 use Rattle.output_lines.proofs.Pieces.{appended-twice}
-use Rattle.sim_runs.specs.Bits.{IsToldBefore, told_at}
+use Rattle.sim_runs.specs.Bits.{IsToldBefore}
 use Rattle.sim_runs.specs.Outputs.{mark_text, changed_readings}
 use Rattle.sim_runs.proofs.Texts.{front_one, front_two, changed_text}
 use Rattle.sim_runs.proofs.Changes.{noted_bits}

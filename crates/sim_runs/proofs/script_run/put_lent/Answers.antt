@@ -1,4 +1,4 @@
-use Rattle.std.proofs.Common.{◌≡◌, ◌≤◌, ◌∙◌, rules, arith}
+use Rattle.std.proofs.Common.{◌≡◌, ◌≤◌, ◌∙◌}
 use Rattle.sim_runs.specs.Outputs.{run_text}
 use Rattle.sim_runs.proofs.Gathers.{grown_first, front_gathered, whole_gathered, all_gathered, rose_later}
 use Rattle.sim_runs.proofs.script_run.put_lent.Goals as goal

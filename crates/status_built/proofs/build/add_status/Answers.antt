@@ -1,5 +1,4 @@
 use Rattle.std.proofs.Common.{ℕ, ◌+◌, length, ap, ◌∙◌, arith}
-use Rattle.netlist_model.specs.declared.NetId.{NetId}
 use Rattle.netlist_model.specs.Lists.{cell_count}
 use Rattle.status_formed.specs.status_parts.Registers.{shown_of}
 use Rattle.status_built.proofs.Built.{inverses_length, all_stand, status_added}

@@ -1,10 +1,8 @@
 use Rattle.std.proofs.Common.{◌≡◌, ℕ, ◌+◌, length, ap, ◌∙◌, arith}
 use Rattle.netlist_model.specs.declared.NetId.{NetId}
 use Rattle.netlist_model.specs.declared.Feed.TheVariants.{Net}
-use Rattle.netlist_model.specs.Lists.{NetlistView}
 use Rattle.netlist_arena.specs.Moves.{connected}
 use Rattle.status_formed.proofs.status_parts.Added.{shown_below}
-use Rattle.status_built.specs.Laws.{shown_at}
 use Rattle.status_built.proofs.Built.{operand_stays, built_on}
 use Rattle.status_built.proofs.build.build_registers.Goals as goal
 

@@ -1,4 +1,4 @@
-use Rattle.std.proofs.Common.{◌≡◌, ℕ, length, Option, Some, IfOk, List, ap, sym, ◌∙◌}
+use Rattle.std.proofs.Common.{◌≡◌, ℕ, length, Option, List, ap, sym, ◌∙◌}
 use Rattle.signal_values.specs.declared.Sig.{Sig}
 use Rattle.test_logic.specs.Machine.{code_bits}
 use Rattle.tap_machine.proofs.Bits.{bits_of_long, if_ok}

@@ -1,4 +1,4 @@
-use Rattle.std.proofs.Common.{◌≡◌, ◌<◌, ◌≤◌, ◌*◌, ◌∙◌, ℕ, true, false, Some, sym, ap, length, List, arith}
+use Rattle.std.proofs.Common.{◌≡◌, ◌<◌, ◌≤◌, ◌*◌, ◌∙◌, ℕ, true, false, Some, ap, length, List, arith}
 use Rattle.std.specs.Prelude.{slice_get}
 use Rattle.netlist_model.specs.declared.CellId.{CellId}
 use Rattle.netlist_arena.specs.Arena.{ArenaView}

@@ -1,4 +1,4 @@
-use Rattle.std.proofs.Common.{◌≡◌, ◌≤◌, ◌*◌, ◌∙◌, ℕ, sym, ap, length, arith}
+use Rattle.std.proofs.Common.{◌≡◌, ◌≤◌, ◌*◌, ◌∙◌, ℕ, length, arith}
 use Rattle.list_laws.proofs.Lists.{front_of}
 use Rattle.netlist_model.specs.Runs.{Moment}
 use Rattle.netlist_settling.specs.Values.{value_at, pin_at}

@@ -1,8 +1,8 @@
-use Rattle.std.proofs.Common.{◌≡◌, [], ◌∷◌, ℕ, List, inl, inr, refl, sym, subst}
+use Rattle.std.proofs.Common.{◌≡◌, [], ◌∷◌, ℕ, List, inl, inr, sym, subst}
 use Rattle.list_laws.proofs.Options.{err_is}
 use Rattle.command_faults.specs.declared.status.Status.TheVariants as status
 use Rattle.command_faults.specs.Statuses.{status_of}
-use Rattle.flatten_command.specs.Tasks.{AreFlattened, AreFlattenable, HaveFault}
+use Rattle.flatten_command.specs.Tasks.{AreFlattenable, HaveFault}
 use Rattle.flatten_command.proofs.Complete.{Laws, all_memory}
 use Rattle.flatten_command.proofs.command.FlattenTextCommand.make.Goals as goal
 

@@ -1,6 +1,4 @@
-use Rattle.std.proofs.Common.{take, ◌∙◌, ap}
-use Rattle.edge_io.specs.Shelf.{appended}
-use Rattle.gathered_puts.specs.Gathered.{HasGrown}
+use Rattle.std.proofs.Common.{take, ◌∙◌}
 use Rattle.gathered_puts.proofs.Fronts.{grown_more}
 use Rattle.gathered_puts.proofs.gathered.Gathered.hand_on.Goals as goal
 

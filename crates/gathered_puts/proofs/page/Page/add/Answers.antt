@@ -1,4 +1,4 @@
-use Rattle.std.proofs.Common.{◌≡◌, ℕ, ap, arith, length, drop, length-drop, sym, ◌∙◌}
+use Rattle.std.proofs.Common.{◌≡◌, ℕ, arith, length, drop, length-drop, ◌∙◌}
 use Rattle.std.specs.Prelude.{vec_len}
 use Rattle.gathered_puts.proofs.page.Page.add.Goals as goal
 

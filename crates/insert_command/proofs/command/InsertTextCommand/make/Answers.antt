@@ -1,7 +1,6 @@
-use Rattle.std.proofs.Common.{◌≡◌, ◌∷◌, ℕ, List, IfErr, IfOk, Result, Ok, Err, inl, inr, sym, subst}
+use Rattle.std.proofs.Common.{◌≡◌, ◌∷◌, ℕ, List, IfErr, IfOk, inl, inr, sym, subst}
 use Rattle.list_laws.proofs.Options.{err_is}
 use Rattle.command_edges.proofs.Results.{err_weaker}
-use Rattle.command_faults.specs.declared.fault.Fault.{Fault}
 use Rattle.command_faults.specs.declared.status.Status.TheVariants as status
 use Rattle.command_faults.specs.Statuses.{status_of}
 use Rattle.insert_command.specs.Faults.{StandsInInputs}

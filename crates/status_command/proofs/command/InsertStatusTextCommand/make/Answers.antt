@@ -1,7 +1,6 @@
-use Rattle.std.proofs.Common.{◌≡◌, ◌∷◌, ℕ, List, IfErr, IfOk, Result, Ok, Err, inl, inr, sym, subst}
+use Rattle.std.proofs.Common.{◌≡◌, ◌∷◌, ℕ, List, IfErr, IfOk, inl, inr, sym, subst}
 use Rattle.list_laws.proofs.Options.{err_is}
 use Rattle.insert_command.proofs.command_edges.Results.{err_weaker}
-use Rattle.insert_command.specs.command_faults.declared.fault.Fault.{Fault}
 use Rattle.insert_command.specs.command_faults.declared.status.Status.TheVariants as status
 use Rattle.insert_command.specs.command_faults.Statuses.{status_of}
 use Rattle.status_command.specs.Faults.{StandsInInputs}
