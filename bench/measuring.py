@@ -7,7 +7,7 @@ RUNS = 5
 
 with open(os.path.join(TOP, "lavkhind")) as script:
     # The tunables of the C library with which the script runs the program.
-    TUNABLES = re.search(r'GLIBC_TUNABLES="([^$]*)\$', script.read()).group(1)
+    TUNABLES = re.search(r'GLIBC_TUNABLES="([^$]*)\$', script.read()).group(1).replace("\\\n", "")
 # Programs run in the C locale, and with the memory that the script asks for.
 AROUND = {**os.environ, "LC_ALL": "C", "GLIBC_TUNABLES": TUNABLES}
 # The pins of the pseudo-random netlists, with their cells.
