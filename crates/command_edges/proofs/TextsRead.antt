@@ -55,3 +55,20 @@ read_next held before names texts new i name text read at same is short grown =
     let more : AreRead held (take i names ++ name ∷ []) (texts ++ text ∷ []) =
     read_more held (take i names) texts name text read (subst (λ (o : Option (List ℕ)). WhereTold o (λ bytes. text ≡ bytes)) (same name) is) short in
     subst (AreRead held (take (i + 1) names)) (sym grown) (subst (λ (front : List (List ℕ)). AreRead held front (texts ++ text ∷ [])) (taken_more names i name (take i names) (take i names ++ name ∷ []) at refl refl) more)
+
+-- a fault in reading stands as well where more names follow
+pub stands_before : (names more : List (List ℕ)) (shelf : ShelfSeen) (f : Fault) → StandsInReadings names shelf f → StandsInReadings (names ++ more) shelf f
+stands_before [] more shelf f stands = absurd stands
+stands_before (n ∷ ns) more shelf f (inl stands) = inl stands
+stands_before (n ∷ ns) more shelf f (inr (short, stands)) = inr (short, stands_before ns more shelf f stands)
+
+-- reading stops at the last name
+pub stops_last : (shelf : ShelfSeen) (f : Fault) (names texts : List (List ℕ)) (name : List ℕ) → AreRead shelf.held names texts → StandsInReading name shelf f → StandsInReadings (names ++ name ∷ []) shelf f
+stops_last shelf f [] texts name read stands = inl stands
+stops_last shelf f (n ∷ ns) [] name read stands = absurd read
+stops_last shelf f (n ∷ ns) (t ∷ ts) name read stands = inr (short_told (shelf.held n) t read.0.0 read.0.1, stops_last shelf f ns ts name read.1 stands)
+
+-- one text more is read, after the others
+pub read_last : (held before : List ℕ → Option (List ℕ)) (names texts new : List (List ℕ)) (name text : List ℕ) → AreRead held names texts → SameTold held before → WhereTold (before name) (λ bytes. text ≡ bytes) → IsShort text → new ≡ texts ++ text ∷ [] → AreRead held (names ++ name ∷ []) new
+read_last held before names texts new name text read same is short grown =
+    subst (AreRead held (names ++ name ∷ [])) (sym grown) (read_more held names texts name text read (subst (λ (o : Option (List ℕ)). WhereTold o (λ bytes. text ≡ bytes)) (same name) is) short)

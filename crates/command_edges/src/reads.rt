@@ -1,7 +1,8 @@
-ghost use Rattle.std.specs.Prelude.{◌≡◌, IfErr, IfOk};
+ghost use Rattle.std.specs.Prelude.{◌≡◌, ◌++◌, IfErr, IfOk};
 ghost use Rattle.edge_io.specs.Shelf.{NoneFell, SameTold, WhereTold};
 ghost use Rattle.command_edges.specs.Lengths.{IsShort};
 ghost use Rattle.command_edges.specs.EdgeFaults.{StandsInReading};
+ghost use Rattle.command_edges.specs.Libraries.{name_of, names_if};
 ghost use Rattle.command_edges.specs.Names.{names_of};
 ghost use Rattle.command_edges.specs.Seen.{shelf_seen};
 ghost use Rattle.command_edges.specs.Texts.{AreRead, StandsInReadings};
@@ -55,5 +56,29 @@ pub fn read_all<'a, S: Shelf>(
         let text = read_text(alloc, shelf, *name)?;
         texts.push(text)?;
     }
+    Ok(texts)
+}
+
+/// Reads the texts under these names, and behind them that of a library, if there is one.
+pub fn read_with_library<'a, S: Shelf>(
+    alloc: Global,
+    shelf: &mut S,
+    names: &[&'a str],
+    library: Option<&'a str>,
+) -> Result<Row<Text>, Fault<'a>>
+    ensures read { IfOk result (AreRead (S.held shelf.old)
+        (names_of names.now ++ names_if (name_of library))) }
+    ensures fault { IfErr result (StandsInReadings (names_of names.now ++ names_if (name_of library))
+        (shelf_seen S.tells S.held S.written S.faults shelf.old shelf.new)) }
+    ensures held { SameTold (S.held shelf.old) (S.held shelf.new) }
+    ensures written { SameTold (S.written shelf.old) (S.written shelf.new) }
+    ensures later { NoneFell (S.faults shelf.old) (S.faults shelf.new) }
+{
+    let mut texts = read_all(alloc, shelf, names)?;
+    let Some(name) = library else {
+        return Ok(texts);
+    };
+    let text = read_text(alloc, shelf, name)?;
+    texts.push(text)?;
     Ok(texts)
 }

@@ -1,14 +1,15 @@
 // Running a command that makes texts of texts.
-ghost use Rattle.std.specs.Prelude.{◌≡◌, length, IfErr, IfOk, OnOk};
+ghost use Rattle.std.specs.Prelude.{◌≡◌, ◌++◌, length, IfErr, IfOk, OnOk};
 ghost use Rattle.command_faults.specs.Statuses.{status_of};
 ghost use Rattle.command_faults.specs.declared.status.Status.{Status};
 ghost use Rattle.command_edges.specs.Ends.{IsEnd};
+ghost use Rattle.command_edges.specs.Libraries.{name_of, names_if};
 ghost use Rattle.command_edges.specs.Names.{IsOneOf, StandOnce, names_of};
 ghost use Rattle.command_edges.specs.Seen.{shelf_seen, sink_seen};
 ghost use Rattle.command_edges.specs.Texts.{AreWritten};
 ghost use Rattle.command_edges.specs.Tasks.{Completes, Finishes, IsPut, Keeps, Stands, StandsInGiving, Task};
 
-use crate::reads::read_all;
+use crate::reads::read_with_library;
 use crate::writes::{put_text, write_all};
 use command_faults::{Fault, Status};
 use edge_io::shelf::Shelf;
@@ -88,18 +89,19 @@ fn give<'a, S: Shelf, O: Sink>(
     Ok(made.status)
 }
 
-/// Runs a command on its files, whose names are those of its task: reads the texts, makes what is to be written and
-/// put, writes it, and puts it, if it puts a text.
+/// Runs a command on its files, whose names are those of its task: reads the texts, the one of a library last, if there
+/// is one, makes what is to be written and put, writes it, and puts it, if it puts a text.
 pub fn run_task<'a, C: TextCommand, S: Shelf, O: Sink>(
     alloc: Global,
     shelf: &mut S,
     out: &mut O,
     command: C,
     reads: &[&'a str],
+    library: Option<&'a str>,
     writes: &[&'a str],
     puts: bool,
 ) -> Result<Status, Fault<'a>>
-    requires reads { names_of reads.now ≡ (C.task command).reads }
+    requires reads { names_of reads.now ++ names_if (name_of library) ≡ (C.task command).reads }
     requires writes { names_of writes.now ≡ (C.task command).writes }
     requires puts { puts ≡ (C.task command).puts }
     requires apart { StandOnce (names_of writes.now) }
@@ -119,7 +121,7 @@ pub fn run_task<'a, C: TextCommand, S: Shelf, O: Sink>(
         (shelf_seen S.tells S.held S.written S.faults shelf.old shelf.new)
         (sink_seen O.given O.faults out.old out.new) }
 {
-    let texts = read_all(alloc, shelf, reads)?;
+    let texts = read_with_library(alloc, shelf, reads, library)?;
     let made = made_of(alloc, command, texts)?;
     give(shelf, out, writes, puts, made)
 }

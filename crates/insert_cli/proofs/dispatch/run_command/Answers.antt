@@ -45,21 +45,21 @@ returns-in-StatusBsdl-clause-complete g c =
 
 pub returns-in-Flatten-clause-done : goal.returns-in-Flatten-clause-done
 returns-in-Flatten-clause-done g c =
-    let shelf : ShelfSeen = shelf_seen g.S.Shelf.tells g.S.Shelf.held g.S.Shelf.written g.S.Shelf.faults c.args.shelf.now c.run_flatten.new.shelf in
-    let sink : SinkSeen = sink_seen g.O.Sink.given g.O.Sink.faults c.args.out.now c.run_flatten.new.out in
-    subst (λ command. IfOk c.run_flatten.result (Finishes (task_of (form_of command)) shelf sink)) (sym c.in-Flatten.is) c.run_flatten.ensures.done
+    let shelf : ShelfSeen = shelf_seen g.S.Shelf.tells g.S.Shelf.held g.S.Shelf.written g.S.Shelf.faults c.args.shelf.now c.run_task-in-Flatten.new.shelf in
+    let sink : SinkSeen = sink_seen g.O.Sink.given g.O.Sink.faults c.args.out.now c.run_task-in-Flatten.new.out in
+    subst (λ command. IfOk c.run_task-in-Flatten.result (Finishes (task_of (form_of command)) shelf sink)) (sym c.in-Flatten.is) c.run_task-in-Flatten.ensures.done
 
 pub returns-in-Flatten-clause-fault : goal.returns-in-Flatten-clause-fault
 returns-in-Flatten-clause-fault g c =
-    let shelf : ShelfSeen = shelf_seen g.S.Shelf.tells g.S.Shelf.held g.S.Shelf.written g.S.Shelf.faults c.args.shelf.now c.run_flatten.new.shelf in
-    let sink : SinkSeen = sink_seen g.O.Sink.given g.O.Sink.faults c.args.out.now c.run_flatten.new.out in
-    subst (λ command. IfErr c.run_flatten.result (λ fault. Stands (task_of (form_of command)) shelf sink fault sink.given_after)) (sym c.in-Flatten.is) c.run_flatten.ensures.fault
+    let shelf : ShelfSeen = shelf_seen g.S.Shelf.tells g.S.Shelf.held g.S.Shelf.written g.S.Shelf.faults c.args.shelf.now c.run_task-in-Flatten.new.shelf in
+    let sink : SinkSeen = sink_seen g.O.Sink.given g.O.Sink.faults c.args.out.now c.run_task-in-Flatten.new.out in
+    subst (λ command. IfErr c.run_task-in-Flatten.result (λ fault. Stands (task_of (form_of command)) shelf sink fault sink.given_after)) (sym c.in-Flatten.is) c.run_task-in-Flatten.ensures.fault
 
 pub returns-in-Flatten-clause-complete : goal.returns-in-Flatten-clause-complete
 returns-in-Flatten-clause-complete g c =
-    let shelf : ShelfSeen = shelf_seen g.S.Shelf.tells g.S.Shelf.held g.S.Shelf.written g.S.Shelf.faults c.args.shelf.now c.run_flatten.new.shelf in
-    let sink : SinkSeen = sink_seen g.O.Sink.given g.O.Sink.faults c.args.out.now c.run_flatten.new.out in
-    subst (λ command. IfErr c.run_flatten.result (λ fault. Completes (task_of (form_of command)) shelf sink (status_of fault))) (sym c.in-Flatten.is) c.run_flatten.ensures.complete
+    let shelf : ShelfSeen = shelf_seen g.S.Shelf.tells g.S.Shelf.held g.S.Shelf.written g.S.Shelf.faults c.args.shelf.now c.run_task-in-Flatten.new.shelf in
+    let sink : SinkSeen = sink_seen g.O.Sink.given g.O.Sink.faults c.args.out.now c.run_task-in-Flatten.new.out in
+    subst (λ command. IfErr c.run_task-in-Flatten.result (λ fault. Completes (task_of (form_of command)) shelf sink (status_of fault))) (sym c.in-Flatten.is) c.run_task-in-Flatten.ensures.complete
 
 pub returns-in-Sim-clause-done : goal.returns-in-Sim-clause-done
 returns-in-Sim-clause-done g c =
@@ -81,57 +81,57 @@ returns-in-Sim-clause-complete g c =
 
 pub returns-in-Insert-clause-done : goal.returns-in-Insert-clause-done
 returns-in-Insert-clause-done g c =
-    let shelf : ShelfSeen = shelf_seen g.S.Shelf.tells g.S.Shelf.held g.S.Shelf.written g.S.Shelf.faults c.args.shelf.now c.run_insert.new.shelf in
-    let sink : SinkSeen = sink_seen g.O.Sink.given g.O.Sink.faults c.args.out.now c.run_insert.new.out in
-    subst (λ command. IfOk c.run_insert.result (Finishes (task_of (form_of command)) shelf sink)) (sym c.in-Insert.is) c.run_insert.ensures.done
+    let shelf : ShelfSeen = shelf_seen g.S.Shelf.tells g.S.Shelf.held g.S.Shelf.written g.S.Shelf.faults c.args.shelf.now c.run_task-in-Insert.new.shelf in
+    let sink : SinkSeen = sink_seen g.O.Sink.given g.O.Sink.faults c.args.out.now c.run_task-in-Insert.new.out in
+    subst (λ command. IfOk c.run_task-in-Insert.result (Finishes (task_of (form_of command)) shelf sink)) (sym c.in-Insert.is) c.run_task-in-Insert.ensures.done
 
 pub returns-in-Insert-clause-fault : goal.returns-in-Insert-clause-fault
 returns-in-Insert-clause-fault g c =
-    let shelf : ShelfSeen = shelf_seen g.S.Shelf.tells g.S.Shelf.held g.S.Shelf.written g.S.Shelf.faults c.args.shelf.now c.run_insert.new.shelf in
-    let sink : SinkSeen = sink_seen g.O.Sink.given g.O.Sink.faults c.args.out.now c.run_insert.new.out in
-    subst (λ command. IfErr c.run_insert.result (λ fault. Stands (task_of (form_of command)) shelf sink fault sink.given_after)) (sym c.in-Insert.is) c.run_insert.ensures.fault
+    let shelf : ShelfSeen = shelf_seen g.S.Shelf.tells g.S.Shelf.held g.S.Shelf.written g.S.Shelf.faults c.args.shelf.now c.run_task-in-Insert.new.shelf in
+    let sink : SinkSeen = sink_seen g.O.Sink.given g.O.Sink.faults c.args.out.now c.run_task-in-Insert.new.out in
+    subst (λ command. IfErr c.run_task-in-Insert.result (λ fault. Stands (task_of (form_of command)) shelf sink fault sink.given_after)) (sym c.in-Insert.is) c.run_task-in-Insert.ensures.fault
 
 pub returns-in-Insert-clause-complete : goal.returns-in-Insert-clause-complete
 returns-in-Insert-clause-complete g c =
-    let shelf : ShelfSeen = shelf_seen g.S.Shelf.tells g.S.Shelf.held g.S.Shelf.written g.S.Shelf.faults c.args.shelf.now c.run_insert.new.shelf in
-    let sink : SinkSeen = sink_seen g.O.Sink.given g.O.Sink.faults c.args.out.now c.run_insert.new.out in
-    subst (λ command. IfErr c.run_insert.result (λ fault. Completes (task_of (form_of command)) shelf sink (status_of fault))) (sym c.in-Insert.is) c.run_insert.ensures.complete
+    let shelf : ShelfSeen = shelf_seen g.S.Shelf.tells g.S.Shelf.held g.S.Shelf.written g.S.Shelf.faults c.args.shelf.now c.run_task-in-Insert.new.shelf in
+    let sink : SinkSeen = sink_seen g.O.Sink.given g.O.Sink.faults c.args.out.now c.run_task-in-Insert.new.out in
+    subst (λ command. IfErr c.run_task-in-Insert.result (λ fault. Completes (task_of (form_of command)) shelf sink (status_of fault))) (sym c.in-Insert.is) c.run_task-in-Insert.ensures.complete
 
 pub returns-in-InsertStatus-clause-done : goal.returns-in-InsertStatus-clause-done
 returns-in-InsertStatus-clause-done g c =
-    let shelf : ShelfSeen = shelf_seen g.S.Shelf.tells g.S.Shelf.held g.S.Shelf.written g.S.Shelf.faults c.args.shelf.now c.run_status.new.shelf in
-    let sink : SinkSeen = sink_seen g.O.Sink.given g.O.Sink.faults c.args.out.now c.run_status.new.out in
-    subst (λ command. IfOk c.run_status.result (Finishes (task_of (form_of command)) shelf sink)) (sym c.in-InsertStatus.is) c.run_status.ensures.done
+    let shelf : ShelfSeen = shelf_seen g.S.Shelf.tells g.S.Shelf.held g.S.Shelf.written g.S.Shelf.faults c.args.shelf.now c.run_task-in-InsertStatus.new.shelf in
+    let sink : SinkSeen = sink_seen g.O.Sink.given g.O.Sink.faults c.args.out.now c.run_task-in-InsertStatus.new.out in
+    subst (λ command. IfOk c.run_task-in-InsertStatus.result (Finishes (task_of (form_of command)) shelf sink)) (sym c.in-InsertStatus.is) c.run_task-in-InsertStatus.ensures.done
 
 pub returns-in-InsertStatus-clause-fault : goal.returns-in-InsertStatus-clause-fault
 returns-in-InsertStatus-clause-fault g c =
-    let shelf : ShelfSeen = shelf_seen g.S.Shelf.tells g.S.Shelf.held g.S.Shelf.written g.S.Shelf.faults c.args.shelf.now c.run_status.new.shelf in
-    let sink : SinkSeen = sink_seen g.O.Sink.given g.O.Sink.faults c.args.out.now c.run_status.new.out in
-    subst (λ command. IfErr c.run_status.result (λ fault. Stands (task_of (form_of command)) shelf sink fault sink.given_after)) (sym c.in-InsertStatus.is) c.run_status.ensures.fault
+    let shelf : ShelfSeen = shelf_seen g.S.Shelf.tells g.S.Shelf.held g.S.Shelf.written g.S.Shelf.faults c.args.shelf.now c.run_task-in-InsertStatus.new.shelf in
+    let sink : SinkSeen = sink_seen g.O.Sink.given g.O.Sink.faults c.args.out.now c.run_task-in-InsertStatus.new.out in
+    subst (λ command. IfErr c.run_task-in-InsertStatus.result (λ fault. Stands (task_of (form_of command)) shelf sink fault sink.given_after)) (sym c.in-InsertStatus.is) c.run_task-in-InsertStatus.ensures.fault
 
 pub returns-in-InsertStatus-clause-complete : goal.returns-in-InsertStatus-clause-complete
 returns-in-InsertStatus-clause-complete g c =
-    let shelf : ShelfSeen = shelf_seen g.S.Shelf.tells g.S.Shelf.held g.S.Shelf.written g.S.Shelf.faults c.args.shelf.now c.run_status.new.shelf in
-    let sink : SinkSeen = sink_seen g.O.Sink.given g.O.Sink.faults c.args.out.now c.run_status.new.out in
-    subst (λ command. IfErr c.run_status.result (λ fault. Completes (task_of (form_of command)) shelf sink (status_of fault))) (sym c.in-InsertStatus.is) c.run_status.ensures.complete
+    let shelf : ShelfSeen = shelf_seen g.S.Shelf.tells g.S.Shelf.held g.S.Shelf.written g.S.Shelf.faults c.args.shelf.now c.run_task-in-InsertStatus.new.shelf in
+    let sink : SinkSeen = sink_seen g.O.Sink.given g.O.Sink.faults c.args.out.now c.run_task-in-InsertStatus.new.out in
+    subst (λ command. IfErr c.run_task-in-InsertStatus.result (λ fault. Completes (task_of (form_of command)) shelf sink (status_of fault))) (sym c.in-InsertStatus.is) c.run_task-in-InsertStatus.ensures.complete
 
 pub returns-in-Strip-clause-done : goal.returns-in-Strip-clause-done
 returns-in-Strip-clause-done g c =
-    let shelf : ShelfSeen = shelf_seen g.S.Shelf.tells g.S.Shelf.held g.S.Shelf.written g.S.Shelf.faults c.args.shelf.now c.run_strip.new.shelf in
-    let sink : SinkSeen = sink_seen g.O.Sink.given g.O.Sink.faults c.args.out.now c.run_strip.new.out in
-    subst (λ command. IfOk c.run_strip.result (Finishes (task_of (form_of command)) shelf sink)) (sym c.in-Strip.is) c.run_strip.ensures.done
+    let shelf : ShelfSeen = shelf_seen g.S.Shelf.tells g.S.Shelf.held g.S.Shelf.written g.S.Shelf.faults c.args.shelf.now c.run_task-in-Strip.new.shelf in
+    let sink : SinkSeen = sink_seen g.O.Sink.given g.O.Sink.faults c.args.out.now c.run_task-in-Strip.new.out in
+    subst (λ command. IfOk c.run_task-in-Strip.result (Finishes (task_of (form_of command)) shelf sink)) (sym c.in-Strip.is) c.run_task-in-Strip.ensures.done
 
 pub returns-in-Strip-clause-fault : goal.returns-in-Strip-clause-fault
 returns-in-Strip-clause-fault g c =
-    let shelf : ShelfSeen = shelf_seen g.S.Shelf.tells g.S.Shelf.held g.S.Shelf.written g.S.Shelf.faults c.args.shelf.now c.run_strip.new.shelf in
-    let sink : SinkSeen = sink_seen g.O.Sink.given g.O.Sink.faults c.args.out.now c.run_strip.new.out in
-    subst (λ command. IfErr c.run_strip.result (λ fault. Stands (task_of (form_of command)) shelf sink fault sink.given_after)) (sym c.in-Strip.is) c.run_strip.ensures.fault
+    let shelf : ShelfSeen = shelf_seen g.S.Shelf.tells g.S.Shelf.held g.S.Shelf.written g.S.Shelf.faults c.args.shelf.now c.run_task-in-Strip.new.shelf in
+    let sink : SinkSeen = sink_seen g.O.Sink.given g.O.Sink.faults c.args.out.now c.run_task-in-Strip.new.out in
+    subst (λ command. IfErr c.run_task-in-Strip.result (λ fault. Stands (task_of (form_of command)) shelf sink fault sink.given_after)) (sym c.in-Strip.is) c.run_task-in-Strip.ensures.fault
 
 pub returns-in-Strip-clause-complete : goal.returns-in-Strip-clause-complete
 returns-in-Strip-clause-complete g c =
-    let shelf : ShelfSeen = shelf_seen g.S.Shelf.tells g.S.Shelf.held g.S.Shelf.written g.S.Shelf.faults c.args.shelf.now c.run_strip.new.shelf in
-    let sink : SinkSeen = sink_seen g.O.Sink.given g.O.Sink.faults c.args.out.now c.run_strip.new.out in
-    subst (λ command. IfErr c.run_strip.result (λ fault. Completes (task_of (form_of command)) shelf sink (status_of fault))) (sym c.in-Strip.is) c.run_strip.ensures.complete
+    let shelf : ShelfSeen = shelf_seen g.S.Shelf.tells g.S.Shelf.held g.S.Shelf.written g.S.Shelf.faults c.args.shelf.now c.run_task-in-Strip.new.shelf in
+    let sink : SinkSeen = sink_seen g.O.Sink.given g.O.Sink.faults c.args.out.now c.run_task-in-Strip.new.out in
+    subst (λ command. IfErr c.run_task-in-Strip.result (λ fault. Completes (task_of (form_of command)) shelf sink (status_of fault))) (sym c.in-Strip.is) c.run_task-in-Strip.ensures.complete
 
 pub returns-in-Vectors-clause-done : goal.returns-in-Vectors-clause-done
 returns-in-Vectors-clause-done g c =
@@ -153,21 +153,21 @@ returns-in-Vectors-clause-complete g c =
 
 pub returns-in-Check-clause-done : goal.returns-in-Check-clause-done
 returns-in-Check-clause-done g c =
-    let shelf : ShelfSeen = shelf_seen g.S.Shelf.tells g.S.Shelf.held g.S.Shelf.written g.S.Shelf.faults c.args.shelf.now c.run_check.new.shelf in
-    let sink : SinkSeen = sink_seen g.O.Sink.given g.O.Sink.faults c.args.out.now c.run_check.new.out in
-    subst (λ command. IfOk c.run_check.result (Finishes (task_of (form_of command)) shelf sink)) (sym c.in-Check.is) c.run_check.ensures.done
+    let shelf : ShelfSeen = shelf_seen g.S.Shelf.tells g.S.Shelf.held g.S.Shelf.written g.S.Shelf.faults c.args.shelf.now c.run_task-in-Check.new.shelf in
+    let sink : SinkSeen = sink_seen g.O.Sink.given g.O.Sink.faults c.args.out.now c.run_task-in-Check.new.out in
+    subst (λ command. IfOk c.run_task-in-Check.result (Finishes (task_of (form_of command)) shelf sink)) (sym c.in-Check.is) c.run_task-in-Check.ensures.done
 
 pub returns-in-Check-clause-fault : goal.returns-in-Check-clause-fault
 returns-in-Check-clause-fault g c =
-    let shelf : ShelfSeen = shelf_seen g.S.Shelf.tells g.S.Shelf.held g.S.Shelf.written g.S.Shelf.faults c.args.shelf.now c.run_check.new.shelf in
-    let sink : SinkSeen = sink_seen g.O.Sink.given g.O.Sink.faults c.args.out.now c.run_check.new.out in
-    subst (λ command. IfErr c.run_check.result (λ fault. Stands (task_of (form_of command)) shelf sink fault sink.given_after)) (sym c.in-Check.is) c.run_check.ensures.fault
+    let shelf : ShelfSeen = shelf_seen g.S.Shelf.tells g.S.Shelf.held g.S.Shelf.written g.S.Shelf.faults c.args.shelf.now c.run_task-in-Check.new.shelf in
+    let sink : SinkSeen = sink_seen g.O.Sink.given g.O.Sink.faults c.args.out.now c.run_task-in-Check.new.out in
+    subst (λ command. IfErr c.run_task-in-Check.result (λ fault. Stands (task_of (form_of command)) shelf sink fault sink.given_after)) (sym c.in-Check.is) c.run_task-in-Check.ensures.fault
 
 pub returns-in-Check-clause-complete : goal.returns-in-Check-clause-complete
 returns-in-Check-clause-complete g c =
-    let shelf : ShelfSeen = shelf_seen g.S.Shelf.tells g.S.Shelf.held g.S.Shelf.written g.S.Shelf.faults c.args.shelf.now c.run_check.new.shelf in
-    let sink : SinkSeen = sink_seen g.O.Sink.given g.O.Sink.faults c.args.out.now c.run_check.new.out in
-    subst (λ command. IfErr c.run_check.result (λ fault. Completes (task_of (form_of command)) shelf sink (status_of fault))) (sym c.in-Check.is) c.run_check.ensures.complete
+    let shelf : ShelfSeen = shelf_seen g.S.Shelf.tells g.S.Shelf.held g.S.Shelf.written g.S.Shelf.faults c.args.shelf.now c.run_task-in-Check.new.shelf in
+    let sink : SinkSeen = sink_seen g.O.Sink.given g.O.Sink.faults c.args.out.now c.run_task-in-Check.new.out in
+    subst (λ command. IfErr c.run_task-in-Check.result (λ fault. Completes (task_of (form_of command)) shelf sink (status_of fault))) (sym c.in-Check.is) c.run_task-in-Check.ensures.complete
 
 pub returns-in-Demo-clause-done : goal.returns-in-Demo-clause-done
 returns-in-Demo-clause-done g c =
