@@ -67,8 +67,8 @@ pub fn read_with_library<'a, S: Shelf>(
     library: Option<&'a str>,
 ) -> Result<Row<Text>, Fault<'a>>
     ensures read { IfOk result (AreRead (S.held shelf.old)
-        (names_of names.now ++ names_if (name_of library))) }
-    ensures fault { IfErr result (StandsInReadings (names_of names.now ++ names_if (name_of library))
+        (names_of names.now ++ names_if (name_of library.entry))) }
+    ensures fault { IfErr result (StandsInReadings (names_of names.now ++ names_if (name_of library.entry))
         (shelf_seen S.tells S.held S.written S.faults shelf.old shelf.new)) }
     ensures held { SameTold (S.held shelf.old) (S.held shelf.new) }
     ensures written { SameTold (S.written shelf.old) (S.written shelf.new) }
