@@ -15,6 +15,7 @@
 // By the contract of `same_name`, `lower`, `is_reserved`, `BsdlToken`, `BsdlSymbol`, `BsdlWords` and `BsdlReader`.
 #![tactic(auto)]
 
+pub mod lower_texts;
 pub mod name_key;
 pub mod names;
 pub mod reader;
@@ -28,6 +29,5 @@ pub use names::same_name;
 pub use reader::BsdlReader;
 pub use reserved::is_reserved;
 pub use symbol::BsdlSymbol;
-pub use texts as lower_texts;
 pub use token::{BsdlSpanned, BsdlToken};
 pub use words::BsdlWords;

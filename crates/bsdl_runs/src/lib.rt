@@ -8,10 +8,10 @@
 // By the contract of these calls.
 #![tactic(auto)]
 
+pub mod lower_bsdl_device;
 pub mod numbers;
 pub mod opcodes;
 pub mod runs;
 pub mod written;
 
-pub use bsdl_device as lower_bsdl_device;
 pub use bsdl_device::lower_cell_library;

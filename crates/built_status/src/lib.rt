@@ -10,13 +10,14 @@
 // By the contract of its law functions.
 #![tactic(auto)]
 
+pub mod lower_status_realised;
+
 ghost use Rattle.built_status.specs.Laws.{BuiltHasStatus, BuiltStatusRealises, BuiltStatusIsAlone};
 
 use control_ports::grown_has_controls;
 use gate_parts::contained_part_has_flops;
 use netlist_laws::{contained_parts, driven_net_follows_no_pin, driver_is_found};
 use status_cells::{registers_are_clocked, registers_drive_behind};
-pub use status_realised as lower_status_realised;
 use status_realised::lower_open_runs::{driven_wires_stay, pins_are_by_ports};
 use status_realised::lower_stitch_formed::{
     stitched_has_controls, stitched_has_pins, stitched_is_formed,

@@ -14,7 +14,7 @@
 mod check_text;
 mod legal;
 mod line_check;
+pub mod lower_conformance_report;
 mod tap;
 
-pub use conformance_report as lower_conformance_report;
 pub use line_check::{Checked, check_lines};

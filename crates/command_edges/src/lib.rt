@@ -18,11 +18,11 @@
 
 mod inputs;
 mod libraries;
+pub mod lower_command_faults;
 mod reads;
 mod tasks;
 mod writes;
 
-pub use command_faults as lower_command_faults;
 pub use inputs::{take_first, take_one, take_three, take_two};
 pub use libraries::library_of;
 pub use reads::{read_all, read_text};

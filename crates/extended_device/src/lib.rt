@@ -12,6 +12,5 @@
 mod fault;
 mod values;
 
-pub use bsdl_device as lower_bsdl_device;
 pub use fault::ExtendedFault;
 pub use values::{Extended, RegisterEntry, TestRegister};

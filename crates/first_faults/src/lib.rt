@@ -8,6 +8,7 @@
 // By the contract of `first_repeated` and `first_places`.
 #![tactic(auto)]
 
+pub mod lower_texts;
 mod places;
 
 ghost use Rattle.std.specs.Prelude.{◌≡◌, ◌++◌, ◌∷◌, [], IfOk, not, if◌then◌else◌};
@@ -16,7 +17,6 @@ ghost use Rattle.first_faults.specs.Repeated.{has_name, repeated, bytes_of, seen
 use indexmap::IndexSet;
 pub use places::first_places;
 use std::alloc::Global;
-pub use texts as lower_texts;
 use texts::OutOfMemory;
 
 // Notes a name, and says whether it is new.

@@ -32,15 +32,15 @@ ghost use Rattle.gate_parts.specs.Parts.{feed_of, gate_cell, part_cells, is_soun
 ghost use Rattle.gate_parts.specs.Appended.{Appended};
 
 mod laws;
+pub mod lower_netlist_arena;
+pub mod lower_netlist_laws;
 
 pub use laws::{
     appended_count, appended_grows, appended_is_there, appended_more, appended_none,
     contained_part_has_flops, contained_part_meets, flop_starts, flop_steps, free_net_stays,
     growth_keeps, levels_number, part_leaves_free_nets,
 };
-pub use netlist_arena as lower_netlist_arena;
 pub use netlist_arena::Netlist;
-pub use netlist_laws as lower_netlist_laws;
 use netlist_laws::lower_cell_library::Kind;
 use netlist_laws::lower_netlist_model::{Feed, Name, NetId};
 

@@ -9,10 +9,10 @@
 mod command;
 mod inserted_texts;
 mod laws;
+pub mod lower_command_edges;
+pub mod lower_command_faults;
 
 pub use command::Insert;
-pub use command_edges as lower_command_edges;
-pub use command_faults as lower_command_faults;
 pub use inserted_texts::{fault_of, written_and_put};
 pub use insertions::{InsertFault, Inserted, insert_texts};
 pub use laws::free_texts_want_memory;

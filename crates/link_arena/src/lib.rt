@@ -20,6 +20,8 @@ ghost use Rattle.link_drivers.specs.link_model.Faults.{text_fault, driver_fault,
 ghost use Rattle.link_drivers.specs.link_model.Denoted.{IsNamed, denoted};
 
 mod cells;
+pub mod lower_link_drivers;
+pub mod lower_netlist_arena;
 mod names;
 mod nets;
 mod ports;
@@ -30,12 +32,10 @@ use crate::names::names_of_module;
 use crate::nets::add_nets;
 use crate::ports::add_ports;
 use crate::room::netlist_with_room;
-pub use link_drivers as lower_link_drivers;
 use link_drivers::lower_link_model::{ItemCell, NetBit};
 use link_drivers::lower_verilog_tree::Module;
 use link_drivers::nets_have_their_drivers;
 use name_table::NameTable;
-pub use netlist_arena as lower_netlist_arena;
 use netlist_arena::Netlist;
 use netlist_arena::lower_cell_library::Library;
 use std::alloc::Global;

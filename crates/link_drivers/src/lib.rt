@@ -15,13 +15,13 @@ ghost use Rattle.link_model.specs.Fits.{CellsBelow};
 ghost use Rattle.link_model.specs.Faults.{driver_fault};
 
 mod laws;
+pub mod lower_link_model;
 mod rule;
 mod uses;
 
 use crate::rule::first_broken;
 use crate::uses::uses_of_nets;
 pub use laws::nets_have_their_drivers;
-pub use link_model as lower_link_model;
 pub use link_model::{lower_cell_library, lower_netlist_model, lower_verilog_tree};
 use link_model::{ItemCell, LinkFault, NetBit};
 use std::alloc::Global;

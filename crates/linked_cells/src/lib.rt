@@ -14,16 +14,16 @@ ghost use Rattle.linked_cells.specs.Links.{LinksVisitOnce};
 mod copies;
 mod link;
 mod links;
+pub mod lower_netlist_model;
+pub mod lower_numbered_places;
 mod slots;
 
 pub use copies::{copied_cells, copied_nets};
 pub use link::Link;
 pub use links::{clear_all, connect, give_all, move_all};
-pub use netlist_model as lower_netlist_model;
 use netlist_model::lower_cell_library::Kind;
 pub use netlist_model::{lower_cell_library, lower_texts};
 use netlist_model::{CellId, Feed, Name, NetId};
-pub use numbered_places as lower_numbered_places;
 use numbered_places::Places;
 pub use slots::{driver, first, set_driver, slot_of};
 use smallvec::SmallVec;

@@ -21,6 +21,7 @@
 mod cells;
 mod kinds;
 mod links;
+pub mod lower_netlist_link;
 mod names;
 mod parts;
 mod ports;
@@ -29,6 +30,5 @@ mod rows;
 mod tree;
 mod wires;
 
-pub use netlist_link as lower_netlist_link;
 pub use prefix::is_free_prefix;
 pub use tree::{items_keep_their_cells, unlink, unlink_undoes_link};

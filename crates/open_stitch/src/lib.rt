@@ -15,6 +15,8 @@
 
 ghost use Rattle.open_stitch.specs.Laws.{FittingPlansAreOpen};
 
+pub mod lower_open_runs;
+pub mod lower_scan_stitch;
 mod netlists;
 mod whole;
 
@@ -23,10 +25,8 @@ use gate_parts::{Gate, Pin, Pins, contained_part_meets};
 use netlist_laws::{bit_of_a_direction, found_driver_drives, moments_of_a_run};
 use netlist_model::{CellId, NetId};
 pub use netlists::open_netlist;
-pub use open_runs as lower_open_runs;
 pub use open_runs::{lower_plan_devices, lower_stitch_inside, lower_stitch_laws};
 use open_runs::{driven_wires_stay, open_netlists_follow, pins_are_by_ports};
-pub use scan_stitch as lower_scan_stitch;
 use scan_stitch::lower_stitch_cells::stitched_directions;
 use scan_stitch::lower_stitch_formed::stitched_has_pins;
 use scan_stitch::lower_stitch_rows::{nets_have_rows, rows_stand_once, rows_stand_somewhere};

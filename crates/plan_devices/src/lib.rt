@@ -20,10 +20,10 @@
 #![tactic(auto)]
 
 mod laws;
+pub mod lower_plan_fitting;
 
 pub use laws::{
     bits_have_rows, controls_follow_their_rows, controls_take_the_core, devices_have_ports,
     fitted_is_fitting, plans_make_devices, plans_suit_netlists, prefixes_are_free,
     rows_stand_at_bits, rows_take_the_core, tap_names_are_new,
 };
-pub use plan_fitting as lower_plan_fitting;

@@ -15,12 +15,13 @@
 // By the contract of its law functions.
 #![tactic(auto)]
 
+pub mod lower_program_runs;
+
 ghost use Rattle.program_scripts.specs.Words.{WordsNameBits};
 ghost use Rattle.program_scripts.specs.Laws.{ProgramsAreLegal, ScriptsRunThere, ScriptsAreMet};
 ghost use Rattle.program_scripts.specs.Levels.{ProgramsKeepLevels};
 
 use netlist_laws::direction_of_a_bit;
-pub use program_runs as lower_program_runs;
 use program_runs::{netlist_meets_program, program_names_pins};
 
 /// What the word of a bit names is that bit alone.

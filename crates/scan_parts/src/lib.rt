@@ -10,6 +10,7 @@
 #![tactic(auto)]
 
 mod logic;
+pub mod lower_scan_sides;
 mod port;
 mod rows;
 mod whole;
@@ -17,6 +18,5 @@ mod whole;
 pub use logic::add_logic;
 pub use port::{add_port_nets, add_ports, add_sides};
 pub use rows::add_rows;
-pub use scan_sides as lower_scan_sides;
 pub use scan_sides::lower_stitch_model;
 pub use whole::add_test_logic;

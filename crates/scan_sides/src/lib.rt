@@ -7,10 +7,10 @@
 // By the contract of these calls.
 #![tactic(auto)]
 
+pub mod lower_stitch_model;
 mod sides;
 
 pub use sides::{
     core_feed, core_side, is_moved, level_net, row_net, side_count, sides_of, site_of,
 };
-pub use stitch_model as lower_stitch_model;
 pub use stitch_model::lower_plan_fitting;

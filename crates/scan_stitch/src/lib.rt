@@ -21,6 +21,8 @@
 
 mod device;
 mod laws;
+pub mod lower_stitch_names;
+pub mod lower_stitch_ready;
 mod names;
 mod needed_room;
 mod parts;
@@ -31,9 +33,7 @@ pub use laws::{fitted_bits_are_there, fitted_can_be_stitched};
 pub use names::tap_names;
 pub use needed_room::{prepare, room};
 pub use parts::{Built, stitch_netlist};
-pub use stitch_names as lower_stitch_names;
 pub use stitch_names::lower_stitch_cells;
-pub use stitch_ready as lower_stitch_ready;
 pub use stitch_ready::lower_plan_devices;
 pub use stitch_runs::{lower_stitch_formed, lower_stitch_rows};
 pub use whole::stitch;

@@ -12,11 +12,11 @@
 ghost use Rattle.status_built.specs.Laws.{StatusIsFormed, StatusIsNamed};
 
 mod build;
+pub mod lower_status_formed;
 
 pub use build::build_registers;
 use draft_laws::{appended_is_named, input_is_pure};
 use gate_parts::{appended_count, appended_grows, appended_is_there};
-pub use status_formed as lower_status_formed;
 pub use status_formed::lower_status_parts;
 use status_formed::{registers_are_formed, registers_are_named};
 use status_order::shown_is_formed;

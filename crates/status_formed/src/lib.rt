@@ -8,11 +8,12 @@
 // By the contract of its law functions.
 #![tactic(auto)]
 
+pub mod lower_status_parts;
+
 ghost use Rattle.status_formed.specs.Laws.{RegistersAreFormed, RegistersAreNamed};
 
 use draft_laws::{part_is_named, parts_are_formed};
 use register_gates::constants_are_bits;
-pub use status_parts as lower_status_parts;
 pub use status_parts::lower_status_gates;
 
 /// A netlist to which registers are appended stays well formed.

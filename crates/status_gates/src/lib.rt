@@ -12,6 +12,7 @@
 #![tactic(auto)]
 
 mod inverses;
+pub mod lower_register_gates;
 mod opcodes;
 mod shown;
 mod wires;
@@ -24,7 +25,6 @@ use gate_parts::{Gate, Pin, Pins, contained_part_meets};
 pub use inverses::add_inverses;
 use netlist_laws::contained_parts;
 pub use opcodes::add_opcode;
-pub use register_gates as lower_register_gates;
 pub use shown::add_shown;
 pub use wires::add_wires;
 

@@ -11,16 +11,16 @@
 
 ghost use Rattle.status_parts.specs.Laws.{RegistersTell};
 
+pub mod lower_status_gates;
+pub mod lower_status_runs;
 mod register;
 mod registers;
 
 use netlist_laws::contained_parts;
 use netlist_model::NetId;
 pub use registers::add_registers;
-pub use status_gates as lower_status_gates;
 use status_gates::lower_register_gates::constants_are_bits;
 use status_gates::{opcodes_tell, shown_tells};
-pub use status_runs as lower_status_runs;
 pub use status_runs::lower_surrounded_core;
 use test_logic::TapNets;
 

@@ -8,11 +8,12 @@
 // By the contract of its law functions.
 #![tactic(auto)]
 
+pub mod lower_stitch_laws;
+
 ghost use Rattle.status_places.specs.Laws.{SharedNetsStand, WiresStand};
 
 use netlist_laws::contained_parts;
 use register_gates::constants_are_bits;
-pub use stitch_laws as lower_stitch_laws;
 
 /// What the registers share is there.
 pub fn shared_nets_stand()

@@ -18,9 +18,9 @@
 
 mod device;
 mod laws;
+pub mod lower_built_status;
 mod whole;
 
-pub use built_status as lower_built_status;
 pub use device::extended_of;
 pub use extended_device::{Extended, TestRegister};
 pub use laws::registers_make_devices;

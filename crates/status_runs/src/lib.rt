@@ -4,12 +4,12 @@
 // IEEE Std 1149.1-2001: test data registers (design-specific); the laws are own.
 #![tactic(auto)]
 
+pub mod lower_surrounded_core;
+
 ghost use Rattle.status_runs.specs.Laws.{WiresCarry, RegistersFollow, ExtendedTdoFollows};
 
 use netlist_laws::moments_of_a_run;
-pub use register_gates as lower_register_gates;
 use register_gates::data_registers_follow;
-pub use surrounded_core as lower_surrounded_core;
 use surrounded_core::surrounded_core_follows;
 
 /// A captured wire carries the core's value.

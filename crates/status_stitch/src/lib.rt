@@ -7,12 +7,12 @@
 // By the contract of `status_netlist` and `stitch_status`.
 #![tactic(auto)]
 
+pub mod lower_status_ready;
+pub mod lower_status_room;
 mod parts;
 mod whole;
 
 pub use open_stitch::lower_scan_stitch;
 pub use parts::status_netlist;
 pub use status_built::lower_status_formed;
-pub use status_ready as lower_status_ready;
-pub use status_room as lower_status_room;
 pub use whole::stitch_status;

@@ -14,12 +14,13 @@
 // By the contract of its law functions.
 #![tactic(auto)]
 
+pub mod lower_part_levels;
+pub mod lower_stitch_laws;
+
 ghost use Rattle.stitch_cells.specs.Sizes.{StitchedHasCounts};
 ghost use Rattle.stitch_cells.specs.Directions.{StitchedDirections};
 
 use netlist_laws::bit_of_a_direction;
-pub use part_levels as lower_part_levels;
-pub use stitch_laws as lower_stitch_laws;
 
 /// There are no gaps, and so many cells and nets.
 pub fn stitched_has_counts()

@@ -11,12 +11,13 @@
 // By the contract of its law functions.
 #![tactic(auto)]
 
+pub mod lower_stitch_rows;
+
 ghost use Rattle.stitch_formed.specs.Laws.{StitchedHasDrivers, StitchedIsFormed, StitchedLogicIsAdded};
 
 use netlist_laws::{bit_of_a_direction, numbers_of_a_dense_netlist};
 use stitch_ranks::{stitched_has_cones, stitched_is_ordered};
 pub use stitch_ranks::{stitched_has_controls, stitched_has_pins};
-pub use stitch_rows as lower_stitch_rows;
 use stitch_rows::{nets_have_rows, rows_stand_once, rows_stand_somewhere};
 
 /// Its ports, drivers and readers are those of a well-formed netlist.

@@ -14,12 +14,13 @@
 
 ghost use Rattle.stitch_inside.specs.Laws.{BuiltInNests, BuiltInSurrounds, StitchedNests, StitchedSurrounds};
 
+pub mod lower_plan_devices;
+pub mod lower_stitch_laws;
 pub mod lower_surrounded_core;
 
 use netlist_laws::{
     bit_of_a_direction, contained_parts, direction_of_a_bit, driver_is_found, found_driver_drives,
 };
-pub use plan_devices as lower_plan_devices;
 use plan_devices::lower_plan_fitting::{
     codes_are_the_devices, control_cells_are_there, opcodes_keep_the_rules,
 };
@@ -27,7 +28,6 @@ use plan_devices::{
     bits_have_rows, controls_follow_their_rows, controls_take_the_core, plans_suit_netlists,
     rows_stand_at_bits, rows_take_the_core,
 };
-pub use stitch_laws as lower_stitch_laws;
 pub use stitch_laws::lower_stitch_model;
 use stitch_laws::stitched_is_built_in;
 use surrounded_core::lower_instruction_register::registers_fit;

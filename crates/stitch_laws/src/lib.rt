@@ -18,6 +18,8 @@
 // By the contract of its law functions.
 #![tactic(auto)]
 
+pub mod lower_stitch_model;
+
 ghost use Rattle.stitch_laws.specs.Laws.{
   ExtensionIsBuiltIn,
   StitchedExtends,
@@ -28,7 +30,6 @@ ghost use Rattle.stitch_laws.specs.Laws.{
 };
 
 use netlist_laws::contained_parts;
-pub use stitch_model as lower_stitch_model;
 
 /// The ports are there, and each cell of the core under its number, with its kind and its name.
 pub fn stitched_keeps()

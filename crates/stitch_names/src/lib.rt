@@ -12,14 +12,15 @@
 // By the contract of its law functions.
 #![tactic(auto)]
 
+pub mod lower_plan_devices;
+pub mod lower_stitch_cells;
+
 ghost use Rattle.stitch_names.specs.Laws.{StitchedHasFreePrefix, StitchedIsNamed, TapNamesAreEntered};
 ghost use Rattle.stitch_names.specs.Same.{SameIsNamed};
 ghost use Rattle.stitch_names.specs.Taken.{StitchedFitsRoom};
 
 use draft_laws::part_is_named;
-pub use plan_devices as lower_plan_devices;
 use plan_devices::{prefixes_are_free, tap_names_are_new};
-pub use stitch_cells as lower_stitch_cells;
 pub use stitch_cells::lower_stitch_laws;
 use stitch_cells::lower_stitch_laws::stitched_holds_the_core;
 use stitch_cells::stitched_directions;

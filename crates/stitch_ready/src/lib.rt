@@ -5,7 +5,7 @@
 #![tactic(auto)]
 
 mod laws;
+pub mod lower_core_moves;
+pub mod lower_plan_devices;
 
-pub use core_moves as lower_core_moves;
 pub use laws::{fitted_are_few, fitted_can_stand_behind};
-pub use plan_devices as lower_plan_devices;

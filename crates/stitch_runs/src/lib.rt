@@ -14,10 +14,11 @@
 // By the contract of its law functions.
 #![tactic(auto)]
 
+pub mod lower_stitch_formed;
+
 ghost use Rattle.stitch_runs.specs.Laws.{StitchedRealises, StitchedIsAlone, FittingPlansRealise, FittingPlansAreAlone};
 ghost use Rattle.stitch_runs.specs.Laws.{FittingPlansHaveControls, FittingPlansFindHome};
 
-pub use stitch_formed as lower_stitch_formed;
 pub use stitch_formed::{lower_stitch_rows, stitched_is_formed};
 use stitch_formed::{stitched_has_controls, stitched_has_pins, stitched_logic_is_added};
 use stitch_inside::lower_plan_devices::plans_suit_netlists;

@@ -12,10 +12,11 @@
 // By the contract of its law functions.
 #![tactic(auto)]
 
+pub mod lower_stitch_names;
+
 ghost use Rattle.stitch_texts.specs.Laws.{StitchedCanBeWritten, StitchedIsRenumbered, StitchedIsWritten, StitchedKeepsLimits};
 
 use netlist_link::{link_views_agree, some_link_view};
-pub use stitch_names as lower_stitch_names;
 use stitch_names::lower_plan_devices::fitted_is_fitting;
 pub use stitch_names::lower_stitch_cells;
 use stitch_names::lower_stitch_cells::stitched_has_counts;

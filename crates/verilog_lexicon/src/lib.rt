@@ -20,6 +20,7 @@
 
 pub mod keywords;
 mod laws;
+pub mod lower_texts;
 pub mod reader;
 pub mod reserved;
 pub mod spelling;
@@ -31,6 +32,5 @@ pub use laws::key_words_are_found_by_their_bytes;
 pub use reader::WordReader;
 pub use reserved::Reserved;
 pub use symbol::Symbol;
-pub use texts as lower_texts;
 pub use word::{Spanned, Word};
 pub use words::Words;

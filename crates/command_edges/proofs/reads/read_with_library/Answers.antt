@@ -34,4 +34,4 @@ pub returns-clause-read : goal.returns-clause-read
 returns-clause-read g c =
     subst (λ (library : Option (Bor (List ℕ))). AreRead (g.S.Shelf.held c.args.shelf.now) (names_of c.args.names.now ++ names_if (name_of library)) c.push.new.self) (sym c.in-Some.is)
     (read_last (g.S.Shelf.held c.args.shelf.now) (g.S.Shelf.held c.read_all.new.shelf) (names_of c.args.names.now) c.in_ok-texts.texts c.push.new.self c.in-Some.name.now c.in_ok-text.text
-      c.in_ok-texts.ensures.read c.in_ok-texts.ensures.held c.in_ok-text.ensures.ok c.in_ok-text.ensures.within (search rules))
+    c.in_ok-texts.ensures.read c.in_ok-texts.ensures.held c.in_ok-text.ensures.ok c.in_ok-text.ensures.within (search rules))

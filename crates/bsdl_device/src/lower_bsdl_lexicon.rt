@@ -1,0 +1,2 @@
+// What crates above name of bsdl_lexicon.
+pub use bsdl_lexicon::same_name;

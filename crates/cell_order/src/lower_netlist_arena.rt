@@ -1,0 +1,2 @@
+// What crates above name of netlist_arena.
+pub use netlist_arena::Netlist;

@@ -1,0 +1,2 @@
+// What crates above name of conformance_report.
+pub use conformance_report::ports_agree;

@@ -1,0 +1,2 @@
+// What crates above name of command_faults.
+pub use command_faults::{Fault, Status};

@@ -1,0 +1,2 @@
+// What crates above name of netlist_model.
+pub use netlist_model::{CellId, Dir, Feed, Name, NetId, PinBit, PortId, Range};

@@ -1,0 +1,2 @@
+// What crates above name of numbered_places.
+pub use numbered_places::Places;

@@ -1,0 +1,2 @@
+// What crates above name of netlist_link.
+pub use netlist_link::Linked;

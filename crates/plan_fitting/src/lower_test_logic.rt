@@ -1,0 +1,2 @@
+// What crates above name of test_logic.
+pub use test_logic::{InstrNets, TapNets};

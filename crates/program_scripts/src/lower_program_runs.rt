@@ -1,0 +1,2 @@
+// What crates above name of program_runs.
+pub use program_runs::plans_stand_around;

@@ -1,0 +1,2 @@
+// What crates above name of surrounded_core.
+pub use surrounded_core::surrounded_core_follows;

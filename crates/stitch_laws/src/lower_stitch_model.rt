@@ -1,0 +1,2 @@
+// What crates above name of stitch_model.
+pub use stitch_model::TapNames;

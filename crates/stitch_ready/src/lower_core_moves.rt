@@ -1,0 +1,2 @@
+// What crates above name of core_moves.
+pub use core_moves::stand_behind;
