@@ -1,13 +1,13 @@
 -- A table of gates is added, and then a cell on a net that was there.
 use Rattle.std.proofs.Common.{◌≡◌, ℕ, ◌+◌, ◌≤◌, ◌<◌, List, [], ◌∷◌, ◌++◌, length, ap, ◌∙◌, arith}
 use Rattle.std.proofs.lemmas.List.Elements.{All-weaker}
-use Rattle.register_bits.specs.netlist_model.declared.Feed.{Feed}
-use Rattle.register_bits.specs.netlist_model.declared.Feed.TheVariants.{Net, Const}
-use Rattle.register_bits.specs.netlist_model.Lists.{CellView, cell_count}
-use Rattle.register_bits.specs.netlist_model.Below.{IsFeedBelow, AreFeedsBelow}
-use Rattle.register_bits.specs.netlist_arena.Arena.{ArenaView}
-use Rattle.register_bits.specs.gate_parts.Appended.{Appended}
-use Rattle.register_bits.specs.gate_parts.Laws.{AppendedMore}
+use Rattle.netlist_model.specs.declared.Feed.{Feed}
+use Rattle.netlist_model.specs.declared.Feed.TheVariants.{Net, Const}
+use Rattle.netlist_model.specs.Lists.{CellView, cell_count}
+use Rattle.netlist_model.specs.Below.{IsFeedBelow, AreFeedsBelow}
+use Rattle.netlist_arena.specs.Arena.{ArenaView}
+use Rattle.gate_parts.specs.Appended.{Appended}
+use Rattle.gate_parts.specs.Laws.{AppendedMore}
 
 pub feed_more : (n m : ℕ) → n ≤ m → (feed : Feed) → IsFeedBelow n feed → IsFeedBelow m feed
 feed_more n m more (Net net) below = let b : net.0 < n = below in let r : net.0 < m = omega arith in r

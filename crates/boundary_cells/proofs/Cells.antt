@@ -3,27 +3,27 @@ use Rattle.std.proofs.Common.{◌≡◌, ℕ, ◌+◌, false, List, [], ◌∷�
 use Rattle.signal_values.specs.declared.Sig.{Sig}
 use Rattle.signal_values.specs.Values.{see, sig_mux}
 use Rattle.signal_values.proofs.Laws.{mux-bit}
-use Rattle.register_bits.specs.cell_library.declared.codes.Instr.{Instr}
-use Rattle.register_bits.specs.cell_library.declared.codes.BoundaryKind.{BoundaryKind}
-use Rattle.register_bits.specs.cell_library.declared.codes.BoundaryKind.TheVariants.{Bc1, Bc2, Bc4, Bc7}
-use Rattle.register_bits.specs.cell_library.declared.codes.Function.TheVariants.{Input, Output2}
-use Rattle.register_bits.specs.netlist_model.declared.NetId.{NetId}
-use Rattle.register_bits.specs.netlist_model.declared.Feed.{Feed}
-use Rattle.register_bits.specs.netlist_model.declared.Feed.TheVariants.{Net}
-use Rattle.register_bits.specs.netlist_model.Lists.{NetlistView}
-use Rattle.register_bits.specs.netlist_model.Settled.{feed_value, Meets}
-use Rattle.register_bits.specs.netlist_model.Formed.{IsWellFormed}
-use Rattle.register_bits.specs.netlist_model.Contained.{Has, HasCells}
-use Rattle.register_bits.specs.netlist_laws.Contained.{ContainedParts}
-use Rattle.register_bits.specs.netlist_laws.Drivers.{DrivenIsInside}
-use Rattle.register_bits.specs.gate_parts.declared.Gate.{Gate}
-use Rattle.register_bits.specs.gate_parts.Parts.{part_cells}
-use Rattle.register_bits.specs.gate_parts.PartLaws.{ContainedPartMeets}
-use Rattle.register_bits.specs.test_logic.declared.ScanNets.{ScanNets}
-use Rattle.register_bits.specs.test_logic.Instructions.{mode_of, is_extest}
-use Rattle.register_bits.specs.test_logic.Rows.{CellAt, datum, input_into, row_captured}
-use Rattle.register_bits.specs.Bits.{shift_bit_cells, held_bit_cells}
-use Rattle.register_bits.specs.Laws.{ShiftBitsFollow, HeldBitsFollow}
+use Rattle.cell_library.specs.declared.codes.Instr.{Instr}
+use Rattle.cell_library.specs.declared.codes.BoundaryKind.{BoundaryKind}
+use Rattle.cell_library.specs.declared.codes.BoundaryKind.TheVariants.{Bc1, Bc2, Bc4, Bc7}
+use Rattle.cell_library.specs.declared.codes.Function.TheVariants.{Input, Output2}
+use Rattle.netlist_model.specs.declared.NetId.{NetId}
+use Rattle.netlist_model.specs.declared.Feed.{Feed}
+use Rattle.netlist_model.specs.declared.Feed.TheVariants.{Net}
+use Rattle.netlist_model.specs.Lists.{NetlistView}
+use Rattle.netlist_model.specs.Settled.{feed_value, Meets}
+use Rattle.netlist_model.specs.Formed.{IsWellFormed}
+use Rattle.netlist_model.specs.Contained.{Has, HasCells}
+use Rattle.netlist_model.specs.LawsContained.{ContainedParts}
+use Rattle.netlist_model.specs.Drivers.{DrivenIsInside}
+use Rattle.gate_parts.specs.declared.Gate.{Gate}
+use Rattle.gate_parts.specs.Parts.{part_cells}
+use Rattle.gate_parts.specs.PartLaws.{ContainedPartMeets}
+use Rattle.test_logic.specs.declared.ScanNets.{ScanNets}
+use Rattle.test_logic.specs.Instructions.{mode_of, is_extest}
+use Rattle.test_logic.specs.Rows.{CellAt, datum, input_into, row_captured}
+use Rattle.register_gates.specs.BitsLaws.{shift_bit_cells, held_bit_cells}
+use Rattle.register_gates.specs.BitsLawsLaws.{ShiftBitsFollow, HeldBitsFollow}
 use Rattle.boundary_cells.specs.declared.tables.Choice.{Choice}
 use Rattle.boundary_cells.specs.declared.tables.TheConstants.{BC_1, BC_2, UPDATES}
 use Rattle.boundary_cells.specs.Cells.{steering_of, holding_of, choice_cell, cells_onto, stage_table, cell_given, observe_cells, input_cells, output_cells}

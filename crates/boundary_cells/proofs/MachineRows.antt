@@ -5,19 +5,19 @@ use Rattle.std.specs.List.{slice_get}
 use Rattle.signal_values.specs.declared.Sig.{Sig}
 use Rattle.signal_values.specs.declared.Sig.TheVariants.{Zero}
 use Rattle.signal_values.specs.Values.{bit}
-use Rattle.register_bits.specs.cell_library.declared.Edge.{Edge}
-use Rattle.register_bits.specs.cell_library.declared.Edge.TheVariants.{Rise, Fall}
-use Rattle.register_bits.specs.cell_library.declared.codes.BoundaryKind.{BoundaryKind}
-use Rattle.register_bits.specs.bsdl_device.declared.entries.Register.TheVariants.{Boundary}
-use Rattle.register_bits.specs.test_logic.declared.Levels.{Levels}
-use Rattle.register_bits.specs.test_logic.declared.Action.{Action}
-use Rattle.register_bits.specs.test_logic.declared.Action.TheVariants.{Captures, Shifts, Keeps}
-use Rattle.register_bits.specs.test_logic.declared.TapState.{TapState}
-use Rattle.register_bits.specs.test_logic.declared.TapState.TheVariants.{TestLogicReset, RunTestIdle, SelectDrScan, CaptureDr, ShiftDr, Exit1Dr, PauseDr, Exit2Dr, UpdateDr, SelectIrScan, CaptureIr, ShiftIr, Exit1Ir, PauseIr, Exit2Ir, UpdateIr}
-use Rattle.register_bits.specs.test_logic.Controller.{dr_action, act}
-use Rattle.register_bits.specs.test_logic.Registers.{shifted, update_bit, updated, updated_after, boundary_after}
-use Rattle.register_bits.specs.test_logic.Machine.{TestLogic, Machine, selects, zeros, edge_of, clocked, step_under}
-use Rattle.register_bits.specs.Laws.{on_edge}
+use Rattle.cell_library.specs.declared.Edge.{Edge}
+use Rattle.cell_library.specs.declared.Edge.TheVariants.{Rise, Fall}
+use Rattle.cell_library.specs.declared.codes.BoundaryKind.{BoundaryKind}
+use Rattle.bsdl_device.specs.declared.entries.Register.TheVariants.{Boundary}
+use Rattle.test_logic.specs.declared.Levels.{Levels}
+use Rattle.test_logic.specs.declared.Action.{Action}
+use Rattle.test_logic.specs.declared.Action.TheVariants.{Captures, Shifts, Keeps}
+use Rattle.test_logic.specs.declared.TapState.{TapState}
+use Rattle.test_logic.specs.declared.TapState.TheVariants.{TestLogicReset, RunTestIdle, SelectDrScan, CaptureDr, ShiftDr, Exit1Dr, PauseDr, Exit2Dr, UpdateDr, SelectIrScan, CaptureIr, ShiftIr, Exit1Ir, PauseIr, Exit2Ir, UpdateIr}
+use Rattle.test_logic.specs.Controller.{dr_action, act}
+use Rattle.test_logic.specs.Registers.{shifted, update_bit, updated, updated_after, boundary_after}
+use Rattle.test_logic.specs.Machine.{TestLogic, Machine, selects, zeros, edge_of, clocked, step_under}
+use Rattle.register_gates.specs.BitsLawsLaws.{on_edge}
 use Rattle.boundary_cells.specs.MachineRows.{bit_at, boundary_action, is_update, boundary_updates, RowShifts, RowsStep}
 
 zeros_at : (kinds : List BoundaryKind) (place : ℕ) (cell : BoundaryKind) → slice_get kinds place ≡ Some cell → bit_at (zeros kinds) place ≡ Zero

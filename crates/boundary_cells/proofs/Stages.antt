@@ -3,24 +3,24 @@ use Rattle.std.proofs.Common.{◌≡◌, ℕ, suc, ◌+◌, false, List, [], ◌
 use Rattle.signal_values.specs.declared.Sig.{Sig}
 use Rattle.signal_values.specs.declared.Sig.TheVariants.{Zero}
 use Rattle.signal_values.specs.Values.{sig_mux}
-use Rattle.register_bits.specs.cell_library.declared.Kind.TheVariants.{Flop, Mux2}
-use Rattle.register_bits.specs.cell_library.declared.Edge.TheVariants.{Fall}
-use Rattle.register_bits.specs.cell_library.declared.ResetTo.TheVariants.{Zero as ToZero}
-use Rattle.register_bits.specs.cell_library.declared.codes.Instr.{Instr}
-use Rattle.register_bits.specs.netlist_model.declared.NetId.{NetId}
-use Rattle.register_bits.specs.netlist_model.declared.Feed.{Feed}
-use Rattle.register_bits.specs.netlist_model.declared.Feed.TheVariants.{Net}
-use Rattle.register_bits.specs.netlist_model.Lists.{CellView, NetlistView}
-use Rattle.register_bits.specs.netlist_model.Settled.{feed_value, Meets}
-use Rattle.register_bits.specs.netlist_model.Formed.{IsWellFormed}
-use Rattle.register_bits.specs.netlist_model.Contained.{Has, HasCells}
-use Rattle.register_bits.specs.netlist_laws.Drivers.{DrivenIsInside}
-use Rattle.register_bits.specs.gate_parts.Parts.{feed_of}
-use Rattle.register_bits.specs.test_logic.declared.ScanNets.{ScanNets}
-use Rattle.register_bits.specs.test_logic.Controller.{act}
-use Rattle.register_bits.specs.test_logic.Rows.{CellAt}
-use Rattle.register_bits.specs.Bits.{shift_bit_cells, held_bit_cells}
-use Rattle.register_bits.specs.Laws.{bit_after, ShiftBitsFollow, HeldBitsFollow}
+use Rattle.cell_library.specs.declared.Kind.TheVariants.{Flop, Mux2}
+use Rattle.cell_library.specs.declared.Edge.TheVariants.{Fall}
+use Rattle.cell_library.specs.declared.ResetTo.TheVariants.{Zero as ToZero}
+use Rattle.cell_library.specs.declared.codes.Instr.{Instr}
+use Rattle.netlist_model.specs.declared.NetId.{NetId}
+use Rattle.netlist_model.specs.declared.Feed.{Feed}
+use Rattle.netlist_model.specs.declared.Feed.TheVariants.{Net}
+use Rattle.netlist_model.specs.Lists.{CellView, NetlistView}
+use Rattle.netlist_model.specs.Settled.{feed_value, Meets}
+use Rattle.netlist_model.specs.Formed.{IsWellFormed}
+use Rattle.netlist_model.specs.Contained.{Has, HasCells}
+use Rattle.netlist_model.specs.Drivers.{DrivenIsInside}
+use Rattle.gate_parts.specs.Parts.{feed_of}
+use Rattle.test_logic.specs.declared.ScanNets.{ScanNets}
+use Rattle.test_logic.specs.Controller.{act}
+use Rattle.test_logic.specs.Rows.{CellAt}
+use Rattle.register_gates.specs.BitsLaws.{shift_bit_cells, held_bit_cells}
+use Rattle.register_gates.specs.BitsLawsLaws.{bit_after, ShiftBitsFollow, HeldBitsFollow}
 use Rattle.boundary_cells.specs.declared.tables.Choice.{Choice}
 use Rattle.boundary_cells.specs.Cells.{steering_of, holding_of, choice_cell}
 use Rattle.boundary_cells.specs.Laws.{CarriesMode, ShiftLaws, UpdateLaws}

@@ -4,26 +4,26 @@ use Rattle.std.specs.Prelude.{if◌then◌else◌, not, Option, Some}
 use Rattle.signal_values.specs.declared.Sig.{Sig}
 use Rattle.signal_values.specs.Values.{bit, see, sig_mux, sig_not}
 use Rattle.signal_values.proofs.Laws.{mux-bit}
-use Rattle.register_bits.specs.cell_library.declared.codes.Instr.{Instr}
-use Rattle.register_bits.specs.cell_library.declared.codes.BoundaryKind.{BoundaryKind}
-use Rattle.register_bits.specs.cell_library.declared.codes.BoundaryKind.TheVariants.{Bc1, Bc2, Bc4, Bc7}
-use Rattle.register_bits.specs.cell_library.declared.codes.Function.TheVariants.{Control, Bidir}
-use Rattle.register_bits.specs.netlist_model.declared.NetId.{NetId}
-use Rattle.register_bits.specs.netlist_model.declared.Feed.{Feed}
-use Rattle.register_bits.specs.netlist_model.declared.Feed.TheVariants.{Net}
-use Rattle.register_bits.specs.netlist_model.Lists.{NetlistView}
-use Rattle.register_bits.specs.netlist_model.Settled.{feed_value, Meets}
-use Rattle.register_bits.specs.netlist_model.Formed.{IsWellFormed}
-use Rattle.register_bits.specs.netlist_model.Contained.{HasCells}
-use Rattle.register_bits.specs.netlist_laws.Contained.{ContainedParts}
-use Rattle.register_bits.specs.netlist_laws.Drivers.{DrivenIsInside}
-use Rattle.register_bits.specs.gate_parts.Parts.{feed_of, part_cells}
-use Rattle.register_bits.specs.gate_parts.PartLaws.{ContainedPartMeets}
-use Rattle.register_bits.specs.test_logic.declared.ScanNets.{ScanNets}
-use Rattle.register_bits.specs.test_logic.Instructions.{mode_of, is_extest}
-use Rattle.register_bits.specs.test_logic.Rows.{ControlAt, CellAt, datum, level, enable_of, row_reading, row_captured, bidir_sampled}
-use Rattle.register_bits.specs.Bits.{shift_bit_cells, held_bit_cells}
-use Rattle.register_bits.specs.Laws.{ShiftBitsFollow, HeldBitsFollow}
+use Rattle.cell_library.specs.declared.codes.Instr.{Instr}
+use Rattle.cell_library.specs.declared.codes.BoundaryKind.{BoundaryKind}
+use Rattle.cell_library.specs.declared.codes.BoundaryKind.TheVariants.{Bc1, Bc2, Bc4, Bc7}
+use Rattle.cell_library.specs.declared.codes.Function.TheVariants.{Control, Bidir}
+use Rattle.netlist_model.specs.declared.NetId.{NetId}
+use Rattle.netlist_model.specs.declared.Feed.{Feed}
+use Rattle.netlist_model.specs.declared.Feed.TheVariants.{Net}
+use Rattle.netlist_model.specs.Lists.{NetlistView}
+use Rattle.netlist_model.specs.Settled.{feed_value, Meets}
+use Rattle.netlist_model.specs.Formed.{IsWellFormed}
+use Rattle.netlist_model.specs.Contained.{HasCells}
+use Rattle.netlist_model.specs.LawsContained.{ContainedParts}
+use Rattle.netlist_model.specs.Drivers.{DrivenIsInside}
+use Rattle.gate_parts.specs.Parts.{feed_of, part_cells}
+use Rattle.gate_parts.specs.PartLaws.{ContainedPartMeets}
+use Rattle.test_logic.specs.declared.ScanNets.{ScanNets}
+use Rattle.test_logic.specs.Instructions.{mode_of, is_extest}
+use Rattle.test_logic.specs.Rows.{ControlAt, CellAt, datum, level, enable_of, row_reading, row_captured, bidir_sampled}
+use Rattle.register_gates.specs.BitsLaws.{shift_bit_cells, held_bit_cells}
+use Rattle.register_gates.specs.BitsLawsLaws.{ShiftBitsFollow, HeldBitsFollow}
 use Rattle.boundary_cells.specs.declared.tables.TheConstants.{BC_1_CONTROL, BC_2_CONTROL, BC_7_HIGH, BC_7_LOW, UPDATES}
 use Rattle.boundary_cells.specs.Cells.{steering_of, holding_of}
 use Rattle.boundary_cells.specs.Laws.{CarriesMode, StandsAtOutput}

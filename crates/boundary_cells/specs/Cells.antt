@@ -1,20 +1,20 @@
 -- The gates of a boundary cell. Its shift bit is on its first net, and its update bit on the third net after it.
 -- IEEE Std 1149.1-2001: boundary-scan register; the gates are own.
 use Rattle.std.specs.Prelude.{ℕ, ◌+◌, ◌<◌, List, [], ◌∷◌, ◌++◌, length, Some, IsTrue}
-use Rattle.register_bits.specs.cell_library.declared.Kind.TheVariants.{Mux2}
-use Rattle.register_bits.specs.cell_library.declared.codes.BoundaryKind.{BoundaryKind}
-use Rattle.register_bits.specs.cell_library.declared.codes.BoundaryKind.TheVariants.{Bc2}
-use Rattle.register_bits.specs.netlist_model.declared.Name.TheVariants.{Added}
-use Rattle.register_bits.specs.netlist_model.declared.NetId.{NetId}
-use Rattle.register_bits.specs.netlist_model.declared.Feed.{Feed}
-use Rattle.register_bits.specs.netlist_model.declared.Feed.TheVariants.{Net}
-use Rattle.register_bits.specs.netlist_model.Lists.{CellView}
-use Rattle.register_bits.specs.gate_parts.declared.Gate.{Gate}
-use Rattle.register_bits.specs.gate_parts.Parts.{feed_of, part_cells, is_sound_pin}
-use Rattle.register_bits.specs.test_logic.declared.ScanNets.{ScanNets}
-use Rattle.register_bits.specs.declared.Steering.{Steering}
-use Rattle.register_bits.specs.declared.Holding.{Holding}
-use Rattle.register_bits.specs.Bits.{AreNetsBelow, shift_bit_cells}
+use Rattle.cell_library.specs.declared.Kind.TheVariants.{Mux2}
+use Rattle.cell_library.specs.declared.codes.BoundaryKind.{BoundaryKind}
+use Rattle.cell_library.specs.declared.codes.BoundaryKind.TheVariants.{Bc2}
+use Rattle.netlist_model.specs.declared.Name.TheVariants.{Added}
+use Rattle.netlist_model.specs.declared.NetId.{NetId}
+use Rattle.netlist_model.specs.declared.Feed.{Feed}
+use Rattle.netlist_model.specs.declared.Feed.TheVariants.{Net}
+use Rattle.netlist_model.specs.Lists.{CellView}
+use Rattle.gate_parts.specs.declared.Gate.{Gate}
+use Rattle.gate_parts.specs.Parts.{feed_of, part_cells, is_sound_pin}
+use Rattle.test_logic.specs.declared.ScanNets.{ScanNets}
+use Rattle.register_gates.specs.declared.bits.Steering.{Steering}
+use Rattle.register_gates.specs.declared.bits.Holding.{Holding}
+use Rattle.register_gates.specs.BitsLaws.{AreNetsBelow, shift_bit_cells}
 use Rattle.boundary_cells.specs.declared.tables.Choice.{Choice}
 use Rattle.boundary_cells.specs.declared.tables.TheConstants.{BC_1, BC_2, UPDATES}
 

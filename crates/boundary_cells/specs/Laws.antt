@@ -4,25 +4,25 @@ use Rattle.std.specs.Prelude.{◌≡◌, ℕ, ◌+◌, Bool, false, List, if◌t
 use Rattle.signal_values.specs.declared.Sig.{Sig}
 use Rattle.signal_values.specs.declared.Sig.TheVariants.{Zero}
 use Rattle.signal_values.specs.Values.{bit, see}
-use Rattle.register_bits.specs.cell_library.declared.codes.Instr.{Instr}
-use Rattle.register_bits.specs.cell_library.declared.codes.BoundaryKind.{BoundaryKind}
-use Rattle.register_bits.specs.cell_library.declared.codes.BoundaryKind.TheVariants.{Bc1, Bc4}
-use Rattle.register_bits.specs.cell_library.declared.codes.Function.TheVariants.{Input, Output2}
-use Rattle.register_bits.specs.netlist_model.declared.NetId.{NetId}
-use Rattle.register_bits.specs.netlist_model.declared.Feed.{Feed}
-use Rattle.register_bits.specs.netlist_model.Lists.{CellView, NetlistView}
-use Rattle.register_bits.specs.netlist_model.Settled.{feed_value, Meets, IsSettled}
-use Rattle.register_bits.specs.netlist_model.Formed.{IsWellFormed}
-use Rattle.register_bits.specs.netlist_model.Contained.{HasCells}
-use Rattle.register_bits.specs.netlist_model.Runs.{Moment, PinEvent, IsStart, IsStep}
-use Rattle.register_bits.specs.test_logic.declared.Levels.{Levels}
-use Rattle.register_bits.specs.test_logic.declared.Action.{Action}
-use Rattle.register_bits.specs.test_logic.declared.Mode.{Mode}
-use Rattle.register_bits.specs.test_logic.declared.ScanNets.{ScanNets}
-use Rattle.register_bits.specs.test_logic.Controller.{act}
-use Rattle.register_bits.specs.test_logic.Instructions.{mode_of, is_extest}
-use Rattle.register_bits.specs.test_logic.Rows.{CellAt, datum, input_into, row_captured}
-use Rattle.register_bits.specs.Laws.{Carries, Steers, bit_after}
+use Rattle.cell_library.specs.declared.codes.Instr.{Instr}
+use Rattle.cell_library.specs.declared.codes.BoundaryKind.{BoundaryKind}
+use Rattle.cell_library.specs.declared.codes.BoundaryKind.TheVariants.{Bc1, Bc4}
+use Rattle.cell_library.specs.declared.codes.Function.TheVariants.{Input, Output2}
+use Rattle.netlist_model.specs.declared.NetId.{NetId}
+use Rattle.netlist_model.specs.declared.Feed.{Feed}
+use Rattle.netlist_model.specs.Lists.{CellView, NetlistView}
+use Rattle.netlist_model.specs.Settled.{feed_value, Meets, IsSettled}
+use Rattle.netlist_model.specs.Formed.{IsWellFormed}
+use Rattle.netlist_model.specs.Contained.{HasCells}
+use Rattle.netlist_model.specs.Runs.{Moment, PinEvent, IsStart, IsStep}
+use Rattle.test_logic.specs.declared.Levels.{Levels}
+use Rattle.test_logic.specs.declared.Action.{Action}
+use Rattle.test_logic.specs.declared.Mode.{Mode}
+use Rattle.test_logic.specs.declared.ScanNets.{ScanNets}
+use Rattle.test_logic.specs.Controller.{act}
+use Rattle.test_logic.specs.Instructions.{mode_of, is_extest}
+use Rattle.test_logic.specs.Rows.{CellAt, datum, input_into, row_captured}
+use Rattle.register_gates.specs.BitsLawsLaws.{Carries, Steers, bit_after}
 use Rattle.boundary_cells.specs.Cells.{steering_of, observe_cells, input_cells, output_cells}
 
 -- own: the nets of the modes say what the instruction in effect makes of the cells

@@ -4,17 +4,17 @@ use Rattle.std.specs.Prelude.{◌≡◌, ℕ, suc, ◌<◌, ◌&&◌, Bool, true
 use Rattle.signal_values.specs.declared.Sig.{Sig}
 use Rattle.signal_values.specs.declared.Sig.TheVariants.{Zero, Unknown}
 use Rattle.signal_values.specs.Values.{bit}
-use Rattle.register_bits.specs.cell_library.declared.codes.BoundaryKind.{BoundaryKind}
-use Rattle.register_bits.specs.bsdl_device.declared.entries.Register.TheVariants.{Boundary}
-use Rattle.register_bits.specs.test_logic.declared.Levels.{Levels}
-use Rattle.register_bits.specs.test_logic.declared.Action.{Action}
-use Rattle.register_bits.specs.test_logic.declared.Action.TheVariants.{Keeps}
-use Rattle.register_bits.specs.test_logic.declared.TapState.{TapState}
-use Rattle.register_bits.specs.test_logic.declared.TapState.TheVariants.{UpdateDr}
-use Rattle.register_bits.specs.test_logic.Controller.{dr_action, act}
-use Rattle.register_bits.specs.test_logic.Registers.{shifted, update_bit}
-use Rattle.register_bits.specs.test_logic.Machine.{TestLogic, Machine, selects, reset, machine_step}
-use Rattle.register_bits.specs.Laws.{bit_after}
+use Rattle.cell_library.specs.declared.codes.BoundaryKind.{BoundaryKind}
+use Rattle.bsdl_device.specs.declared.entries.Register.TheVariants.{Boundary}
+use Rattle.test_logic.specs.declared.Levels.{Levels}
+use Rattle.test_logic.specs.declared.Action.{Action}
+use Rattle.test_logic.specs.declared.Action.TheVariants.{Keeps}
+use Rattle.test_logic.specs.declared.TapState.{TapState}
+use Rattle.test_logic.specs.declared.TapState.TheVariants.{UpdateDr}
+use Rattle.test_logic.specs.Controller.{dr_action, act}
+use Rattle.test_logic.specs.Registers.{shifted, update_bit}
+use Rattle.test_logic.specs.Machine.{TestLogic, Machine, selects, reset, machine_step}
+use Rattle.register_gates.specs.BitsLawsLaws.{bit_after}
 
 -- own: the bit in a place, unknown past the end
 abbrev pub bit_at : List Sig → ℕ → Sig

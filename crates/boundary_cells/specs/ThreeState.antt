@@ -3,19 +3,19 @@
 use Rattle.std.specs.Prelude.{◌≡◌, ℕ, ◌+◌, not, Bool, true, false, List, [], ◌∷◌, ◌++◌, length, Some}
 use Rattle.signal_values.specs.declared.Sig.{Sig}
 use Rattle.signal_values.specs.Values.{see}
-use Rattle.register_bits.specs.cell_library.declared.codes.Instr.{Instr}
-use Rattle.register_bits.specs.cell_library.declared.codes.BoundaryKind.{BoundaryKind}
-use Rattle.register_bits.specs.cell_library.declared.codes.BoundaryKind.TheVariants.{Bc2, Bc7}
-use Rattle.register_bits.specs.cell_library.declared.codes.Function.TheVariants.{Control, Bidir}
-use Rattle.register_bits.specs.netlist_model.declared.NetId.{NetId}
-use Rattle.register_bits.specs.netlist_model.declared.Feed.{Feed}
-use Rattle.register_bits.specs.netlist_model.declared.Feed.TheVariants.{Net, Const}
-use Rattle.register_bits.specs.netlist_model.Lists.{CellView}
-use Rattle.register_bits.specs.netlist_model.Settled.{feed_value}
-use Rattle.register_bits.specs.gate_parts.declared.Gate.{Gate}
-use Rattle.register_bits.specs.test_logic.declared.ScanNets.{ScanNets}
-use Rattle.register_bits.specs.test_logic.Instructions.{mode_of}
-use Rattle.register_bits.specs.test_logic.Rows.{ControlAt, CellAt, datum, level, row_reading, row_captured}
+use Rattle.cell_library.specs.declared.codes.Instr.{Instr}
+use Rattle.cell_library.specs.declared.codes.BoundaryKind.{BoundaryKind}
+use Rattle.cell_library.specs.declared.codes.BoundaryKind.TheVariants.{Bc2, Bc7}
+use Rattle.cell_library.specs.declared.codes.Function.TheVariants.{Control, Bidir}
+use Rattle.netlist_model.specs.declared.NetId.{NetId}
+use Rattle.netlist_model.specs.declared.Feed.{Feed}
+use Rattle.netlist_model.specs.declared.Feed.TheVariants.{Net, Const}
+use Rattle.netlist_model.specs.Lists.{CellView}
+use Rattle.netlist_model.specs.Settled.{feed_value}
+use Rattle.gate_parts.specs.declared.Gate.{Gate}
+use Rattle.test_logic.specs.declared.ScanNets.{ScanNets}
+use Rattle.test_logic.specs.Instructions.{mode_of}
+use Rattle.test_logic.specs.Rows.{ControlAt, CellAt, datum, level, row_reading, row_captured}
 use Rattle.boundary_cells.specs.declared.tables.Choice.{Choice}
 use Rattle.boundary_cells.specs.declared.tables.TheConstants.{BC_1_CONTROL, BC_2_CONTROL, BC_7_HIGH, BC_7_LOW, UPDATES, BC_1_LEVEL, BC_2_LEVEL}
 use Rattle.boundary_cells.specs.Cells.{cells_onto, cell_given}

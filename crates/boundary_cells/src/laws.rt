@@ -2,9 +2,9 @@ ghost use Rattle.boundary_cells.specs.Laws.{ObserveCellsFollow, InputCellsFollow
 ghost use Rattle.boundary_cells.specs.ThreeState.{ControlCellsFollow, BidirCellsFollow};
 ghost use Rattle.boundary_cells.specs.MachineRows.{RowsStep};
 
-use register_bits::lower_gate_parts::contained_part_meets;
-use register_bits::lower_netlist_laws::{contained_parts, driven_net_follows_no_pin};
-use register_bits::{held_bits_follow, shift_bits_follow};
+use gate_parts::contained_part_meets;
+use netlist_model::laws::{contained_parts, driven_net_follows_no_pin};
+use register_gates::bits::{held_bits_follow, shift_bits_follow};
 
 /// In every well-formed netlist that contains its cells, a BC_4 cell captures the pin and shifts.
 pub fn observe_cells_follow()

@@ -20,12 +20,12 @@
 #![tactic(auto)]
 
 ghost use Rattle.std.specs.Prelude.{◌≡◌, ◌≢◌, ℕ, ◌+◌, ◌<◌, ◌≤◌, ◌^◌, length, IsTrue};
-ghost use Rattle.register_bits.specs.netlist_model.Lists.{cell_count};
-ghost use Rattle.register_bits.specs.netlist_model.Contained.{IsDense};
-ghost use Rattle.register_bits.specs.netlist_model.Below.{IsFeedBelow, AreFeedsBelow};
-ghost use Rattle.register_bits.specs.netlist_arena.Adds.{IsFree};
-ghost use Rattle.register_bits.specs.gate_parts.Parts.{feed_of, is_sound_pin, is_sound};
-ghost use Rattle.register_bits.specs.gate_parts.Appended.{Appended};
+ghost use Rattle.netlist_model.specs.Lists.{cell_count};
+ghost use Rattle.netlist_model.specs.Contained.{IsDense};
+ghost use Rattle.netlist_model.specs.Below.{IsFeedBelow, AreFeedsBelow};
+ghost use Rattle.netlist_arena.specs.Adds.{IsFree};
+ghost use Rattle.gate_parts.specs.Parts.{feed_of, is_sound_pin, is_sound};
+ghost use Rattle.gate_parts.specs.Appended.{Appended};
 ghost use Rattle.boundary_cells.specs.Cells.{AreScanNetsBelow, is_sound_choice, cells_onto};
 ghost use Rattle.boundary_cells.specs.Cells.{stage_count, observe_cells, input_cells, output_cells};
 
@@ -33,22 +33,22 @@ mod laws;
 mod tables;
 mod three_state;
 
+use cell_library::{BoundaryKind, Kind};
+use gate_parts::{
+    Gate, Pin, add_driver, add_part, appended_count, appended_more, part_leaves_free_nets,
+};
 pub use laws::{
     bidir_cells_follow, control_cells_follow, input_cells_follow, observe_cells_follow,
     output_cells_follow, rows_step_as_bits,
 };
-use register_bits::lower_cell_library::{BoundaryKind, Kind};
-use register_bits::lower_gate_parts::{
-    Gate, Pin, add_driver, add_part, appended_count, appended_more, part_leaves_free_nets,
-};
-use register_bits::lower_netlist_arena::Netlist;
-use register_bits::lower_netlist_model::{Feed, NetId};
-use register_bits::lower_test_logic::ScanNets;
-use register_bits::{Steering, add_shift_bit};
+use netlist_arena::Netlist;
+use netlist_model::{Feed, NetId};
+use register_gates::bits::{Steering, add_shift_bit};
 pub use tables::{
     BC_1, BC_1_CONTROL, BC_1_LEVEL, BC_2, BC_2_CONTROL, BC_2_LEVEL, BC_7_HIGH, BC_7_LOW, Choice,
     UPDATES,
 };
+use test_logic::ScanNets;
 pub use three_state::{add_bidir_cell, add_control_cell};
 
 /// Adds a BC_4 cell to a dense netlist, which observes the pin, and answers the net of its shift bit.

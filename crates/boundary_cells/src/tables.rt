@@ -1,5 +1,5 @@
-use register_bits::lower_cell_library::{Edge, FlopKind, Kind, ResetTo};
-use register_bits::lower_gate_parts::{Gate, Pin, Pins};
+use cell_library::{Edge, FlopKind, Kind, ResetTo};
+use gate_parts::{Gate, Pin, Pins};
 
 /// The multiplexer that drives the net that a cell gives its value to: `other` where `select` is 1, else `usual`.
 #[derive(Clone, Copy)]

@@ -1,9 +1,9 @@
 ghost use Rattle.std.specs.Prelude.{◌≡◌, ◌≢◌, ℕ, ◌<◌, ◌≤◌, length};
-ghost use Rattle.register_bits.specs.netlist_model.Lists.{cell_count};
-ghost use Rattle.register_bits.specs.netlist_model.Contained.{IsDense};
-ghost use Rattle.register_bits.specs.netlist_model.Below.{IsFeedBelow};
-ghost use Rattle.register_bits.specs.netlist_arena.Adds.{IsFree};
-ghost use Rattle.register_bits.specs.gate_parts.Appended.{Appended};
+ghost use Rattle.netlist_model.specs.Lists.{cell_count};
+ghost use Rattle.netlist_model.specs.Contained.{IsDense};
+ghost use Rattle.netlist_model.specs.Below.{IsFeedBelow};
+ghost use Rattle.netlist_arena.specs.Adds.{IsFree};
+ghost use Rattle.gate_parts.specs.Appended.{Appended};
 ghost use Rattle.boundary_cells.specs.Cells.{AreScanNetsBelow};
 ghost use Rattle.boundary_cells.specs.ThreeState.{control_count, control_cells, bidir_cells};
 
@@ -11,10 +11,10 @@ use crate::add_cell_onto;
 use crate::tables::{
     BC_1_CONTROL, BC_1_LEVEL, BC_2_CONTROL, BC_2_LEVEL, BC_7_HIGH, BC_7_LOW, UPDATES,
 };
-use register_bits::lower_cell_library::BoundaryKind;
-use register_bits::lower_netlist_arena::Netlist;
-use register_bits::lower_netlist_model::{Feed, NetId};
-use register_bits::lower_test_logic::ScanNets;
+use cell_library::BoundaryKind;
+use netlist_arena::Netlist;
+use netlist_model::{Feed, NetId};
+use test_logic::ScanNets;
 
 /// Adds a control cell to a dense netlist, a BC_2 or else a BC_1, which gives `into` the control of a three-state
 /// driver that is enabled by 1 where it is active high, and else by 0. It answers the net of the cell's shift bit; the

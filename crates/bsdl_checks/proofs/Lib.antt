@@ -1,6 +1,7 @@
-pub use Rattle.bsdl_port_rules.proofs.Tables as Tables
 pub mod CellRows
 pub mod Few
-pub mod TableFinds
+pub mod Next
 pub mod Ordered
+pub mod TableFinds
+pub mod Tables
 pub mod Words

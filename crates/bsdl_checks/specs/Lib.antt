@@ -1,3 +1,5 @@
 pub mod Counts
 pub mod Ordered
+pub mod OwnNames
+pub mod Pairs
 pub mod Tables

@@ -6,11 +6,11 @@ ghost use Rattle.bsdl_lexicon.specs.Names.{is_same_name};
 use bsdl_device::PinEntry;
 use bsdl_lexicon::NameKey;
 use bsdl_port_rules::mapped_ports;
-use first_faults::first_places;
 use indexmap::IndexMap;
 use std::alloc::Global;
 use std::marker::Model;
 use texts::OutOfMemory;
+use texts::first_faults::first_places;
 
 /// The entries of a pin map. Of entries of one port the first is found.
 #[derive(Drop)]

@@ -5,11 +5,11 @@ ghost use Rattle.bsdl_device.specs.Checks as rule;
 
 use bsdl_device::RowEntry;
 use bsdl_row_rules::row_numbers;
-use first_faults::first_places;
 use indexmap::IndexMap;
 use std::alloc::Global;
 use std::marker::Model;
 use texts::OutOfMemory;
+use texts::first_faults::first_places;
 
 /// The rows of a boundary register. Of rows of one number the first is found.
 #[derive(Drop)]

@@ -4,11 +4,11 @@ use Rattle.std.specs.Str.{bytes_eq}
 use Rattle.std.proofs.lemmas.Slice.Eq.{bytes_eq-Decides}
 use Rattle.bsdl_lexicon.specs.Names.{lower, is_same_name}
 use Rattle.bsdl_device.specs.Runs.{ContentWord, Run, Other, KeyRun, Fits, key_in}
-use Rattle.bsdl_reading.specs.Readers.{take_at}
-use Rattle.bsdl_reading.specs.Files.{or_next}
-use Rattle.bsdl_reading.proofs.Exact.{Exact, Anything}
-use Rattle.bsdl_reading.proofs.Matched.{Spelled, spelled_take}
-use Rattle.bsdl_reading.proofs.Views.{Free, seen}
+use Rattle.bsdl_device.specs.Readers.{take_at}
+use Rattle.bsdl_device.specs.Files.{or_next}
+use Rattle.bsdl_device.proofs.Exact.{Exact, Anything}
+use Rattle.bsdl_device.proofs.Matched.{Spelled, spelled_take}
+use Rattle.bsdl_device.proofs.Views.{Free, seen}
 use Rattle.bsdl_contents.specs.Reader.{among}
 
 -- one word is no other

@@ -3,10 +3,10 @@ use Rattle.std.proofs.Common.{◌≡◌, List, [], ◌∷◌, ◌++◌, Some, No
 use Rattle.list_laws.proofs.Options.{none_some}
 use Rattle.bsdl_device.specs.Patterns.{MatchesBy}
 use Rattle.bsdl_device.specs.Runs.{ContentWord, ContentPattern, Fits}
-use Rattle.bsdl_reading.specs.Readers.{Read, done, after, end_at}
-use Rattle.bsdl_reading.proofs.Exact.{Exact, Then, exact_after, exact_done, exact_weaker}
-use Rattle.bsdl_reading.proofs.Choices.{NotNext, EitherWay, exact_either}
-use Rattle.bsdl_reading.proofs.Matched.{Spelled, exact_stops}
+use Rattle.bsdl_device.specs.Readers.{Read, done, after, end_at}
+use Rattle.bsdl_device.proofs.Exact.{Exact, Then, exact_after, exact_done, exact_weaker}
+use Rattle.bsdl_device.proofs.Choices.{NotNext, EitherWay, exact_either}
+use Rattle.bsdl_device.proofs.Matched.{Spelled, exact_stops}
 use Rattle.bsdl_contents.specs.Reader.{seen_as, choice_at, whole_at}
 
 -- what both ways make of what they read, and the patterns that spell it

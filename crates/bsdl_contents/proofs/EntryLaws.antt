@@ -20,12 +20,12 @@ use Rattle.bsdl_device.specs.declared.entries.AccessEntry.{AccessEntry}
 use Rattle.bsdl_device.specs.Patterns.{MatchesBy, separated_by}
 use Rattle.bsdl_device.specs.Runs.{ContentWord, Run, Other, ContentPattern, KeyRun, IdentifierRun, NameRun, PinRun, IntegerRun, BitsRun, MarkByte, Fits, identifier_in, name_in, pin_in, integer_in, pattern_in, mark_in, left_parenthesis, right_parenthesis, comma, colon}
 use Rattle.bsdl_device.specs.Grammar.{cell_word, function_word, safe_word, bit_word, register_word, pins_words, pin_entry_words, opcode_words, access_words}
-use Rattle.bsdl_reading.specs.Readers.{Read, take_at, marks_at}
-use Rattle.bsdl_reading.proofs.Exact.{Exact, Anything}
-use Rattle.bsdl_reading.proofs.Choices.{NotNext}
-use Rattle.bsdl_reading.proofs.Matched.{Spelled, spelled_take, spelled_marks, spelled_ended, spelled_pair, spelled_made}
-use Rattle.bsdl_reading.proofs.Listed.{AreSome, spelled_some}
-use Rattle.bsdl_reading.proofs.Views.{Free, seen}
+use Rattle.bsdl_device.specs.Readers.{Read, take_at, marks_at}
+use Rattle.bsdl_device.proofs.Exact.{Exact, Anything}
+use Rattle.bsdl_device.proofs.Choices.{NotNext}
+use Rattle.bsdl_device.proofs.Matched.{Spelled, spelled_take, spelled_marks, spelled_ended, spelled_pair, spelled_made}
+use Rattle.bsdl_device.proofs.Listed.{AreSome, spelled_some}
+use Rattle.bsdl_device.proofs.Views.{Free, seen}
 use Rattle.bsdl_contents.specs.Reader as reading
 use Rattle.bsdl_contents.specs.Reader.{seen_as, views, list_at, several_at, pins_at, pin_entry_at, opcode_at, access_at, code_in, code_of}
 use Rattle.bsdl_contents.proofs.Chosen.{Ways, spelled_choice}

@@ -20,11 +20,11 @@ use Rattle.bsdl_device.specs.Shape.{joined}
 use Rattle.bsdl_device.specs.Grammar.{has_pins, pin_map_words, opcodes_words, capture_words, idcode_words, accesses_words, rows_words, opcode_words, row_words, pin_entry_words, access_words}
 use Rattle.bsdl_device.specs.Spelled.{Hold, HoldPinMap, HoldOpcodes, HoldCapture, HoldIdcode, HoldAccess, HoldRows, HasContents}
 use Rattle.bsdl_device.specs.Faults as faults
-use Rattle.bsdl_reading.specs.Readers.{Read}
-use Rattle.bsdl_reading.proofs.Exact.{Exact}
-use Rattle.bsdl_reading.proofs.Matched.{Spelled}
-use Rattle.bsdl_reading.proofs.Listed.{AreSome}
-use Rattle.bsdl_reading.proofs.Views.{Free, all_free}
+use Rattle.bsdl_device.specs.Readers.{Read}
+use Rattle.bsdl_device.proofs.Exact.{Exact}
+use Rattle.bsdl_device.proofs.Matched.{Spelled}
+use Rattle.bsdl_device.proofs.Listed.{AreSome}
+use Rattle.bsdl_device.proofs.Views.{Free, all_free}
 use Rattle.bsdl_contents.specs.Laws.{HoldOneContents}
 use Rattle.bsdl_contents.specs.Reader as reading
 use Rattle.bsdl_contents.specs.Reader.{section_at, contents_from, contents_at}

@@ -1,9 +1,14 @@
 pub mod Among
 pub mod Chosen
+pub mod Cuts
+pub mod EntriesEntryLaws
+pub mod EntriesTold
 pub mod EntryLaws
-pub mod RowLaws
 pub mod Held
-pub mod RunLengths
-pub mod ListLoops
 pub mod JoinedStrings
+pub mod ListLoops
+pub mod OwnPlaces
+pub mod Partings
+pub mod RowLaws
+pub mod RunLengths
 pub mod Told

@@ -3,7 +3,7 @@ use Rattle.std.proofs.Common.{◌≡◌, ℕ, suc, zero, true, false, ◌<◌, �
 use Rattle.std.specs.Option.{option_map_or}
 use Rattle.list_laws.proofs.Options.{unit_there, unit_absent}
 use Rattle.bsdl_device.specs.Runs.{ContentWord, mark_in}
-use Rattle.bsdl_reading.specs.Readers.{Read, done, after, front, rest, rest_if, more_of}
+use Rattle.bsdl_device.specs.Readers.{Read, done, after, front, rest, rest_if, more_of}
 use Rattle.bsdl_contents.specs.declared.fault.PartFault.{PartFault}
 use Rattle.bsdl_contents.specs.declared.fault.PartFault.TheVariants as fault
 use Rattle.bsdl_contents.specs.Outcomes.{Gives}

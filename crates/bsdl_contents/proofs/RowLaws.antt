@@ -11,11 +11,11 @@ use Rattle.bsdl_device.specs.declared.entries.RowEntry.{RowEntry}
 use Rattle.bsdl_device.specs.Patterns.{MatchesBy}
 use Rattle.bsdl_device.specs.Runs.{ContentWord, Run, Other, ContentPattern, KeyRun, NameRun, IntegerRun, Fits, mark_in, left_parenthesis, right_parenthesis, comma, star}
 use Rattle.bsdl_device.specs.Grammar.{cell_word, function_word, safe_word, bit_word, index_words, row_port_words, disable_words, row_words}
-use Rattle.bsdl_reading.specs.Readers.{Read}
-use Rattle.bsdl_reading.proofs.Exact.{Exact, Anything, exact_weaker}
-use Rattle.bsdl_reading.proofs.Choices.{NotNext}
-use Rattle.bsdl_reading.proofs.Matched.{Spelled, exact_stops, spelled_ended, spelled_pair, spelled_made}
-use Rattle.bsdl_reading.proofs.Views.{Free}
+use Rattle.bsdl_device.specs.Readers.{Read}
+use Rattle.bsdl_device.proofs.Exact.{Exact, Anything, exact_weaker}
+use Rattle.bsdl_device.proofs.Choices.{NotNext}
+use Rattle.bsdl_device.proofs.Matched.{Spelled, exact_stops, spelled_ended, spelled_pair, spelled_made}
+use Rattle.bsdl_device.proofs.Views.{Free}
 use Rattle.bsdl_contents.specs.Reader as reading
 use Rattle.bsdl_contents.specs.Reader.{views, index_at, optional_index_at, port_bit_at, row_port_at, disable_at, optional_disable_at, row_head_at, row_role_at, row_values_at, row_at}
 use Rattle.bsdl_contents.proofs.Chosen.{Ways, spelled_choice}

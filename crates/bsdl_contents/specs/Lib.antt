@@ -1,4 +1,9 @@
-pub mod WordsAhead
-pub mod Reader
-pub mod Outcomes
+pub mod BaseFile
+pub mod EntriesOutcomes
+pub mod EntriesReader
+pub mod EntriesWords
 pub mod Laws
+pub mod Outcomes
+pub mod OwnPlaces
+pub mod Reader
+pub mod WordsAhead

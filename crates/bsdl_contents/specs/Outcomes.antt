@@ -4,7 +4,7 @@ use Rattle.bsdl_device.specs.Runs.{ContentWord}
 use Rattle.bsdl_device.specs.Faults as faults
 use Rattle.bsdl_device.specs.declared.written.File.{File}
 use Rattle.bsdl_device.specs.declared.entries.Contents.{Contents}
-use Rattle.bsdl_reading.specs.Readers.{Read}
+use Rattle.bsdl_device.specs.Readers.{Read}
 use Rattle.bsdl_contents.specs.declared.fault.ContentsFault.{ContentsFault}
 use Rattle.bsdl_contents.specs.declared.fault.ContentsFault.TheVariants as contents
 use Rattle.bsdl_contents.specs.declared.fault.PartFault.{PartFault}

@@ -27,8 +27,8 @@ use Rattle.bsdl_device.specs.Shape.{joined}
 use Rattle.bsdl_device.specs.Runs as runs
 use Rattle.bsdl_device.specs.Runs.{ContentWord, ContentPattern, KeyRun, IdentifierRun, NameRun, PinRun, IntegerRun, BitsRun, MarkByte, identifier_in, name_in, pin_in, integer_in, pattern_in, left_parenthesis, right_parenthesis, comma, colon}
 use Rattle.bsdl_device.specs.Grammar.{cell_word, function_word, safe_word, bit_word, register_word}
-use Rattle.bsdl_reading.specs.Readers.{Read, after, done, take_at, some_of, pair_at, ended_at, made_at, either, end_at}
-use Rattle.bsdl_reading.specs.Files.{or_next}
+use Rattle.bsdl_device.specs.Readers.{Read, after, done, take_at, some_of, pair_at, ended_at, made_at, either, end_at}
+use Rattle.bsdl_device.specs.Files.{or_next}
 
 -- Words.
 

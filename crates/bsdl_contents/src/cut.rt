@@ -4,7 +4,7 @@ ghost use Rattle.bsdl_device.specs.Runs.{content_words};
 ghost use Rattle.bsdl_contents.specs.WordsAhead.{run_len, unspaced, words_left};
 
 use crate::piece::Piece;
-use bsdl_runs::runs::is_name_byte;
+use bsdl_device::runs::runs::is_name_byte;
 
 // The bytes behind blanks.
 fn skip_blanks(bytes: &[u8]) -> &[u8]

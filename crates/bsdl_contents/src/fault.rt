@@ -2,7 +2,6 @@ ghost use Rattle.std.specs.Prelude.{◌≡◌};
 ghost use Rattle.bsdl_contents.specs.declared.fault.PartFault.TheVariants.{OutOfMemory as OutOfMemoryFault};
 
 use texts::OutOfMemory;
-use thiserror::Error;
 
 /// Why a part of a section's contents isn't read.
 #[derive(Clone, Copy, Drop)]
@@ -34,7 +33,7 @@ impl PartFault {
 }
 
 /// A section whose strings hold something.
-#[derive(Clone, Copy, Debug, Drop, PartialEq, Eq)]
+#[derive(Clone, Copy, Drop, PartialEq, Eq)]
 pub enum HeldSection {
     PinMap,
     Opcodes,
@@ -46,11 +45,9 @@ pub enum HeldSection {
 }
 
 /// Why a file has no contents.
-#[derive(Clone, Copy, Debug, Drop, Error)]
+#[derive(Clone, Copy, Drop)]
 pub enum ContentsFault {
     /// The first section whose strings hold what they can't.
-    #[error("the strings of a section hold what they can't")]
     Section(HeldSection),
-    #[error("out of memory")]
     OutOfMemory,
 }

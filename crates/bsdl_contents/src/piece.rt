@@ -1,11 +1,11 @@
 ghost use Rattle.std.specs.Prelude.{◌≡◌};
 ghost use Rattle.std.specs.Option.{is_some, option_copied};
 
+use bsdl_device::runs::numbers::{binary, decimal};
+use bsdl_device::runs::runs::{is_identifier, is_integer, is_pattern, is_pin};
 use bsdl_device::{Register, Safe};
 use bsdl_lexicon::names::same_name;
 use bsdl_lexicon::reserved::is_reserved;
-use bsdl_runs::numbers::{binary, decimal};
-use bsdl_runs::runs::{is_identifier, is_integer, is_pattern, is_pin};
 use cell_library::{Bits, BoundaryKind, Function};
 
 /// A word of contents: a run of letters, digits and `_`, or one other byte that is no blank.

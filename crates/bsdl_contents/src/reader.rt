@@ -1,7 +1,7 @@
 ghost use Rattle.std.specs.Prelude.{◌≡◌, ◌<◌, ◌≤◌, List, length, IsTrue};
 ghost use Rattle.std.specs.Option.{is_some, option_copied};
 ghost use Rattle.bsdl_device.specs.Runs.{ContentWord, content_words, identifier_in, name_in, pin_in, integer_in, pattern_in, key_in, mark_in};
-ghost use Rattle.bsdl_reading.specs.Readers.{front, rest, rest_if, take_at, end_at};
+ghost use Rattle.bsdl_device.specs.Readers.{front, rest, rest_if, take_at, end_at};
 ghost use Rattle.bsdl_contents.specs.WordsAhead.{words_left};
 ghost use Rattle.bsdl_contents.specs.Outcomes.{Gives};
 ghost use Rattle.bsdl_contents.specs.Reader.{cell_in, function_in, safe_in, bit_in, register_in, code_in};

@@ -1,6 +1,6 @@
 use crate::values::{Disable, Safe};
-use bsdl_lexicon::lower_texts::{Row, Text};
 use cell_library::{Bits, BoundaryKind, Function};
+use word_cutter::lower_texts::{Row, Text};
 
 /// The pins of a port as a pin map has them: one, or some in parentheses.
 #[derive(Drop)]
@@ -17,7 +17,7 @@ pub struct PinEntry {
 }
 
 /// `INSTRUCTION (bits)`
-#[derive(Debug, Drop)]
+#[derive(Drop)]
 pub struct OpcodeEntry {
     pub name: Text,
     pub bits: Bits,

@@ -1,5 +1,5 @@
-use bsdl_lexicon::lower_texts::{Row, Text};
 use cell_library::{Bits, BoundaryKind, Function, Opcode};
+use word_cutter::lower_texts::{Row, Text};
 
 /// What a port is to the device.
 #[derive(Clone, Copy, Drop, PartialEq, Eq)]

@@ -1,5 +1,5 @@
 use crate::values::{PortMode, PortRange, Stop};
-use bsdl_lexicon::lower_texts::{Row, Text};
+use word_cutter::lower_texts::{Row, Text};
 
 /// The direction of a range: to greater or to lesser indices.
 #[derive(Clone, Copy, Drop, PartialEq, Eq)]

@@ -1,4 +1,3 @@
-pub use Rattle.list_laws.proofs as list_laws
 pub mod ReadWords
-pub mod SameNames
 pub mod ReservedWords
+pub mod SameNames

@@ -3,8 +3,8 @@ use Rattle.std.specs.Prelude.{◌==◌, if◌then◌else◌}
 use Rattle.std.specs.List.{list_all, list_any}
 use Rattle.std.proofs.lemmas.List.Folds.{list_any-append}
 use Rattle.std.proofs.lemmas.Bool.{eqb-true}
-use Rattle.list_laws.proofs.Lists.{any_map}
-use Rattle.list_laws.proofs.Tests.{and_left, and_right, neither, not_true, or_false}
+use Rattle.texts.proofs.list_laws.Lists.{any_map}
+use Rattle.texts.proofs.list_laws.Tests.{and_left, and_right, neither, not_true, or_false}
 use Rattle.bsdl_lexicon.specs.Names.{lower, is_same_name}
 use Rattle.bsdl_lexicon.specs.Reserved.{is_reserved, reserved_words}
 use Rattle.bsdl_lexicon.specs.ByLetter.{is_among, reserved_with, with_a, with_b, with_c, with_d, with_e, with_f, with_g, with_i, with_l, with_m, with_n, with_o, with_p, with_r, with_s, with_t, with_u, with_v, with_w, with_x}

@@ -15,7 +15,6 @@
 // By the contract of `same_name`, `lower`, `is_reserved`, `BsdlToken`, `BsdlSymbol`, `BsdlWords` and `BsdlReader`.
 #![tactic(auto)]
 
-pub mod lower_texts;
 pub mod name_key;
 pub mod names;
 pub mod reader;

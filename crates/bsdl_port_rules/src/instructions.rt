@@ -7,11 +7,11 @@ ghost use Rattle.bsdl_device.specs.Checks as rule;
 ghost use Rattle.bsdl_lexicon.specs.NameKeys.{names_in};
 
 use crate::names::is_repeated;
-use bsdl_device::{Contents, File, INSTRUCTIONS, OpcodeEntry, REQUIRED_INSTRUCTIONS};
-use bsdl_lexicon::NameKey;
-use bsdl_runs::opcodes::{
+use bsdl_device::runs::opcodes::{
     bypass_is_not_ones, clash, code_is_barred, has_instruction, has_other_length, names_instruction,
 };
+use bsdl_device::{Contents, File, INSTRUCTIONS, OpcodeEntry, REQUIRED_INSTRUCTIONS};
+use bsdl_lexicon::NameKey;
 use cell_library::Instr;
 use std::alloc::Global;
 use texts::OutOfMemory;

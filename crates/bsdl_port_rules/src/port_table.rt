@@ -6,11 +6,11 @@ ghost use Rattle.bsdl_lexicon.specs.NameKeys.{names_in};
 
 use bsdl_device::DeclaredPort;
 use bsdl_lexicon::NameKey;
-use first_faults::first_places;
 use indexmap::IndexMap;
 use std::alloc::Global;
 use std::marker::Model;
 use texts::OutOfMemory;
+use texts::first_faults::first_places;
 
 /// The ports of a file, found by name. Of ports of one name the first is found.
 #[derive(Drop)]

@@ -6,8 +6,8 @@ ghost use Rattle.bsdl_device.specs.Canonical as text_of;
 
 use crate::head::port_name;
 use crate::text::{put_all, put_attribute};
+use bsdl_device::runs::written::{cell_word, put_number};
 use bsdl_device::{CellRow, DevBit, DevPort, Device, Disable, Safe};
-use bsdl_runs::written::{cell_word, put_number};
 use cell_library::Function;
 use texts::{OutOfMemory, Text};
 

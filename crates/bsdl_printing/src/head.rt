@@ -4,8 +4,8 @@ ghost use Rattle.bsdl_device.specs.Shape as words;
 ghost use Rattle.bsdl_device.specs.Canonical as text_of;
 
 use crate::text::put_all;
+use bsdl_device::runs::written::put_number;
 use bsdl_device::{DevPort, Device, PortMode, PortRange, Stop};
-use bsdl_runs::written::put_number;
 use texts::{OutOfMemory, Text};
 
 fn mode_word(mode: PortMode) -> &'static [u8]

@@ -4,8 +4,8 @@ ghost use Rattle.bsdl_device.specs.Instructions as words;
 ghost use Rattle.bsdl_device.specs.Canonical as text_of;
 
 use crate::text::{put_all, put_attribute};
+use bsdl_device::runs::written::{put_bits, put_number, put_pattern};
 use bsdl_device::{Device, instruction_word, is_instruction};
-use bsdl_runs::written::{put_bits, put_number, put_pattern};
 use cell_library::{Instr, Opcode};
 use texts::{OutOfMemory, Text};
 

@@ -8,7 +8,9 @@ use crate::head::{put_head, put_tap};
 use crate::instructions::put_registers;
 use crate::text::put_all;
 use bsdl_device::Device;
-use bsdl_round_trip::{canonical_texts_spell_their_devices, spelled_devices_keep_the_conditions};
+use bsdl_device::round_trip::{
+    canonical_texts_spell_their_devices, spelled_devices_keep_the_conditions,
+};
 use std::alloc::Global;
 use texts::{OutOfMemory, Text};
 

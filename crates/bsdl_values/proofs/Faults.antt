@@ -22,7 +22,7 @@ use Rattle.bsdl_checks.specs.declared.first.BrokenRule.{BrokenRule}
 use Rattle.bsdl_files.specs.declared.fault.FileFault.{FileFault}
 use Rattle.bsdl_files.specs.declared.fault.FileFault.TheVariants as file
 use Rattle.bsdl_files.specs.Faults as files
-use Rattle.bsdl_reading.specs.Laws.{SpellsOneFile}
+use Rattle.bsdl_device.specs.ReadingLaws.{SpellsOneFile}
 use Rattle.bsdl_contents.specs.declared.fault.HeldSection.{HeldSection}
 use Rattle.bsdl_contents.specs.Outcomes.{section_of}
 use Rattle.bsdl_contents.specs.Laws.{HoldOneContents}

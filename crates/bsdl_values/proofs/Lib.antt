@@ -1,3 +1,9 @@
 pub mod ContentsWords
 pub mod Faults
+pub mod Lengths
+pub mod Once
+pub mod Parted
+pub mod RegisterTextsTexts
+pub mod RegistersContentsWords
+pub mod RegistersFaults
 pub mod Texts

@@ -1,6 +1,13 @@
+pub mod BaseFile
 pub mod DeviceFaults
 pub mod FaultKinds
 pub mod Laws
 pub mod Places
-pub mod TextOutcome
+pub mod RegisterTextsFaultKinds
+pub mod RegisterTextsLaws
+pub mod RegisterTextsTextFaults
+pub mod RegisterTextsTextOutcome
+pub mod RegistersFaultKinds
+pub mod RegistersPlaces
 pub mod TextFaults
+pub mod TextOutcome

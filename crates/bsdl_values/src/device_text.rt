@@ -6,10 +6,10 @@ ghost use Rattle.bsdl_values.specs.TextFaults.{IsDeviceTextFault, IsWordsFault};
 
 use crate::parse::parse_device;
 use bsdl_contents::strings_hold_one_contents;
+use bsdl_device::reading::spells_one_file;
+use bsdl_device::round_trip::{canonical_reads_back, spelled_devices_keep_the_conditions};
 use bsdl_device::{Device, DeviceTextFault};
 use bsdl_lexicon::BsdlWords;
-use bsdl_reading::spells_one_file;
-use bsdl_round_trip::{canonical_reads_back, spelled_devices_keep_the_conditions};
 use bsdl_words::{BsdlWordFault, texts_are_one_list_of_words};
 use std::alloc::Global;
 use texts::Text;

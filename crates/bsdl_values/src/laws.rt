@@ -1,8 +1,8 @@
 ghost use Rattle.bsdl_values.specs.Laws.{SpellsOneDevice, DevicesAreReadBack};
 
 use bsdl_contents::strings_hold_one_contents;
-use bsdl_reading::spells_one_file;
-use bsdl_round_trip::canonical_texts_spell_their_devices;
+use bsdl_device::reading::spells_one_file;
+use bsdl_device::round_trip::canonical_texts_spell_their_devices;
 use bsdl_words::texts_are_one_list_of_words;
 
 /// Two different devices never have the same text.

@@ -14,6 +14,8 @@
 // - `read_device`: the same from the bytes of a text, besides `BsdlWord` with the place where the bytes can't go
 //   on. On success the bytes spell the device and no other, so do those of its canonical text, and the device
 //   keeps `IsDevice`.
+// - `register_texts`: bytes to the one device that they describe, with these registers.
+// - `registers`: words to the one device that they describe, with these registers.
 // By the contract of `parse_device`, `read_device` and its law functions.
 #![tactic(auto)]
 
@@ -21,6 +23,8 @@ mod device_text;
 mod laws;
 mod parse;
 mod places;
+pub mod register_texts;
+pub mod registers;
 
 pub use device_text::read_device;
 pub use laws::{devices_are_read_back, spells_one_device};

@@ -10,10 +10,10 @@ ghost use Rattle.bsdl_values.specs.FaultKinds as kinds;
 use crate::places::string_word;
 use bsdl_checks::{device, first_fault};
 use bsdl_contents::{ContentsFault, read_contents, strings_hold_one_contents};
+use bsdl_device::reading::spells_one_file;
 use bsdl_device::{Contents, Device, DeviceFault, File};
 use bsdl_files::{FileFault, read_file};
 use bsdl_lexicon::BsdlWords;
-use bsdl_reading::spells_one_file;
 use std::alloc::Global;
 
 // A fault of the file as one of the device.

@@ -1,8 +1,8 @@
-pub mod Outcome
-pub mod Complete
-pub mod Once
 pub mod Begun
-pub mod Sound
 pub mod Bytes
+pub mod Complete
 pub mod Feeds
+pub mod Once
+pub mod Outcome
 pub mod Runs
+pub mod Sound

@@ -1,14 +1,11 @@
-use thiserror::Error;
 use word_cutter::CutFault;
 
 /// Why a BSDL text isn't cut into words.
-#[derive(Clone, Copy, Debug, Drop, Error, PartialEq, Eq)]
+#[derive(Clone, Copy, Debug, Drop, PartialEq, Eq)]
 pub enum BsdlWordFault {
     /// The bytes before `place` begin some text of the word grammar, and no more of them do.
-    #[error("BsdlWord {place}")]
     BsdlWord { place: u64 },
     /// Memory was refused, or a word has 4 GiB or more.
-    #[error("out of memory")]
     OutOfMemory,
 }
 

@@ -22,7 +22,6 @@ mod machine;
 mod mode;
 mod whole;
 
-pub use bsdl_lexicon::BsdlReader;
 pub use cutter::BsdlCutter;
 pub use fault::BsdlWordFault;
 pub use laws::texts_are_one_list_of_words;

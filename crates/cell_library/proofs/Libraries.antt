@@ -1,7 +1,7 @@
 -- Libraries that grow.
 use Rattle.std.proofs.Common.{◌≡◌, ◌<◌, List, [], ◌∷◌, ◌++◌, length, Result, Ok, Err, OnOk, OnErr, subst, sym, arith, ◌∙◌, ap, inl, inr, length-append}
 use Rattle.std.proofs.lemmas.List.Elements.{All-push}
-use Rattle.list_laws.proofs.Lists.{at_push}
+use Rattle.verilog_lexicon.proofs.list_laws.Lists.{at_push}
 use Rattle.cell_library.specs.declared.listed.ListedCell.{ListedCell}
 use Rattle.cell_library.specs.Library.{own_kind_named}
 use Rattle.cell_library.specs.Sound.{IsSoundCell, IsLibrary, IsNewTo}

@@ -7,7 +7,7 @@ use Rattle.std.specs.Str.{bytes_eq}
 use Rattle.std.specs.Cmp.Lexicographic.{bytes_decides}
 use Rattle.std.proofs.lemmas.Option.{slice_get-get_or}
 use Rattle.std.proofs.lemmas.List.Quantifiers.{position-Some}
-use Rattle.list_laws.proofs.Lists.{any_at, position_none}
+use Rattle.verilog_lexicon.proofs.list_laws.Lists.{any_at, position_none}
 use Rattle.cell_library.specs.declared.Kind.{Kind}
 use Rattle.cell_library.specs.declared.Kind.TheVariants.{Mux2, Flop, Listed}
 use Rattle.cell_library.specs.declared.Edge.{Edge}

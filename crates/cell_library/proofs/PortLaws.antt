@@ -8,8 +8,8 @@ use Rattle.std.specs.Cmp.Lexicographic.{bytes_decides}
 use Rattle.std.proofs.lemmas.Option.{slice_get-get_or}
 use Rattle.std.proofs.lemmas.List.Quantifiers.{position-Some}
 use Rattle.std.proofs.lemmas.List.Elements.{All-get_or}
-use Rattle.list_laws.proofs.Bytes.{bytes_eq-same, bytes_eq-sym}
-use Rattle.list_laws.proofs.Lists.{all_at, any_at, position_none}
+use Rattle.verilog_lexicon.proofs.list_laws.Bytes.{bytes_eq-same, bytes_eq-sym}
+use Rattle.verilog_lexicon.proofs.list_laws.Lists.{all_at, any_at, position_none}
 use Rattle.cell_library.specs.declared.Kind.{Kind}
 use Rattle.cell_library.specs.declared.Kind.TheVariants.{Mux2, Flop, Listed}
 use Rattle.cell_library.specs.declared.listed.ListedCell.{ListedCell}

@@ -1,8 +1,8 @@
 -- What steps leave, one after the other.
 use Rattle.std.proofs.Common.{◌≡◌, ◌≤◌, ℕ, zero, suc, ◌+◌, ◌-◌, inl, inr, true, false, ◌&&◌, nat_le, List, [], ◌∷◌, length, drop, fold, slice_get, Some, refl, sym, arith, ◌∙◌, ap}
 use Rattle.std.proofs.lemmas.Bool.Decides.{leb_tells}
-use Rattle.list_laws.proofs.Tests.{and_left, and_right}
-use Rattle.list_laws.proofs.Lists.{left_at}
+use Rattle.verilog_lexicon.proofs.list_laws.Tests.{and_left, and_right}
+use Rattle.verilog_lexicon.proofs.list_laws.Lists.{left_at}
 use Rattle.signal_values.specs.declared.Sig.{Sig}
 use Rattle.cell_library.specs.declared.listed.Step.{Step}
 use Rattle.cell_library.specs.declared.listed.Step.TheVariants as step

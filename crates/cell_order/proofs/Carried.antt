@@ -2,13 +2,13 @@
 use Rattle.std.proofs.Common.{◌≡◌, ℕ, ◌+◌, ◌<◌, ◌≤◌, ◌⊎◌, inl, inr, ◌↔◌, Bool, true, false, List, length, arith, refl, sym, subst, ap, ◌∙◌}
 use Rattle.std.proofs.lemmas.Bool.Decides.{eqb_tells}
 use Rattle.std.proofs.lemmas.Option.{slice_get_within}
-use Rattle.netlist_laws.proofs.list_laws.Options.{is_there}
-use Rattle.netlist_laws.proofs.Search.{cell_at_once}
-use Rattle.netlist_laws.specs.cell_library.Gates.{is_flop}
-use Rattle.netlist_laws.specs.netlist_model.declared.CellId.{CellId}
-use Rattle.netlist_laws.specs.netlist_model.Lists.{CellView, NetlistView, cell_at}
-use Rattle.netlist_laws.specs.netlist_model.Cones.{GateReads, InCone, itself, behind}
-use Rattle.netlist_laws.specs.netlist_model.Orders.{StandsAt, IsCellOrder}
+use Rattle.list_laws.proofs.Options.{is_there}
+use Rattle.netlist_model.proofs.Search.{cell_at_once}
+use Rattle.cell_library.specs.Gates.{is_flop}
+use Rattle.netlist_model.specs.declared.CellId.{CellId}
+use Rattle.netlist_model.specs.Lists.{CellView, NetlistView, cell_at}
+use Rattle.netlist_model.specs.Cones.{GateReads, InCone, itself, behind}
+use Rattle.netlist_model.specs.Orders.{StandsAt, IsCellOrder}
 use Rattle.cell_order.specs.Marks.{AddsMarks, HasInCone, IsCarried, IsDrivenFrom, IsKept, IsMarked, ReadsMarked}
 use Rattle.cell_order.proofs.Spread.{one_cell}
 

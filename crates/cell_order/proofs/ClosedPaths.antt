@@ -2,12 +2,12 @@
 use Rattle.std.proofs.Common.{◌≡◌, ℕ, ◌+◌, ◌-◌, ◌<◌, List, length, slice_index, inl, inr, arith, refl, sym, ap, ◌∙◌, subst, false, Some}
 use Rattle.std.proofs.lemmas.Bool.{cases_lt}
 use Rattle.std.proofs.lemmas.Option.{slice_get_within}
-use Rattle.netlist_laws.proofs.list_laws.Lists.{slice_get_there}
-use Rattle.netlist_laws.proofs.Search.{cell_at_once}
-use Rattle.netlist_laws.specs.cell_library.Gates.{is_flop}
-use Rattle.netlist_laws.specs.netlist_model.declared.CellId.{CellId}
-use Rattle.netlist_laws.specs.netlist_model.Lists.{CellView, NetlistView, cell_at}
-use Rattle.netlist_laws.specs.netlist_model.Orders.{StandsAt}
+use Rattle.list_laws.proofs.Lists.{slice_get_there}
+use Rattle.netlist_model.proofs.Search.{cell_at_once}
+use Rattle.cell_library.specs.Gates.{is_flop}
+use Rattle.netlist_model.specs.declared.CellId.{CellId}
+use Rattle.netlist_model.specs.Lists.{CellView, NetlistView, cell_at}
+use Rattle.netlist_model.specs.Orders.{StandsAt}
 use Rattle.cell_order.specs.Walk.{IsClosed, IsPathBack, WaitsFor}
 use Rattle.cell_order.specs.Loops.{IsGateLoop, ReadsGate}
 

@@ -4,11 +4,11 @@ use Rattle.std.specs.Option.{is_some}
 use Rattle.std.specs.List.{slice_get}
 use Rattle.std.proofs.lemmas.Bool.Decides.{eqb_tells}
 use Rattle.std.proofs.lemmas.List.Sums.{sum_by-cons}
-use Rattle.netlist_laws.proofs.list_laws.Lists.{at_push, last_push, before_push}
+use Rattle.list_laws.proofs.Lists.{at_push, last_push, before_push}
 use Rattle.netlist_arena.proofs.Walks.{id_of}
-use Rattle.netlist_laws.specs.netlist_model.declared.CellId.{CellId}
-use Rattle.netlist_laws.specs.netlist_model.Lists.{CellView, NetlistView, cell_at, cell_count, live_cell}
-use Rattle.netlist_laws.specs.netlist_model.Orders.{StandsAt}
+use Rattle.netlist_model.specs.declared.CellId.{CellId}
+use Rattle.netlist_model.specs.Lists.{CellView, NetlistView, cell_at, cell_count, live_cell}
+use Rattle.netlist_model.specs.Orders.{StandsAt}
 use Rattle.cell_order.specs.Packed.{AreLiveCells, live_below}
 
 same_number : (a b : ℕ) → id_of a ≡ id_of b → a ≡ b

@@ -5,16 +5,16 @@ use Rattle.std.specs.List.{filter_map, cons_option, position}
 use Rattle.std.proofs.lemmas.Bool.Decides.{eqb_tells}
 use Rattle.std.proofs.lemmas.List.Quantifiers.{position-Some}
 use Rattle.std.proofs.lemmas.Option.{none-some, same_Some, slice_get_within, slice_get-get_or}
-use Rattle.netlist_laws.proofs.list_laws.Lists.{any_at, at_push, before_push, last_push, position_none}
-use Rattle.netlist_laws.proofs.list_laws.Options.{is_there, some_there}
-use Rattle.netlist_laws.proofs.Search.{cell_at_once}
-use Rattle.netlist_laws.specs.cell_library.Gates.{is_flop}
-use Rattle.netlist_laws.specs.netlist_model.declared.CellId.{CellId}
-use Rattle.netlist_laws.specs.netlist_model.declared.NetId.{NetId}
-use Rattle.netlist_laws.specs.netlist_model.declared.Feed.{Feed}
-use Rattle.netlist_laws.specs.netlist_model.declared.Feed.TheVariants.{Net, Const}
-use Rattle.netlist_laws.specs.netlist_model.Lists.{CellView, NetlistView, cell_at, live_cell, Drives, IsDrivenOnce}
-use Rattle.netlist_laws.specs.netlist_model.Orders.{StandsAt}
+use Rattle.list_laws.proofs.Lists.{any_at, at_push, before_push, last_push, position_none}
+use Rattle.list_laws.proofs.Options.{is_there, some_there}
+use Rattle.netlist_model.proofs.Search.{cell_at_once}
+use Rattle.cell_library.specs.Gates.{is_flop}
+use Rattle.netlist_model.specs.declared.CellId.{CellId}
+use Rattle.netlist_model.specs.declared.NetId.{NetId}
+use Rattle.netlist_model.specs.declared.Feed.{Feed}
+use Rattle.netlist_model.specs.declared.Feed.TheVariants.{Net, Const}
+use Rattle.netlist_model.specs.Lists.{CellView, NetlistView, cell_at, live_cell, Drives, IsDrivenOnce}
+use Rattle.netlist_model.specs.Orders.{StandsAt}
 use Rattle.cell_order.specs.Walk.{Stands, WaitsFor}
 use Rattle.cell_order.specs.Loops.{HasNoGateLoop, IsGateLoop, LooplessHasOrder, ReadsGate}
 use Rattle.cell_order.proofs.Steps.{number_of}

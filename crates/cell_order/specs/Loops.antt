@@ -1,9 +1,9 @@
 -- Gates that read one another in a circle, and which cells have an order.
 use Rattle.std.specs.Prelude.{◌≡◌, ℕ, ◌+◌, ◌-◌, ◌<◌, false, List, length, slice_index, ⊤}
-use Rattle.netlist_laws.specs.cell_library.Gates.{is_flop}
-use Rattle.netlist_laws.specs.netlist_model.declared.CellId.{CellId}
-use Rattle.netlist_laws.specs.netlist_model.Lists.{CellView, NetlistView, Drives, Reads, IsDrivenOnce}
-use Rattle.netlist_laws.specs.netlist_model.Orders.{IsCellOrder}
+use Rattle.cell_library.specs.Gates.{is_flop}
+use Rattle.netlist_model.specs.declared.CellId.{CellId}
+use Rattle.netlist_model.specs.Lists.{CellView, NetlistView, Drives, Reads, IsDrivenOnce}
+use Rattle.netlist_model.specs.Orders.{IsCellOrder}
 use Rattle.cell_order.specs.declared.fault.OrderFault.{OrderFault}
 use Rattle.cell_order.specs.declared.fault.OrderFault.TheVariants as fault
 

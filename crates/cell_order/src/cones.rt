@@ -1,16 +1,16 @@
 // Which nets stand in the cones of clocks, clears and presets.
 
 ghost use Rattle.std.specs.Prelude.{◌≡◌, ◌≤◌, ◌<◌, ◌↔◌, ℕ, IsSome, IsTrue, length, vec_capacity};
-ghost use Rattle.netlist_laws.specs.netlist_model.Cones.{FlopReads, IsClockPort, IsControlPort};
-ghost use Rattle.netlist_laws.specs.netlist_model.Formed.{IsWellFormed};
-ghost use Rattle.netlist_laws.specs.netlist_model.Orders.{IsCellOrder};
+ghost use Rattle.netlist_model.specs.Cones.{FlopReads, IsClockPort, IsControlPort};
+ghost use Rattle.netlist_model.specs.Formed.{IsWellFormed};
+ghost use Rattle.netlist_model.specs.Orders.{IsCellOrder};
 ghost use Rattle.netlist_arena.specs.Looks.{IsLive, feed_at};
 ghost use Rattle.cell_order.specs.Marks.{AddsMarks, AreInputs, FlopReadsAt, IsInConeOf, IsMarked, DrivesMarked, IsRead, IsReadAt, IsReadOfMarked};
 ghost use Rattle.cell_order.specs.Tables.{AreFlags};
 
 use crate::room::refill;
 use netlist_arena::Netlist;
-use netlist_laws::lower_netlist_model::{CellId, Feed};
+use netlist_model::{CellId, Feed};
 
 const CLOCK_PLACE: u32 = 1;
 

@@ -1,12 +1,12 @@
 // Which nets hang on flip-flops.
 
 ghost use Rattle.std.specs.Prelude.{◌≡◌, ◌≤◌, ◌<◌, ◌↔◌, ℕ, IsTrue, length};
-ghost use Rattle.netlist_laws.specs.netlist_model.Orders.{IsCellOrder};
+ghost use Rattle.netlist_model.specs.Orders.{IsCellOrder};
 ghost use Rattle.netlist_arena.specs.Looks.{IsLive};
 ghost use Rattle.cell_order.specs.Marks.{AddsMarks, HasInCone, IsDrivenBy, IsDrivenFrom, IsMarked, ReadsMarked};
 
 use netlist_arena::Netlist;
-use netlist_laws::lower_netlist_model::{CellId, Feed};
+use netlist_model::{CellId, Feed};
 
 /// Marks the nets in whose cone a marked net stands, or one that a flip-flop drives. The time is linear in cells and
 /// operands.

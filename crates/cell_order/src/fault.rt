@@ -1,13 +1,10 @@
 use texts::{OutOfMemory, Row};
-use thiserror::Error;
 
 /// Why cells get no order.
-#[derive(Debug, Drop, Error)]
+#[derive(Drop)]
 pub enum OrderFault {
     /// Each of these gates reads the one before, and the first reads the last; none stands twice.
-    #[error("these gates read one another in a circle")]
     Loop { numbers: Row<u32> },
-    #[error("out of memory")]
     OutOfMemory,
 }
 

@@ -1,10 +1,10 @@
 // The loop at the end of a path.
 
 ghost use Rattle.std.specs.Prelude.{◌≡◌, IfOk};
-ghost use Rattle.netlist_laws.specs.netlist_model.Orders.{StandsAt};
+ghost use Rattle.netlist_model.specs.Orders.{StandsAt};
 ghost use Rattle.cell_order.specs.Walk.{IsPathBack, Stands};
 
-use netlist_laws::lower_netlist_model::CellId;
+use netlist_model::CellId;
 use std::alloc::Global;
 use texts::{OutOfMemory, Row};
 

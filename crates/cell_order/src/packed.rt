@@ -1,11 +1,11 @@
 // The live cells of a netlist under numbers without gaps.
 
 ghost use Rattle.std.specs.Prelude.{◌≡◌, ◌≤◌, ◌<◌, ℕ, length, map, option_map, vec_capacity, Some, IsSome, MatchOption, ⊤};
-ghost use Rattle.netlist_laws.specs.cell_library.Gates.{flop_of};
-ghost use Rattle.netlist_laws.specs.netlist_model.Lists.{CellView, cell_at, cell_count};
-ghost use Rattle.netlist_laws.specs.netlist_model.Below.{IsFeedBelow, IsNetBelow};
-ghost use Rattle.netlist_laws.specs.netlist_model.Formed.{IsLaidOut};
-ghost use Rattle.netlist_laws.specs.netlist_model.Orders.{IsCellOrder, StandsAt};
+ghost use Rattle.cell_library.specs.Gates.{flop_of};
+ghost use Rattle.netlist_model.specs.Lists.{CellView, cell_at, cell_count};
+ghost use Rattle.netlist_model.specs.Below.{IsFeedBelow, IsNetBelow};
+ghost use Rattle.netlist_model.specs.Formed.{IsLaidOut};
+ghost use Rattle.netlist_model.specs.Orders.{IsCellOrder, StandsAt};
 ghost use Rattle.netlist_arena.specs.Looks.{IsDrivenOnce, IsLive, feed_at};
 ghost use Rattle.cell_order.specs.Packed.{AreLiveCells, cell_under, packed};
 ghost use Rattle.cell_order.specs.Walk.{HasWalkRoom, IsClosed, KeepsRoom};
@@ -14,9 +14,9 @@ use crate::drivers::note_drivers;
 use crate::order::order_cells;
 use crate::room::push_reserved;
 use crate::walk::Walk;
+use cell_library::FlopKind;
 use netlist_arena::Netlist;
-use netlist_laws::lower_cell_library::FlopKind;
-use netlist_laws::lower_netlist_model::{CellId, Feed, NetId};
+use netlist_model::{CellId, Feed, NetId};
 use std::marker::Model;
 
 /// A netlist whose live cells have the numbers from 0, as they stand in a list.
@@ -28,7 +28,7 @@ pub(crate) struct Packed<'a> {
 
 impl<'a> Model for Packed<'a> {
     ghost use Rattle.std.specs.Prelude.{◌≡◌, length};
-    ghost use Rattle.netlist_laws.specs.netlist_model.Lists.{cell_count};
+    ghost use Rattle.netlist_model.specs.Lists.{cell_count};
     ghost use Rattle.cell_order.specs.Packed.{PackedView, AreLiveCells, packed};
 
     ghost Value = { PackedView };

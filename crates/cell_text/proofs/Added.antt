@@ -5,7 +5,7 @@ use Rattle.std.proofs.lemmas.Bool.Decides.{leb_tells}
 use Rattle.std.proofs.lemmas.List.{length-map}
 use Rattle.std.proofs.lemmas.List.Elements.{All-nil, All-cons}
 use Rattle.list_laws.proofs.Tests.{and_left, both_false, not_false}
-use Rattle.first_faults.specs.Repeated.{repeated}
+use Rattle.texts.specs.Repeated.{repeated}
 use Rattle.cell_library.specs.declared.listed.ListedCell.{ListedCell}
 use Rattle.cell_library.specs.Laws.{OwnNamesAreExact}
 use Rattle.cell_library.specs.Library.{own_kind_named}

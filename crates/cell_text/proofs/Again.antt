@@ -11,8 +11,8 @@ use Rattle.list_laws.proofs.Bytes.{bytes_eq-same, bytes_eq-sym}
 use Rattle.list_laws.proofs.Lists.{any_at, position_none, slice_get_there, test_at, all_at}
 use Rattle.list_laws.proofs.Tests.{and_left, and_right, and_true, neither, both_false}
 use Rattle.verilog_lexicon.specs.Keywords as keys
-use Rattle.first_faults.specs.Repeated.{has_name, repeated_after, repeated}
-use Rattle.first_faults.proofs.Tables.{not_before}
+use Rattle.texts.specs.Repeated.{has_name, repeated_after, repeated}
+use Rattle.texts.proofs.Tables.{not_before}
 use Rattle.cell_library.specs.declared.FlopKind.{FlopKind}
 use Rattle.cell_library.specs.declared.Edge.{Edge}
 use Rattle.cell_library.specs.declared.Edge.TheVariants.{Rise, Fall}

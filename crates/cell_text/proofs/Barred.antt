@@ -7,7 +7,7 @@ use Rattle.list_laws.specs.Options.{or_else}
 use Rattle.list_laws.proofs.Bytes.{bytes_eq-same}
 use Rattle.list_laws.proofs.Lists.{any_at, in_front, left_at, none_left}
 use Rattle.list_laws.proofs.Tests.{or_first, or_second, neither, never_true, both_false}
-use Rattle.first_faults.specs.Repeated.{has_name, repeated_after, repeated, texts, bytes_of}
+use Rattle.texts.specs.Repeated.{has_name, repeated_after, repeated, texts, bytes_of}
 use Rattle.cell_text.specs.Words.{Words}
 use Rattle.cell_text.specs.Rules.{is_unfit, is_barred, barred_after}
 use Rattle.cell_text.specs.Reader.{fit_count}

@@ -1,7 +1,7 @@
 -- Lists of borrowed words, by the bytes of the words.
 use Rattle.std.proofs.Common.{◌≡◌, ℕ, zero, suc, List, [], ◌∷◌, ◌++◌, take, drop, length, slice_get, slice_index_or, get_or, position, nat_lt, ◌+◌, ◌&&◌, Bool, not, cond, ◌<◌, ◌≤◌, Some, None, Bor, refl, ap, ◌∙◌, arith}
 use Rattle.std.specs.List.{list_all, position_or_len}
-use Rattle.first_faults.specs.Repeated.{texts}
+use Rattle.texts.specs.Repeated.{texts}
 
 pub texts_append : (xs ys : List (Bor (List ℕ))) → texts (xs ++ ys) ≡ texts xs ++ texts ys
 texts_append [] ys = refl

@@ -3,9 +3,9 @@ use Rattle.std.proofs.Common.{◌≡◌, ◌≤◌, ◌<◌, ℕ, zero, suc, ◌
 use Rattle.std.specs.List.{position_or_len, enumerate_from}
 use Rattle.std.proofs.lemmas.Bool.Decides.{leb_tells}
 use Rattle.std.proofs.lemmas.List.{length-map}
-use Rattle.line_texts.specs.Words.{is_line_end, lines_of, words_of, is_kept, kept_lines}
-use Rattle.line_texts.specs.Ahead.{rest_of}
-use Rattle.line_texts.proofs.Cut.{line_within, line_to_end}
+use Rattle.word_cutter.specs.LinesWords.{is_line_end, lines_of, words_of, is_kept, kept_lines}
+use Rattle.word_cutter.specs.Ahead.{rest_of}
+use Rattle.word_cutter.proofs.Cut.{line_within, line_to_end}
 
 lines_within : (n : ℕ) (text : List ℕ) → length text ≤ n → length (lines_of text) ≤ length text
 lines_within n [] fits = omega arith

@@ -8,9 +8,9 @@ use Rattle.list_laws.specs.Options.{or_else, first_in}
 use Rattle.list_laws.proofs.Lists.{front_of, front_all, map_push}
 use Rattle.list_laws.proofs.Options.{first_in-append}
 use Rattle.list_laws.proofs.Tests.{and_right, true_or_false}
-use Rattle.line_texts.specs.Words.{words_of}
-use Rattle.line_texts.specs.Cut.{after_word}
-use Rattle.first_faults.specs.Repeated.{texts}
+use Rattle.word_cutter.specs.LinesWords.{words_of}
+use Rattle.word_cutter.specs.Cut.{after_word}
+use Rattle.texts.specs.Repeated.{texts}
 use Rattle.cell_library.specs.declared.FlopKind.{FlopKind}
 use Rattle.cell_library.specs.declared.ResetTo.{ResetTo}
 use Rattle.cell_library.specs.declared.ResetTo.TheVariants.{Nothing, Zero, One}

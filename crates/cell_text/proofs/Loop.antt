@@ -4,7 +4,7 @@ use Rattle.std.proofs.lemmas.List.Elements.{All-head, All-tail}
 use Rattle.list_laws.specs.Options.{or_else, first_in}
 use Rattle.list_laws.proofs.Lists.{taken_more, left_at, map_push, front_all}
 use Rattle.list_laws.proofs.Options.{first_in-append}
-use Rattle.line_texts.specs.Words.{words_of}
+use Rattle.word_cutter.specs.LinesWords.{words_of}
 use Rattle.cell_library.specs.declared.listed.ListedCell.{ListedCell}
 use Rattle.cell_library.specs.Laws.{OwnNamesAreExact}
 use Rattle.cell_text.specs.declared.fault.LibFault.{LibFault}

@@ -7,7 +7,7 @@ use Rattle.list_laws.proofs.Tests.{and_left, and_right, not_true}
 use Rattle.cell_text.specs.Words.{Words, is_colon, is_step_count}
 use Rattle.cell_text.specs.Lines.{parted, parts_at, IsParted}
 use Rattle.cell_text.specs.Cells.{flop_in, gate_in, gate_of}
-use Rattle.first_faults.specs.Repeated.{texts}
+use Rattle.texts.specs.Repeated.{texts}
 use Rattle.cell_library.specs.declared.listed.ListedCell.{ListedCell}
 use Rattle.texts.specs.declared.text.OutOfMemory.{OutOfMemory}
 use Rattle.cell_text.proofs.Borrowed.{index_at, texts_take, texts_drop}

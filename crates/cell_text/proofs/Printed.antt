@@ -5,7 +5,7 @@ use Rattle.cell_library.specs.declared.FlopKind.{FlopKind}
 use Rattle.cell_library.specs.declared.listed.Step.{Step}
 use Rattle.cell_library.specs.declared.listed.Body.TheVariants as body
 use Rattle.cell_library.specs.Library.{flop_name}
-use Rattle.line_texts.specs.Rows.{behind_blank, row_text}
+use Rattle.word_cutter.specs.Rows.{behind_blank, row_text}
 use Rattle.cell_text.specs.Words.{Words, step_word}
 use Rattle.cell_text.specs.Grammar.{body_words}
 

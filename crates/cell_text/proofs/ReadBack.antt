@@ -2,8 +2,8 @@
 use Rattle.std.proofs.Common.{◌≡◌, ◌≤◌, ◌<◌, ℕ, ◌+◌, Bool, true, false, if◌then◌else◌, List, [], ◌∷◌, map, length, Some, None, refl, sym, ap, ◌∙◌, subst, arith}
 use Rattle.list_laws.specs.Options.{first_in}
 use Rattle.list_laws.proofs.Lists.{front_all}
-use Rattle.line_texts.specs.Words.{kept_lines}
-use Rattle.line_texts.specs.Ahead.{first_number, rest_of}
+use Rattle.word_cutter.specs.LinesWords.{kept_lines}
+use Rattle.word_cutter.specs.Ahead.{first_number, rest_of}
 use Rattle.cell_library.specs.declared.listed.ListedCell.{ListedCell}
 use Rattle.cell_library.specs.Laws.{OwnNamesAreExact}
 use Rattle.cell_text.specs.declared.fault.LibFault.{LibFault}

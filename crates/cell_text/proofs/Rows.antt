@@ -9,9 +9,9 @@ use Rattle.list_laws.proofs.Lists.{slice_get_there, taken_more, front_all, map_p
 use Rattle.list_laws.proofs.Tests.{and_left, and_right}
 use Rattle.verilog_lexicon.specs.Bytes.{is_name_byte, is_letter, is_simple_name}
 use Rattle.verilog_lexicon.specs.Keywords.{reserved_of}
-use Rattle.line_texts.specs.Words.{is_line_end, is_blank_byte}
-use Rattle.line_texts.specs.Rows.{IsWordByte, IsWord, IsRow, row_text, rows_text}
-use Rattle.line_texts.specs.Laws.{ReadsBack, RowsReadBack}
+use Rattle.word_cutter.specs.LinesWords.{is_line_end, is_blank_byte}
+use Rattle.word_cutter.specs.Rows.{IsWordByte, IsWord, IsRow, row_text, rows_text}
+use Rattle.word_cutter.specs.LinesLaws.{ReadsBack, RowsReadBack}
 use Rattle.cell_library.specs.declared.Edge.{Edge}
 use Rattle.cell_library.specs.declared.Edge.TheVariants.{Rise, Fall}
 use Rattle.cell_library.specs.declared.ResetTo.{ResetTo}

@@ -8,8 +8,8 @@ use Rattle.std.proofs.lemmas.List.Elements.{All-nil, All-cons, All-head, All-tai
 use Rattle.list_laws.specs.Options.{or_else, first_in}
 use Rattle.list_laws.proofs.Options.{or_else-parts}
 use Rattle.list_laws.proofs.Tests.{and_left, and_right, neither}
-use Rattle.line_texts.specs.Words.{kept_lines}
-use Rattle.line_texts.specs.Ahead.{rest_of}
+use Rattle.word_cutter.specs.LinesWords.{kept_lines}
+use Rattle.word_cutter.specs.Ahead.{rest_of}
 use Rattle.cell_library.specs.declared.FlopKind.{FlopKind}
 use Rattle.cell_library.specs.declared.listed.ListedCell.{ListedCell}
 use Rattle.cell_library.specs.Gates.{flop_operand_count}

@@ -8,7 +8,7 @@ use Rattle.cell_library.specs.declared.listed.Body.{Body}
 use Rattle.cell_library.specs.declared.listed.Body.TheVariants as body
 use Rattle.cell_library.specs.declared.listed.ListedCell.{ListedCell}
 use Rattle.cell_library.specs.Sound.{is_port_name, leaves_one}
-use Rattle.first_faults.specs.Repeated.{repeated}
+use Rattle.texts.specs.Repeated.{repeated}
 use Rattle.cell_text.specs.Words.{Words, step_of, flop_named}
 use Rattle.cell_text.specs.Lines.{parted, takes}
 

@@ -1,9 +1,9 @@
 -- own: the first fault of a library's text.
 use Rattle.std.specs.Prelude.{◌≡◌, ℕ, ◌+◌, List, [], ◌∷◌, length, map, Option, Some, None, if◌then◌else◌}
 use Rattle.std.specs.Option.{option_map}
-use Rattle.line_texts.specs.Words.{lines_of, kept_lines}
-use Rattle.line_texts.specs.Ahead.{rest_of}
-use Rattle.first_faults.specs.First.{or_else, first_in}
+use Rattle.word_cutter.specs.LinesWords.{lines_of, kept_lines}
+use Rattle.word_cutter.specs.Ahead.{rest_of}
+use Rattle.texts.specs.First.{or_else, first_in}
 use Rattle.cell_text.specs.declared.fault.LibFault.{LibFault}
 use Rattle.cell_text.specs.declared.fault.LibFault.TheVariants as fault
 use Rattle.cell_text.specs.Words.{Words}

@@ -5,8 +5,8 @@ use Rattle.cell_library.specs.declared.listed.Body.TheVariants as body
 use Rattle.cell_library.specs.declared.listed.ListedCell.{ListedCell}
 use Rattle.cell_library.specs.Library.{flop_name}
 use Rattle.cell_library.specs.Sound.{IsLibrary}
-use Rattle.line_texts.specs.Rows.{rows_text}
-use Rattle.line_texts.specs.Words.{kept_lines}
+use Rattle.word_cutter.specs.Rows.{rows_text}
+use Rattle.word_cutter.specs.LinesWords.{kept_lines}
 use Rattle.cell_text.specs.Words.{Words, step_word}
 use Rattle.cell_text.specs.Faults.{words_in}
 

@@ -1,8 +1,8 @@
-pub mod Words
-pub mod Lines
 pub mod Cells
-pub mod Rules
 pub mod Faults
 pub mod Grammar
 pub mod Laws
+pub mod Lines
 pub mod Reader
+pub mod Rules
+pub mod Words

@@ -1,8 +1,8 @@
 -- own: how a library is read from the kept lines of a text.
 use Rattle.std.specs.Prelude.{◌≡◌, ◌≤◌, ℕ, suc, Bool, true, false, List, [], ◌∷◌, ◌++◌, All, length, map, take, Option, Some, None, Result, OnOk, if◌then◌else◌}
 use Rattle.std.specs.Borrow.{Bor}
-use Rattle.line_texts.specs.Words.{words_of, kept_lines}
-use Rattle.first_faults.specs.First.{first_in}
+use Rattle.word_cutter.specs.LinesWords.{words_of, kept_lines}
+use Rattle.texts.specs.First.{first_in}
 use Rattle.cell_library.specs.declared.listed.Step.{Step}
 use Rattle.texts.specs.declared.text.OutOfMemory.{OutOfMemory}
 use Rattle.cell_text.specs.declared.fault.LibFault.{LibFault}

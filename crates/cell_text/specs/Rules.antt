@@ -3,8 +3,8 @@ use Rattle.std.specs.Prelude.{ℕ, ◌||◌, not, nat_lt, Bool, List, [], ◌∷
 use Rattle.std.specs.Option.{option_map}
 use Rattle.cell_library.specs.Library.{own_kind_named}
 use Rattle.cell_library.specs.Sound.{is_cell_name}
-use Rattle.first_faults.specs.First.{or_else, first_in}
-use Rattle.first_faults.specs.Repeated.{has_name}
+use Rattle.texts.specs.First.{or_else, first_in}
+use Rattle.texts.specs.Repeated.{has_name}
 use Rattle.cell_text.specs.declared.fault.LibFault.{LibFault}
 use Rattle.cell_text.specs.declared.fault.LibFault.TheVariants as fault
 use Rattle.cell_text.specs.Words.{Words}

@@ -3,14 +3,14 @@ ghost use Rattle.std.specs.Prelude.{◌≡◌, ◌≤◌, ◌∷◌, length, IfO
 ghost use Rattle.std.specs.List.{list_all};
 ghost use Rattle.verilog_lexicon.specs.Bytes.{is_name_byte};
 ghost use Rattle.cell_library.specs.Sound as sound;
-ghost use Rattle.first_faults.specs.Repeated.{texts};
+ghost use Rattle.texts.specs.Repeated.{texts};
 ghost use Rattle.cell_text.specs.Cells as cells;
 
 use crate::lines::{colon_place, takes};
 use crate::words::{flop_named, step_of};
 use cell_library::{Body, FlopKind, ListedCell, Step};
-use first_faults::first_repeated;
 use std::alloc::Global;
+use texts::first_faults::first_repeated;
 use texts::{OutOfMemory, Row, Text};
 use verilog_lexicon::keywords::{is_simple_name, reserved_of};
 

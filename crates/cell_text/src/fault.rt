@@ -1,22 +1,16 @@
 use texts::{OutOfMemory, Text};
-use thiserror::Error;
 
 /// Why bytes spell no library; of several faults, the first by this order, and of one kind the first in the text.
-#[derive(Debug, Drop, Error)]
+#[derive(Debug, Drop)]
 pub enum LibFault {
     /// A line that can't stand there; or, where each line is skipped, the line after the last.
-    #[error("line {line} is no line of a library, or stands where it can't")]
     LibLine { line: u64 },
     /// More than 4,096 cells.
-    #[error("{count} listed cells are too many")]
     TooMany { count: u64 },
     /// A name that no cell can have, that of one of the seven, or one that came before.
-    #[error("a cell's name that can't be one, or that is taken")]
     LibName { name: Text },
     /// Ports that can't be the cell's, or steps that don't leave one value.
-    #[error("a cell whose ports or steps can't be those of one")]
     LibBody { name: Text },
-    #[error("out of memory")]
     OutOfMemory,
 }
 

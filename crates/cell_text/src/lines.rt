@@ -1,14 +1,14 @@
 // The forms of a library's lines.
 ghost use Rattle.std.specs.Prelude.{◌≡◌, ◌+◌, ◌<◌, ◌≤◌, [], length, take, drop, IfOk, None, Some, MatchOption};
-ghost use Rattle.line_texts.specs.Words.{words_of};
-ghost use Rattle.first_faults.specs.Repeated.{texts};
+ghost use Rattle.word_cutter.specs.LinesWords.{words_of};
+ghost use Rattle.texts.specs.Repeated.{texts};
 ghost use Rattle.cell_library.specs.Gates.{flop_operand_count};
 ghost use Rattle.cell_text.specs.Lines as lines;
 
 use crate::words::{flop_named, gather_words, is_colon};
 use cell_library::{FlopKind, ResetTo};
-use line_texts::two_words;
 use texts::OutOfMemory;
+use word_cutter::lines::two_words;
 
 /// `cells 1`
 pub(crate) fn is_version(line: &[u8]) -> bool

@@ -1,15 +1,15 @@
 // The rule on the names of cells.
 ghost use Rattle.std.specs.Prelude.{◌≡◌, ◌≤◌, [], length, map, IfOk};
-ghost use Rattle.first_faults.specs.Repeated.{bytes_of, texts};
+ghost use Rattle.texts.specs.Repeated.{bytes_of, texts};
 ghost use Rattle.cell_text.specs.Rules as rules;
 ghost use Rattle.cell_text.specs.Reader.{rows_of, fit_count};
 
 use crate::cells::is_cell_name;
 use crate::words::name_in;
 use cell_library::own_kind_of;
-use first_faults::first_repeated;
 use std::alloc::Global;
 use texts::OutOfMemory;
+use texts::first_faults::first_repeated;
 
 // The name can't be a cell's, or is one of the seven.
 fn is_unfit(name: &[u8]) -> bool

@@ -2,14 +2,14 @@
 ghost use Rattle.std.specs.Prelude.{◌≡◌, ◌++◌, ◌∷◌, [], codes, map, IfOk, OnOk};
 ghost use Rattle.std.specs.List.{flat_map};
 ghost use Rattle.cell_library.specs.Library.{flop_name};
-ghost use Rattle.line_texts.specs.Rows.{behind_blank, row_text, rows_text};
+ghost use Rattle.word_cutter.specs.Rows.{behind_blank, row_text, rows_text};
 ghost use Rattle.cell_text.specs.Grammar as grammar;
 ghost use Rattle.cell_text.specs.Words.{step_word};
 
 use cell_library::{Body, FlopKind, Kind, Library, ListedCell, Step, cell_name};
-use line_texts::{put_two, texts_of_rows_read_back};
 use std::alloc::Global;
 use texts::{OutOfMemory, Text};
+use word_cutter::lines::{put_two, texts_of_rows_read_back};
 
 fn put_word(text: &mut Text, word: &[u8]) -> Result<(), OutOfMemory>
     ensures { OnOk result (text.new ≡ text.old ++ behind_blank word.now) }

@@ -1,7 +1,7 @@
 // A library from its text: first the forms of all lines, then the names, then ports and steps.
 ghost use Rattle.std.specs.Prelude.{◌≡◌, ◌<◌, ◌≤◌, ◌+◌, ◌^◌, None, Some, map, IfErr, IfOk, length};
-ghost use Rattle.line_texts.specs.Words.{kept_lines};
-ghost use Rattle.first_faults.specs.First.{first_in};
+ghost use Rattle.word_cutter.specs.LinesWords.{kept_lines};
+ghost use Rattle.texts.specs.First.{first_in};
 ghost use Rattle.cell_text.specs.Cells as cells;
 ghost use Rattle.cell_text.specs.Faults as faults;
 ghost use Rattle.cell_text.specs.Grammar.{SpellsLibrary};
@@ -14,9 +14,9 @@ use crate::lines::{is_cell_line, is_version};
 use crate::names::find_barred;
 use crate::words::{gather_words, name_in};
 use cell_library::{Library, own_names_are_exact};
-use line_texts::LineReader;
 use std::alloc::Global;
 use texts::{OutOfMemory, Text};
+use word_cutter::lines::LineReader;
 
 /// How many cells a library has at most.
 const LIMIT: usize = 4096;

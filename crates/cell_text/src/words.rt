@@ -1,14 +1,14 @@
 // Words of a library's lines, and what they name.
 ghost use Rattle.std.specs.Prelude.{◌≡◌, ◌≤◌, length, take, position, IfOk, slice_index_or, []};
 ghost use Rattle.std.specs.Str.{bytes_eq};
-ghost use Rattle.line_texts.specs.Words.{words_of};
-ghost use Rattle.first_faults.specs.Repeated.{texts};
+ghost use Rattle.word_cutter.specs.LinesWords.{words_of};
+ghost use Rattle.texts.specs.Repeated.{texts};
 ghost use Rattle.cell_text.specs.Words as words;
 ghost use Rattle.cell_text.specs.Rules.{name_in};
 
 use cell_library::{FlopKind, Kind, Step, own_kind_of};
-use line_texts::next_word;
 use texts::OutOfMemory;
+use word_cutter::lines::next_word;
 
 /// No line of a cell has more words: a key, a name, an output, 16 inputs, a colon and 64 steps.
 const MOST_WORDS: usize = 84;

@@ -12,8 +12,8 @@ use Rattle.verilog_texts.specs.TextFaults.{IsTextFault}
 use Rattle.cell_library.specs.declared.listed.ListedCell.{ListedCell}
 use Rattle.link_model.specs.declared.fault.LinkFault.{LinkFault}
 use Rattle.link_model.specs.Late.{IsLinkable}
-use Rattle.command_faults.specs.netlist_link.Links.{IsLinkFault, HasLinkFault}
-use Rattle.command_faults.specs.netlist_link.Laws.{FaultsForbidLinks}
+use Rattle.netlist_link.specs.Links.{IsLinkFault, HasLinkFault}
+use Rattle.netlist_link.specs.Laws.{FaultsForbidLinks}
 use Rattle.command_faults.specs.declared.status.Status.TheVariants as status
 use Rattle.command_faults.specs.declared.fault.Fault.{Fault}
 use Rattle.command_faults.specs.declared.fault.Fault.TheVariants as fault

@@ -6,7 +6,7 @@ use Rattle.verilog_tree.specs.Texts as verilog
 use Rattle.verilog_texts.specs.TextFaults.{IsTextFault}
 use Rattle.cell_library.specs.declared.listed.ListedCell.{ListedCell}
 use Rattle.link_model.specs.Late.{IsLinkable}
-use Rattle.command_faults.specs.netlist_link.Links.{HasLinkFault}
+use Rattle.netlist_link.specs.Links.{HasLinkFault}
 use Rattle.bsdl_device.specs.declared.values.Device.{Device}
 use Rattle.bsdl_device.specs.Spelled as bsdl
 use Rattle.command_faults.specs.declared.fault.Fault.{Fault}

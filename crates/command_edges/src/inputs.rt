@@ -6,9 +6,9 @@ ghost use Rattle.command_edges.specs.Libraries.{IsLibraryOf, StandsInLibrary};
 use crate::libraries::library_of;
 use cell_library::Library;
 use command_faults::Fault;
-use edge_io::Text;
 use std::alloc::Global;
 use std::mem::replace;
+use texts::Text;
 
 /// Takes the text of one.
 pub fn take_one(alloc: Global, texts: &mut [Text]) -> Text

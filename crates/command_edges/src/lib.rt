@@ -18,7 +18,6 @@
 
 mod inputs;
 mod libraries;
-pub mod lower_command_faults;
 mod reads;
 mod tasks;
 mod writes;

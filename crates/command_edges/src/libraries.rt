@@ -5,8 +5,8 @@ ghost use Rattle.command_edges.specs.Libraries.{IsLibraryOf, StandsInLibrary};
 use cell_library::Library;
 use cell_text::read_library;
 use command_faults::Fault;
-use edge_io::Text;
 use std::alloc::Global;
+use texts::Text;
 
 /// The library that the first of these texts spells, or none without one.
 pub fn library_of<'a>(alloc: Global, more: &[Text]) -> Result<Library, Fault<'a>>

@@ -10,8 +10,8 @@ ghost use Rattle.command_edges.specs.Texts.{AreRead, StandsInReadings};
 use command_faults::Fault;
 use edge_io::shelf::Shelf;
 use edge_io::whole::{ReadIssue, read_whole};
-use edge_io::{Row, Text};
 use std::alloc::Global;
+use texts::{Row, Text};
 
 // The longest text that is read, in bytes.
 const LIMIT: u64 = 16_777_216;

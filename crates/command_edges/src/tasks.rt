@@ -14,8 +14,8 @@ use crate::writes::{put_text, write_all};
 use command_faults::{Fault, Status};
 use edge_io::shelf::Shelf;
 use edge_io::sink::Sink;
-use edge_io::{Row, Text};
 use std::alloc::Global;
+use texts::{Row, Text};
 
 /// What a command makes of the texts that it reads: those to be written, in order, the one to be put, if it puts one,
 /// and the status with which it then ends.

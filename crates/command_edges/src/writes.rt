@@ -6,10 +6,10 @@ ghost use Rattle.command_edges.specs.Seen.{shelf_seen, sink_seen};
 ghost use Rattle.command_edges.specs.Texts.{AreWritten, StandsInWritings};
 
 use command_faults::Fault;
-use edge_io::Text;
 use edge_io::shelf::Shelf;
 use edge_io::sink::Sink;
 use edge_io::whole::{put_whole, write_whole};
+use texts::Text;
 
 /// Writes a text under a name, in place of what was written there.
 pub fn write_text<'a, S: Shelf>(shelf: &mut S, name: &'a str, text: &Text) -> Result<(), Fault<'a>>

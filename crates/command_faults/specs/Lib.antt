@@ -1,4 +1,3 @@
-pub use Rattle.event_scripts.specs.netlist_link as netlist_link
+pub mod Lines
 pub mod Statuses
 pub mod Words
-pub mod Lines

@@ -12,18 +12,18 @@ use Rattle.cell_text.specs.declared.fault.LibFault.{LibFault}
 use Rattle.cell_text.specs.declared.fault.LibFault.TheVariants as library
 use Rattle.scan_vectors.specs.declared.fault.EventFault.{EventFault}
 use Rattle.scan_vectors.specs.declared.fault.EventFault.TheVariants as event
-use Rattle.event_scripts.specs.declared.fault.ScriptFault.{ScriptFault}
-use Rattle.event_scripts.specs.declared.fault.ScriptFault.TheVariants as script
+use Rattle.scan_vectors.specs.declared.scripts.fault.ScriptFault.{ScriptFault}
+use Rattle.scan_vectors.specs.declared.scripts.fault.ScriptFault.TheVariants as script
 use Rattle.bsdl_device.specs.declared.fault.DeviceTextFault.{DeviceTextFault}
 use Rattle.bsdl_device.specs.declared.fault.DeviceTextFault.TheVariants as device
-use Rattle.extended_texts.specs.declared.fault.ExtendedTextFault.{ExtendedTextFault}
-use Rattle.extended_texts.specs.declared.fault.ExtendedTextFault.TheVariants as extended
+use Rattle.bsdl_values.specs.declared.register_texts.fault.ExtendedTextFault.{ExtendedTextFault}
+use Rattle.bsdl_values.specs.declared.register_texts.fault.ExtendedTextFault.TheVariants as extended
 use Rattle.plan_texts.specs.declared.fault.PlanFault.{PlanFault}
 use Rattle.plan_texts.specs.declared.fault.PlanFault.TheVariants as plan
 use Rattle.plan_fitting.specs.declared.fault.FitFault.{FitFault}
 use Rattle.plan_fitting.specs.declared.fault.FitFault.TheVariants as fit
-use Rattle.status_texts.specs.declared.fault.StatusFault.{StatusFault}
-use Rattle.status_texts.specs.declared.fault.StatusFault.TheVariants as registers
+use Rattle.status_fitting.specs.declared.register_texts.fault.StatusFault.{StatusFault}
+use Rattle.status_fitting.specs.declared.register_texts.fault.StatusFault.TheVariants as registers
 use Rattle.output_lines.specs.Lines.{bit_text, words_line}
 use Rattle.command_faults.specs.declared.fault.Fault.{Fault}
 use Rattle.command_faults.specs.declared.fault.Fault.TheVariants as fault

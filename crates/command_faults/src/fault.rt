@@ -4,22 +4,23 @@ ghost use Rattle.command_faults.specs.declared.fault.Fault.TheVariants as made;
 
 use crate::status::Status;
 use bsdl_device::DeviceTextFault;
+use bsdl_values::register_texts::ExtendedTextFault;
 use cell_text::LibFault;
-use edge_io::OutOfMemory;
-use event_scripts::ScriptFault;
-use extended_texts::ExtendedTextFault;
 use hier_model::HierFault;
 use link_model::LinkFault;
 use netlist_model::What;
 use plan_fitting::FitFault;
 use plan_texts::PlanFault;
 use scan_vectors::EventFault;
-use status_texts::StatusFault;
+use scan_vectors::scripts::ScriptFault;
+use status_fitting::register_texts::StatusFault;
+use std::fmt;
+use texts::OutOfMemory;
 use thiserror::Error;
 use verilog_texts::TextFault;
 
 /// Why a command is refused. Names are those of the command's words.
-#[derive(Debug, Drop, Error)]
+#[derive(Drop, Error)]
 pub enum Fault<'a> {
     #[error("the words are no command")]
     Usage,
@@ -29,49 +30,43 @@ pub enum Fault<'a> {
     ReadFault { name: &'a str },
     #[error("a text is longer than 16,777,216 bytes")]
     TooLong { name: &'a str },
-    /// A netlist's text is no module.
-    #[error("{0}")]
+    #[error("a netlist's text is no module")]
     Netlist(TextFault),
-    /// Modules can't be made flat.
-    #[error("{0}")]
+    #[error("modules can't be made flat")]
     Hier(HierFault),
-    /// A module is no netlist.
-    #[error("{0}")]
+    #[error("a module is no netlist")]
     Link(LinkFault),
-    /// A text is no library of cells.
-    #[error("{0}")]
+    #[error("a text is no library of cells")]
     Library(LibFault),
-    /// A text is none of events.
-    #[error("{0}")]
+    #[error("a text is none of events")]
     Events(EventFault),
-    /// Event lines aren't legal for a netlist.
-    #[error("{0}")]
+    #[error("event lines aren't legal for a netlist")]
     Script(ScriptFault),
-    /// A BSDL text is no device.
-    #[error("{0}")]
+    #[error("a BSDL text is no device")]
     Device(DeviceTextFault),
-    /// A BSDL text is no device, nor one with registers of its own.
-    #[error("{0}")]
+    #[error("a BSDL text is no device, nor one with registers of its own")]
     Extended(ExtendedTextFault),
-    /// A text is no plan.
-    #[error("{0}")]
+    #[error("a text is no plan")]
     Plan(PlanFault),
-    /// A plan doesn't fit a netlist.
-    #[error("{0}")]
+    #[error("a plan doesn't fit a netlist")]
     Fit(FitFault),
-    /// A text is none of data registers, or they don't fit a plan and a netlist.
-    #[error("{0}")]
+    #[error("a text is none of data registers, or they don't fit a plan and a netlist")]
     Registers(StatusFault),
-    /// With the test logic a netlist would have too many of something.
-    #[error("{count} where {limit} is the limit")]
+    #[error("with the test logic a netlist would have {count} of something, where {limit} is the limit")]
     TooMany { what: What, count: u64, limit: u64 },
-    /// No netlist and plan give a netlist with test logic and a device.
-    #[error("no netlist and plan give these")]
+    #[error("no netlist and plan give a netlist with test logic and a device")]
     NotInserted,
     #[error("out of memory")]
     OutOfMemory,
     #[error("a file couldn't be written")]
     WriteFault { name: &'a str },
+}
+
+// By hand, so that the faults below need no text of their own.
+impl fmt::Debug for Fault<'_> {
+    fn fmt<W: fmt::Write>(&self, f: &mut fmt::Formatter<W>) -> fmt::Result {
+        fmt::Display::fmt(self, f)
+    }
 }
 
 impl From<TextFault> for Fault<'_> {

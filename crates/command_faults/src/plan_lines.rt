@@ -9,7 +9,7 @@ use edge_io::whole::WriteFault;
 use output_lines::{Field, put_line};
 use plan_fitting::FitFault;
 use plan_texts::PlanFault;
-use status_texts::StatusFault;
+use status_fitting::register_texts::StatusFault;
 
 /// Puts the line of a text that is no plan.
 pub fn put_plan_fault<O: Sink>(out: &mut O, fault: &PlanFault) -> Result<(), WriteFault>

@@ -7,13 +7,13 @@ ghost use Rattle.command_faults.specs.Words as words;
 // Lines of the faults of texts.
 
 use bsdl_device::{DeviceTextFault, MeaningKind};
+use bsdl_values::register_texts::ExtendedTextFault;
 use edge_io::sink::Sink;
 use edge_io::whole::WriteFault;
-use event_scripts::ScriptFault;
-use extended_texts::ExtendedTextFault;
 use netlist_model::What;
 use output_lines::{Field, put_line};
 use scan_vectors::EventFault;
+use scan_vectors::scripts::ScriptFault;
 use verilog_texts::TextFault;
 
 /// Puts the line that tells that memory was refused.

@@ -5,7 +5,7 @@ use Rattle.netlist_model.specs.Lists.{NetlistView}
 use Rattle.netlist_model.specs.Runs.{Moment, PinEvent}
 use Rattle.scan_vectors.specs.declared.lines.Act.{Act}
 use Rattle.scan_vectors.specs.declared.lines.Act.TheVariants.{Start, Set, Expect}
-use Rattle.event_scripts.specs.declared.script.ScriptLine.{ScriptLine}
+use Rattle.scan_vectors.specs.declared.scripts.script.ScriptLine.{ScriptLine}
 use Rattle.sim_runs.specs.Runs.{event_of, events_at, events_of}
 use Rattle.sim_runs.specs.Outputs.{sets_with}
 use Rattle.conformance_report.specs.declared.verdict.Missed.{Missed}

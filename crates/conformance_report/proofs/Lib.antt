@@ -1,2 +1,6 @@
+mod Earliest
 mod Expected
+mod Merged
+mod Numbers
 mod Played
+mod Taps

@@ -12,7 +12,7 @@ use Rattle.netlist_model.specs.Lists.{NetlistView}
 use Rattle.netlist_model.specs.Runs.{Moment, PinEvent, IsStep, reading_at}
 use Rattle.scan_vectors.specs.declared.lines.Act.{Act}
 use Rattle.scan_vectors.specs.declared.lines.Act.TheVariants.{Start, Set, Expect}
-use Rattle.event_scripts.specs.declared.script.ScriptLine.{ScriptLine}
+use Rattle.scan_vectors.specs.declared.scripts.script.ScriptLine.{ScriptLine}
 use Rattle.netlist_meaning.specs.Pins.{net_of}
 use Rattle.sim_runs.specs.Runs.{net_number, event_of, events_of}
 use Rattle.sim_runs.specs.Outputs.{sets_with}

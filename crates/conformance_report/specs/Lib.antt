@@ -1,3 +1,6 @@
-pub use Rattle.sim_runs.specs as sim_runs
 pub mod Agreement
+pub mod ChecksLaws
+pub mod Firsts
+pub mod Merges
+pub mod Rules
 pub mod Verdicts

@@ -6,7 +6,7 @@ use Rattle.netlist_model.specs.Lists.{NetlistView}
 use Rattle.netlist_model.specs.Runs.{Moment, reading_at}
 use Rattle.scan_vectors.specs.declared.lines.Act.{Act}
 use Rattle.scan_vectors.specs.declared.lines.Act.TheVariants.{Start, Set, Expect}
-use Rattle.event_scripts.specs.declared.script.ScriptLine.{ScriptLine}
+use Rattle.scan_vectors.specs.declared.scripts.script.ScriptLine.{ScriptLine}
 use Rattle.sim_runs.specs.Runs.{net_number, events_of, IsRunOf}
 use Rattle.sim_runs.specs.Outputs.{sets_with}
 use Rattle.conformance_report.specs.declared.verdict.Missed.{Missed}

@@ -1,19 +1,20 @@
 // Plays a script and judges its expectations.
 ghost use Rattle.std.specs.Prelude.{◌≡◌, ◌+◌, ◌<◌, ◌^◌, ◌∷◌, [], true, IfOk, OnOk};
-ghost use Rattle.event_scripts.specs.Scripts.{IsPlayable};
+ghost use Rattle.scan_vectors.specs.ScriptsLaws.{IsPlayable};
 ghost use Rattle.netlist_meaning.specs.Sims.{moment_of};
 ghost use Rattle.sim_runs.specs.Outputs.{sets_with};
 ghost use Rattle.sim_runs.specs.PlayedScript.{CanPlay, IsFirst, Moves};
 ghost use Rattle.conformance_report.specs.Verdicts.{IsVerdict, Judges, expectation, expected_by};
 
 use crate::verdict::{Missed, Verdict};
-use event_scripts::{Script, ScriptLine};
-use event_sim::{EventSim, Steps};
+use event_parts::counted_cells::Steps;
 use netlist_link::Linked;
 use netlist_meaning::Event;
 use scan_vectors::Act;
+use scan_vectors::scripts::{Script, ScriptLine};
 use signal_values::{PinSig, show};
 use sim_runs::begin;
+use sim_runs::lower_event_sim::EventSim;
 use std::alloc::Global;
 use std::marker::Brand;
 use std::sync::ledger::{Blank, Ledger};

@@ -8,9 +8,11 @@
 // - `judge`: the verdict is that of a run of the script, in which every flip-flop begins unknown: how many sets
 //   there are, how many expectations are met, and all others in their order, each with its line, what it wants and
 //   what is read.
+// - `checks`: event lines on a netlist with a device's test logic: the first illegal line, or what isn't met.
 // By the contract of the two calls.
 #![tactic(auto)]
 
+pub mod checks;
 mod judgement;
 mod ports;
 mod verdict;

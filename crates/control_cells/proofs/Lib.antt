@@ -1,3 +1,3 @@
-pub mod Places
-mod Controls
 mod ControlKeys
+mod Controls
+pub mod Places

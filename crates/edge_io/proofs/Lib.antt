@@ -1,4 +1,4 @@
-pub mod Told
 pub mod Named
+pub mod Told
 pub mod Views
 pub mod Written

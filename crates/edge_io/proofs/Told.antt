@@ -1,7 +1,6 @@
-use Rattle.std.proofs.Common.{◌≡◌, ℕ, ◌≤◌, List, length, ◌+◌, ◌-◌, ◌++◌, take, drop, Option, Some, None, subst, sym, ap, ◌∙◌, arith, length-append, length-drop, append_assoc}
+use Rattle.std.proofs.Common.{◌≡◌, ℕ, ◌≤◌, List, length, ◌+◌, ◌-◌, ◌++◌, take, drop, Option, Some, None, subst, sym, ap, ◌∙◌, arith, length-append, length-drop, append_assoc, Bool, true, false, refl}
 use Rattle.std.proofs.Math.Seq.{take-add, take-length}
 use Rattle.std.proofs.lemmas.List.{length-take}
-use Rattle.std.proofs.Common.{Bool, true, false, refl}
 use Rattle.edge_io.specs.Shelf.{WhereTold, Reads, ChangesOne, appended, told_if}
 
 -- the text so far is the front of what is told

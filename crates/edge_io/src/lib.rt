@@ -49,5 +49,4 @@ pub use never_fails::NeverFails;
 pub use out_sink::OutSink;
 pub use shelf::{Failed, Shelf};
 pub use sink::Sink;
-pub use texts::{OutOfMemory, Row, Text};
 pub use whole::{ReadIssue, WriteFault, put_whole, read_whole, write_whole};

@@ -1,11 +1,8 @@
 ghost use Rattle.std.specs.Prelude.{◌≡◌, ℕ, Bool, ◌≤◌, ◌<◌, List, [], take, length, Option, IfOk, OnOk, OnErr};
 ghost use Rattle.edge_io.specs.Shelf.{Access, NoneFell, RoseAt, SameTold, WhereTold, Reads, ChangesOne, StartedIfTold, appended, told_if};
 
-use thiserror::Error;
-
 /// A call of a shelf or a sink didn't do its work.
-#[derive(Clone, Copy, Debug, Drop, Error)]
-#[error("the call failed")]
+#[derive(Clone, Copy, Drop)]
 pub struct Failed;
 
 /// Texts under names, as the files of a machine. A name that isn't there, and an append to a name that

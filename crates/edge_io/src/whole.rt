@@ -5,25 +5,22 @@ use crate::shelf::Shelf;
 use crate::sink::Sink;
 use std::alloc::Global;
 use texts::{OutOfMemory, Text};
-use thiserror::Error;
 
 /// How many bytes one read asks for.
 const PIECE: usize = 65_536;
 
 /// Why a text couldn't be read.
-#[derive(Clone, Copy, Debug, Drop, Error)]
+#[derive(Clone, Copy, Debug, Drop)]
 pub enum ReadIssue {
-    #[error("the shelf failed")]
+    /// The shelf failed.
     ReadFault,
-    #[error("the text is longer than the limit")]
+    /// The text is longer than the limit.
     TooLong,
-    #[error("no memory is left")]
     OutOfMemory,
 }
 
 /// A text couldn't be written, or was written in part.
-#[derive(Clone, Copy, Debug, Drop, Error)]
-#[error("the write failed")]
+#[derive(Clone, Copy, Drop)]
 pub struct WriteFault;
 
 /// Reads all that lies under a name, at most `limit` bytes. It answers `ReadFault` where a read fails, and

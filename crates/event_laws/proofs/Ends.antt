@@ -15,10 +15,10 @@ use Rattle.netlist_model.specs.declared.Dir.TheVariants.{Input, Output, Inout}
 use Rattle.netlist_model.specs.Lists.{CellView, NetlistView, cell_at, direction, Drives, IsUndriven}
 use Rattle.netlist_model.specs.Settled.{feed_values, follows_pin, cell_value, pin_rule, IsSettled}
 use Rattle.netlist_model.specs.Formed.{IsWellFormed, IsDriven}
-use Rattle.netlist_laws.specs.Runs.{kind_next, next_if}
-use Rattle.netlist_laws.proofs.Search.{driver_of-driven}
-use Rattle.netlist_laws.proofs.Flops.{reset_or-twice, flop_next-same}
-use Rattle.netlist_laws.proofs.Pins.{pin_kinds, pin_rule-input, pin_rule-inout, cell_drive-three_state}
+use Rattle.netlist_model.specs.LawsRuns.{kind_next, next_if}
+use Rattle.netlist_model.proofs.Search.{driver_of-driven}
+use Rattle.netlist_model.proofs.Flops.{reset_or-twice, flop_next-same}
+use Rattle.netlist_model.proofs.Pins.{pin_kinds, pin_rule-input, pin_rule-inout, cell_drive-three_state}
 use Rattle.netlist_settling.specs.Passes.{undriven_value, driven_value}
 use Rattle.event_laws.specs.Work.{Event, IsDone}
 use Rattle.event_laws.specs.Laws.{StartsRest, EventQueues, EventSteps}

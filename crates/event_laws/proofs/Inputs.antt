@@ -16,11 +16,11 @@ use Rattle.netlist_model.specs.declared.Dir.TheVariants.{Input, Output, Inout}
 use Rattle.netlist_model.specs.declared.Feed.TheVariants.{Net}
 use Rattle.netlist_model.specs.Lists.{CellView, NetlistView, cell_at, Drives}
 use Rattle.netlist_model.specs.Settled.{feed_values, cell_drive}
-use Rattle.netlist_laws.proofs.KindLaws.{flop_or_gate, three_state_gate, cell_value-flop}
-use Rattle.netlist_laws.specs.Runs.{kind_next, next_if}
-use Rattle.netlist_laws.proofs.Search.{output_or_not}
-use Rattle.netlist_laws.proofs.Once.{feed_values_same}
-use Rattle.netlist_laws.proofs.Flops.{operand_same, flop_next-after}
+use Rattle.netlist_model.proofs.KindLaws.{flop_or_gate, three_state_gate, cell_value-flop}
+use Rattle.netlist_model.specs.LawsRuns.{kind_next, next_if}
+use Rattle.netlist_model.proofs.Search.{output_or_not}
+use Rattle.netlist_model.proofs.Once.{feed_values_same}
+use Rattle.netlist_model.proofs.Flops.{operand_same, flop_next-after}
 use Rattle.netlist_settling.specs.Passes.{driven_value}
 use Rattle.event_laws.specs.Turns.{WaitsOn, AreTurns}
 

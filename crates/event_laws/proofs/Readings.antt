@@ -11,9 +11,9 @@ use Rattle.cell_library.specs.Gates.{is_three_state}
 use Rattle.netlist_model.specs.Lists.{CellView, NetlistView, direction}
 use Rattle.netlist_model.specs.Settled.{feed_values, cell_drive, drive_by, driver_of}
 use Rattle.netlist_model.specs.Readings.{reading_of}
-use Rattle.netlist_laws.specs.Drivers.{IsDriverOf}
-use Rattle.netlist_laws.proofs.Inside.{driver_drives}
-use Rattle.netlist_laws.proofs.Pins.{cell_drive-three_state}
+use Rattle.netlist_model.specs.Drivers.{IsDriverOf}
+use Rattle.netlist_model.proofs.Inside.{driver_drives}
+use Rattle.netlist_model.proofs.Pins.{cell_drive-three_state}
 use Rattle.event_laws.specs.Work.{IsAtRest, kept_drive}
 use Rattle.event_laws.specs.Laws.{RestReads}
 

@@ -5,7 +5,7 @@ use Rattle.signal_values.specs.declared.Sig.{Sig}
 use Rattle.signal_values.specs.declared.PinSig.{PinSig}
 use Rattle.netlist_model.specs.Lists.{CellView, NetlistView, cell_at, direction, Drives}
 use Rattle.netlist_model.specs.Settled.{feed_values}
-use Rattle.netlist_laws.proofs.Search.{cell_at_once}
+use Rattle.netlist_model.proofs.Search.{cell_at_once}
 use Rattle.netlist_settling.specs.Passes.{driven_value}
 use Rattle.event_laws.specs.Work.{Event, IsDone, IsWaiting, TakesTurn}
 use Rattle.event_laws.specs.Laws.{TurnKeeps}

@@ -8,7 +8,7 @@ use Rattle.signal_values.specs.declared.Sig.TheVariants.{Unknown}
 use Rattle.cell_library.specs.Gates.{is_three_state}
 use Rattle.netlist_model.specs.Settled.{feed_values, cell_drive, pin_rule}
 use Rattle.netlist_model.specs.Runs.{PinEvent, pins_after}
-use Rattle.netlist_laws.specs.Runs.{kind_next}
+use Rattle.netlist_model.specs.LawsRuns.{kind_next}
 use Rattle.netlist_settling.specs.Passes.{undriven_value, driven_value}
 use Rattle.event_laws.specs.Turns.{WaitsOn}
 

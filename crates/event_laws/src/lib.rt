@@ -9,9 +9,12 @@
 // - Each evaluation is that of a gate with an operand on a net that changed, and none has two; these are never more
 //   than the gates, and none where nothing changed (the next five).
 // - At rest what a bit reads is had from the values of nets and what is kept of three-state gates (`rest_reads`).
+// - `order`: a law: turns by class and place rise along the operands on which cells wait.
 #![tactic(auto)]
 
 ghost use Rattle.event_laws.specs.Laws.{CountBegins, CountEnds, EventQueues, EventSteps, NoneIsTouched, RestReads, StartsRest, TouchedAreGates, TurnCounts, TurnKeeps};
+
+pub mod order;
 
 /// At a start nothing is to be done.
 pub fn start_is_at_rest()

@@ -5,7 +5,7 @@ use Rattle.std.proofs.lemmas.List.{ext_get_or}
 use Rattle.signal_values.specs.declared.Sig.{Sig}
 use Rattle.signal_values.specs.declared.Sig.TheVariants.{Unknown}
 use Rattle.netlist_settling.specs.Values.{value_at}
-use Rattle.turn_queue.specs.Queues.{IsIn, Pops}
+use Rattle.event_parts.specs.QueuesLaws.{IsIn, Pops}
 use Rattle.event_sim.specs.Shown.{place_at}
 
 -- what is left in the log begins here, and all other nets are up to date

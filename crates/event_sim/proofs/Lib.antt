@@ -1,4 +1,4 @@
-pub mod ShownBits
-pub mod NetPlaces
 pub mod EmptiedLog
+pub mod NetPlaces
+pub mod ShownBits
 pub mod Simulators

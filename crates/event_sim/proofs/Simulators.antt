@@ -26,7 +26,7 @@ use Rattle.netlist_link.specs.Linked.{LinkedView}
 use Rattle.netlist_meaning.specs.Pins.{net_of}
 use Rattle.netlist_meaning.specs.States.{cell_bound}
 use Rattle.netlist_meaning.proofs.Flops.{all_kept}
-use Rattle.turn_queue.specs.Queues.{IsIn, bit_of}
+use Rattle.event_parts.specs.QueuesLaws.{IsIn, bit_of}
 use Rattle.event_laws.specs.Work.{IsAtRest, kept_drive}
 use Rattle.event_laws.proofs.Readings.{rest_reads}
 use Rattle.event_turns.specs.Logs.{Logs}

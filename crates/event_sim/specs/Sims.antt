@@ -8,7 +8,7 @@ use Rattle.netlist_settling.specs.Tables.{AreControls}
 use Rattle.netlist_link.specs.Linked.{LinkedView}
 use Rattle.netlist_meaning.specs.States.{cell_bound}
 use Rattle.netlist_meaning.specs.Sims.{MomentView}
-pub use Rattle.turn_queue.specs.Queues.{IsEmpty, IsIn, Pops}
+pub use Rattle.event_parts.specs.QueuesLaws.{IsEmpty, IsIn, Pops}
 use Rattle.event_laws.specs.Work.{IsAtRest}
 use Rattle.event_turns.specs.Circuits.{CircuitView}
 use Rattle.event_sim.specs.Shown.{ArePlaces, place_at, shown_nets}

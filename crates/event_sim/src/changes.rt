@@ -3,13 +3,13 @@
 
 ghost use Rattle.std.specs.Prelude.{◌≡◌, ◌<◌, ◌*◌, ℕ, length, Some};
 ghost use Rattle.netlist_settling.specs.Values.{value_at};
-ghost use Rattle.turn_queue.specs.Queues.{IsIn};
+ghost use Rattle.event_parts.specs.QueuesLaws.{IsIn};
 ghost use Rattle.event_sim.specs.Shown.{place_at};
 ghost use Rattle.event_sim.specs.Sims.{HasRoom, IsNone};
 
 use crate::places::place_at;
+use event_parts::queues::TurnQueue;
 use signal_values::Sig;
-use turn_queue::TurnQueue;
 
 /// Empties the log: each net of it has as value before what it has now, and is noted where it is shown.
 pub(crate) fn empty_log(

@@ -3,19 +3,19 @@
 ghost use Rattle.std.specs.Prelude.{◌≡◌, ◌≢◌, ◌<◌, ◌≤◌, ◌+◌, ◌*◌, ℕ, length, Some};
 ghost use Rattle.netlist_model.specs.Runs.{IsLegal, IsStep, reading_at};
 ghost use Rattle.netlist_settling.specs.Values.{value_at, pin_at};
-ghost use Rattle.turn_queue.specs.Queues.{IsIn};
+ghost use Rattle.event_parts.specs.QueuesLaws.{IsIn};
 ghost use Rattle.event_laws.specs.Counts.{touched_count};
 ghost use Rattle.event_turns.specs.Circuits.{FitsCircuit};
 ghost use Rattle.event_sim.specs.Shown.{place_at};
 ghost use Rattle.event_sim.specs.Sims.{HasRoom, IsNone, IsResting};
 
 use crate::changes::empty_log;
-use counted_cells::Steps;
+use event_parts::counted_cells::Steps;
+use event_parts::queues::TurnQueue;
 use event_turns::{Circuit, step};
 use netlist_model::NetId;
 use signal_values::{PinSig, Sig};
 use std::sync::ledger::Ledger;
-use turn_queue::TurnQueue;
 
 /// Steps by an event, and notes the shown bits that read another value than before.
 pub(crate) fn take_event<L: Ledger>(

@@ -19,5 +19,4 @@ mod places;
 mod shown;
 mod sim;
 
-pub use counted_cells::Steps;
 pub use sim::EventSim;

@@ -7,14 +7,15 @@ ghost use Rattle.netlist_model.specs.Runs.{IsKnownPin, IsStart, reading_at};
 ghost use Rattle.netlist_settling.specs.Values.{value_at};
 ghost use Rattle.netlist_meaning.specs.Pins.{ArePinsOf, net_of, outside};
 ghost use Rattle.netlist_meaning.specs.States.{IsStateOf, held};
-ghost use Rattle.turn_queue.specs.Queues.{IsEmpty, IsIn, Pops};
+ghost use Rattle.event_parts.specs.QueuesLaws.{IsEmpty, IsIn, Pops};
 ghost use Rattle.event_laws.specs.Counts.{touched_count};
 ghost use Rattle.event_sim.specs.Shown.{shown_nets};
 
 use crate::events::take_event;
 use crate::places::places_of;
 use crate::shown::nets_of;
-use counted_cells::Steps;
+use event_parts::counted_cells::Steps;
+use event_parts::queues::TurnQueue;
 use event_turns::{Circuit, keep_drives, reading};
 use netlist_link::Linked;
 use netlist_meaning::{Event, Pins, State, cell_bound, controls_of, directions_of};
@@ -24,7 +25,6 @@ use std::alloc::Global;
 use std::marker::Model;
 use std::sync::ledger::Ledger;
 use texts::OutOfMemory;
-use turn_queue::TurnQueue;
 
 /// Takes a linked netlist through a run: a start, and then events. All memory is taken when it is made.
 #[derive(Drop)]

@@ -10,7 +10,7 @@ use Rattle.netlist_model.specs.declared.CellId.{CellId}
 use Rattle.netlist_model.specs.declared.Feed.{Feed}
 use Rattle.netlist_model.specs.Lists.{CellView, NetlistView, cell_at}
 use Rattle.netlist_model.specs.Orders.{StandsAt}
-use Rattle.netlist_laws.proofs.Search.{cell_at_once}
+use Rattle.netlist_model.proofs.Search.{cell_at_once}
 use Rattle.netlist_settling.specs.Values.{feeds_of}
 use Rattle.netlist_settling.proofs.Turns.{stands_same}
 use Rattle.event_turns.specs.declared.circuit.Gate.{Gate}

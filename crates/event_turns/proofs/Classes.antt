@@ -14,9 +14,9 @@ use Rattle.netlist_model.specs.declared.Feed.TheVariants.{Net, Const}
 use Rattle.netlist_model.specs.Lists.{CellView, NetlistView, cell_at, Drives, Reads}
 use Rattle.netlist_model.specs.Formed.{IsLaidOut, IsWellFormed}
 use Rattle.netlist_model.specs.Orders.{StandsAt, IsCellOrder}
-use Rattle.netlist_laws.proofs.Search.{cell_at_once}
+use Rattle.netlist_model.proofs.Search.{cell_at_once}
 use Rattle.netlist_settling.proofs.Turns.{stands_same}
-use Rattle.event_order.specs.Order.{has_late, class_of}
+use Rattle.event_laws.specs.OrderLaws.{has_late, class_of}
 use Rattle.event_turns.specs.declared.circuit.Gate.{Gate}
 use Rattle.event_turns.specs.Circuits.{IsGateOf, turn_at}
 use Rattle.event_turns.specs.Tables.{AreGates, AreTurned, IsBelow, gate_late, gate_turn, late_at, feed_late, with_net}

@@ -14,7 +14,7 @@ use Rattle.netlist_model.specs.declared.NetId.{NetId}
 use Rattle.netlist_model.specs.declared.Feed.{Feed}
 use Rattle.netlist_model.specs.Lists.{CellView, Drives}
 use Rattle.netlist_model.specs.Settled.{feed_values, cell_drive}
-use Rattle.netlist_laws.proofs.Search.{cell_at_once}
+use Rattle.netlist_model.proofs.Search.{cell_at_once}
 use Rattle.netlist_settling.specs.Values.{value_at, pin_at}
 use Rattle.event_laws.specs.Work.{AreDriven}
 use Rattle.event_laws.proofs.Inputs.{output_cases}

@@ -9,11 +9,11 @@ use Rattle.netlist_model.specs.Lists.{CellView, NetlistView, direction, Drives}
 use Rattle.netlist_model.specs.Formed.{IsWellFormed}
 use Rattle.netlist_model.specs.Settled.{feed_values, pin_rule, pin_value, drive_by, driver_of}
 use Rattle.netlist_model.specs.Runs.{PinEvent, pins_after, IsLegal}
-use Rattle.netlist_laws.proofs.Pins.{pin_kinds, cell_drive-three_state}
-use Rattle.netlist_laws.proofs.Search.{search_driver, driver_of-driven}
+use Rattle.netlist_model.proofs.Pins.{pin_kinds, cell_drive-three_state}
+use Rattle.netlist_model.proofs.Search.{search_driver, driver_of-driven}
 use Rattle.netlist_settling.specs.Values.{value_at, pin_at}
 use Rattle.netlist_settling.proofs.Steps.{pins_set}
-use Rattle.turn_queue.specs.Queues.{IsIn, bit_of}
+use Rattle.event_parts.specs.QueuesLaws.{IsIn, bit_of}
 use Rattle.event_laws.specs.Work.{IsAtRest, IsFrontier}
 use Rattle.event_laws.specs.Laws.{IsStepped}
 use Rattle.event_laws.proofs.Ends.{event_queues, event_steps}

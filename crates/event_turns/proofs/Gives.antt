@@ -11,7 +11,7 @@ use Rattle.cell_library.specs.Gates.{is_flop, is_three_state, gate_output}
 use Rattle.netlist_model.specs.declared.Dir.{Dir}
 use Rattle.netlist_model.specs.declared.Dir.TheVariants.{Input, Output, Inout}
 use Rattle.netlist_model.specs.Settled.{cell_drive}
-use Rattle.netlist_laws.proofs.KindLaws.{flop_or_gate, flop_no_bufif}
+use Rattle.netlist_model.proofs.KindLaws.{flop_or_gate, flop_no_bufif}
 use Rattle.netlist_settling.specs.Passes.{driven_value}
 use Rattle.netlist_settling.proofs.Looked.{value_of_flop, value_of_gate}
 use Rattle.event_laws.proofs.Readings.{two_state_drive}

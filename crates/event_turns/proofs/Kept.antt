@@ -10,8 +10,8 @@ use Rattle.cell_library.specs.declared.Kind.{Kind}
 use Rattle.cell_library.specs.Gates.{is_three_state}
 use Rattle.netlist_model.specs.Lists.{CellView}
 use Rattle.netlist_model.specs.Settled.{driver_of}
-use Rattle.netlist_laws.specs.Drivers.{IsDriverOf}
-use Rattle.netlist_laws.proofs.Inside.{driver_drives}
+use Rattle.netlist_model.specs.Drivers.{IsDriverOf}
+use Rattle.netlist_model.proofs.Inside.{driver_drives}
 use Rattle.event_laws.specs.Work.{kept_drive}
 use Rattle.event_turns.specs.declared.circuit.Gate.{Gate}
 use Rattle.event_turns.specs.Circuits.{CircuitView, IsCircuit, place_of, turn_at}

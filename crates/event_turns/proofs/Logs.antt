@@ -3,7 +3,7 @@ use Rattle.std.proofs.Common.{◌≡◌, ◌≢◌, ℕ, ◌<◌, List, set, inl
 use Rattle.signal_values.specs.declared.Sig.{Sig}
 use Rattle.signal_values.specs.declared.PinSig.{PinSig}
 use Rattle.netlist_settling.specs.Values.{value_at, pin_at}
-use Rattle.turn_queue.specs.Queues.{Pushes}
+use Rattle.event_parts.specs.QueuesLaws.{Pushes}
 use Rattle.event_turns.specs.Logs.{Logs}
 
 pub logs_none : (count : ℕ) (values : List Sig) (drives : List PinSig) (words : List ℕ) → Logs count values values drives drives words words

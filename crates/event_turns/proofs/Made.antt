@@ -5,7 +5,7 @@ use Rattle.std.proofs.lemmas.Option.{slice_get_within}
 use Rattle.list_laws.proofs.Lists.{slice_get_there}
 use Rattle.list_laws.proofs.Options.{some_same, some_there}
 use Rattle.signal_values.specs.declared.Sig.{Sig}
-use Rattle.counted_cells.specs.Pairs.{AreTables}
+use Rattle.event_parts.specs.Pairs.{AreTables}
 use Rattle.netlist_model.specs.declared.CellId.{CellId}
 use Rattle.netlist_model.specs.declared.Dir.{Dir}
 use Rattle.netlist_model.specs.declared.Feed.{Feed}
@@ -13,8 +13,8 @@ use Rattle.netlist_model.specs.Lists.{CellView, NetlistView, cell_at}
 use Rattle.netlist_model.specs.Formed.{IsLaidOut, IsWellFormed}
 use Rattle.netlist_model.specs.Orders.{StandsAt, IsCellOrder}
 use Rattle.netlist_settling.specs.Values.{AreSides}
-use Rattle.event_order.specs.Order.{class_of}
-use Rattle.event_order.proofs.Rises.{turns_rise, scaled, class_few}
+use Rattle.event_laws.specs.OrderLaws.{class_of}
+use Rattle.event_laws.proofs.Rises.{turns_rise, scaled, class_few}
 use Rattle.event_turns.specs.declared.circuit.Gate.{Gate}
 use Rattle.event_turns.specs.declared.circuit.Row.{Row}
 use Rattle.event_turns.specs.Circuits.{AreReaders, AreRows, IsCircuit, IsLiveGate, StandsInPlace, place_of, turn_at}

@@ -13,8 +13,8 @@ use Rattle.cell_library.specs.declared.Kind.{Kind}
 use Rattle.cell_library.specs.declared.FlopKind.{FlopKind}
 use Rattle.cell_library.specs.declared.listed.ListedCell.{ListedCell}
 use Rattle.cell_library.specs.Gates.{flop_of, is_flop, is_three_state, gate_output}
-use Rattle.counted_cells.specs.declared.pairs.Pair.{Pair}
-use Rattle.counted_cells.specs.Pairs.{IsPair}
+use Rattle.event_parts.specs.declared.counted_cells.pairs.Pair.{Pair}
+use Rattle.event_parts.specs.Pairs.{IsPair}
 use Rattle.netlist_model.specs.declared.Dir.{Dir}
 use Rattle.netlist_model.specs.declared.Dir.TheVariants.{Input, Output, Inout}
 use Rattle.netlist_model.specs.declared.Feed.TheVariants.{Net}
@@ -22,7 +22,7 @@ use Rattle.netlist_model.specs.declared.NetId.{NetId}
 use Rattle.netlist_model.specs.declared.Feed.{Feed}
 use Rattle.netlist_model.specs.Lists.{CellView, cell_at, direction}
 use Rattle.netlist_model.specs.Settled.{feed_values, cell_drive}
-use Rattle.netlist_laws.specs.Runs.{kind_next, next_if}
+use Rattle.netlist_model.specs.LawsRuns.{kind_next, next_if}
 use Rattle.netlist_settling.specs.Values.{value_at, pin_at}
 use Rattle.netlist_settling.specs.Passes.{driven_value}
 use Rattle.event_laws.specs.Laws.{steps_of}

@@ -6,9 +6,9 @@ use Rattle.signal_values.specs.declared.Sig.{Sig}
 use Rattle.signal_values.specs.declared.PinSig.{PinSig}
 use Rattle.netlist_model.specs.Lists.{CellView, cell_at}
 use Rattle.netlist_model.specs.Settled.{feed_values}
-use Rattle.netlist_laws.specs.Runs.{kind_next}
+use Rattle.netlist_model.specs.LawsRuns.{kind_next}
 use Rattle.netlist_settling.specs.Values.{value_at, pin_at}
-use Rattle.turn_queue.specs.Queues.{IsIn, bit_of, Pops}
+use Rattle.event_parts.specs.QueuesLaws.{IsIn, bit_of, Pops}
 use Rattle.event_laws.specs.Work.{Event, TakesTurn, Requeues}
 use Rattle.event_laws.specs.Laws.{steps_of}
 use Rattle.event_laws.proofs.Turns.{turn_keeps}

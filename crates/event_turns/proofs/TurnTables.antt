@@ -1,6 +1,6 @@
 -- Tables, as the turns of an event need them.
 use Rattle.std.proofs.Common.{◌≡◌, ◌⊎◌, ℕ, ◌*◌, ◌<◌, ◌≤◌, List, length, slice_index, inl, inr, ◌∙◌, arith, subst}
-use Rattle.turn_queue.specs.Queues.{IsIn}
+use Rattle.event_parts.specs.QueuesLaws.{IsIn}
 use Rattle.event_turns.specs.Circuits.{CircuitView, IsCircuit, IsInRange, HasReader, Wakes}
 
 -- the turn of a live cell is one of the queue's

@@ -9,7 +9,7 @@ use Rattle.netlist_model.specs.Lists.{CellView, direction}
 use Rattle.signal_values.specs.declared.Sig.TheVariants.{Unknown}
 use Rattle.cell_library.specs.Gates.{is_three_state}
 use Rattle.netlist_model.specs.Settled.{feed_values, cell_drive}
-use Rattle.netlist_laws.specs.Runs.{kind_next}
+use Rattle.netlist_model.specs.LawsRuns.{kind_next}
 use Rattle.netlist_settling.specs.Values.{value_at, pin_at, side_at}
 use Rattle.netlist_settling.specs.Passes.{driven_value}
 use Rattle.event_laws.specs.Laws.{steps_of}

@@ -17,10 +17,10 @@ use Rattle.netlist_model.specs.Lists.{CellView, NetlistView, cell_at}
 use Rattle.netlist_model.specs.Formed.{IsLaidOut}
 use Rattle.netlist_model.specs.Orders.{StandsAt, IsCellOrder}
 use Rattle.netlist_arena.specs.Looks.{feed_at}
-use Rattle.netlist_laws.proofs.Search.{cell_at_once}
+use Rattle.netlist_model.proofs.Search.{cell_at_once}
 use Rattle.netlist_settling.proofs.Turns.{stands_same}
 use Rattle.event_laws.specs.Turns.{WaitsOn}
-use Rattle.key_places.specs.Keys.{IsKey, AreRanges}
+use Rattle.event_parts.specs.KeysLaws.{IsKey, AreRanges}
 use Rattle.event_turns.specs.Circuits.{AreReaders, turn_at}
 use Rattle.event_turns.specs.Tables.{AreOwnersAt, AreWaits, HasKey, IsNoted, waited}
 

@@ -3,8 +3,8 @@ use Rattle.std.specs.Prelude.{◌≡◌, ◌≢◌, ◌↔◌, ◌⊎◌, ℕ, �
 use Rattle.signal_values.specs.declared.Sig.{Sig}
 use Rattle.signal_values.specs.declared.PinSig.{PinSig}
 use Rattle.cell_library.specs.declared.listed.ListedCell.{ListedCell}
-use Rattle.counted_cells.specs.declared.pairs.Pair.{Pair}
-use Rattle.counted_cells.specs.Pairs.{AreTables, IsPair}
+use Rattle.event_parts.specs.declared.counted_cells.pairs.Pair.{Pair}
+use Rattle.event_parts.specs.Pairs.{AreTables, IsPair}
 use Rattle.netlist_model.specs.declared.Dir.{Dir}
 use Rattle.netlist_model.specs.declared.Dir.TheVariants.{Input, Output, Inout}
 use Rattle.netlist_model.specs.declared.Feed.{Feed}
@@ -12,7 +12,7 @@ use Rattle.netlist_model.specs.declared.Feed.TheVariants.{Net}
 use Rattle.netlist_model.specs.Lists.{CellView, NetlistView, cell_at, Drives, IsUndriven}
 use Rattle.netlist_model.specs.Formed.{IsLaidOut, IsWellFormed}
 use Rattle.netlist_settling.specs.Values.{AreSides, value_at, pin_at, side_at}
-use Rattle.turn_queue.specs.Queues.{IsIn, bit_of}
+use Rattle.event_parts.specs.QueuesLaws.{IsIn, bit_of}
 use Rattle.event_laws.specs.Turns.{WaitsOn, AreTurns}
 use Rattle.event_laws.specs.Work.{Event, IsPending, TakesTurn, IsWoken}
 use Rattle.event_laws.specs.Laws.{steps_of}

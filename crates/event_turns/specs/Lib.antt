@@ -1,4 +1,4 @@
-pub mod Values
 pub mod Circuits
-pub mod Tables
 pub mod Logs
+pub mod Tables
+pub mod Values

@@ -7,7 +7,7 @@ use Rattle.netlist_model.specs.declared.NetId.{NetId}
 use Rattle.signal_values.specs.declared.Sig.{Sig}
 use Rattle.signal_values.specs.declared.PinSig.{PinSig}
 use Rattle.netlist_settling.specs.Values.{value_at, pin_at}
-use Rattle.turn_queue.specs.Queues.{IsIn}
+use Rattle.event_parts.specs.QueuesLaws.{IsIn}
 
 -- own: a net that isn't logged has what it had, and so has what is kept of its driver; only numbers of nets are logged,
 -- and what was logged stays

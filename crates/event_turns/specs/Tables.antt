@@ -9,8 +9,8 @@ use Rattle.netlist_model.specs.declared.Feed.TheVariants.{Net, Const}
 use Rattle.netlist_model.specs.Lists.{CellView, NetlistView, cell_at}
 use Rattle.netlist_model.specs.Orders.{StandsAt}
 use Rattle.event_laws.specs.Turns.{WaitsOn}
-use Rattle.event_order.specs.Order.{has_late, AreLate, AreTurnsOf}
-use Rattle.key_places.specs.Keys.{IsKey}
+use Rattle.event_laws.specs.OrderLaws.{has_late, AreLate, AreTurnsOf}
+use Rattle.event_parts.specs.KeysLaws.{IsKey}
 use Rattle.event_turns.specs.declared.circuit.Gate.{Gate}
 use Rattle.event_turns.specs.Circuits.{AreFirsts, HasReader, IsGateOf, feeds_in, turn_at}
 

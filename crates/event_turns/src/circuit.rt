@@ -10,7 +10,7 @@ use crate::readers::readers_of;
 use crate::rows::rows_of;
 use crate::tables::turns_of;
 use cell_library::Kind;
-use counted_cells::{Pair, PairTables};
+use event_parts::counted_cells::{Pair, PairTables};
 use netlist_arena::Netlist;
 use netlist_model::{CellId, Dir, Feed, NetId};
 use std::alloc::Global;

@@ -4,7 +4,7 @@ ghost use Rattle.std.specs.Prelude.{◌≡◌, ◌≤◌, ◌<◌, ◌+◌, ◌*
 ghost use Rattle.signal_values.specs.declared.PinSig.{PinSig};
 ghost use Rattle.cell_library.specs.declared.Kind.{Kind};
 ghost use Rattle.cell_library.specs.Gates.{gate_output};
-ghost use Rattle.counted_cells.specs.Pairs.{IsPair};
+ghost use Rattle.event_parts.specs.Pairs.{IsPair};
 ghost use Rattle.netlist_model.specs.Lists.{CellView, cell_at};
 ghost use Rattle.netlist_settling.specs.Values.{value_at};
 ghost use Rattle.event_turns.specs.declared.circuit.Gate.{Gate};
@@ -14,10 +14,10 @@ ghost use Rattle.event_turns.specs.Logs.{Logs};
 use crate::circuit::{Circuit, Row};
 use crate::turns::{give, take_turn};
 use crate::values::value_at;
-use counted_cells::{Pair, Steps, eval_pair_step};
+use event_parts::counted_cells::{Pair, Steps, eval_pair_step};
+use event_parts::queues::TurnQueue;
 use signal_values::{PinSig, Sig};
 use std::sync::ledger::Ledger;
-use turn_queue::TurnQueue;
 
 /// Takes the turn of the cell in a place.
 pub(crate) fn take_place<L: Ledger>(

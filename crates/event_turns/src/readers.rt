@@ -7,7 +7,7 @@ ghost use Rattle.netlist_arena.specs.Looks.{IsLive};
 ghost use Rattle.event_turns.specs.Circuits.{AreReaders, turn_at};
 ghost use Rattle.event_turns.specs.Tables.{AreOwnersAt, AreWaits, waited};
 
-use key_places::{Ranges, ranges_of};
+use event_parts::keys::{Ranges, ranges_of};
 use netlist_arena::Netlist;
 use netlist_model::{CellId, Feed};
 use std::alloc::Global;

@@ -7,7 +7,7 @@ ghost use Rattle.event_turns.specs.Circuits.{AreRows, IsRowOf, is_plain};
 
 use crate::circuit::{Gate, Row};
 use cell_library::Library;
-use counted_cells::pair_of;
+use event_parts::counted_cells::pair_of;
 use netlist_model::{Dir, Feed, NetId};
 use std::alloc::Global;
 use texts::OutOfMemory;

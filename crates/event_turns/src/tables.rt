@@ -3,7 +3,7 @@
 ghost use Rattle.std.specs.Prelude.{◌≡◌, ◌<◌, ◌≤◌, ◌+◌, ◌^◌, IfOk, length, slice_set};
 ghost use Rattle.netlist_model.specs.Formed.{IsWellFormed};
 ghost use Rattle.netlist_model.specs.Orders.{IsCellOrder};
-ghost use Rattle.event_order.specs.Order.{has_late};
+ghost use Rattle.event_laws.specs.OrderLaws.{has_late};
 ghost use Rattle.event_turns.specs.Tables.{AreGates, AreTurned, IsBelow, class_by, feed_late, gate_late, gate_turn, late_at, with_net};
 
 use crate::circuit::Gate;

@@ -9,18 +9,18 @@ ghost use Rattle.netlist_model.specs.Runs.{IsLegal, IsStep, pins_after};
 ghost use Rattle.netlist_settling.specs.Values.{value_at, pin_at};
 ghost use Rattle.event_laws.specs.Work.{IsAtRest, IsFrontier};
 ghost use Rattle.event_laws.specs.Counts.{touched_count};
-ghost use Rattle.turn_queue.specs.Queues.{IsIn};
+ghost use Rattle.event_parts.specs.QueuesLaws.{IsIn};
 ghost use Rattle.event_turns.specs.Circuits.{FitsCircuit, HasRun, HasTurn, IsGateIn, IsInRange, IsUnderWay, TakesValue, Wakes, event_from, place_of, turn_at};
 ghost use Rattle.event_turns.specs.Logs.{Logs, drives_with};
 
 use crate::circuit::{Circuit, Gate};
 use crate::pairs::take_place;
 use crate::values::{driven, kept_after, pin_at, value_at};
-use counted_cells::Steps;
+use event_parts::counted_cells::Steps;
+use event_parts::queues::TurnQueue;
 use netlist_model::{Dir, NetId};
 use signal_values::{PinSig, Sig, join, see};
 use std::sync::ledger::Ledger;
-use turn_queue::TurnQueue;
 
 // Queues what waits on a net.
 fn wake(circuit: &Circuit, net: NetId, queue: &mut TurnQueue)

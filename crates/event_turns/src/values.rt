@@ -8,11 +8,11 @@ ghost use Rattle.event_turns.specs.Values.{seen};
 ghost use Rattle.netlist_model.specs.Settled.{feed_value, feed_values, cell_drive};
 ghost use Rattle.netlist_settling.specs.Values.{value_at, pin_at};
 ghost use Rattle.netlist_settling.specs.Passes.{driven_value};
-ghost use Rattle.netlist_laws.specs.Runs.{kind_next};
+ghost use Rattle.netlist_model.specs.LawsRuns.{kind_next};
 ghost use Rattle.event_laws.specs.Laws.{steps_of};
 
 use cell_library::{FlopKind, Kind, Library, flop_next, flop_of, is_flop};
-use counted_cells::{Steps, eval_pin_step, eval_step};
+use event_parts::counted_cells::{Steps, eval_pin_step, eval_step};
 use netlist_model::{Dir, Feed};
 use signal_values::{PinSig, Sig, join, see};
 use std::sync::ledger::Ledger;

@@ -3,16 +3,16 @@ use Rattle.std.proofs.Common.{◌≡◌, ◌≢◌, ℕ, zero, suc, ◌+◌, ◌
 use Rattle.std.proofs.lemmas.Bool.{cases_lt}
 use Rattle.std.specs.List.{slice_get, range_with_len}
 use Rattle.std.proofs.lemmas.List.FromFn.{length-range_with_len, get_or-range_with_len}
-use Rattle.netlist_laws.specs.signal_values.declared.Sig.{Sig}
-use Rattle.netlist_laws.specs.cell_library.declared.FlopKind.{FlopKind}
-use Rattle.netlist_laws.specs.cell_library.Gates.{flop_of}
-use Rattle.netlist_laws.specs.cell_library.Flops.{flop_next, flop_start}
-use Rattle.netlist_laws.proofs.KindLaws.{cell_value-flop}
-use Rattle.netlist_laws.specs.netlist_model.declared.Feed.{Feed}
-use Rattle.netlist_laws.specs.netlist_model.declared.NetId.{NetId}
-use Rattle.netlist_laws.specs.netlist_model.Lists.{CellView, NetlistView, cell_at, cell_count}
-use Rattle.netlist_laws.specs.netlist_model.Settled.{feed_values, Meets}
-use Rattle.netlist_laws.specs.netlist_model.Contained.{HasCells}
+use Rattle.signal_values.specs.declared.Sig.{Sig}
+use Rattle.netlist_arena.specs.cell_library.declared.FlopKind.{FlopKind}
+use Rattle.netlist_arena.specs.cell_library.Gates.{flop_of}
+use Rattle.netlist_arena.specs.cell_library.Flops.{flop_next, flop_start}
+use Rattle.netlist_arena.proofs.netlist_model.KindLaws.{cell_value-flop}
+use Rattle.netlist_arena.specs.netlist_model.declared.Feed.{Feed}
+use Rattle.netlist_arena.specs.netlist_model.declared.NetId.{NetId}
+use Rattle.netlist_arena.specs.netlist_model.Lists.{CellView, NetlistView, cell_at, cell_count}
+use Rattle.netlist_arena.specs.netlist_model.Settled.{feed_values, Meets}
+use Rattle.netlist_arena.specs.netlist_model.Contained.{HasCells}
 use Rattle.netlist_arena.specs.Arena.{ArenaView}
 use Rattle.netlist_arena.proofs.Puts.{dense_past}
 use Rattle.gate_parts.specs.Appended.{Appended, Grows}

@@ -1,15 +1,15 @@
 -- What the gates of any table do, by their places, in a well-formed netlist that contains the cells of the table.
 use Rattle.std.specs.Prelude.{◌≡◌, ℕ, ◌+◌, false, List, map, slice_get, Some}
-use Rattle.netlist_laws.specs.signal_values.declared.Sig.{Sig}
-use Rattle.netlist_laws.specs.cell_library.declared.FlopKind.{FlopKind}
-use Rattle.netlist_laws.specs.cell_library.declared.listed.ListedCell.{ListedCell}
-use Rattle.netlist_laws.specs.cell_library.declared.Kind.TheVariants.{Flop}
-use Rattle.netlist_laws.specs.cell_library.Gates.{is_three_state}
-use Rattle.netlist_laws.specs.netlist_model.declared.Feed.{Feed}
-use Rattle.netlist_laws.specs.netlist_model.Lists.{NetlistView}
-use Rattle.netlist_laws.specs.netlist_model.Settled.{feed_values, cell_value, Meets}
-use Rattle.netlist_laws.specs.netlist_model.Formed.{IsWellFormed}
-use Rattle.netlist_laws.specs.netlist_model.Contained.{HasCells}
+use Rattle.signal_values.specs.declared.Sig.{Sig}
+use Rattle.netlist_arena.specs.cell_library.declared.FlopKind.{FlopKind}
+use Rattle.netlist_arena.specs.cell_library.declared.listed.ListedCell.{ListedCell}
+use Rattle.netlist_arena.specs.cell_library.declared.Kind.TheVariants.{Flop}
+use Rattle.netlist_arena.specs.cell_library.Gates.{is_three_state}
+use Rattle.netlist_arena.specs.netlist_model.declared.Feed.{Feed}
+use Rattle.netlist_arena.specs.netlist_model.Lists.{NetlistView}
+use Rattle.netlist_arena.specs.netlist_model.Settled.{feed_values, cell_value, Meets}
+use Rattle.netlist_arena.specs.netlist_model.Formed.{IsWellFormed}
+use Rattle.netlist_arena.specs.netlist_model.Contained.{HasCells}
 use Rattle.gate_parts.specs.declared.Gate.{Gate}
 use Rattle.gate_parts.specs.Parts.{feed_of, pins_of, part_cells}
 use Rattle.gate_parts.specs.Laws.{FlopOn}

@@ -23,36 +23,35 @@
 #![tactic(auto)]
 
 ghost use Rattle.std.specs.Prelude.{◌≡◌, ◌≢◌, ℕ, ◌+◌, ◌<◌, ◌≤◌, ◌^◌, [], ◌∷◌, length, IsTrue, Some};
-ghost use Rattle.netlist_laws.specs.cell_library.Gates.{Takes};
-ghost use Rattle.netlist_laws.specs.netlist_model.Lists.{cell_count};
-ghost use Rattle.netlist_laws.specs.netlist_model.Contained.{IsDense};
-ghost use Rattle.netlist_laws.specs.netlist_model.Below.{IsFeedBelow, AreFeedsBelow};
+ghost use Rattle.netlist_arena.specs.cell_library.Gates.{Takes};
+ghost use Rattle.netlist_arena.specs.netlist_model.Lists.{cell_count};
+ghost use Rattle.netlist_arena.specs.netlist_model.Contained.{IsDense};
+ghost use Rattle.netlist_arena.specs.netlist_model.Below.{IsFeedBelow, AreFeedsBelow};
 ghost use Rattle.netlist_arena.specs.Adds.{IsFree};
 ghost use Rattle.gate_parts.specs.Parts.{feed_of, gate_cell, part_cells, is_sound_pin, is_sound_gate, is_sound};
 ghost use Rattle.gate_parts.specs.Appended.{Appended};
 
 mod laws;
 pub mod lower_netlist_arena;
-pub mod lower_netlist_laws;
 
 pub use laws::{
     appended_count, appended_grows, appended_is_there, appended_more, appended_none,
     contained_part_has_flops, contained_part_meets, flop_starts, flop_steps, free_net_stays,
     growth_keeps, levels_number, part_leaves_free_nets,
 };
-pub use netlist_arena::Netlist;
-use netlist_laws::lower_cell_library::Kind;
-use netlist_laws::lower_netlist_model::{Feed, Name, NetId};
+use netlist_arena::Netlist;
+use netlist_arena::lower_cell_library::Kind;
+use netlist_arena::lower_netlist_model::{Feed, Name, NetId};
 
 /// What a gate of a table reads: the net of another gate of the table, or something that is handed in, by its place.
-#[derive(Clone, Copy, Debug)]
+#[derive(Clone, Copy)]
 pub enum Pin {
     Own(u8),
     Given(u8),
 }
 
 /// The operands of a gate in order.
-#[derive(Clone, Copy, Debug)]
+#[derive(Clone, Copy)]
 pub enum Pins {
     One(Pin),
     Two(Pin, Pin),

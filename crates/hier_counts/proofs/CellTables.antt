@@ -6,8 +6,8 @@ use Rattle.std.specs.Str.{bytes_eq}
 use Rattle.list_laws.proofs.Lists.{taken_more, map_push}
 use Rattle.cell_library.specs.declared.listed.ListedCell.{ListedCell}
 use Rattle.cell_library.specs.Library.{own_or_listed}
-use Rattle.hier_walk.specs.Names.{texts}
-use Rattle.hier_walk.proofs.Tables.{lent, position-map}
+use Rattle.hier_model.specs.WalkNames.{texts}
+use Rattle.hier_model.proofs.Tables.{lent, position-map}
 use Rattle.hier_counts.specs.Cells.{cell_names, FindsCells}
 
 -- the names of one cell more

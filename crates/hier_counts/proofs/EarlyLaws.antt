@@ -7,10 +7,10 @@ use Rattle.std.specs.Cmp.Lexicographic.{bytes_decides}
 use Rattle.std.proofs.lemmas.List.Folds.{list_any-append}
 use Rattle.list_laws.proofs.Options.{none_some}
 use Rattle.list_laws.proofs.Tests.{or_more}
-use Rattle.first_faults.specs.Repeated.{has_name}
+use Rattle.texts.specs.Repeated.{has_name}
 use Rattle.cell_library.specs.declared.listed.ListedCell.{ListedCell}
 use Rattle.verilog_tree.specs.declared.tree.Module.{Module}
-use Rattle.hier_walk.specs.Visits.{has_levels}
+use Rattle.hier_model.specs.Visits.{has_levels}
 use Rattle.hier_model.specs.declared.fault.HierWhat.TheVariants as what
 use Rattle.hier_model.specs.Entries.{level_limit}
 use Rattle.hier_model.specs.Faults.{is_cell, twice_name, too_many_in, cell_count, net_count, cell_limit, net_limit}

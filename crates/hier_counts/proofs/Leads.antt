@@ -16,8 +16,8 @@ use Rattle.verilog_tree.specs.declared.tree.Item.{Item}
 use Rattle.verilog_tree.specs.declared.tree.Item.TheVariants as item
 use Rattle.verilog_tree.specs.declared.tree.Instance.{Instance}
 use Rattle.verilog_tree.specs.declared.tree.Module.{Module}
-use Rattle.hier_walk.specs.Names.{module_place}
-use Rattle.hier_walk.specs.Visits.{module_named, opened_by}
+use Rattle.hier_model.specs.WalkNames.{module_place}
+use Rattle.hier_model.specs.Visits.{module_named, opened_by}
 use Rattle.hier_model.specs.Faults.{children, leads_to, is_same, is_reached, holds_itself}
 use Rattle.hier_counts.specs.Once.{At, AreOnce}
 use Rattle.hier_counts.specs.Graph.{child_place, child_places, module_graph, row, IsIn, IsClosed, Path, IsReached}

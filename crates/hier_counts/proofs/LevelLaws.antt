@@ -11,8 +11,8 @@ use Rattle.verilog_tree.specs.declared.tree.Item.{Item}
 use Rattle.verilog_tree.specs.declared.tree.Item.TheVariants as item
 use Rattle.verilog_tree.specs.declared.tree.Module.{Module}
 use Rattle.link_model.specs.Nets.{bits_in, declared_nets}
-use Rattle.hier_walk.specs.Names.{module_place}
-use Rattle.hier_walk.specs.Visits.{module_named, opened_by, item_passes, has_levels}
+use Rattle.hier_model.specs.WalkNames.{module_place}
+use Rattle.hier_model.specs.Visits.{module_named, opened_by, item_passes, has_levels}
 use Rattle.hier_model.specs.Faults.{linked_bits, item_cells, cell_count, net_count, cell_limit, net_limit}
 use Rattle.hier_counts.specs.declared.sizes.Held.{Held}
 use Rattle.hier_counts.specs.declared.sizes.Size.{Size}

@@ -4,8 +4,8 @@ use Rattle.std.specs.Prelude.{slice_get}
 use Rattle.std.specs.List.{filter_map, list_all, cons_option}
 use Rattle.std.proofs.lemmas.List.Sums.{sum_by-cons}
 use Rattle.list_laws.proofs.Lists.{left_at}
-use Rattle.first_faults.specs.First.{or_else, first_in}
-use Rattle.first_faults.specs.Repeated.{has_name}
+use Rattle.texts.specs.First.{or_else, first_in}
+use Rattle.texts.specs.Repeated.{has_name}
 use Rattle.cell_library.specs.declared.listed.ListedCell.{ListedCell}
 use Rattle.verilog_tree.specs.declared.tree.Module.{Module}
 use Rattle.hier_model.specs.Faults.{is_cell, twice_name}

@@ -2,7 +2,7 @@
 use Rattle.std.proofs.Common.{◌≡◌, ℕ, zero, suc, ◌+◌, ◌<◌, ◌≤◌, Bool, true, false, if◌then◌else◌, ◌&&◌, List, [], ◌∷◌, length, map, drop, Option, Some, None, refl, sym, ap, ◌∙◌, arith}
 use Rattle.std.specs.Prelude.{slice_index_or, slice_get}
 use Rattle.std.proofs.lemmas.List.{get_or_default}
-use Rattle.first_faults.specs.First.{or_else, first_in}
+use Rattle.texts.specs.First.{or_else, first_in}
 use Rattle.list_laws.proofs.Options.{none_some}
 use Rattle.verilog_tree.specs.declared.tree.Module.{Module}
 use Rattle.hier_counts.specs.Marked.{first_marked}

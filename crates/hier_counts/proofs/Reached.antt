@@ -7,11 +7,11 @@ use Rattle.std.proofs.lemmas.List.{get_or_read}
 use Rattle.std.proofs.lemmas.Option.{slice_get_within}
 use Rattle.list_laws.proofs.Options.{none_some, some_same}
 use Rattle.list_laws.proofs.Lists.{slice_get_there}
-use Rattle.first_faults.specs.First.{or_else, first_in}
+use Rattle.texts.specs.First.{or_else, first_in}
 use Rattle.cell_library.specs.declared.listed.ListedCell.{ListedCell}
 use Rattle.verilog_tree.specs.declared.tree.Module.{Module}
-use Rattle.hier_walk.specs.Names.{module_place}
-use Rattle.hier_walk.specs.Visits.{module_named}
+use Rattle.hier_model.specs.WalkNames.{module_place}
+use Rattle.hier_model.specs.Visits.{module_named}
 use Rattle.hier_model.specs.declared.fault.HierFault.{HierFault}
 use Rattle.hier_model.specs.declared.fault.HierFault.TheVariants as fault
 use Rattle.hier_model.specs.Entries.{level_limit}

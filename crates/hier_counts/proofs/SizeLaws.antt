@@ -12,8 +12,8 @@ use Rattle.verilog_tree.specs.declared.tree.Instance.{Instance}
 use Rattle.verilog_tree.specs.declared.tree.Item.TheVariants as item
 use Rattle.verilog_tree.specs.declared.tree.Module.{Module}
 use Rattle.link_model.specs.Nets.{NetDeclaration, width, bits_in}
-use Rattle.hier_walk.specs.Names.{module_place}
-use Rattle.hier_walk.specs.Visits.{module_named}
+use Rattle.hier_model.specs.WalkNames.{module_place}
+use Rattle.hier_model.specs.Visits.{module_named}
 use Rattle.hier_model.specs.Faults.{linked_bits, cell_limit}
 use Rattle.hier_counts.specs.declared.sizes.Held.{Held}
 use Rattle.hier_counts.specs.Widths.{capped, joined_bits}

@@ -8,7 +8,7 @@ use Rattle.std.proofs.lemmas.List.Sums.{sum_by_push}
 use Rattle.list_laws.proofs.Lists.{taken_more}
 use Rattle.verilog_tree.specs.declared.tree.Link.{Link}
 use Rattle.verilog_tree.specs.declared.tree.Port.{Port}
-use Rattle.first_faults.specs.Repeated.{has_name}
+use Rattle.texts.specs.Repeated.{has_name}
 use Rattle.hier_model.specs.Faults.{cell_limit}
 use Rattle.hier_counts.specs.Widths.{capped, port_bits, named_bits, joined_bits, width_under}
 

@@ -1,10 +1,10 @@
 -- Own: the first fault of those that come before links and flat names.
 use Rattle.std.specs.Prelude.{ℕ, ◌+◌, nat_lt, not, List, [], Option, Some, None, if◌then◌else◌}
 use Rattle.std.specs.Option.{option_map, option_map_or}
-use Rattle.first_faults.specs.First.{or_else}
+use Rattle.texts.specs.First.{or_else}
 use Rattle.cell_library.specs.declared.listed.ListedCell.{ListedCell}
 use Rattle.verilog_tree.specs.declared.tree.Module.{Module}
-use Rattle.hier_walk.specs.Visits.{module_named}
+use Rattle.hier_model.specs.Visits.{module_named}
 use Rattle.hier_model.specs.declared.fault.HierFault.{HierFault}
 use Rattle.hier_model.specs.declared.fault.HierFault.TheVariants as fault
 use Rattle.hier_model.specs.declared.fault.HierWhat.{HierWhat}

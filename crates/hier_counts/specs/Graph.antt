@@ -5,7 +5,7 @@ use Rattle.list_laws.specs.Marks.{Marked}
 use Rattle.verilog_tree.specs.declared.tree.Item.{Item}
 use Rattle.verilog_tree.specs.declared.tree.Item.TheVariants as item
 use Rattle.verilog_tree.specs.declared.tree.Module.{Module}
-use Rattle.hier_walk.specs.Names.{module_place}
+use Rattle.hier_model.specs.WalkNames.{module_place}
 
 -- where the module stands that an item is an instance of
 abbrev pub child_place : List Module → Item → Option ℕ

@@ -1,9 +1,9 @@
 pub mod Cells
-pub mod Once
-pub mod Graph
-pub mod Search
-pub mod Marked
-pub mod Rings
-pub mod Widths
-pub mod Levels
 pub mod Early
+pub mod Graph
+pub mod Levels
+pub mod Marked
+pub mod Once
+pub mod Rings
+pub mod Search
+pub mod Widths

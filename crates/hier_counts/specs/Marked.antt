@@ -1,6 +1,6 @@
 -- Own: the first that a test gives along the modules that are marked.
 use Rattle.std.specs.Prelude.{List, [], ◌∷◌, Bool, true, false, Option, None}
-use Rattle.first_faults.specs.First.{or_else}
+use Rattle.texts.specs.First.{or_else}
 use Rattle.verilog_tree.specs.declared.tree.Module.{Module}
 
 abbrev pub first_marked : {X : Type 0} → (Module → Option X) → List Bool → List Module → Option X

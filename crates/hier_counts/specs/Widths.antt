@@ -3,7 +3,7 @@ use Rattle.std.specs.Prelude.{◌≡◌, ℕ, ◌+◌, min, unwrap_or, not, ◌&
 use Rattle.std.specs.Borrow.{Bor}
 use Rattle.std.specs.Map.{lookup}
 use Rattle.std.specs.Str.{bytes_eq}
-use Rattle.first_faults.specs.Repeated.{has_name}
+use Rattle.texts.specs.Repeated.{has_name}
 use Rattle.verilog_tree.specs.declared.tree.Link.{Link}
 use Rattle.verilog_tree.specs.declared.tree.Port.{Port}
 use Rattle.link_model.specs.Nets.{width}

@@ -1,16 +1,16 @@
 // The names of cells. A text may have many instances and a library many cells, so the library's are found in a table.
 ghost use Rattle.std.specs.Prelude.{◌≡◌, position, IfOk};
 ghost use Rattle.std.specs.Str.{bytes_eq};
-ghost use Rattle.hier_walk.specs.Names.{texts};
+ghost use Rattle.hier_model.specs.WalkNames.{texts};
 ghost use Rattle.hier_model.specs.Faults.{is_cell};
 ghost use Rattle.hier_counts.specs.Cells.{cell_names};
 
 use cell_library::{Library, own_kind_of};
-use first_faults::first_places;
 use indexmap::IndexMap;
 use std::alloc::Global;
 use std::marker::Model;
 use texts::OutOfMemory;
+use texts::first_faults::first_places;
 
 /// The names of the seven cells and of those that a library lists.
 #[derive(Drop)]

@@ -2,7 +2,7 @@
 ghost use Rattle.std.specs.Prelude.{◌≡◌, IfOk};
 ghost use Rattle.hier_counts.specs.Graph as graph;
 
-use hier_walk::ModuleTable;
+use hier_model::walk::ModuleTable;
 use std::alloc::Global;
 use texts::{OutOfMemory, Row};
 use verilog_tree::{Item, Module};

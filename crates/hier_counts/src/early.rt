@@ -12,8 +12,8 @@ use crate::once::find_twice;
 use crate::reach::reached_from;
 use crate::recursion::find_recursive;
 use crate::widths::{CELL_LIMIT, NET_LIMIT};
+use hier_model::walk::ModuleTable;
 use hier_model::{HierFault, HierWhat};
-use hier_walk::ModuleTable;
 use std::alloc::Global;
 use texts::{OutOfMemory, Text};
 

@@ -7,7 +7,7 @@ ghost use Rattle.hier_counts.specs.Levels as levels;
 
 use crate::sizes::{Size, sizes_of};
 use crate::widths::{CELL_LIMIT, NET_LIMIT, capped_sum};
-use hier_walk::ModuleTable;
+use hier_model::walk::ModuleTable;
 use std::alloc::Global;
 use texts::OutOfMemory;
 

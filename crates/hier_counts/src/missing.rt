@@ -1,12 +1,12 @@
 // The first cell, in reached modules, that is no module and that no library has.
 ghost use Rattle.std.specs.Prelude.{◌≡◌, length};
-ghost use Rattle.first_faults.specs.First.{first_in};
-ghost use Rattle.first_faults.specs.Repeated.{bytes_of};
+ghost use Rattle.texts.specs.First.{first_in};
+ghost use Rattle.texts.specs.Repeated.{bytes_of};
 ghost use Rattle.hier_model.specs.Faults as model;
 ghost use Rattle.hier_counts.specs.Marked.{first_marked};
 
 use crate::cell_names::CellNames;
-use hier_walk::ModuleTable;
+use hier_model::walk::ModuleTable;
 use verilog_tree::{Item, Module};
 
 // The cell of an instance, where it is no module and no cell.

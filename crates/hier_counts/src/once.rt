@@ -1,6 +1,6 @@
 // Names of modules that came before, or are a cell's.
 ghost use Rattle.std.specs.Prelude.{◌≡◌, ◌++◌, ◌∷◌, [], IfOk, not, if◌then◌else◌};
-ghost use Rattle.first_faults.specs.Repeated.{has_name, bytes_of, seen};
+ghost use Rattle.texts.specs.Repeated.{has_name, bytes_of, seen};
 ghost use Rattle.hier_model.specs.Faults.{twice_name};
 
 use crate::cell_names::CellNames;

@@ -1,7 +1,7 @@
 // The first reached module that holds itself.
 ghost use Rattle.std.specs.Prelude.{◌≡◌, ◌<◌, length, Some, None, slice_get, if◌then◌else◌, true, IfOk};
 ghost use Rattle.std.specs.Option.{option_map};
-ghost use Rattle.first_faults.specs.Repeated.{bytes_of};
+ghost use Rattle.texts.specs.Repeated.{bytes_of};
 ghost use Rattle.hier_model.specs.Faults as model;
 ghost use Rattle.hier_counts.specs.Graph.{module_graph};
 ghost use Rattle.hier_counts.specs.Once.{AreOnce};
@@ -10,7 +10,7 @@ ghost use Rattle.hier_counts.specs.Rings.{NeverRises};
 
 use crate::reach::reached_from;
 use crate::rings::Rings;
-use hier_walk::ModuleTable;
+use hier_model::walk::ModuleTable;
 use std::alloc::Global;
 use texts::{OutOfMemory, Row};
 use verilog_tree::Module;

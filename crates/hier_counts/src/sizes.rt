@@ -8,7 +8,7 @@ ghost use Rattle.hier_counts.specs.Levels as levels;
 
 use crate::children::child_place;
 use crate::widths::{NET_LIMIT, PortWidths, capped_sum, width_of};
-use hier_walk::ModuleTable;
+use hier_model::walk::ModuleTable;
 use std::alloc::Global;
 use texts::{OutOfMemory, Row};
 use verilog_tree::{Item, Module, Port, Wire};

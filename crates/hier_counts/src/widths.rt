@@ -1,7 +1,7 @@
 // How many bits the ports of each name have, and how many an instance's links join. A module may have many ports and
 // many instances of few links, so ports are looked at once and links at each instance.
 ghost use Rattle.std.specs.Prelude.{◌≡◌, ◌+◌, ◌<◌, ◌^◌, [], min, not, IfOk, OnOk};
-ghost use Rattle.first_faults.specs.Repeated.{seen};
+ghost use Rattle.texts.specs.Repeated.{seen};
 ghost use Rattle.link_model.specs.Nets as nets;
 ghost use Rattle.hier_model.specs.Faults.{cell_limit};
 ghost use Rattle.hier_counts.specs.Widths as bits;

@@ -10,8 +10,8 @@ use Rattle.verilog_tree.specs.declared.tree.Port.{Port}
 use Rattle.verilog_tree.specs.declared.tree.Wire.{Wire}
 use Rattle.verilog_tree.specs.declared.tree.Module.{Module}
 use Rattle.link_model.specs.Nets.{Declared, port_nets, wire_nets, width, names_from, declared_names, declared_as}
-use Rattle.hier_walk.specs.Names.{texts}
-use Rattle.hier_walk.proofs.Tables.{lent, position-map}
+use Rattle.hier_model.specs.WalkNames.{texts}
+use Rattle.hier_model.proofs.Tables.{lent, position-map}
 use Rattle.hier_model.specs.Faults.{net_width}
 use Rattle.hier_flatten.specs.Nets.{range_named, range_width}
 

@@ -10,16 +10,16 @@ use Rattle.std.proofs.lemmas.List.Concat.{flat_map-append}
 use Rattle.list_laws.specs.Options.{or_else}
 use Rattle.list_laws.proofs.Lists.{map_push}
 use Rattle.list_laws.proofs.Options.{none_some}
-use Rattle.first_faults.specs.Repeated.{has_name}
-use Rattle.name_table.specs.Names.{with_name}
+use Rattle.texts.specs.Repeated.{has_name}
+use Rattle.link_arena.specs.NameTableNames.{with_name}
 use Rattle.verilog_tree.specs.declared.tree.Bit.{Bit}
 use Rattle.verilog_tree.specs.declared.tree.Port.{Port}
 use Rattle.verilog_tree.specs.declared.tree.Wire.{Wire}
 use Rattle.verilog_tree.specs.declared.tree.Module.{Module}
-use Rattle.hier_walk.specs.declared.walk.Step.{Step}
-use Rattle.hier_walk.specs.declared.walk.Walk.{Walk}
-use Rattle.hier_walk.specs.Visits.{Visit, visits, has_levels}
-use Rattle.hier_walk.specs.Walks.{left_in, Goes, Begins}
+use Rattle.hier_model.specs.declared.walk.walk.Step.{Step}
+use Rattle.hier_model.specs.declared.walk.walk.Walk.{Walk}
+use Rattle.hier_model.specs.Visits.{Visit, visits, has_levels}
+use Rattle.hier_model.specs.Walks.{left_in, Goes, Begins}
 use Rattle.hier_model.specs.declared.fault.HierFault.{HierFault}
 use Rattle.hier_model.specs.declared.fault.HierFault.TheVariants as fault
 use Rattle.hier_model.specs.Names.{flat_name}

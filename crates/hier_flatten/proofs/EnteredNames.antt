@@ -10,7 +10,7 @@ use Rattle.list_laws.specs.Options.{or_else}
 use Rattle.list_laws.proofs.Options.{none_some}
 use Rattle.list_laws.proofs.Lists.{any_at, in_front, position_none}
 use Rattle.list_laws.proofs.Bytes.{bytes_eq-same}
-use Rattle.first_faults.specs.Repeated.{has_name}
+use Rattle.texts.specs.Repeated.{has_name}
 use Rattle.verilog_tree.specs.declared.tree.Range.{Range}
 use Rattle.verilog_tree.specs.declared.tree.Bit.{Bit}
 use Rattle.verilog_tree.specs.declared.tree.Module.{Module}

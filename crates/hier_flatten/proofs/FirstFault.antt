@@ -6,7 +6,7 @@ use Rattle.list_laws.proofs.Options.{none_some, or_else-parts, or_else-assoc, no
 use Rattle.list_laws.proofs.Tests.{not_false}
 use Rattle.cell_library.specs.declared.listed.ListedCell.{ListedCell}
 use Rattle.verilog_tree.specs.declared.tree.Module.{Module}
-use Rattle.hier_walk.specs.Visits.{module_named, has_levels}
+use Rattle.hier_model.specs.Visits.{module_named, has_levels}
 use Rattle.hier_model.specs.declared.fault.HierFault.{HierFault}
 use Rattle.hier_model.specs.declared.fault.HierFault.TheVariants as fault
 use Rattle.hier_model.specs.Entries.{level_limit}

@@ -7,10 +7,10 @@ use Rattle.verilog_tree.specs.declared.tree.Wire.{Wire}
 use Rattle.verilog_tree.specs.declared.tree.Instance.{Instance}
 use Rattle.verilog_tree.specs.declared.tree.Item.{Item}
 use Rattle.verilog_tree.specs.declared.tree.Module.{Module}
-use Rattle.hier_walk.specs.declared.walk.Step.{Step}
-use Rattle.hier_walk.specs.declared.walk.Walk.{Walk}
-use Rattle.hier_walk.specs.Visits.{Turn, opens, Visit, visits, has_levels}
-use Rattle.hier_walk.specs.Walks.{texts, turn_of, path_after, Goes, went, Begins}
+use Rattle.hier_model.specs.declared.walk.walk.Step.{Step}
+use Rattle.hier_model.specs.declared.walk.walk.Walk.{Walk}
+use Rattle.hier_model.specs.Visits.{Turn, opens, Visit, visits, has_levels}
+use Rattle.hier_model.specs.Walks.{texts, turn_of, path_after, Goes, went, Begins}
 use Rattle.hier_model.specs.Names.{flat_name}
 use Rattle.hier_model.specs.Entries.{Place, place, visit_entries, entry_item, turn_entries, turn_places}
 use Rattle.hier_model.specs.Flat.{place_wires}

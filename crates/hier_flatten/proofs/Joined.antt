@@ -23,7 +23,7 @@ use Rattle.link_model.specs.Nets.{Declared, width, counted_from, index_at, decla
 use Rattle.link_model.specs.Cells.{linked_operand}
 use Rattle.hier_model.specs.Names.{flat_name, flat_bit, flat_operand}
 use Rattle.hier_model.specs.Entries.{Place, Entry, bits_of, spread_net, spread, inwards, outward, outwards, links_in, entry_item}
-use Rattle.hier_walk.proofs.Tables.{stands_first, stands_nowhere}
+use Rattle.hier_model.proofs.Tables.{stands_first, stands_nowhere}
 use Rattle.hier_flatten.specs.Nets.{range_named}
 use Rattle.hier_flatten.specs.Joins.{whole_range}
 use Rattle.hier_flatten.proofs.Declared.{declared_range}

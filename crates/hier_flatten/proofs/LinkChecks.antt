@@ -6,7 +6,7 @@ use Rattle.std.proofs.lemmas.List.Folds.{list_any-append}
 use Rattle.list_laws.specs.Options.{or_else}
 use Rattle.list_laws.proofs.Bytes.{bytes_eq-sym}
 use Rattle.list_laws.proofs.Tests.{or_false}
-use Rattle.first_faults.specs.Repeated.{has_name}
+use Rattle.texts.specs.Repeated.{has_name}
 use Rattle.verilog_tree.specs.declared.tree.Link.{Link}
 use Rattle.verilog_tree.specs.declared.tree.Port.{Port}
 use Rattle.hier_model.specs.Entries.{is_out}

@@ -4,10 +4,10 @@ use Rattle.std.proofs.lemmas.List.{length-map, take-map, length-take}
 use Rattle.list_laws.specs.Options.{first_in}
 use Rattle.verilog_tree.specs.declared.tree.Instance.{Instance}
 use Rattle.verilog_tree.specs.declared.tree.Module.{Module}
-use Rattle.hier_walk.specs.declared.walk.Step.{Step}
-use Rattle.hier_walk.specs.declared.walk.Walk.{Walk}
-use Rattle.hier_walk.specs.Visits.{opens, Visit, visits, has_levels}
-use Rattle.hier_walk.specs.Walks.{texts, turn_of, path_after, Goes, went, Begins}
+use Rattle.hier_model.specs.declared.walk.walk.Step.{Step}
+use Rattle.hier_model.specs.declared.walk.walk.Walk.{Walk}
+use Rattle.hier_model.specs.Visits.{opens, Visit, visits, has_levels}
+use Rattle.hier_model.specs.Walks.{texts, turn_of, path_after, Goes, went, Begins}
 use Rattle.hier_model.specs.declared.fault.HierFault.{HierFault}
 use Rattle.hier_model.specs.Faults.{turn_link}
 use Rattle.hier_flatten.specs.Visited.{IsListed, AreListed}

@@ -10,7 +10,7 @@ use Rattle.verilog_tree.specs.declared.tree.Instance.{Instance}
 use Rattle.verilog_tree.specs.declared.tree.Item.{Item}
 use Rattle.verilog_tree.specs.declared.tree.Item.TheVariants as item
 use Rattle.verilog_tree.specs.declared.tree.Module.{Module}
-use Rattle.hier_walk.specs.Visits.{Visit, visit, opens, closes, keeps, module_named, opened_by, item_visits, visits}
+use Rattle.hier_model.specs.Visits.{Visit, visit, opens, closes, keeps, module_named, opened_by, item_visits, visits}
 use Rattle.hier_flatten.specs.Visited.{IsListed, IsListedVisit, AreListed}
 
 -- what is found under a name is found under its own

@@ -3,10 +3,10 @@ use Rattle.std.proofs.Common.{◌≡◌, ℕ, ◌+◌, ◌-◌, ◌<◌, ◌≤�
 use Rattle.std.specs.Prelude.{sum_by}
 use Rattle.std.proofs.lemmas.List.Sums.{sum_by-cons}
 use Rattle.verilog_tree.specs.declared.tree.Module.{Module}
-use Rattle.hier_walk.specs.declared.walk.Step.{Step}
-use Rattle.hier_walk.specs.declared.walk.Walk.{Walk}
-use Rattle.hier_walk.specs.Visits.{Visit, visits, has_levels}
-use Rattle.hier_walk.specs.Walks.{Walks, left_in, turn_of, Goes, ended, went, Begins}
+use Rattle.hier_model.specs.declared.walk.walk.Step.{Step}
+use Rattle.hier_model.specs.declared.walk.walk.Walk.{Walk}
+use Rattle.hier_model.specs.Visits.{Visit, visits, has_levels}
+use Rattle.hier_model.specs.Walks.{Walks, left_in, turn_of, Goes, ended, went, Begins}
 use Rattle.hier_flatten.specs.Operands.{turn_operands, visit_operands, operand_limit}
 use Rattle.hier_flatten.proofs.Walks.{visit_in}
 

@@ -3,7 +3,7 @@ use Rattle.std.proofs.Common.{◌≡◌, ℕ, ◌≤◌, Bool, true, false, ◌|
 use Rattle.std.specs.Prelude.{is_some, IfOk}
 use Rattle.std.proofs.lemmas.Result.{IfOk-weaker}
 use Rattle.list_laws.specs.Options.{or_else}
-use Rattle.first_faults.specs.Repeated.{has_name}
+use Rattle.texts.specs.Repeated.{has_name}
 use Rattle.verilog_tree.specs.declared.tree.Range.{Range}
 use Rattle.verilog_tree.specs.declared.tree.Bit.{Bit}
 use Rattle.verilog_tree.specs.declared.tree.Module.{Module}

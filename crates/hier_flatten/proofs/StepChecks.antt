@@ -7,10 +7,10 @@ use Rattle.std.proofs.lemmas.Result.{IfOk-weaker}
 use Rattle.verilog_tree.specs.declared.tree.Instance.{Instance}
 use Rattle.verilog_tree.specs.declared.tree.Item.{Item}
 use Rattle.verilog_tree.specs.declared.tree.Module.{Module}
-use Rattle.hier_walk.specs.declared.walk.Step.{Step}
-use Rattle.hier_walk.specs.declared.walk.Walk.{Walk}
-use Rattle.hier_walk.specs.Visits.{Turn, keeps, opens, closes, has_levels}
-use Rattle.hier_walk.specs.Walks.{texts, turn_of, path_after, Goes, Begins}
+use Rattle.hier_model.specs.declared.walk.walk.Step.{Step}
+use Rattle.hier_model.specs.declared.walk.walk.Walk.{Walk}
+use Rattle.hier_model.specs.Visits.{Turn, keeps, opens, closes, has_levels}
+use Rattle.hier_model.specs.Walks.{texts, turn_of, path_after, Goes, Begins}
 use Rattle.hier_model.specs.declared.fault.HierFault.{HierFault}
 use Rattle.hier_model.specs.Names.{flat_name}
 use Rattle.hier_model.specs.Entries.{place, turn_places, level_limit}

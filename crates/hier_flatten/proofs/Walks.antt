@@ -3,10 +3,10 @@ use Rattle.std.proofs.Common.{◌≡◌, ℕ, ◌<◌, List, ◌++◌, length, O
 use Rattle.std.specs.List.{flat_map}
 use Rattle.list_laws.specs.Options.{or_else, first_in}
 use Rattle.verilog_tree.specs.declared.tree.Module.{Module}
-use Rattle.hier_walk.specs.declared.walk.Step.{Step}
-use Rattle.hier_walk.specs.declared.walk.Walk.{Walk}
-use Rattle.hier_walk.specs.Visits.{Visit}
-use Rattle.hier_walk.specs.Walks.{texts, Walks, left_in, visit_of, Goes, ended, went}
+use Rattle.hier_model.specs.declared.walk.walk.Step.{Step}
+use Rattle.hier_model.specs.declared.walk.walk.Walk.{Walk}
+use Rattle.hier_model.specs.Visits.{Visit}
+use Rattle.hier_model.specs.Walks.{texts, Walks, left_in, visit_of, Goes, ended, went}
 use Rattle.hier_flatten.specs.Visited.{IsListedVisit, AreListed}
 
 -- the visit of a step

@@ -8,7 +8,7 @@ use Rattle.verilog_lexicon.specs.Words.{WordText}
 use Rattle.verilog_modules.specs.declared.fault.SyntaxFault.{SyntaxFault}
 use Rattle.verilog_modules.specs.declared.fault.SyntaxFault.TheVariants as syntax
 use Rattle.verilog_modules.specs.Texts.{IsBadText}
-use Rattle.hier_walk.specs.Visits.{module_named}
+use Rattle.hier_model.specs.Visits.{module_named}
 use Rattle.hier_model.specs.declared.fault.HierFault.{HierFault}
 use Rattle.hier_model.specs.declared.fault.HierFault.TheVariants.{OutOfMemory}
 use Rattle.hier_model.specs.Faults.{bad_link_in, bad_name_in, hier_fault}

@@ -1,6 +1,6 @@
-pub mod Nets
-pub mod NameChecks
-pub mod Visited
-pub mod Joins
 pub mod Flattened
+pub mod Joins
+pub mod NameChecks
+pub mod Nets
 pub mod Operands
+pub mod Visited

@@ -4,7 +4,7 @@ use Rattle.std.specs.Prelude.{ℕ, List, [], length, sum_by}
 use Rattle.verilog_tree.specs.declared.tree.Item.{Item}
 use Rattle.verilog_tree.specs.declared.tree.Item.TheVariants as item
 use Rattle.verilog_tree.specs.declared.tree.Module.{Module}
-use Rattle.hier_walk.specs.Visits.{Turn, keeps, opens, closes, Visit, visits}
+use Rattle.hier_model.specs.Visits.{Turn, keeps, opens, closes, Visit, visits}
 use Rattle.hier_model.specs.Entries.{level_limit}
 
 -- the operands of a gate, the links of an instance

@@ -2,7 +2,7 @@
 use Rattle.std.specs.Prelude.{◌≡◌, List, Some}
 use Rattle.std.specs.List.{AllByRecursion}
 use Rattle.verilog_tree.specs.declared.tree.Module.{Module}
-use Rattle.hier_walk.specs.Visits.{Turn, keeps, opens, closes, Visit, module_named}
+use Rattle.hier_model.specs.Visits.{Turn, keeps, opens, closes, Visit, module_named}
 
 abbrev pub IsListed : List Module → Module → Type 0
 IsListed modules m = module_named modules m.name ≡ Some m

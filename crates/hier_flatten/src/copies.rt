@@ -1,6 +1,6 @@
 // Items at an occurrence, with flat names.
 ghost use Rattle.std.specs.Prelude.{◌≡◌, map, IfOk};
-ghost use Rattle.hier_walk.specs.Walks.{texts};
+ghost use Rattle.hier_model.specs.Walks.{texts};
 ghost use Rattle.hier_model.specs.Names as names;
 
 use crate::names::flat_name;

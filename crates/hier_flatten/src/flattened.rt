@@ -2,7 +2,7 @@
 ghost use Rattle.std.specs.Prelude.{◌≡◌, List, IfOk, IfErr, IsTrue};
 ghost use Rattle.verilog_tree.specs.declared.tree.Module.{Module as ModuleTree};
 ghost use Rattle.verilog_modules.specs.Texts.{SpellsModules};
-ghost use Rattle.hier_walk.specs.Visits.{has_levels};
+ghost use Rattle.hier_model.specs.Visits.{has_levels};
 ghost use Rattle.hier_model.specs.Entries.{level_limit};
 ghost use Rattle.hier_flatten.specs.Visited.{IsListed};
 ghost use Rattle.hier_flatten.specs.Flattened.{late_fault, IsFlat, IsFlatOf, IsHierFault, IsLateFault, RefusesWords};
@@ -15,7 +15,7 @@ use crate::operands::has_few_operands;
 use cell_library::Library;
 use hier_counts::{CellNames, find_early_fault};
 use hier_model::HierFault;
-use hier_walk::ModuleTable;
+use hier_model::walk::ModuleTable;
 use std::alloc::Global;
 use texts::{OutOfMemory, Row};
 use verilog_lexicon::Words;

@@ -2,7 +2,7 @@
 ghost use Rattle.std.specs.Prelude.{◌≡◌, ◌++◌, ◌<◌, map, length, position, slice_get, Some, IfOk, OnOk};
 ghost use Rattle.std.specs.Option.{option_copied};
 ghost use Rattle.std.specs.Str.{bytes_eq};
-ghost use Rattle.hier_walk.specs.Names.{texts};
+ghost use Rattle.hier_model.specs.WalkNames.{texts};
 ghost use Rattle.link_model.specs.Nets as model;
 ghost use Rattle.link_model.specs.Cells as cells;
 ghost use Rattle.hier_model.specs.Names as names;
@@ -14,11 +14,11 @@ ghost use Rattle.hier_flatten.specs.Joins.{inward_items, outward_items, input_it
 use crate::copies::flat_operand;
 use crate::names::flat_name;
 use crate::nets::NetTable;
-use first_faults::first_places;
 use hier_counts::width_of;
 use indexmap::IndexMap;
 use std::alloc::Global;
 use std::marker::Model;
+use texts::first_faults::first_places;
 use texts::{OutOfMemory, Row};
 use verilog_tree::{Bit, Dir, Instance, Item, Link, Module, Operand, Port, Range};
 

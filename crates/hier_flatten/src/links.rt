@@ -1,9 +1,9 @@
 // Links of instances of modules: the first that is at fault.
 ghost use Rattle.std.specs.Prelude.{◌≡◌, ℕ, List, [], ◌||◌, ◌&&◌, not, true, false, IfOk, IsTrue};
 ghost use Rattle.std.specs.Option.{option_map_or};
-ghost use Rattle.first_faults.specs.Repeated.{bytes_of, has_name, seen};
-ghost use Rattle.hier_walk.specs.Names.{texts};
-ghost use Rattle.hier_walk.specs.Visits.{has_levels, opens};
+ghost use Rattle.texts.specs.Repeated.{bytes_of, has_name, seen};
+ghost use Rattle.hier_model.specs.WalkNames.{texts};
+ghost use Rattle.hier_model.specs.Visits.{has_levels, opens};
 ghost use Rattle.hier_model.specs.Entries.{is_out, level_limit};
 ghost use Rattle.hier_model.specs.Faults as faults;
 ghost use Rattle.hier_flatten.specs.Nets as nets;
@@ -13,7 +13,7 @@ use crate::names::flat_name;
 use crate::nets::{NetTable, NetTables};
 use hier_counts::{note, width_of};
 use hier_model::HierFault;
-use hier_walk::{Turn, Walk};
+use hier_model::walk::{Turn, Walk};
 use indexmap::IndexSet;
 use std::alloc::Global;
 use texts::{OutOfMemory, Text};

@@ -1,6 +1,6 @@
 // Flat names: the names of instances and a name, joined by `/`.
 ghost use Rattle.std.specs.Prelude.{◌≡◌, IfOk};
-ghost use Rattle.hier_walk.specs.Walks.{texts};
+ghost use Rattle.hier_model.specs.Walks.{texts};
 ghost use Rattle.hier_model.specs.Names as names;
 
 use std::alloc::Global;

@@ -2,19 +2,19 @@
 ghost use Rattle.std.specs.Prelude.{◌≡◌, Some, map, position, IfOk, IfSome};
 ghost use Rattle.std.specs.Option.{option_copied};
 ghost use Rattle.std.specs.Str.{bytes_eq};
-ghost use Rattle.hier_walk.specs.Names.{texts};
-ghost use Rattle.hier_walk.specs.Visits.{module_named};
+ghost use Rattle.hier_model.specs.WalkNames.{texts};
+ghost use Rattle.hier_model.specs.Visits.{module_named};
 ghost use Rattle.link_model.specs.Nets as model;
 ghost use Rattle.hier_model.specs.Faults as faults;
 ghost use Rattle.hier_flatten.specs.Nets as nets;
 
-use first_faults::first_places;
 use hier_counts::width_of;
-use hier_walk::ModuleTable;
+use hier_model::walk::ModuleTable;
 use indexmap::IndexMap;
 use std::alloc::Global;
 use std::marker::Model;
 use texts::OutOfMemory;
+use texts::first_faults::first_places;
 use verilog_tree::{Module, Operand, Port, Range, Wire};
 
 /// What a module declares, found by name: of ports of one name the first, and so of wires.

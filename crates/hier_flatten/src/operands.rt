@@ -1,12 +1,12 @@
 // How many operands and links the items have that stay: no limit of their own bounds them, and past this one memory is
 // wanted.
 ghost use Rattle.std.specs.Prelude.{◌≡◌, ◌≤◌, ◌↔◌, IfOk, IsTrue};
-ghost use Rattle.hier_walk.specs.Visits.{has_levels};
-ghost use Rattle.hier_walk.specs.Walks.{turn_of};
+ghost use Rattle.hier_model.specs.Visits.{has_levels};
+ghost use Rattle.hier_model.specs.Walks.{turn_of};
 ghost use Rattle.hier_model.specs.Entries.{level_limit};
 ghost use Rattle.hier_flatten.specs.Operands as model;
 
-use hier_walk::{ModuleTable, Turn, Walk};
+use hier_model::walk::{ModuleTable, Turn, Walk};
 use std::alloc::Global;
 use texts::OutOfMemory;
 use verilog_tree::{Item, Module};

@@ -1,1 +1,4 @@
+pub mod Frames
 mod Rows
+pub mod Steps
+pub mod Tables

@@ -16,7 +16,7 @@ use Rattle.verilog_tree.specs.declared.tree.Item.TheVariants as item
 use Rattle.verilog_tree.specs.declared.tree.Module.{Module}
 use Rattle.link_model.specs.Nets.{Declared, width, counted_from, index_at, declared_names, declared_as}
 use Rattle.link_model.specs.Cells.{linked_operand}
-use Rattle.hier_walk.specs.Visits.{Turn, keeps, opens, closes, Visit, visits}
+use Rattle.hier_model.specs.Visits.{Turn, keeps, opens, closes, Visit, visits}
 use Rattle.hier_model.specs.Names.{flat_bit, flat_operand, flat_item}
 
 -- a module at an occurrence

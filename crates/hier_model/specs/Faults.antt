@@ -25,7 +25,7 @@ use Rattle.link_model.specs.Faults.{item_name, item_bits}
 use Rattle.hier_model.specs.declared.fault.HierFault.{HierFault}
 use Rattle.hier_model.specs.declared.fault.HierFault.TheVariants as fault
 use Rattle.hier_model.specs.declared.fault.HierWhat.TheVariants as what
-use Rattle.hier_walk.specs.Visits.{Turn, keeps, opens, closes, Visit, visits, module_named, opened_by, has_levels}
+use Rattle.hier_model.specs.Visits.{Turn, keeps, opens, closes, Visit, visits, module_named, opened_by, has_levels}
 use Rattle.hier_model.specs.Names.{flat_name}
 use Rattle.hier_model.specs.Entries.{Place, place, places, level_limit, is_in, is_out}
 

@@ -1,4 +1,8 @@
-pub mod Names
 pub mod Entries
 pub mod Faults
 pub mod Flat
+pub mod Found
+pub mod Names
+pub mod Visits
+pub mod WalkNames
+pub mod Walks

@@ -1,8 +1,7 @@
 use texts::{OutOfMemory, Text};
-use thiserror::Error;
 
 /// What a hierarchy may have too many of.
-#[derive(Clone, Copy, Debug, Drop, PartialEq, Eq)]
+#[derive(Clone, Copy, Drop, PartialEq, Eq)]
 pub enum HierWhat {
     Depth,
     Cells,
@@ -11,36 +10,35 @@ pub enum HierWhat {
 
 /// Why modules aren't made flat: one variant a cause. Of several that stand the first is told, in the order of the
 /// variants; under one variant, the first in the text or in flat order.
-#[derive(Debug, Drop, Error)]
+#[derive(Drop)]
 pub enum HierFault {
-    #[error("a module's name came before, or is that of a cell")]
+    /// A module's name came before, or is that of a cell.
     ModuleTwice {
         name: Text,
     },
-    #[error("no module and no cell has the name")]
+    /// No module and no cell has the name.
     ModuleMissing {
         name: Text,
     },
-    #[error("a module holds itself")]
+    /// A module holds itself.
     ModuleRecursive {
         name: Text,
     },
-    #[error("{count} of them pass the limit of {limit}")]
+    /// There are more of them than the limit.
     TooMany {
         what: HierWhat,
         count: u64,
         limit: u64,
     },
-    #[error("a module's port can't be linked so")]
+    /// A module's port can't be linked so.
     ModuleLink {
         instance: Text,
         port: Text,
     },
-    #[error("a flat name is too long, or came before")]
+    /// A flat name is too long, or came before.
     FlatName {
         name: Text,
     },
-    #[error("out of memory")]
     OutOfMemory,
 }
 

@@ -21,9 +21,9 @@ use Rattle.plan_fitting.specs.Fits as fits
 use Rattle.command_faults.specs.declared.fault.Fault.{Fault}
 use Rattle.command_faults.specs.declared.status.Status.TheVariants as status
 use Rattle.command_faults.specs.Statuses.{status_of, plan_status, fit_status}
-use Rattle.insertions.specs.InsertFault.{InsertFault}
-use Rattle.insertions.specs.InsertFault.TheVariants as insert
-use Rattle.insertions.specs.Faults.{StandsInTexts}
+use Rattle.status_insertions.specs.insertion_inputs.declared.fault.InsertFault.{InsertFault}
+use Rattle.status_insertions.specs.insertion_inputs.declared.fault.InsertFault.TheVariants as insert
+use Rattle.status_insertions.specs.insertion_inputs.Faults.{StandsInTexts}
 use Rattle.insert_command.specs.Faults.{fault_of, StandsInInputs}
 use Rattle.insert_command.specs.Free.{HasNoFault, IsInsertable, FreeTextsWantMemory}
 

@@ -1,2 +1,4 @@
-pub use Rattle.command_edges.proofs as command_edges
 pub mod Complete
+mod Insertable
+mod Made
+mod StatusComplete

@@ -3,9 +3,9 @@ use Rattle.std.specs.Prelude.{◌≡◌, ℕ, List}
 use Rattle.cell_library.specs.declared.listed.ListedCell.{ListedCell}
 use Rattle.command_faults.specs.declared.fault.Fault.{Fault}
 use Rattle.command_faults.specs.declared.fault.Fault.TheVariants as fault
-use Rattle.insertions.specs.InsertFault.{InsertFault}
-use Rattle.insertions.specs.InsertFault.TheVariants as insert
-use Rattle.insertions.specs.Faults.{StandsInTexts}
+use Rattle.status_insertions.specs.insertion_inputs.declared.fault.InsertFault.{InsertFault}
+use Rattle.status_insertions.specs.insertion_inputs.declared.fault.InsertFault.TheVariants as insert
+use Rattle.status_insertions.specs.insertion_inputs.Faults.{StandsInTexts}
 
 -- the fault of a command, for one of inserting
 abbrev pub fault_of : InsertFault → Fault

@@ -14,9 +14,9 @@ use Rattle.plan_fitting.specs.declared.fitted.Fitted.{Fitted}
 use Rattle.plan_fitting.specs.Pins.{PinSeen, NamesBit, AreSeen}
 use Rattle.plan_fitting.specs.Fits.{fault_with}
 use Rattle.plan_fitting.specs.Devices.{IsFitted}
-use Rattle.insertions.specs.Inputs.{HasRoomFor}
-use Rattle.insertions.specs.InsertFault.{InsertFault}
-use Rattle.insertions.specs.Faults.{StandsInTexts}
+use Rattle.status_insertions.specs.insertion_inputs.Inputs.{HasRoomFor}
+use Rattle.status_insertions.specs.insertion_inputs.declared.fault.InsertFault.{InsertFault}
+use Rattle.status_insertions.specs.insertion_inputs.Faults.{StandsInTexts}
 use Rattle.command_faults.specs.declared.status.Status.TheVariants as status
 use Rattle.command_faults.specs.Statuses.{status_of}
 use Rattle.command_edges.specs.Lengths.{IsShort}

@@ -4,7 +4,7 @@ use Rattle.cell_library.specs.declared.listed.ListedCell.{ListedCell}
 use Rattle.command_faults.specs.declared.fault.Fault.{Fault}
 use Rattle.command_faults.specs.declared.status.Status.{Status}
 use Rattle.command_faults.specs.declared.status.Status.TheVariants as status
-use Rattle.insertions.specs.Insertions.{IsInsertionText}
+use Rattle.status_insertions.specs.insertions.Insertions.{IsInsertionText}
 use Rattle.command_edges.specs.Libraries.{names_if, IsLibraryOf, StandsInLibrary}
 use Rattle.command_edges.specs.Tasks.{Task}
 use Rattle.insert_command.specs.Faults.{StandsInInputs}

@@ -5,8 +5,8 @@ use crate::inserted_texts::inserted;
 use crate::laws::insertion_faults_stand_apart;
 use command_edges::{Made, TextCommand, take_two};
 use command_faults::Fault;
-use edge_io::Text;
 use std::alloc::Global;
+use texts::Text;
 
 /// Builds the test logic of the plan that lies under one name into the netlist that lies under another, with the
 /// library that lies under a third if there is one; writes the netlist's text and the device's, and puts the report.

@@ -7,9 +7,10 @@ ghost use Rattle.insert_command.specs.Tasks.{IsInserted};
 use cell_library::Library;
 use command_edges::Made;
 use command_faults::{Fault, Status};
-use edge_io::{OutOfMemory, Row, Text};
-use insertions::{InsertFault, insert_texts};
+use status_insertions::lower_insertion_inputs::InsertFault;
+use status_insertions::lower_insertions::insert_texts;
 use std::alloc::Global;
+use texts::{OutOfMemory, Row, Text};
 
 /// The fault of a command, for one of inserting.
 pub fn fault_of<'a>(fault: InsertFault) -> Fault<'a>

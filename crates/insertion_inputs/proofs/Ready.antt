@@ -12,24 +12,24 @@ use Rattle.netlist_model.specs.Formed.{IsLaidOut, width_of}
 use Rattle.netlist_arena.specs.Arena.{bit_count}
 use Rattle.netlist_arena.specs.Room.{too_many}
 use Rattle.netlist_arena.specs.declared.room.ReserveFault.{ReserveFault}
-use Rattle.netlist_laws.specs.Ports.{BitHasDirection}
-use Rattle.netlist_laws.specs.Drivers.{DriverIsFound}
+use Rattle.netlist_model.specs.Ports.{BitHasDirection}
+use Rattle.netlist_model.specs.Drivers.{DriverIsFound}
 use Rattle.netlist_link.specs.Linked.{LinkedView}
 use Rattle.plan_texts.specs.declared.plan.Plan.{Plan}
 use Rattle.plan_texts.specs.Canonical.{IsPlan}
 use Rattle.plan_fitting.specs.declared.fitted.Fitted.{Fitted}
 use Rattle.plan_fitting.specs.Rows.{rows}
 use Rattle.plan_fitting.specs.Devices.{IsFitted, fit_port, device_of}
-use Rattle.scan_stitch.specs.plan_devices.FittingPlan.{IsFitting, HasRoom}
-use Rattle.scan_stitch.specs.plan_devices.Laws.{TapNamesAreNew, FittedIsFitting, PlansMakeDevices}
-use Rattle.scan_stitch.proofs.plan_devices.PlanClock.{plans_have_registers}
+use Rattle.plan_fitting.specs.FittingPlan.{IsFitting, HasRoom}
+use Rattle.plan_fitting.specs.DevicesLaws.{TapNamesAreNew, FittedIsFitting, PlansMakeDevices}
+use Rattle.plan_fitting.proofs.PlanClock.{plans_have_registers}
 use Rattle.scan_stitch.specs.Ready.{IsSmall, HasTapNames}
 use Rattle.scan_stitch.specs.Laws.{FittedBitsAreThere}
-use Rattle.scan_stitch.specs.stitch_names.Prepared.{room_of, ports_of, prepared}
+use Rattle.scan_stitch.specs.written_netlists.Prepared.{room_of, ports_of, prepared}
 use Rattle.bsdl_device.specs.IsDevice.{IsDevice}
-use Rattle.scan_stitch.proofs.plan_devices.Facts.{facts_of}
-use Rattle.scan_stitch.proofs.plan_devices.DeviceIs.{rows_within}
-use Rattle.scan_stitch.proofs.stitch_names.Limits.{few_bits}
+use Rattle.plan_fitting.proofs.DevicesFacts.{facts_of}
+use Rattle.plan_fitting.proofs.DeviceIs.{rows_within}
+use Rattle.scan_stitch.proofs.written_netlists.NamesLimits.{few_bits}
 use Rattle.insertion_inputs.specs.Inputs.{IsLinkedTree, IsReadyAs, IsPreparedAs, HasRoomFor}
 use Rattle.insertion_inputs.specs.Reserves.{reserve_fault}
 use Rattle.insertion_inputs.specs.Faults.{StandsInFit}

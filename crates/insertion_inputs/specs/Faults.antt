@@ -14,7 +14,7 @@ use Rattle.plan_texts.specs.Faults as texts
 use Rattle.plan_fitting.specs.declared.fitted.Fitted.{Fitted}
 use Rattle.plan_fitting.specs.Devices.{IsFitted}
 use Rattle.plan_fitting.specs.Fits as fits
-use Rattle.scan_stitch.specs.stitch_names.Prepared.{room_of, ports_of}
+use Rattle.scan_stitch.specs.written_netlists.Prepared.{room_of, ports_of}
 use Rattle.insertion_inputs.specs.declared.fault.InsertFault.{InsertFault}
 use Rattle.insertion_inputs.specs.declared.fault.InsertFault.TheVariants as fault
 use Rattle.insertion_inputs.specs.Inputs.{IsNetlistOf}

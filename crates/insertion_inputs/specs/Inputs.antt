@@ -15,7 +15,7 @@ use Rattle.plan_fitting.specs.declared.fitted.Fitted.{Fitted}
 use Rattle.plan_fitting.specs.Devices.{IsFitted, device_of}
 use Rattle.bsdl_device.specs.declared.values.Device.{Device}
 use Rattle.bsdl_device.specs.IsDevice.{IsDevice}
-use Rattle.scan_stitch.specs.stitch_names.Prepared.{room_of, ports_of, prepared}
+use Rattle.scan_stitch.specs.written_netlists.Prepared.{room_of, ports_of, prepared}
 use Rattle.scan_stitch.specs.Ready.{IsSmall, HasTapNames, AreBitsInRange}
 
 -- The bytes spell one tree, which is linked with this library to this netlist.

@@ -1,4 +1,4 @@
-pub use Rattle.scan_stitch.specs.Stitch
-pub mod Reserves
-pub mod Inputs
+pub use Rattle.scan_stitch.specs as scan_stitch
 pub mod Faults
+pub mod Inputs
+pub mod Reserves

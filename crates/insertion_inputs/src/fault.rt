@@ -4,28 +4,21 @@ use netlist_model::What;
 use plan_fitting::FitFault;
 use plan_texts::PlanFault;
 use texts::OutOfMemory;
-use thiserror::Error;
 use verilog_texts::TextFault;
 
 /// Why nothing can be inserted; of several faults, the first by this order.
-#[derive(Debug, Drop, Error)]
+#[derive(Drop)]
 pub enum InsertFault {
     /// The netlist's text is no module.
-    #[error("{0}")]
     Netlist(TextFault),
     /// The module can't be linked.
-    #[error("{0}")]
     Link(LinkFault),
     /// The plan's text is no plan.
-    #[error("{0}")]
     Plan(PlanFault),
     /// The plan doesn't fit the netlist.
-    #[error("{0}")]
     Fit(FitFault),
     /// With the test logic there would be too many of something.
-    #[error("{count} where {limit} is the limit")]
     TooMany { what: What, count: u64, limit: u64 },
-    #[error("out of memory")]
     OutOfMemory,
 }
 

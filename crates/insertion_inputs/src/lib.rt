@@ -12,10 +12,10 @@
 #![tactic(auto)]
 
 mod fault;
+pub mod lower_scan_stitch;
 mod netlist;
 mod plan;
 
 pub use fault::InsertFault;
 pub use netlist::link_text;
 pub use plan::{Fitting, fit_plan, fit_text};
-pub use scan_stitch::stitch;

@@ -7,12 +7,12 @@ ghost use Rattle.insertion_inputs.specs.Faults.{StandsInFit, StandsInPlan};
 
 use crate::fault::InsertFault;
 use bsdl_device::Device;
-use netlist_laws::{direction_of_a_bit, driver_is_found};
 use netlist_link::Linked;
+use netlist_model::laws::{direction_of_a_bit, driver_is_found};
 use pin_plan::fit;
+use plan_fitting::devices::{fitted_is_fitting, plans_make_devices, tap_names_are_new};
 use plan_fitting::{FitFault, Fitted};
 use plan_texts::{Plan, read_plan};
-use scan_stitch::lower_plan_devices::{fitted_is_fitting, plans_make_devices, tap_names_are_new};
 use scan_stitch::{device_of_fit, fitted_bits_are_there, prepare};
 use std::alloc::Global;
 

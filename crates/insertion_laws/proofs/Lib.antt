@@ -1,2 +1,4 @@
+mod Chips
+mod Ports
 mod Stripped
 mod Together

@@ -1,10 +1,10 @@
 -- What an insertion wrote is stripped.
 use Rattle.std.proofs.Common.{refl, sym, subst, ◌∙◌}
 use Rattle.cell_library.specs.Sound.{IsLibrary}
-use Rattle.verilog_reading.specs.Conditions.{SpelledTreesKeepConditions}
+use Rattle.verilog_tree.specs.Conditions.{SpelledTreesKeepConditions}
 use Rattle.plan_fitting.specs.Devices.{device_of}
-use Rattle.strip_law.specs.Law.{OneNetlistGives}
-use Rattle.strip_law.specs.Answer.{RecoveredGives}
+use Rattle.strip_model.specs.LawLaws.{OneNetlistGives}
+use Rattle.strip_model.specs.Answer.{RecoveredGives}
 use Rattle.insertion_laws.specs.Laws.{InsertionGives, InsertionIsStripped, InsertionComesBack}
 
 pub insertion : InsertionGives

@@ -1,9 +1,9 @@
 -- What an insertion wrote belongs together.
 use Rattle.std.proofs.Common.{refl, sym, subst}
 use Rattle.cell_library.specs.Sound.{IsLibrary}
-use Rattle.verilog_reading.specs.Conditions.{SpelledTreesKeepConditions}
+use Rattle.verilog_tree.specs.Conditions.{SpelledTreesKeepConditions}
 use Rattle.plan_fitting.specs.Devices.{fitted_of, device_of}
-use Rattle.plan_devices.specs.Laws.{FittedIsFitting}
+use Rattle.plan_fitting.specs.DevicesLaws.{FittedIsFitting}
 use Rattle.insertion_laws.specs.Laws.{InsertionsBelongTogether}
 
 pub insertions_belong_together : FittedIsFitting → SpelledTreesKeepConditions → InsertionsBelongTogether

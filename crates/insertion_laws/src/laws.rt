@@ -1,8 +1,8 @@
 ghost use Rattle.insertion_laws.specs.Laws.{InsertionComesBack, InsertionGives, InsertionIsStripped, InsertionsBelongTogether};
 
-use plan_devices::fitted_is_fitting;
-use strip_law::{one_netlist_gives, recovered_gives};
-use verilog_reading::spelled_trees_keep_the_conditions;
+use plan_fitting::devices::fitted_is_fitting;
+use strip_model::law::{one_netlist_gives, recovered_gives};
+use verilog_tree::reading::spelled_trees_keep_the_conditions;
 
 /// A law: what an insertion wrote is given by the netlist and the plan that it read; so it is stripped, and no other
 /// netlist with the library comes back.

@@ -6,9 +6,11 @@
 //   stripped to a module that denotes what the netlist's does, and no other netlist with the library gives it.
 // - `insertions_belong_together`: what `insert` writes are texts that belong together, so that a check by the device's
 //   program misses nothing.
+// - `checks`: laws: a check of a netlist that keeps and realises, by its device's program, never misses.
 // By the contract of its law functions.
 #![tactic(auto)]
 
+pub mod checks;
 mod laws;
 
 pub use laws::{insertions_are_stripped, insertions_belong_together};

@@ -1,2 +1,1 @@
-pub use Rattle.plan_fitting.specs as plan_fitting
 pub mod Reports

@@ -1,2 +1,2 @@
-mod Trees
 mod Made
+mod Trees

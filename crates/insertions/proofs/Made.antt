@@ -21,25 +21,25 @@ use Rattle.netlist_unlink.specs.Trees.{tree_of}
 use Rattle.plan_texts.specs.declared.plan.Plan.{Plan}
 use Rattle.plan_texts.specs.Exactly.{SpelledOnce}
 use Rattle.plan_texts.specs.Grammar.{SpellsPlan}
-use Rattle.insertion_report.specs.plan_fitting.declared.fitted.Fitted.{Fitted}
-use Rattle.insertion_report.specs.plan_fitting.Devices.{IsFitted, fitted_of, device_of}
-use Rattle.written_runs.specs.stitch_model.declared.TapNames.{TapNames}
-use Rattle.written_runs.specs.stitch_model.declared.TapPort.{TapPort}
-use Rattle.written_runs.specs.stitch_model.Stitched.{tap_ports, tap_port}
+use Rattle.plan_fitting.specs.declared.fitted.Fitted.{Fitted}
+use Rattle.plan_fitting.specs.Devices.{IsFitted, fitted_of, device_of}
+use Rattle.stitched_netlist.specs.declared.model.TapNames.{TapNames}
+use Rattle.stitched_netlist.specs.declared.model.TapPort.{TapPort}
+use Rattle.stitched_netlist.specs.Stitched.{tap_ports, tap_port}
 use Rattle.insertion_report.specs.Reports.{report_of}
 use Rattle.insertion_inputs.specs.declared.fault.InsertFault.{InsertFault}
 use Rattle.insertion_inputs.specs.declared.fault.InsertFault.TheVariants as fault
 use Rattle.insertion_inputs.specs.Inputs.{IsNetlistOf, IsLinkedTree, IsFittingAs}
 use Rattle.insertion_inputs.specs.Faults.{StandsInNetlist, StandsInPlan, StandsInTexts}
-use Rattle.written_runs.specs.plan_devices.Laws.{FittedIsFitting}
-use Rattle.written_runs.specs.stitch_names.Prepared.{room_of, ports_of, prepared, with_tap_names, AreTapNames}
-use Rattle.insertion_inputs.specs.Stitch.{CanStitch, IsStitched}
-use Rattle.written_runs.specs.Written.{IsStitchedOf, WritesStitched}
-use Rattle.written_runs.specs.TextLaws.{IsStitching, StitchedCanBeWritten, StitchedIsWritten}
-use Rattle.written_runs.specs.Laws.{WrittenRealises, WrittenIsAlone, WrittenHasControls, WrittenFindsHome, WrittenIsAloneFromHome}
+use Rattle.plan_fitting.specs.DevicesLaws.{FittedIsFitting}
+use Rattle.written_netlists.specs.Prepared.{room_of, ports_of, prepared, with_tap_names, AreTapNames}
+use Rattle.insertion_inputs.specs.scan_stitch.Stitch.{CanStitch, IsStitched}
+use Rattle.written_netlists.specs.Written.{IsStitchedOf, WritesStitched}
+use Rattle.written_netlists.specs.ModulesLaws.{IsStitching, StitchedCanBeWritten, StitchedIsWritten}
+use Rattle.written_netlists.specs.RunsLaws.{WrittenRealises, WrittenIsAlone, WrittenHasControls, WrittenFindsHome, WrittenIsAloneFromHome}
 use Rattle.insertions.specs.declared.written_texts.Inserted.{Inserted}
 use Rattle.insertions.specs.Insertions.{IsNetlistText, IsDeviceText, IsInsertion, IsInsertionText}
-use Rattle.inserted_netlists.specs.Inserted.{with_test_logic}
+use Rattle.written_netlists.specs.InsertedLaws.{with_test_logic}
 use Rattle.insertions.proofs.Trees.{tree_is}
 
 -- Faults.

@@ -7,12 +7,12 @@ use Rattle.netlist_model.specs.Lists.{PortView, NetView, CellView, NetlistView, 
 use Rattle.netlist_link.specs.Linked.{LinkedView}
 use Rattle.netlist_unlink.specs.Rows.{rows}
 use Rattle.netlist_unlink.specs.Trees.{Naming, item_of, items_from, port_of, wire_of, added_from, tree_of}
-use Rattle.insertion_report.specs.plan_fitting.declared.fitted.Fitted.{Fitted}
-use Rattle.written_runs.specs.stitch_model.declared.TapNames.{TapNames}
-use Rattle.written_runs.specs.stitch_model.Stitched.{stitched}
-use Rattle.written_runs.specs.stitch_names.Prepared.{with_tap_names}
-use Rattle.written_runs.specs.stitch_names.Same.{IsSameNetlist}
-use Rattle.inserted_netlists.specs.Inserted.{with_test_logic}
+use Rattle.plan_fitting.specs.declared.fitted.Fitted.{Fitted}
+use Rattle.stitched_netlist.specs.declared.model.TapNames.{TapNames}
+use Rattle.stitched_netlist.specs.Stitched.{stitched}
+use Rattle.written_netlists.specs.Prepared.{with_tap_names}
+use Rattle.written_netlists.specs.Same.{IsSameNetlist}
+use Rattle.written_netlists.specs.InsertedLaws.{with_test_logic}
 
 same_cell : (a b : CellView) → Some a ≡ Some b → a ≡ b
 same_cell a b e = cc

@@ -22,18 +22,18 @@ use Rattle.netlist_unlink.specs.Trees.{tree_of}
 use Rattle.netlist_unlink.specs.Renumbered.{IsWrittenAs}
 use Rattle.plan_texts.specs.declared.plan.Plan.{Plan}
 use Rattle.plan_texts.specs.Grammar.{SpellsPlan}
-use Rattle.insertion_report.specs.plan_fitting.declared.fitted.Fitted.{Fitted}
-use Rattle.insertion_report.specs.plan_fitting.Fits.{Fits}
-use Rattle.insertion_report.specs.plan_fitting.Devices.{fitted_of, device_of}
+use Rattle.plan_fitting.specs.declared.fitted.Fitted.{Fitted}
+use Rattle.plan_fitting.specs.Fits.{Fits}
+use Rattle.plan_fitting.specs.Devices.{fitted_of, device_of}
 use Rattle.wrapped_chip.specs.Realises.{Keeps, Realises, Alone}
 use Rattle.wrapped_chip.specs.Legal.{HasControls}
 use Rattle.wrapped_chip.specs.Home.{FindsHome, AloneFromHome}
 use Rattle.insertion_report.specs.Reports.{report_of}
 use Rattle.insertion_inputs.specs.Inputs.{IsNetlistOf, IsFittingAs}
-use Rattle.written_runs.specs.stitch_model.declared.TapNames.{TapNames}
-use Rattle.written_runs.specs.stitch_names.Prepared.{room_of, ports_of, with_tap_names, AreTapNames}
-use Rattle.inserted_netlists.specs.Inserted.{with_test_logic}
-use Rattle.written_runs.specs.Written.{spelt, tap_of}
+use Rattle.stitched_netlist.specs.declared.model.TapNames.{TapNames}
+use Rattle.written_netlists.specs.Prepared.{room_of, ports_of, with_tap_names, AreTapNames}
+use Rattle.written_netlists.specs.InsertedLaws.{with_test_logic}
+use Rattle.written_netlists.specs.Written.{spelt, tap_of}
 
 -- Texts that are written.
 

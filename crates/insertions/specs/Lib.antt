@@ -1,5 +1,2 @@
-pub use Rattle.insertion_inputs.specs.Inputs
-pub use Rattle.insertion_inputs.specs.Faults
-pub use Rattle.insertion_inputs.specs.declared.fault.InsertFault
-pub use Rattle.written_runs.specs.Written
+pub use Rattle.insertion_inputs.specs as insertion_inputs
 pub mod Insertions

@@ -9,15 +9,17 @@ ghost use Rattle.insertions.specs.Insertions.{IsInsertionText, IsReadied};
 
 use crate::written_texts::{Inserted, write_texts};
 use cell_library::Library;
-use insertion_inputs::{Fitting, InsertFault, fit_text, link_text, stitch};
+use insertion_inputs::lower_scan_stitch::stitch;
+use insertion_inputs::{Fitting, InsertFault, fit_text, link_text};
 use netlist_link::Linked;
+use plan_fitting::devices::fitted_is_fitting;
 use plan_texts::texts_of_plans_are_spelled_or_at_fault;
 use std::alloc::Global;
 use texts::{OutOfMemory, Text};
-use written_runs::lower_plan_devices::fitted_is_fitting;
-use written_runs::{
-    stitched_can_be_written, stitched_is_written, written_finds_home, written_has_controls,
-    written_is_alone, written_is_alone_from_home, written_realises,
+use written_netlists::modules::{stitched_can_be_written, stitched_is_written};
+use written_netlists::runs::{
+    written_finds_home, written_has_controls, written_is_alone, written_is_alone_from_home,
+    written_realises,
 };
 
 // Builds the test logic into the netlist that a plan was fitted to, and writes the texts.

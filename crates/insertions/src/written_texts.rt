@@ -15,7 +15,7 @@ use netlist_link::Linked;
 use netlist_unlink::unlink;
 use std::alloc::Global;
 use texts::{OutOfMemory, Text};
-use verilog_printing::print_module;
+use verilog_texts::printing::print_module;
 
 /// What an insertion gives: the netlist's text, the device's, and the report.
 #[derive(Drop)]

@@ -3,11 +3,11 @@ use Rattle.std.proofs.Common.{◌≡◌, ℕ, zero, suc, ◌+◌, ◌-◌, ◌*�
 use Rattle.signal_values.specs.declared.Sig.{Sig}
 use Rattle.netlist_model.specs.declared.Feed.{Feed}
 use Rattle.netlist_model.specs.Lists.{CellView, cell_count}
-use Rattle.register_gates.specs.netlist_laws.Contained.{ContainedParts}
-use Rattle.register_gates.specs.netlist_arena.Arena.{ArenaView}
-use Rattle.register_gates.specs.gate_parts.Appended.{Appended}
-use Rattle.register_gates.specs.gate_parts.Parts.{part_cells}
-use Rattle.register_gates.specs.gate_parts.PartLaws.{ContainedPartMeets}
+use Rattle.netlist_model.specs.LawsContained.{ContainedParts}
+use Rattle.netlist_arena.specs.Arena.{ArenaView}
+use Rattle.gate_parts.specs.Appended.{Appended}
+use Rattle.gate_parts.specs.Parts.{part_cells}
+use Rattle.gate_parts.specs.PartLaws.{ContainedPartMeets}
 use Rattle.register_gates.specs.Steps.{AddedInTurn}
 use Rattle.instruction_gates.specs.declared.copies.TheConstants.{COPY}
 use Rattle.instruction_gates.specs.Copies.{row_values, copy_given, copies_cells, CopiesTell}

@@ -9,9 +9,9 @@ use Rattle.cell_library.specs.declared.codes.Bits.{Bits}
 use Rattle.cell_library.specs.declared.codes.Opcode.{Opcode}
 use Rattle.cell_library.specs.declared.codes.Instr.{Instr}
 use Rattle.cell_library.specs.declared.codes.Instr.TheVariants.{Bypass, Extest, Sample, Preload, Idcode, Highz, Clamp, Usercode}
-use Rattle.register_gates.specs.bsdl_device.declared.entries.Register.TheVariants as register
-use Rattle.register_gates.specs.bsdl_device.Instructions.{all_instructions, is_register, selected_register}
-use Rattle.register_gates.specs.test_logic.Instructions.{mode_of, is_extest, is_usercode, pattern, is_same_bit, is_pattern, opcode_of, is_opcode, instruction_of}
+use Rattle.bsdl_device.specs.declared.entries.Register.TheVariants as register
+use Rattle.bsdl_device.specs.Instructions.{all_instructions, is_register, selected_register}
+use Rattle.test_logic.specs.Instructions.{mode_of, is_extest, is_usercode, pattern, is_same_bit, is_pattern, opcode_of, is_opcode, instruction_of}
 use Rattle.instruction_gates.specs.Selections.{may_share, AreApart}
 
 abbrev pick : Bool → Bool → Bool → Bool → Bool → Bool → Bool → Bool → Instr → Bool

@@ -4,11 +4,11 @@ use Rattle.netlist_model.specs.declared.NetId.{NetId}
 use Rattle.netlist_model.specs.declared.Feed.{Feed}
 use Rattle.netlist_model.specs.declared.Feed.TheVariants.{Net, Const}
 use Rattle.netlist_model.specs.Lists.{CellView, cell_count}
-use Rattle.register_gates.specs.netlist_arena.Arena.{ArenaView}
-use Rattle.register_gates.specs.gate_parts.Appended.{Appended}
-use Rattle.register_gates.specs.gate_parts.Parts.{part_cells}
-use Rattle.register_gates.specs.register_bits.Bits.{held_bit_cells}
-use Rattle.register_gates.proofs.register_bits.Lengths.{held_length}
+use Rattle.netlist_arena.specs.Arena.{ArenaView}
+use Rattle.gate_parts.specs.Appended.{Appended}
+use Rattle.gate_parts.specs.Parts.{part_cells}
+use Rattle.register_gates.specs.BitsLaws.{held_bit_cells}
+use Rattle.register_gates.proofs.Lengths.{held_length}
 use Rattle.register_gates.specs.Steps.{AddedInTurn}
 use Rattle.instruction_gates.specs.declared.latches.Latching.{Latching}
 use Rattle.instruction_gates.specs.declared.latches.TheConstants.{LOADED}

@@ -13,17 +13,17 @@ use Rattle.netlist_model.specs.Settled.{IsSettled}
 use Rattle.netlist_model.specs.Formed.{IsWellFormed}
 use Rattle.netlist_model.specs.Contained.{HasCells}
 use Rattle.netlist_model.specs.Runs.{Moment, PinEvent, IsStart, IsStep}
-use Rattle.register_gates.specs.netlist_laws.Contained.{ContainedParts}
-use Rattle.register_gates.specs.gate_parts.Parts.{part_cells}
-use Rattle.register_gates.specs.gate_parts.PartLaws.{ContainedPartMeets}
-use Rattle.register_gates.specs.test_logic.declared.Levels.{Levels}
-use Rattle.register_gates.specs.test_logic.declared.TapState.{TapState}
-use Rattle.register_gates.specs.test_logic.declared.TapState.TheVariants.{TestLogicReset, RunTestIdle, SelectDrScan, CaptureDr, ShiftDr, Exit1Dr, PauseDr, Exit2Dr, UpdateDr, SelectIrScan, CaptureIr, ShiftIr, Exit1Ir, PauseIr, Exit2Ir, UpdateIr}
-use Rattle.register_gates.specs.test_logic.Machine.{edge_of}
-use Rattle.register_gates.specs.test_logic.Registers.{latched_after}
-use Rattle.register_gates.specs.register_bits.Bits.{held_bit_cells}
-use Rattle.register_gates.specs.register_bits.Chains.{chain_values}
-use Rattle.register_gates.specs.register_bits.Laws.{Carries, on_edge, bit_after, HeldBitsFollow}
+use Rattle.netlist_model.specs.LawsContained.{ContainedParts}
+use Rattle.gate_parts.specs.Parts.{part_cells}
+use Rattle.gate_parts.specs.PartLaws.{ContainedPartMeets}
+use Rattle.test_logic.specs.declared.Levels.{Levels}
+use Rattle.test_logic.specs.declared.TapState.{TapState}
+use Rattle.test_logic.specs.declared.TapState.TheVariants.{TestLogicReset, RunTestIdle, SelectDrScan, CaptureDr, ShiftDr, Exit1Dr, PauseDr, Exit2Dr, UpdateDr, SelectIrScan, CaptureIr, ShiftIr, Exit1Ir, PauseIr, Exit2Ir, UpdateIr}
+use Rattle.test_logic.specs.Machine.{edge_of}
+use Rattle.test_logic.specs.Registers.{latched_after}
+use Rattle.register_gates.specs.BitsLaws.{held_bit_cells}
+use Rattle.register_gates.specs.Chains.{chain_values}
+use Rattle.register_gates.specs.BitsLawsLaws.{Carries, on_edge, bit_after, HeldBitsFollow}
 use Rattle.instruction_gates.specs.declared.latches.Latching.{Latching}
 use Rattle.instruction_gates.specs.declared.latches.TheConstants.{LOADED}
 use Rattle.instruction_gates.specs.Rows.{is_one, bits_in}

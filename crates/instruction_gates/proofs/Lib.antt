@@ -1,13 +1,18 @@
-pub use Rattle.register_gates.proofs.test_logic as test_logic
-pub use Rattle.register_gates.proofs as register_gates
-pub use Rattle.register_gates.proofs.register_bits as register_bits
-pub mod RowSteps
+pub mod Added
+pub mod Copied
+pub mod Decoded
+pub mod Follows
+pub mod Known
 pub mod LatchAdded
 pub mod LatchedBits
-pub mod MatchedBits
+pub mod Legible
 pub mod MatchRows
-pub mod Decoded
+pub mod MatchedBits
+pub mod OpcodeAdded
+pub mod Patterns
+pub mod RowSteps
+pub mod Rules
 pub mod SelectionsTold
-pub mod Copied
+pub mod Sizes
 pub mod StagesAdded
 pub mod StagesFollow

@@ -6,9 +6,9 @@ use Rattle.netlist_model.specs.declared.Feed.{Feed}
 use Rattle.netlist_model.specs.declared.Feed.TheVariants.{Net, Const}
 use Rattle.netlist_model.specs.Lists.{CellView}
 use Rattle.netlist_model.specs.Below.{IsFeedBelow}
-use Rattle.register_gates.specs.netlist_arena.Arena.{ArenaView}
-use Rattle.register_gates.specs.gate_parts.Appended.{Appended}
-use Rattle.register_gates.specs.gate_parts.Laws.{AppendedCount}
+use Rattle.netlist_arena.specs.Arena.{ArenaView}
+use Rattle.gate_parts.specs.Appended.{Appended}
+use Rattle.gate_parts.specs.Laws.{AppendedCount}
 use Rattle.instruction_gates.specs.Matches.{match_before}
 
 pub before_below : (first nets behind : ℕ) (told : Feed) → told ≡ match_before first behind → nets ≡ first + 2 * behind → IsFeedBelow nets told

@@ -10,9 +10,9 @@ use Rattle.netlist_model.specs.Settled.{feed_value, IsSettled}
 use Rattle.netlist_model.specs.Formed.{IsWellFormed}
 use Rattle.netlist_model.specs.Contained.{HasCells}
 use Rattle.netlist_model.specs.Runs.{Moment}
-use Rattle.register_gates.specs.netlist_laws.Contained.{ContainedParts}
-use Rattle.register_gates.specs.gate_parts.PartLaws.{ContainedPartMeets}
-use Rattle.register_gates.specs.test_logic.Instructions.{is_pattern, is_same_bit}
+use Rattle.netlist_model.specs.LawsContained.{ContainedParts}
+use Rattle.gate_parts.specs.PartLaws.{ContainedPartMeets}
+use Rattle.test_logic.specs.Instructions.{is_pattern, is_same_bit}
 use Rattle.instruction_gates.specs.declared.matches.TheConstants.{EQUAL_BIT}
 use Rattle.instruction_gates.specs.Rows.{is_one, bits_in}
 use Rattle.instruction_gates.specs.Latches.{latch_values}

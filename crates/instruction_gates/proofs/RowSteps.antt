@@ -7,9 +7,9 @@ use Rattle.std.specs.List.{slice_get}
 use Rattle.netlist_model.specs.declared.Feed.{Feed}
 use Rattle.netlist_model.specs.Lists.{CellView, cell_count}
 use Rattle.netlist_model.specs.Contained.{IsDense}
-use Rattle.register_gates.specs.netlist_arena.Arena.{ArenaView}
-use Rattle.register_gates.specs.gate_parts.Appended.{Appended}
-use Rattle.register_gates.specs.gate_parts.Laws.{AppendedNone}
+use Rattle.netlist_arena.specs.Arena.{ArenaView}
+use Rattle.gate_parts.specs.Appended.{Appended}
+use Rattle.gate_parts.specs.Laws.{AppendedNone}
 use Rattle.register_gates.specs.Steps.{AddedInTurn}
 use Rattle.instruction_gates.specs.Rows.{row_cells, placed}
 

@@ -7,11 +7,11 @@ use Rattle.signal_values.proofs.Laws.{or-bit, and-bit, not-bit}
 use Rattle.cell_library.specs.declared.codes.Instr.{Instr}
 use Rattle.cell_library.specs.declared.codes.Instr.TheVariants.{Extest, Sample, Preload, Idcode, Highz, Clamp, Usercode}
 use Rattle.netlist_model.specs.Settled.{feed_value}
-use Rattle.register_gates.specs.gate_parts.PartLaws.{ContainedPartMeets}
-use Rattle.register_gates.specs.bsdl_device.declared.entries.Register.TheVariants as register
-use Rattle.register_gates.specs.bsdl_device.Instructions.{is_register, selected_register}
-use Rattle.register_gates.specs.test_logic.declared.TapState.TheVariants.{CaptureDr, ShiftDr, UpdateDr}
-use Rattle.register_gates.specs.test_logic.Instructions.{opcode_of, is_opcode, instruction_of}
+use Rattle.gate_parts.specs.PartLaws.{ContainedPartMeets}
+use Rattle.bsdl_device.specs.declared.entries.Register.TheVariants as register
+use Rattle.bsdl_device.specs.Instructions.{is_register, selected_register}
+use Rattle.test_logic.specs.declared.TapState.TheVariants.{CaptureDr, ShiftDr, UpdateDr}
+use Rattle.test_logic.specs.Instructions.{opcode_of, is_opcode, instruction_of}
 use Rattle.register_gates.specs.tap_gates.Controller.{same_state}
 use Rattle.instruction_gates.specs.declared.selections.TheConstants.{SELECTIONS}
 use Rattle.instruction_gates.specs.Selections.{selections_given, SelectionsTell}

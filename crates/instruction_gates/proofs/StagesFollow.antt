@@ -10,21 +10,21 @@ use Rattle.netlist_model.specs.Settled.{feed_values}
 use Rattle.netlist_model.specs.Formed.{IsWellFormed}
 use Rattle.netlist_model.specs.Contained.{HasCells}
 use Rattle.netlist_model.specs.Runs.{Moment, PinEvent, IsRun}
-use Rattle.register_gates.specs.netlist_laws.Contained.{ContainedParts}
-use Rattle.register_gates.specs.netlist_laws.Runs.{RunHasMoments}
-use Rattle.register_gates.specs.gate_parts.Parts.{part_cells}
-use Rattle.register_gates.specs.gate_parts.PartLaws.{ContainedPartMeets}
-use Rattle.register_gates.specs.test_logic.declared.TapNets.{TapNets}
-use Rattle.register_gates.specs.test_logic.declared.TapState.{TapState}
-use Rattle.register_gates.specs.test_logic.declared.TapState.TheVariants.{TestLogicReset, CaptureIr, ShiftIr, UpdateIr}
-use Rattle.register_gates.specs.test_logic.declared.Levels.{Levels}
-use Rattle.register_gates.specs.test_logic.Controller.{ir_action, act}
-use Rattle.register_gates.specs.test_logic.Instructions.{reset_opcode}
-use Rattle.register_gates.specs.test_logic.Registers.{shifted, latched_after}
-use Rattle.register_gates.specs.test_logic.Machine.{TestLogic, Machine, IsHistory, zeros}
+use Rattle.netlist_model.specs.LawsContained.{ContainedParts}
+use Rattle.netlist_model.specs.LawsRuns.{RunHasMoments}
+use Rattle.gate_parts.specs.Parts.{part_cells}
+use Rattle.gate_parts.specs.PartLaws.{ContainedPartMeets}
+use Rattle.test_logic.specs.declared.TapNets.{TapNets}
+use Rattle.test_logic.specs.declared.TapState.{TapState}
+use Rattle.test_logic.specs.declared.TapState.TheVariants.{TestLogicReset, CaptureIr, ShiftIr, UpdateIr}
+use Rattle.test_logic.specs.declared.Levels.{Levels}
+use Rattle.test_logic.specs.Controller.{ir_action, act}
+use Rattle.test_logic.specs.Instructions.{reset_opcode}
+use Rattle.test_logic.specs.Registers.{shifted, latched_after}
+use Rattle.test_logic.specs.Machine.{TestLogic, Machine, IsHistory, zeros}
 use Rattle.register_gates.specs.tap_gates.Controller.{same_state}
-use Rattle.register_gates.specs.register_bits.Chains.{chain_cells, chain_values, cleared, ChainsFollow}
-use Rattle.register_gates.specs.register_bits.Laws.{Steers, is_capture, is_shift, bit_after}
+use Rattle.register_gates.specs.Chains.{chain_cells, chain_values, cleared, ChainsFollow}
+use Rattle.register_gates.specs.BitsLawsLaws.{Steers, is_capture, is_shift, bit_after}
 use Rattle.register_gates.specs.Steps.{StepsByRegister}
 use Rattle.register_gates.proofs.DataRegisters.{cleared_is}
 use Rattle.instruction_gates.specs.declared.stages.TheConstants.{LOADS}

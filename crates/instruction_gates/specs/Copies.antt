@@ -10,7 +10,7 @@ use Rattle.netlist_model.specs.Settled.{IsSettled}
 use Rattle.netlist_model.specs.Formed.{IsWellFormed}
 use Rattle.netlist_model.specs.Contained.{HasCells}
 use Rattle.netlist_model.specs.Runs.{Moment}
-use Rattle.register_gates.specs.gate_parts.Parts.{part_cells}
+use Rattle.gate_parts.specs.Parts.{part_cells}
 use Rattle.instruction_gates.specs.declared.copies.TheConstants.{COPY}
 use Rattle.instruction_gates.specs.Latches.{latch_values}
 

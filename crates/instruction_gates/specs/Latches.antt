@@ -10,15 +10,15 @@ use Rattle.netlist_model.specs.Settled.{IsSettled}
 use Rattle.netlist_model.specs.Formed.{IsWellFormed}
 use Rattle.netlist_model.specs.Contained.{HasCells}
 use Rattle.netlist_model.specs.Runs.{Moment, PinEvent, IsStart, IsStep}
-use Rattle.register_gates.specs.gate_parts.Parts.{part_cells}
-use Rattle.register_gates.specs.test_logic.declared.Levels.{Levels}
-use Rattle.register_gates.specs.test_logic.declared.TapState.{TapState}
-use Rattle.register_gates.specs.test_logic.declared.TapState.TheVariants.{TestLogicReset, UpdateIr}
-use Rattle.register_gates.specs.test_logic.Registers.{latched_after}
-use Rattle.register_gates.specs.register_bits.declared.Holding.{Holding}
-use Rattle.register_gates.specs.register_bits.Bits.{held_bit_cells}
-use Rattle.register_gates.specs.register_bits.Chains.{chain_values}
-use Rattle.register_gates.specs.register_bits.Laws.{Carries, bit_after}
+use Rattle.gate_parts.specs.Parts.{part_cells}
+use Rattle.test_logic.specs.declared.Levels.{Levels}
+use Rattle.test_logic.specs.declared.TapState.{TapState}
+use Rattle.test_logic.specs.declared.TapState.TheVariants.{TestLogicReset, UpdateIr}
+use Rattle.test_logic.specs.Registers.{latched_after}
+use Rattle.register_gates.specs.declared.bits.Holding.{Holding}
+use Rattle.register_gates.specs.BitsLaws.{held_bit_cells}
+use Rattle.register_gates.specs.Chains.{chain_values}
+use Rattle.register_gates.specs.BitsLawsLaws.{Carries, bit_after}
 use Rattle.instruction_gates.specs.declared.latches.Latching.{Latching}
 use Rattle.instruction_gates.specs.declared.latches.TheConstants.{LOADED}
 use Rattle.instruction_gates.specs.Rows.{is_one, bits_in, row_cells, placed}

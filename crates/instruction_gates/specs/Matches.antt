@@ -12,8 +12,8 @@ use Rattle.netlist_model.specs.Settled.{feed_value, IsSettled}
 use Rattle.netlist_model.specs.Formed.{IsWellFormed}
 use Rattle.netlist_model.specs.Contained.{HasCells}
 use Rattle.netlist_model.specs.Runs.{Moment}
-use Rattle.register_gates.specs.gate_parts.Parts.{part_cells}
-use Rattle.register_gates.specs.test_logic.Instructions.{is_pattern}
+use Rattle.gate_parts.specs.Parts.{part_cells}
+use Rattle.test_logic.specs.Instructions.{is_pattern}
 use Rattle.instruction_gates.specs.declared.matches.TheConstants.{EQUAL_BIT}
 use Rattle.instruction_gates.specs.Rows.{is_one, bits_in, row_cells, placed}
 use Rattle.instruction_gates.specs.Latches.{latch_values}

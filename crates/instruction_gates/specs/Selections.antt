@@ -15,14 +15,14 @@ use Rattle.netlist_model.specs.Settled.{feed_value, IsSettled}
 use Rattle.netlist_model.specs.Formed.{IsWellFormed}
 use Rattle.netlist_model.specs.Contained.{HasCells}
 use Rattle.netlist_model.specs.Runs.{Moment}
-use Rattle.register_gates.specs.gate_parts.Parts.{part_cells}
-use Rattle.register_gates.specs.bsdl_device.declared.entries.Register.TheVariants as register
-use Rattle.register_gates.specs.bsdl_device.Instructions.{is_instruction, is_register, selected_register}
-use Rattle.register_gates.specs.test_logic.declared.InstrNets.{InstrNets}
-use Rattle.register_gates.specs.test_logic.declared.TapNets.{TapNets}
-use Rattle.register_gates.specs.test_logic.declared.TapState.{TapState}
-use Rattle.register_gates.specs.test_logic.declared.TapState.TheVariants.{CaptureDr, ShiftDr, UpdateDr}
-use Rattle.register_gates.specs.test_logic.Instructions.{mode_of, is_extest, is_usercode, pattern, opcode_of, is_opcode, instruction_of}
+use Rattle.gate_parts.specs.Parts.{part_cells}
+use Rattle.bsdl_device.specs.declared.entries.Register.TheVariants as register
+use Rattle.bsdl_device.specs.Instructions.{is_instruction, is_register, selected_register}
+use Rattle.test_logic.specs.declared.InstrNets.{InstrNets}
+use Rattle.test_logic.specs.declared.TapNets.{TapNets}
+use Rattle.test_logic.specs.declared.TapState.{TapState}
+use Rattle.test_logic.specs.declared.TapState.TheVariants.{CaptureDr, ShiftDr, UpdateDr}
+use Rattle.test_logic.specs.Instructions.{mode_of, is_extest, is_usercode, pattern, opcode_of, is_opcode, instruction_of}
 use Rattle.register_gates.specs.tap_gates.Controller.{same_state}
 use Rattle.register_gates.specs.tap_gates.Laws.{ShowsState}
 use Rattle.instruction_gates.specs.declared.selections.Matched.{Matched}

@@ -11,15 +11,15 @@ use Rattle.netlist_model.specs.Settled.{feed_values, IsSettled}
 use Rattle.netlist_model.specs.Formed.{IsWellFormed}
 use Rattle.netlist_model.specs.Contained.{HasCells}
 use Rattle.netlist_model.specs.Runs.{Moment, PinEvent, IsStep, IsRun}
-use Rattle.register_gates.specs.gate_parts.Parts.{part_cells}
-use Rattle.register_gates.specs.test_logic.declared.TapNets.{TapNets}
-use Rattle.register_gates.specs.test_logic.declared.Levels.{Levels}
-use Rattle.register_gates.specs.test_logic.Instructions.{reset_opcode}
-use Rattle.register_gates.specs.test_logic.Machine.{TestLogic, Machine, IsHistory, machine_step}
+use Rattle.gate_parts.specs.Parts.{part_cells}
+use Rattle.test_logic.specs.declared.TapNets.{TapNets}
+use Rattle.test_logic.specs.declared.Levels.{Levels}
+use Rattle.test_logic.specs.Instructions.{reset_opcode}
+use Rattle.test_logic.specs.Machine.{TestLogic, Machine, IsHistory, machine_step}
 use Rattle.register_gates.specs.tap_gates.Laws.{ShowsState}
-use Rattle.register_gates.specs.register_bits.declared.Steering.{Steering}
-use Rattle.register_gates.specs.register_bits.Chains.{chain_cells, chain_values}
-use Rattle.register_gates.specs.register_bits.Laws.{Carries}
+use Rattle.register_gates.specs.declared.bits.Steering.{Steering}
+use Rattle.register_gates.specs.Chains.{chain_cells, chain_values}
+use Rattle.register_gates.specs.BitsLawsLaws.{Carries}
 use Rattle.instruction_gates.specs.declared.latches.Latching.{Latching}
 use Rattle.instruction_gates.specs.declared.stages.TheConstants.{LOADS}
 use Rattle.instruction_gates.specs.Rows.{bits_in}

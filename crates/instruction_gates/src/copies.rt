@@ -3,14 +3,14 @@
 ghost use Rattle.std.specs.Prelude.{◌≡◌, ◌+◌, ◌*◌, ◌≤◌, length};
 ghost use Rattle.netlist_model.specs.Lists.{cell_count};
 ghost use Rattle.netlist_model.specs.Contained.{IsDense};
-ghost use Rattle.register_gates.specs.gate_parts.Appended.{Appended};
+ghost use Rattle.gate_parts.specs.Appended.{Appended};
 ghost use Rattle.instruction_gates.specs.Copies.{copies_cells};
 
 use cell_library::Kind;
+use gate_parts::{Gate, Pin, Pins, add_part, appended_count, appended_none};
+use netlist_arena::Netlist;
 use netlist_model::{Feed, NetId};
 use register_gates::added_in_turn;
-use register_gates::lower_gate_parts::{Gate, Pin, Pins, add_part, appended_count, appended_none};
-use register_gates::lower_netlist_arena::Netlist;
 
 /// A latched bit once more. Handed in is the bit.
 pub const COPY: [Gate; 1] = [

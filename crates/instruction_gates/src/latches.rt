@@ -3,17 +3,17 @@
 ghost use Rattle.std.specs.Prelude.{◌≡◌, ◌+◌, ◌*◌, ◌<◌, ◌≤◌, ◌^◌, length};
 ghost use Rattle.netlist_model.specs.Lists.{cell_count};
 ghost use Rattle.netlist_model.specs.Contained.{IsDense};
-ghost use Rattle.register_gates.specs.gate_parts.Appended.{Appended};
-ghost use Rattle.register_gates.specs.register_bits.Bits.{AreNetsBelow};
+ghost use Rattle.gate_parts.specs.Appended.{Appended};
+ghost use Rattle.register_gates.specs.BitsLaws.{AreNetsBelow};
 ghost use Rattle.instruction_gates.specs.Latches.{latch_cells, latches_cells};
 
 use crate::is_one;
 use cell_library::Kind;
+use gate_parts::{Gate, Pin, Pins, add_part, appended_count, appended_none};
+use netlist_arena::Netlist;
 use netlist_model::{Feed, NetId};
 use register_gates::added_in_turn;
-use register_gates::lower_gate_parts::{Gate, Pin, Pins, add_part, appended_count, appended_none};
-use register_gates::lower_netlist_arena::Netlist;
-use register_gates::lower_register_bits::{Holding, add_held_bit};
+use register_gates::bits::{Holding, add_held_bit};
 
 /// What steers the latched bits: TCK, TRST, a net that is 1 exactly in Update-IR and Test-Logic-Reset, and one that is
 /// so in Test-Logic-Reset.

@@ -4,9 +4,9 @@ ghost use Rattle.instruction_gates.specs.Matches.{MatchesTell};
 ghost use Rattle.instruction_gates.specs.Selections.{SelectionsTell};
 ghost use Rattle.instruction_gates.specs.Stages.{StagesFollow, StagesStep};
 
-use register_gates::lower_gate_parts::contained_part_meets;
-use register_gates::lower_netlist_laws::{contained_parts, moments_of_a_run};
-use register_gates::lower_register_bits::{chains_follow, held_bits_follow};
+use gate_parts::contained_part_meets;
+use netlist_model::laws::{contained_parts, moments_of_a_run};
+use register_gates::bits::{chains_follow, held_bits_follow};
 use register_gates::steps_by_register;
 
 /// In every well-formed netlist that contains their cells, the latched bits are those of the test logic.

@@ -11,6 +11,7 @@
 //   the instruction in effect, and whether it is USERCODE (`selections_tell`).
 // - The copies carry the latched opcode on nets one behind another, bit 0 first (`copies_tell`).
 // - An event takes the two stages to those of the test logic after it, whatever they held (`stages_step`).
+// - `register`: the instruction register with a device's codes as one call.
 // By the contract of the five calls and its law functions.
 #![tactic(auto)]
 
@@ -20,8 +21,8 @@ ghost use Rattle.instruction_gates.specs.Rows.{is_one};
 mod copies;
 mod latches;
 mod laws;
-pub mod lower_register_gates;
 mod matches;
+pub mod register;
 mod selections;
 mod stages;
 
@@ -32,9 +33,6 @@ pub use laws::{
 };
 pub use matches::{EQUAL_BIT, add_match};
 use netlist_model::Feed;
-pub use register_gates::{
-    lower_gate_parts, lower_netlist_arena, lower_tap_gates, lower_test_logic,
-};
 pub use selections::{Matched, SELECTIONS, add_selections};
 pub use stages::{LOADS, Stages, add_stages};
 

@@ -4,15 +4,15 @@ ghost use Rattle.std.specs.Prelude.{◌≡◌, ◌+◌, ◌*◌, ◌<◌, ◌≤
 ghost use Rattle.netlist_model.specs.Lists.{cell_count};
 ghost use Rattle.netlist_model.specs.Contained.{IsDense};
 ghost use Rattle.netlist_model.specs.Below.{IsFeedBelow};
-ghost use Rattle.register_gates.specs.gate_parts.Appended.{Appended};
+ghost use Rattle.gate_parts.specs.Appended.{Appended};
 ghost use Rattle.instruction_gates.specs.Matches.{match_cells, matches_cells, match_before};
 
 use crate::is_one;
 use cell_library::Kind;
+use gate_parts::{Gate, Pin, Pins, add_part, appended_count, appended_none};
+use netlist_arena::Netlist;
 use netlist_model::{Feed, NetId};
 use register_gates::added_in_turn;
-use register_gates::lower_gate_parts::{Gate, Pin, Pins, add_part, appended_count, appended_none};
-use register_gates::lower_netlist_arena::Netlist;
 
 /// Whether a latched bit and those behind it are those of an opcode. Handed in are whether those behind it are, the
 /// latched bit, and the opcode's bit.

@@ -4,14 +4,14 @@ ghost use Rattle.std.specs.Prelude.{◌≡◌, ◌≤◌, length};
 ghost use Rattle.netlist_model.specs.Lists.{cell_count};
 ghost use Rattle.netlist_model.specs.Contained.{IsDense};
 ghost use Rattle.netlist_model.specs.Below.{AreFeedsBelow};
-ghost use Rattle.register_gates.specs.gate_parts.Appended.{Appended};
+ghost use Rattle.gate_parts.specs.Appended.{Appended};
 ghost use Rattle.instruction_gates.specs.Selections.{selections_given, selections_cells, selection_nets};
 
 use cell_library::Kind;
+use gate_parts::{Gate, Pin, Pins, add_part};
+use netlist_arena::Netlist;
 use netlist_model::{Feed, NetId};
-use register_gates::lower_gate_parts::{Gate, Pin, Pins, add_part};
-use register_gates::lower_netlist_arena::Netlist;
-use register_gates::lower_test_logic::{InstrNets, ScanNets, TapNets};
+use test_logic::{InstrNets, ScanNets, TapNets};
 
 /// What tells of each instruction whether its opcode is latched; 0 of one that has none. BYPASS isn't asked for: it is
 /// in effect where no other is.

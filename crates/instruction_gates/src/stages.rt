@@ -4,19 +4,19 @@ ghost use Rattle.std.specs.Prelude.{◌≡◌, ◌+◌, ◌*◌, ◌<◌, ◌≤
 ghost use Rattle.netlist_model.specs.Lists.{cell_count};
 ghost use Rattle.netlist_model.specs.Contained.{IsDense};
 ghost use Rattle.netlist_model.specs.Below.{AreFeedsBelow};
-ghost use Rattle.register_gates.specs.gate_parts.Appended.{Appended};
-ghost use Rattle.register_gates.specs.register_bits.Bits.{AreNetsBelow};
-ghost use Rattle.register_gates.specs.register_bits.Chains.{chain_last};
+ghost use Rattle.gate_parts.specs.Appended.{Appended};
+ghost use Rattle.register_gates.specs.BitsLaws.{AreNetsBelow};
+ghost use Rattle.register_gates.specs.Chains.{chain_last};
 ghost use Rattle.instruction_gates.specs.Stages.{stages_cells};
 
 use crate::{Latching, add_latches};
 use cell_library::Kind;
+use gate_parts::{Gate, Pin, Pins, add_part, appended_count};
+use netlist_arena::Netlist;
 use netlist_model::{Feed, NetId};
 use register_gates::added_in_turn;
-use register_gates::lower_gate_parts::{Gate, Pin, Pins, add_part, appended_count};
-use register_gates::lower_netlist_arena::Netlist;
-use register_gates::lower_register_bits::{Steering, add_shift_chain};
-use register_gates::lower_test_logic::TapNets;
+use register_gates::bits::{Steering, add_shift_chain};
+use test_logic::TapNets;
 
 /// The bit of the shift stage nearest TDO, and the first of the nets of the latched bits, as `add_match` takes it.
 #[derive(Clone, Copy)]

@@ -1,12 +1,13 @@
 // The program: runs the command that its arguments are, over the machine's files and standard output.
-// Its work is `run_tool` of insert_cli, whose contract says what each status means; here are only the two adapters.
+// Its work is `run_tool` of command_line, whose contract says what each status means; here are only the two adapters.
 // Own: the exit statuses are the numbers of `Status`, and 7 where the system refuses the program its words.
 //
 // Proved: that it is safe and comes to its end; no clause says what it does.
 #![tactic(auto)]
 
+use command_faults::Status;
+use command_line::{WordList, run_tool};
 use edge_io::{FileShelf, OutSink};
-use insert_cli::{Status, WordList, run_tool};
 use std::env;
 use std::io::ErrorKind;
 use std::process::ExitCode;

@@ -4,26 +4,26 @@ use Rattle.std.specs.Prelude.{slice_get, IsSome, MatchOption, ⊤, ◌==◌, ◌
 use Rattle.std.proofs.lemmas.List.{length-take}
 use Rattle.std.proofs.lemmas.Bool.Decides.{eqb_tells, leb_tells}
 use Rattle.std.proofs.lemmas.Option.{slice_get_within}
-use Rattle.name_table.proofs.list_laws.Lists.{slice_get_there}
-use Rattle.name_table.proofs.list_laws.Tests.{and_left}
+use Rattle.list_laws.proofs.Lists.{slice_get_there}
+use Rattle.list_laws.proofs.Tests.{and_left}
 use Rattle.netlist_arena.proofs.Laid.{All-slice_get}
-use Rattle.netlist_arena.specs.cell_library.declared.ResetTo.{ResetTo}
-use Rattle.netlist_arena.specs.cell_library.declared.ResetTo.TheVariants as reset
-use Rattle.netlist_arena.specs.cell_library.declared.Kind.{Kind}
-use Rattle.netlist_arena.specs.cell_library.declared.Kind.TheVariants as kind
-use Rattle.netlist_arena.specs.cell_library.declared.listed.Body.{Body}
-use Rattle.netlist_arena.specs.cell_library.declared.listed.Body.TheVariants as body
-use Rattle.netlist_arena.specs.cell_library.declared.listed.ListedCell.{ListedCell}
-use Rattle.netlist_arena.specs.cell_library.Gates.{Takes, flop_operand_count}
-use Rattle.netlist_arena.specs.cell_library.Sound.{IsLibrary, IsSoundCell, is_sound_body, leaves_one}
-use Rattle.netlist_arena.specs.netlist_model.declared.NetId.{NetId}
-use Rattle.netlist_arena.specs.netlist_model.Lists.{CellView, NetlistView, cell_at, cell_count}
-use Rattle.netlist_arena.specs.netlist_model.Contained.{IsDense}
+use Rattle.cell_library.specs.declared.ResetTo.{ResetTo}
+use Rattle.cell_library.specs.declared.ResetTo.TheVariants as reset
+use Rattle.cell_library.specs.declared.Kind.{Kind}
+use Rattle.cell_library.specs.declared.Kind.TheVariants as kind
+use Rattle.cell_library.specs.declared.listed.Body.{Body}
+use Rattle.cell_library.specs.declared.listed.Body.TheVariants as body
+use Rattle.cell_library.specs.declared.listed.ListedCell.{ListedCell}
+use Rattle.cell_library.specs.Gates.{Takes, flop_operand_count}
+use Rattle.cell_library.specs.Sound.{IsLibrary, IsSoundCell, is_sound_body, leaves_one}
+use Rattle.netlist_model.specs.declared.NetId.{NetId}
+use Rattle.netlist_model.specs.Lists.{CellView, NetlistView, cell_at, cell_count}
+use Rattle.netlist_model.specs.Contained.{IsDense}
 use Rattle.netlist_arena.specs.Adds.{AddsCell, CanDrive, IsFree}
-use Rattle.link_drivers.specs.link_model.Cells.{NamedCell}
-use Rattle.link_drivers.specs.link_model.Fits.{FitsCell}
-use Rattle.link_drivers.specs.link_model.Denoted.{AreCells, IsLive, IsCell}
-use Rattle.link_drivers.specs.Drivers.{DrivesNet}
+use Rattle.link_rules.specs.link_model.Cells.{NamedCell}
+use Rattle.link_rules.specs.link_model.Fits.{FitsCell}
+use Rattle.link_rules.specs.link_model.Denoted.{AreCells, IsLive, IsCell}
+use Rattle.link_rules.specs.DriversLaws.{DrivesNet}
 use Rattle.link_arena.specs.Named.{DriveApart}
 use Rattle.link_arena.proofs.Rows.{at-take}
 

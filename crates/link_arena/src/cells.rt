@@ -1,17 +1,17 @@
 ghost use Rattle.std.specs.Prelude.{◌≡◌, ◌≤◌, [], length, OnOk, IfSome};
-ghost use Rattle.netlist_arena.specs.cell_library.Sound.{IsLibrary};
-ghost use Rattle.netlist_arena.specs.netlist_model.Lists.{cell_count};
-ghost use Rattle.netlist_arena.specs.netlist_model.Contained.{IsDense};
-ghost use Rattle.link_drivers.specs.link_model.Cells.{bytes_of};
-ghost use Rattle.link_drivers.specs.link_model.Fits.{FitCells};
-ghost use Rattle.link_drivers.specs.link_model.Denoted.{AreCells, IsName};
+ghost use Rattle.cell_library.specs.Sound.{IsLibrary};
+ghost use Rattle.netlist_model.specs.Lists.{cell_count};
+ghost use Rattle.netlist_model.specs.Contained.{IsDense};
+ghost use Rattle.link_rules.specs.link_model.Cells.{bytes_of};
+ghost use Rattle.link_rules.specs.link_model.Fits.{FitCells};
+ghost use Rattle.link_rules.specs.link_model.Denoted.{AreCells, IsName};
 ghost use Rattle.link_arena.specs.Named.{IsEntered, AreCellsEntered, DriveApart};
 
+use crate::name_table::NameTable;
 use crate::names::original;
-use link_drivers::lower_link_model::ItemCell;
-use name_table::NameTable;
+use link_rules::lower_link_model::ItemCell;
 use netlist_arena::Netlist;
-use netlist_arena::lower_netlist_model::Name;
+use netlist_model::Name;
 use texts::OutOfMemory;
 
 /// Adds the cells, in order, to a netlist that has none.

@@ -7,39 +7,41 @@
 //   outputs; it holds the library that was given.
 // - The live cells have the numbers from 0 on without gaps.
 // - The table has the names of ports, wires and items, in the order of the text.
+// - `name_table`: names as bytes, each once, under numbers.
 // By the contract of `build`.
 #![tactic(auto)]
 
 ghost use Rattle.std.specs.Prelude.{◌≡◌, IfOk, None, length};
-ghost use Rattle.netlist_arena.specs.cell_library.Sound.{IsLibrary};
-ghost use Rattle.link_drivers.specs.verilog_tree.IsTree.{IsTree};
-ghost use Rattle.netlist_arena.specs.netlist_model.Contained.{IsDense};
-ghost use Rattle.link_drivers.specs.link_model.Nets.{declared_nets, nets_in};
-ghost use Rattle.link_drivers.specs.link_model.Fits.{FitCells};
-ghost use Rattle.link_drivers.specs.link_model.Faults.{text_fault, driver_fault, cells_in, names_of};
-ghost use Rattle.link_drivers.specs.link_model.Denoted.{IsNamed, denoted};
+ghost use Rattle.cell_library.specs.Sound.{IsLibrary};
+ghost use Rattle.verilog_tree.specs.IsTree.{IsTree};
+ghost use Rattle.netlist_model.specs.Contained.{IsDense};
+ghost use Rattle.link_rules.specs.link_model.Nets.{declared_nets, nets_in};
+ghost use Rattle.link_rules.specs.link_model.Fits.{FitCells};
+ghost use Rattle.link_rules.specs.link_model.Faults.{text_fault, driver_fault, cells_in, names_of};
+ghost use Rattle.link_rules.specs.link_model.Denoted.{IsNamed, denoted};
 
 mod cells;
-pub mod lower_link_drivers;
-pub mod lower_netlist_arena;
+pub mod lower_cell_order;
+pub mod lower_link_rules;
+pub mod name_table;
 mod names;
 mod nets;
 mod ports;
 mod room;
 
 use crate::cells::add_cells;
+use crate::name_table::NameTable;
 use crate::names::names_of_module;
 use crate::nets::add_nets;
 use crate::ports::add_ports;
 use crate::room::netlist_with_room;
-use link_drivers::lower_link_model::{ItemCell, NetBit};
-use link_drivers::lower_verilog_tree::Module;
-use link_drivers::nets_have_their_drivers;
-use name_table::NameTable;
+use cell_library::Library;
+use link_rules::drivers::nets_have_their_drivers;
+use link_rules::lower_link_model::{ItemCell, NetBit};
 use netlist_arena::Netlist;
-use netlist_arena::lower_cell_library::Library;
 use std::alloc::Global;
 use texts::OutOfMemory;
+use verilog_tree::Module;
 
 /// A netlist, and the table that has its original names.
 #[derive(Drop)]

@@ -1,16 +1,16 @@
 ghost use Rattle.std.specs.Prelude.{◌≡◌, ◌≤◌, ◌<◌, ◌^◌, [], map, length, IfOk, OnOk, option_map};
-ghost use Rattle.link_drivers.specs.link_model.Nets.{bits_in, port_nets, counted_from, dir_of};
-ghost use Rattle.link_drivers.specs.link_model.Denoted.{IsPort, AreAll, net_id, ports_from, range_of};
+ghost use Rattle.link_rules.specs.link_model.Nets.{bits_in, port_nets, counted_from, dir_of};
+ghost use Rattle.link_rules.specs.link_model.Denoted.{IsPort, AreAll, net_id, ports_from, range_of};
 ghost use Rattle.link_arena.specs.Named.{ArePortsEntered};
 
+use crate::name_table::NameTable;
 use crate::names::original;
 use crate::room::width;
-use link_drivers::lower_verilog_tree::Port;
-use name_table::NameTable;
 use netlist_arena::Netlist;
-use netlist_arena::lower_netlist_model::{Dir, NetId, Range};
+use netlist_model::{Dir, NetId, Range};
 use std::alloc::Global;
 use texts::OutOfMemory;
+use verilog_tree::Port;
 
 /// Adds the ports, in order; their bits are the first nets.
 pub fn add_ports(
@@ -61,17 +61,17 @@ fn net_ids(alloc: Global, first: u32, count: u32) -> Result<Vec<NetId>, OutOfMem
     Ok(nets)
 }
 
-fn direction_of(dir: link_drivers::lower_verilog_tree::Dir) -> Dir
+fn direction_of(dir: verilog_tree::Dir) -> Dir
     ensures { result ≡ dir_of dir }
 {
     match dir {
-        link_drivers::lower_verilog_tree::Dir::Input => Dir::Input,
-        link_drivers::lower_verilog_tree::Dir::Output => Dir::Output,
-        link_drivers::lower_verilog_tree::Dir::Inout => Dir::Inout,
+        verilog_tree::Dir::Input => Dir::Input,
+        verilog_tree::Dir::Output => Dir::Output,
+        verilog_tree::Dir::Inout => Dir::Inout,
     }
 }
 
-fn range(range: Option<link_drivers::lower_verilog_tree::Range>) -> Option<Range>
+fn range(range: Option<verilog_tree::Range>) -> Option<Range>
     ensures { result ≡ option_map range_of range }
 {
     range.map(|r| Range {

@@ -1,13 +1,13 @@
 ghost use Rattle.std.specs.Prelude.{◌≡◌, ◌≤◌, ◌<◌, ◌+◌, ◌^◌, length, map, IfOk, None};
-ghost use Rattle.link_drivers.specs.link_model.Nets.{bits_in, width as width_in, port_nets};
-ghost use Rattle.link_drivers.specs.link_model.Faults.{text_fault, too_many_in};
+ghost use Rattle.link_rules.specs.link_model.Nets.{bits_in, width as width_in, port_nets};
+ghost use Rattle.link_rules.specs.link_model.Faults.{text_fault, too_many_in};
 ghost use Rattle.link_arena.specs.Room.{HasRoomFor};
 
-use link_drivers::lower_verilog_tree::{Module, Port, Range};
-use netlist_arena::lower_cell_library::Library;
+use cell_library::Library;
 use netlist_arena::{Netlist, ReserveFault};
 use std::alloc::Global;
 use texts::OutOfMemory;
+use verilog_tree::{Module, Port, Range};
 
 /// An empty netlist with room for the module's.
 pub fn netlist_with_room(

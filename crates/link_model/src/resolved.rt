@@ -3,12 +3,12 @@ ghost use Rattle.link_model.specs.Faults.{bit_name};
 ghost use Rattle.link_model.specs.Cells.{bytes_of};
 
 use crate::fault::BitName;
-use first_faults::lower_texts::{OutOfMemory, Text};
 use netlist_model::lower_cell_library::Kind;
 use netlist_model::{Dir, Feed, NetId};
 use smallvec::SmallVec;
 use std::alloc::Global;
 use std::marker::Model;
+use texts::{OutOfMemory, Text};
 
 /// A net of a module: the name of its declaration, its index there, and the direction of its port. The index is none
 /// for a scalar, the direction for a wire.

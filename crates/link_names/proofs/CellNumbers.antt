@@ -8,9 +8,9 @@ use Rattle.std.proofs.lemmas.List.{length-take}
 use Rattle.std.proofs.lemmas.Option.{slice_get_within}
 use Rattle.std.proofs.lemmas.Iterator.Adapters.{position_from-zero}
 use Rattle.std.specs.List.{position_from}
-use Rattle.first_faults.proofs.list_laws.Lists.{taken_more}
-use Rattle.link_model.specs.cell_library.declared.listed.ListedCell.{ListedCell}
-use Rattle.link_model.specs.cell_library.Sound.{IsLibrary}
+use Rattle.list_laws.proofs.Lists.{taken_more}
+use Rattle.cell_library.specs.declared.listed.ListedCell.{ListedCell}
+use Rattle.cell_library.specs.Sound.{IsLibrary}
 use Rattle.link_model.specs.Lists.{has_name}
 use Rattle.link_names.specs.CellNumbers.{number_entry, numbered_from}
 

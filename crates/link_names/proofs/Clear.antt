@@ -1,13 +1,13 @@
 -- Where no test finds anything at the bits, each finds nothing.
 use Rattle.std.proofs.Common.{◌≡◌, ℕ, List, [], ◌∷◌, Option, None, Some, is_none, true, refl}
-use Rattle.first_faults.proofs.list_laws.Options.{or_else-parts}
-use Rattle.link_model.specs.verilog_tree.declared.tree.Bit.{Bit}
-use Rattle.link_model.specs.verilog_tree.declared.tree.Item.{Item}
+use Rattle.list_laws.proofs.Options.{or_else-parts}
+use Rattle.verilog_tree.specs.declared.tree.Bit.{Bit}
+use Rattle.verilog_tree.specs.declared.tree.Item.{Item}
 use Rattle.link_model.specs.Lists.{first_in}
 use Rattle.link_model.specs.Nets.{Declared}
-use Rattle.link_model.specs.cell_library.declared.listed.ListedCell.{ListedCell}
-use Rattle.link_model.specs.verilog_tree.declared.tree.Instance.{Instance}
-use Rattle.link_model.specs.verilog_tree.declared.tree.Item.TheVariants as item
+use Rattle.cell_library.specs.declared.listed.ListedCell.{ListedCell}
+use Rattle.verilog_tree.specs.declared.tree.Instance.{Instance}
+use Rattle.verilog_tree.specs.declared.tree.Item.TheVariants as item
 use Rattle.link_model.specs.Faults.{item_bits, item_width, at_bit, name_unknown, bit_outside}
 use Rattle.link_names.specs.declared.bits.BitTest.{BitTest}
 use Rattle.link_names.specs.declared.bits.BitTest.TheVariants.{NameUnknown, BitOutside, WrongWidth, Any}

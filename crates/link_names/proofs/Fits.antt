@@ -7,27 +7,27 @@ use Rattle.std.specs.Str.{bytes_eq}
 use Rattle.std.proofs.lemmas.Bool.Decides.{nat_tests}
 use Rattle.std.proofs.lemmas.List.{length-map}
 use Rattle.std.proofs.lemmas.List.Elements.{All-nil, All-cons, All-head, All-tail}
-use Rattle.first_faults.proofs.list_laws.Options.{or_else-parts, first_in-append}
-use Rattle.link_model.specs.verilog_tree.declared.tree.Bit.{Bit}
-use Rattle.link_model.specs.verilog_tree.declared.tree.Operand.{Operand}
-use Rattle.link_model.specs.verilog_tree.declared.tree.Operand.TheVariants as operand
-use Rattle.link_model.specs.verilog_tree.declared.tree.GateKind.{GateKind}
-use Rattle.link_model.specs.verilog_tree.declared.tree.GateKind.TheVariants as gate
-use Rattle.link_model.specs.verilog_tree.declared.tree.Link.{Link}
-use Rattle.link_model.specs.verilog_tree.declared.tree.Instance.{Instance}
-use Rattle.link_model.specs.verilog_tree.declared.tree.Item.{Item}
-use Rattle.link_model.specs.verilog_tree.declared.tree.Item.TheVariants as item
-use Rattle.link_model.specs.verilog_tree.Trees.{takes_inputs}
-use Rattle.link_model.specs.verilog_tree.IsTree.{IsTreeItem}
-use Rattle.link_model.specs.cell_library.declared.Kind.{Kind}
-use Rattle.link_model.specs.cell_library.declared.Kind.TheVariants.{Buf}
-use Rattle.link_model.specs.cell_library.Gates.{Takes}
-use Rattle.link_model.proofs.cell_library.PortLaws.{found_takes}
-use Rattle.link_model.specs.cell_library.Library.{kind_named, operand_ports, output_port}
-use Rattle.link_model.specs.netlist_model.declared.Feed.TheVariants.{Const}
-use Rattle.link_model.specs.netlist_model.declared.What.{What}
-use Rattle.link_model.specs.netlist_model.declared.What.TheVariants.{Operands}
-use Rattle.link_model.specs.netlist_model.Below.{IsFeedBelow, AreFeedsBelow, IsNetBelow}
+use Rattle.list_laws.proofs.Options.{or_else-parts, first_in-append}
+use Rattle.verilog_tree.specs.declared.tree.Bit.{Bit}
+use Rattle.verilog_tree.specs.declared.tree.Operand.{Operand}
+use Rattle.verilog_tree.specs.declared.tree.Operand.TheVariants as operand
+use Rattle.verilog_tree.specs.declared.tree.GateKind.{GateKind}
+use Rattle.verilog_tree.specs.declared.tree.GateKind.TheVariants as gate
+use Rattle.verilog_tree.specs.declared.tree.Link.{Link}
+use Rattle.verilog_tree.specs.declared.tree.Instance.{Instance}
+use Rattle.verilog_tree.specs.declared.tree.Item.{Item}
+use Rattle.verilog_tree.specs.declared.tree.Item.TheVariants as item
+use Rattle.verilog_tree.specs.Trees.{takes_inputs}
+use Rattle.verilog_tree.specs.IsTree.{IsTreeItem}
+use Rattle.cell_library.specs.declared.Kind.{Kind}
+use Rattle.cell_library.specs.declared.Kind.TheVariants.{Buf}
+use Rattle.cell_library.specs.Gates.{Takes}
+use Rattle.cell_library.proofs.PortLaws.{found_takes}
+use Rattle.cell_library.specs.Library.{kind_named, operand_ports, output_port}
+use Rattle.netlist_model.specs.declared.Feed.TheVariants.{Const}
+use Rattle.netlist_model.specs.declared.What.{What}
+use Rattle.netlist_model.specs.declared.What.TheVariants.{Operands}
+use Rattle.netlist_model.specs.Below.{IsFeedBelow, AreFeedsBelow, IsNetBelow}
 use Rattle.link_model.specs.declared.fault.LinkFault.TheVariants.{CellUnknown}
 use Rattle.link_model.specs.Lists.{or_else, first_in}
 use Rattle.link_model.specs.Nets.{NetDeclaration, Declared, bits_in, names_from}
@@ -36,7 +36,7 @@ use Rattle.link_model.specs.Faults.{too_many, gate_operands, operand_bits, link_
 use Rattle.link_model.specs.Fits.{FitsCell}
 use Rattle.link_names.specs.FitItems.{FitsBit, FitsOperand, FitsConnected, FitsLink, FitsItem}
 use Rattle.link_names.proofs.NetCounts.{net_fits}
-use Rattle.link_model.specs.cell_library.declared.listed.ListedCell.{ListedCell}
+use Rattle.cell_library.specs.declared.listed.ListedCell.{ListedCell}
 
 -- no fault stands at these bits
 pub record AreBits (names : List (List ℕ × Declared)) (bits : List Bit) : Type 0 where

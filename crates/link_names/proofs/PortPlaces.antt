@@ -1,7 +1,7 @@
 -- The ports of a cell, place by place.
 use Rattle.std.proofs.Common.{◌≡◌, ℕ, suc, ◌+◌, ◌∙◌, true, false, List, [], ◌∷◌, ◌++◌, map, take, drop, slice_get, Some, refl, sym, arith, ap}
-use Rattle.first_faults.proofs.list_laws.Lists.{taken_more, left_at, map_push}
-use Rattle.link_model.specs.verilog_tree.declared.tree.Link.{Link}
+use Rattle.list_laws.proofs.Lists.{taken_more, left_at, map_push}
+use Rattle.verilog_tree.specs.declared.tree.Link.{Link}
 use Rattle.link_model.specs.declared.fault.LinkFault.TheVariants.{PortMissing}
 use Rattle.link_model.specs.Faults.{is_connected}
 use Rattle.link_names.specs.Tests.{missing_port}

@@ -2,7 +2,7 @@
 use Rattle.std.specs.Prelude.{◌≡◌, ◌+◌, ℕ, List, [], ◌∷◌, map}
 use Rattle.std.specs.Borrow.{Bor}
 use Rattle.indexmap.specs.IndexMap.{IndexMap}
-use Rattle.link_model.specs.cell_library.declared.listed.ListedCell.{ListedCell}
+use Rattle.cell_library.specs.declared.listed.ListedCell.{ListedCell}
 
 abbrev pub number_entry : Bor (List ℕ) × ℕ → List ℕ × ℕ
 number_entry e = (e.0.now, e.1)

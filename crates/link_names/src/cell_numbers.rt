@@ -3,12 +3,12 @@
 ghost use Rattle.std.specs.Prelude.{◌≡◌, ◌++◌, ◌∷◌, [], false, position, IfOk, OnOk};
 ghost use Rattle.std.specs.Map.{keys_of};
 ghost use Rattle.std.specs.Str.{bytes_eq};
-ghost use Rattle.link_model.specs.cell_library.Library.{kind_named};
+ghost use Rattle.cell_library.specs.Library.{kind_named};
 ghost use Rattle.link_model.specs.Lists.{has_name};
 ghost use Rattle.link_names.specs.CellNumbers.{numbers_in, HasNumbers};
 
+use cell_library::{Kind, Library, own_kind_of};
 use indexmap::IndexMap;
-use link_model::lower_cell_library::{Kind, Library, own_kind_of};
 use std::alloc::Global;
 use texts::OutOfMemory;
 

@@ -1,6 +1,6 @@
 // The cells of items, by the table of what is declared.
 ghost use Rattle.std.specs.Prelude.{◌≡◌, ◌^◌, [], map, All, IfOk, option_and_then};
-ghost use Rattle.link_model.specs.cell_library.Library as ports;
+ghost use Rattle.cell_library.specs.Library as ports;
 ghost use Rattle.std.specs.Option.{option_copied};
 ghost use Rattle.link_model.specs.Nets.{net_of};
 ghost use Rattle.link_model.specs.Cells as model;
@@ -11,16 +11,14 @@ ghost use Rattle.link_names.specs.FitItems.{FitsBit, FitsOperand, FitsLink, Fits
 use crate::cell_numbers::kind_of;
 use crate::declarations::{Declaration, find};
 use crate::names::gate_name;
+use cell_library::{Kind, Library, is_flop, operand_port, operand_port_count, output_port};
 use indexmap::IndexMap;
 use link_model::ItemCell;
-use link_model::lower_cell_library::{
-    Kind, Library, is_flop, operand_port, operand_port_count, output_port,
-};
-use link_model::lower_netlist_model::{Feed, NetId};
-use link_model::lower_verilog_tree::{Bit, Gate, GateKind, Instance, Item, Link, Operand};
+use netlist_model::{Feed, NetId};
 use smallvec::SmallVec;
 use std::alloc::Global;
 use texts::OutOfMemory;
+use verilog_tree::{Bit, Gate, GateKind, Instance, Item, Link, Operand};
 
 fn kind_of_gate(kind: GateKind) -> Kind
     ensures { result ≡ model.kind_of_gate kind }

@@ -2,8 +2,8 @@
 ghost use Rattle.std.specs.Prelude.{◌≡◌, ◌&&◌, map, is_none, IfOk};
 ghost use Rattle.std.specs.List.{list_any};
 ghost use Rattle.std.specs.Str.{bytes_eq};
-ghost use Rattle.link_model.specs.cell_library.Library.{operand_ports};
-ghost use Rattle.link_model.specs.verilog_tree.declared.tree.Link.{Link};
+ghost use Rattle.cell_library.specs.Library.{operand_ports};
+ghost use Rattle.verilog_tree.specs.declared.tree.Link.{Link};
 ghost use Rattle.link_model.specs.Lists.{first_in, repeated};
 ghost use Rattle.link_model.specs.Cells.{bytes_of};
 ghost use Rattle.link_model.specs.Faults as text;
@@ -11,12 +11,12 @@ ghost use Rattle.link_names.specs.CellNumbers.{HasNumbers};
 ghost use Rattle.link_names.specs.Tests.{unknown_port, missing_port, port_linked_twice, port_test, instance_faults_in};
 
 use crate::cell_numbers::kind_of;
+use cell_library::{Kind, Library, operand_port, operand_port_count, port_of};
 use indexmap::IndexMap;
 use link_model::LinkFault;
-use link_model::lower_cell_library::{Kind, Library, operand_port, operand_port_count, port_of};
-use link_model::lower_verilog_tree::{Instance, Item, Link};
 use std::alloc::Global;
 use texts::{OutOfMemory, Text};
+use verilog_tree::{Instance, Item, Link};
 
 /// A test of an instance and its kind.
 #[derive(Clone, Copy)]

@@ -1,6 +1,6 @@
 // The nets and cells of a module, where no fault stands in its text.
 ghost use Rattle.std.specs.Prelude.{◌≡◌, ◌≢◌, None, Some, length, IfOk, IfErr};
-ghost use Rattle.link_model.specs.verilog_tree.IsTree.{IsTree};
+ghost use Rattle.verilog_tree.specs.IsTree.{IsTree};
 ghost use Rattle.link_model.specs.Nets.{declared_nets, declared_names, nets_in};
 ghost use Rattle.link_model.specs.Faults.{text_fault, cells_in};
 ghost use Rattle.link_model.specs.Fits.{FitCells};
@@ -18,12 +18,12 @@ use crate::names::find_name_twice;
 use crate::net_bits::nets_of;
 use crate::nets::{Net, gather_nets};
 use crate::widths::find_width;
+use cell_library::Library;
 use indexmap::IndexMap;
-use link_model::lower_cell_library::Library;
-use link_model::lower_verilog_tree::{Item, Module};
 use link_model::{ItemCell, LinkFault, NetBit, find_too_many};
 use std::alloc::Global;
 use texts::OutOfMemory;
+use verilog_tree::{Item, Module};
 
 /// The nets and the cells of a module, each at the place of its number. They borrow the module's names.
 #[derive(Drop)]

@@ -10,12 +10,12 @@ ghost use Rattle.link_names.specs.Views.{entries_of};
 use crate::bits::{BitTest, check_bit, check_item};
 use crate::cell_numbers::kind_of;
 use crate::declarations::Declaration;
+use cell_library::{Kind, Library, PortPlace, port_of};
 use indexmap::IndexMap;
 use link_model::LinkFault;
-use link_model::lower_cell_library::{Kind, Library, PortPlace, port_of};
-use link_model::lower_verilog_tree::{Instance, Item, Link, Operand};
 use std::alloc::Global;
 use texts::{OutOfMemory, Text};
+use verilog_tree::{Instance, Item, Link, Operand};
 
 fn check_link(
     alloc: Global,

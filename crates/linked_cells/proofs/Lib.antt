@@ -1,8 +1,10 @@
-pub use Rattle.numbered_places.proofs.list_laws as list_laws
-pub mod Writes
-pub mod Feeds
-pub mod Operands
-pub mod Walks
+pub use Rattle.netlist_model.proofs as netlist_model
+pub use Rattle.netlist_model.proofs.list_laws as list_laws
 pub mod Chains
-pub mod Threads
+pub mod Feeds
+pub mod Keys
 pub mod Moves
+pub mod Operands
+pub mod Threads
+pub mod Walks
+pub mod Writes

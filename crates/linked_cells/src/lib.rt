@@ -6,6 +6,7 @@
 // - `copied_cells`, `copied_nets`: the same cells and nets, with their links and as much room.
 // Contracts cite specs/Cells.antt and specs/Links.antt.
 // Own: no chapter of a standard speaks of it.
+// - `places`: values under numbers that they keep, in places of a slab.
 #![tactic(auto)]
 
 ghost use Rattle.std.specs.Prelude.{◌≡◌, None, false};
@@ -14,17 +15,18 @@ ghost use Rattle.linked_cells.specs.Links.{LinksVisitOnce};
 mod copies;
 mod link;
 mod links;
+pub mod lower_cell_library;
 pub mod lower_netlist_model;
-pub mod lower_numbered_places;
+pub mod lower_texts;
+pub mod places;
 mod slots;
 
+use crate::places::Places;
 pub use copies::{copied_cells, copied_nets};
 pub use link::Link;
 pub use links::{clear_all, connect, give_all, move_all};
 use netlist_model::lower_cell_library::Kind;
-pub use netlist_model::{lower_cell_library, lower_texts};
 use netlist_model::{CellId, Feed, Name, NetId};
-use numbered_places::Places;
 pub use slots::{driver, first, set_driver, slot_of};
 use smallvec::SmallVec;
 use std::alloc::{AllocError, Global};

@@ -2,13 +2,13 @@ ghost use Rattle.std.specs.Prelude.{◌≡◌, ◌≢◌, ℕ, ◌<◌, ◌^◌,
 ghost use Rattle.netlist_model.specs.declared.Feed.TheVariants.{Net as OnNet, Const as Fixed};
 ghost use Rattle.linked_cells.specs.Links.{Threaded, SetsFirst, IsMoving};
 ghost use Rattle.netlist_model.specs.declared.NetId.{NetId as NetNumber};
-ghost use Rattle.numbered_places.specs.Places.{place_at};
+ghost use Rattle.linked_cells.specs.PlacesLaws.{place_at};
 ghost use Rattle.linked_cells.specs.Cells.{slot_at, first_at, slot_count, cells_of, SameShapes, with_slot_feed, with_moved_feeds, feed_in, given_upto, KeepsNets, IsLoose, IsOnNet, IsSlotThere, IsFeedThere};
 
+use crate::places::Places;
 use crate::slots::{first, link_to, set_after, set_before, set_first, slot_of, write_slot};
 use crate::{Cell, Link, Net, Slot};
 use netlist_model::{CellId, Feed, NetId, Reader};
-use numbered_places::Places;
 
 // Links a loose slot in front of the readers of a net.
 fn link(cells: &mut Places<Cell>, nets: &mut Places<Net>, reader: Reader, net: NetId)

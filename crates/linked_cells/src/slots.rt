@@ -1,12 +1,12 @@
 ghost use Rattle.std.specs.Prelude.{◌≡◌, ◌≢◌, ℕ, ⊤, IsSome, Some, MatchOption};
 ghost use Rattle.netlist_model.specs.declared.Reader.{Reader as ReaderView};
 ghost use Rattle.linked_cells.specs.Links.{Writes, SetsBefore, SetsAfter, WritesFirst};
-ghost use Rattle.numbered_places.specs.Places.{place_at};
+ghost use Rattle.linked_cells.specs.PlacesLaws.{place_at};
 ghost use Rattle.linked_cells.specs.Cells.{slot_at, first_at, driver_at, WritesDriver, cells_of, with_slot_feed, IsSlotThere, SameShapes, KeepsNets};
 
+use crate::places::Places;
 use crate::{Cell, Link, Net, Slot};
 use netlist_model::{CellId, NetId, Reader};
-use numbered_places::Places;
 
 /// The slot of a reader.
 pub fn slot_of(cells: &Places<Cell>, reader: Reader) -> Slot

@@ -1,7 +1,7 @@
-pub mod Tests
-pub mod Options
-pub mod Lists
 pub mod Bytes
-pub mod Numbers
-pub mod Marks
 pub mod Digits
+pub mod Lists
+pub mod Marks
+pub mod Numbers
+pub mod Options
+pub mod Tests

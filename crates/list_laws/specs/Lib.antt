@@ -1,4 +1,4 @@
-pub mod Lists
-pub mod Options
-pub mod Marks
 pub mod Digits
+pub mod Lists
+pub mod Marks
+pub mod Options

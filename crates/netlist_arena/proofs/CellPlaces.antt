@@ -16,7 +16,7 @@ use Rattle.netlist_arena.proofs.Places.{slice_get-push_other}
 use Rattle.linked_cells.specs.declared.Slot.{Slot}
 use Rattle.linked_cells.specs.Links.{Threaded}
 use Rattle.linked_cells.proofs.Threads.{threaded_loosely}
-use Rattle.linked_cells.specs.numbered_places.Places.{there_at, place_at, Puts}
+use Rattle.linked_cells.specs.PlacesLaws.{there_at, place_at, Puts}
 use Rattle.linked_cells.specs.Views.{CellSlots}
 use Rattle.linked_cells.specs.Cells.{cell_view, cells_of, slot_at, blank_slot, given_upto, feed_in}
 use Rattle.linked_cells.proofs.Operands.{all_given, all_taken, feed_found}

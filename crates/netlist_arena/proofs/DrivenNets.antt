@@ -10,7 +10,7 @@ use Rattle.linked_cells.specs.netlist_model.declared.Reader.{Reader}
 use Rattle.linked_cells.specs.netlist_model.Lists.{CellView, NetlistView, live_cell, IsUndriven}
 use Rattle.netlist_arena.specs.Arena.{DrivesIn}
 use Rattle.netlist_arena.specs.Moves.{moved_output, with_moved_output}
-use Rattle.linked_cells.specs.numbered_places.Places.{there_at, place_at}
+use Rattle.linked_cells.specs.PlacesLaws.{there_at, place_at}
 use Rattle.linked_cells.specs.Views.{CellSlots}
 use Rattle.linked_cells.specs.Cells.{cell_view, cells_of, slot_at}
 use Rattle.linked_cells.proofs.Writes.{place_set_same, place_set_other}

@@ -22,7 +22,7 @@ use Rattle.netlist_arena.proofs.Laid.{feed_below}
 use Rattle.netlist_arena.proofs.Changes.{with_feed_below, with_feed_count}
 use Rattle.linked_cells.specs.Links.{Threaded}
 use Rattle.linked_cells.proofs.Threads.{visits_once}
-use Rattle.linked_cells.specs.numbered_places.Places.{there_at, place_at, Puts}
+use Rattle.linked_cells.specs.PlacesLaws.{there_at, place_at, Puts}
 use Rattle.linked_cells.specs.Views.{CellSlots}
 use Rattle.linked_cells.specs.declared.Net.{Net}
 use Rattle.linked_cells.specs.Cells.{cells_of, net_view, values, nets_of, slot_at, first_at, driver_at, KeepsNets, with_feed, with_slot_feed, feed_in, IsFeedThere, moved_feed, with_moved_feeds}

@@ -9,7 +9,7 @@ use Rattle.linked_cells.specs.netlist_model.declared.CellId.{CellId}
 use Rattle.linked_cells.specs.netlist_model.Lists.{CellView, NetlistView, live_cell, cell_at, Drives, IsUndriven}
 use Rattle.netlist_arena.specs.Looks.{feed_at}
 use Rattle.linked_cells.specs.declared.Slot.{Slot}
-use Rattle.linked_cells.specs.numbered_places.Places.{there_at, place_at}
+use Rattle.linked_cells.specs.PlacesLaws.{there_at, place_at}
 use Rattle.linked_cells.specs.Views.{CellSlots}
 use Rattle.linked_cells.specs.declared.Net.{Net}
 use Rattle.linked_cells.specs.Cells.{cell_view, cells_of, net_view, nets_of}

@@ -13,7 +13,7 @@ use Rattle.linked_cells.specs.netlist_model.Below.{IsNetBelow}
 use Rattle.netlist_arena.specs.Arena.{IsPlaceBelow}
 use Rattle.netlist_arena.proofs.Growth.{place_at as found_below}
 use Rattle.netlist_arena.proofs.Single.{live_below}
-use Rattle.linked_cells.specs.numbered_places.Places.{place_at}
+use Rattle.linked_cells.specs.PlacesLaws.{place_at}
 use Rattle.linked_cells.specs.declared.Slot.{Slot}
 use Rattle.linked_cells.specs.Views.{CellSlots}
 use Rattle.linked_cells.specs.Cells.{cell_view, cells_of, given_upto, feed_in}

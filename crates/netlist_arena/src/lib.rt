@@ -30,6 +30,8 @@ mod cells;
 mod copies;
 mod drivers;
 mod links;
+pub mod lower_cell_library;
+pub mod lower_netlist_model;
 mod moves;
 mod nets;
 mod ports;
@@ -38,8 +40,7 @@ mod room;
 
 use linked_cells::lower_cell_library::Library;
 use linked_cells::lower_netlist_model::{Dir, Name, NetId, Range};
-use linked_cells::lower_numbered_places::Places;
-pub use linked_cells::{lower_cell_library, lower_netlist_model};
+use linked_cells::places::Places;
 use linked_cells::{Cell, Net};
 pub use room::ReserveFault;
 use std::alloc::Global;
@@ -88,7 +89,7 @@ pub struct Netlist {
 impl Model for Netlist {
     ghost use Rattle.std.specs.Prelude.{◌≡◌, ℕ, ◌+◌, ◌<◌, ◌≤◌, ◌^◌, length, vec_len, vec_capacity, All, IsSome};
     ghost use Rattle.linked_cells.specs.Links.{Threaded};
-    ghost use Rattle.linked_cells.specs.numbered_places.Places.{place_at};
+    ghost use Rattle.linked_cells.specs.PlacesLaws.{place_at};
     ghost use Rattle.linked_cells.specs.Cells.{slot_at, first_at, driver_at, cells_of, nets_of};
     ghost use Rattle.linked_cells.specs.Walks.{walks_of};
     ghost use Rattle.netlist_arena.specs.Arena.{ArenaView, HasRoom, HasItsOperands, IsPlaceBelow, IsPortBelow, bit_count};

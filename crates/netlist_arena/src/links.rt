@@ -3,14 +3,14 @@ ghost use Rattle.linked_cells.specs.netlist_model.declared.Feed.TheVariants.{Con
 ghost use Rattle.linked_cells.specs.netlist_model.declared.Reader.{Reader as ReaderView};
 ghost use Rattle.linked_cells.specs.netlist_model.Lists.{live_cell};
 ghost use Rattle.linked_cells.specs.Links.{Threaded};
-ghost use Rattle.linked_cells.specs.numbered_places.Places.{place_at};
+ghost use Rattle.linked_cells.specs.PlacesLaws.{place_at};
 ghost use Rattle.linked_cells.specs.Cells.{slot_at, first_at, driver_at, cells_of, blank_slot, net_view, IsFeedThere, KeepsNets};
 ghost use Rattle.netlist_arena.specs.Arena.{live_count};
 ghost use Rattle.netlist_arena.specs.Adds.{PutsCell};
 ghost use Rattle.netlist_arena.specs.Drivers.{DriverAdded, DriverDropped, with_output};
 
 use linked_cells::lower_netlist_model::{CellId, Feed, NetId};
-use linked_cells::lower_numbered_places::Places;
+use linked_cells::places::Places;
 use linked_cells::{Cell, Net, give_all, set_driver};
 
 // Puts a cell whose operands are the constant 0 in a place of its own, and gives it these operands.

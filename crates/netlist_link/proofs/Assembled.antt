@@ -1,20 +1,20 @@
 -- What is known of a module in which no fault stands.
 use Rattle.std.proofs.Common.{◌≡◌, subst, ℕ, List, length, refl, ap, sym, ◌∙◌, None}
-use Rattle.link_names.specs.cell_library.declared.listed.ListedCell.{ListedCell}
-use Rattle.link_names.specs.verilog_tree.declared.tree.Module.{Module}
-use Rattle.link_names.specs.netlist_model.Lists.{NetlistView}
-use Rattle.link_names.specs.netlist_model.Formed.{IsWellFormed}
+use Rattle.cell_library.specs.declared.listed.ListedCell.{ListedCell}
+use Rattle.verilog_tree.specs.declared.tree.Module.{Module}
+use Rattle.netlist_model.specs.Lists.{NetlistView}
+use Rattle.netlist_model.specs.Formed.{IsWellFormed}
 use Rattle.link_names.specs.link_model.Nets.{NamedNet, declared_nets, nets_in}
 use Rattle.link_names.specs.link_model.Cells.{NamedCell}
 use Rattle.link_names.specs.link_model.Fits.{FitCells}
 use Rattle.link_names.specs.link_model.Faults.{driver_fault, cells_in}
 use Rattle.link_names.specs.link_model.Late.{HasNoDerived, IsLinkable}
-use Rattle.name_table.proofs.list_laws.Lists.{AreAll-length}
+use Rattle.list_laws.proofs.Lists.{AreAll-length}
 use Rattle.link_names.specs.link_model.Denoted.{IsNamed, IsNet, denoted}
-use Rattle.link_arena.specs.link_drivers.Drivers.{HasItsDrivers, HaveTheirDrivers}
+use Rattle.link_arena.specs.link_rules.DriversLaws.{HasItsDrivers, HaveTheirDrivers}
 use Rattle.link_arena.proofs.Parts.{are_below}
-use Rattle.link_names.specs.netlist_model.declared.CellId.{CellId}
-use Rattle.link_names.specs.netlist_model.Orders.{IsCellOrder}
+use Rattle.netlist_model.specs.declared.CellId.{CellId}
+use Rattle.netlist_model.specs.Orders.{IsCellOrder}
 use Rattle.netlist_link.specs.Steps.{AreNetsAndCells, IsBuilt, IsSound}
 use Rattle.netlist_link.proofs.Formed.{HasNoDerivedOperand, well_formed}
 use Rattle.netlist_link.proofs.Orders.{no_loop_in_order}

@@ -1,16 +1,16 @@
 -- What the kinds of items are, and which faults a module without faults of its text has not.
 use Rattle.std.proofs.Common.{◌≡◌, ℕ, List, refl, Option, Some, None}
 use Rattle.std.specs.Prelude.{slice_get, IsSome}
-use Rattle.name_table.proofs.list_laws.Options.{or_else-parts, first_in-at}
-use Rattle.link_names.specs.cell_library.declared.listed.ListedCell.{ListedCell}
-use Rattle.link_names.specs.cell_library.declared.Kind.{Kind}
-use Rattle.link_names.specs.cell_library.declared.Kind.TheVariants as kind
-use Rattle.link_names.specs.cell_library.Library.{cell_name, kind_named}
-use Rattle.link_names.proofs.cell_library.NameLaws.{found_has_name}
-use Rattle.link_names.specs.verilog_tree.declared.tree.GateKind.{GateKind}
-use Rattle.link_names.specs.verilog_tree.declared.tree.GateKind.TheVariants as gate
-use Rattle.link_names.specs.verilog_tree.declared.tree.Item.{Item}
-use Rattle.link_names.specs.verilog_tree.declared.tree.Module.{Module}
+use Rattle.list_laws.proofs.Options.{or_else-parts, first_in-at}
+use Rattle.cell_library.specs.declared.listed.ListedCell.{ListedCell}
+use Rattle.cell_library.specs.declared.Kind.{Kind}
+use Rattle.cell_library.specs.declared.Kind.TheVariants as kind
+use Rattle.cell_library.specs.Library.{cell_name, kind_named}
+use Rattle.cell_library.proofs.NameLaws.{found_has_name}
+use Rattle.verilog_tree.specs.declared.tree.GateKind.{GateKind}
+use Rattle.verilog_tree.specs.declared.tree.GateKind.TheVariants as gate
+use Rattle.verilog_tree.specs.declared.tree.Item.{Item}
+use Rattle.verilog_tree.specs.declared.tree.Module.{Module}
 use Rattle.link_names.specs.link_model.declared.fault.LinkFault.{LinkFault}
 use Rattle.link_names.specs.link_model.Lists.{or_else, first_in}
 use Rattle.link_names.specs.link_model.Cells.{kind_of_gate}

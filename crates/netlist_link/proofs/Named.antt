@@ -7,35 +7,35 @@ use Rattle.std.proofs.lemmas.Grind.{flat_map-append}
 use Rattle.std.proofs.lemmas.Bool.{cases_lt}
 use Rattle.std.proofs.lemmas.List.{length-map}
 use Rattle.std.proofs.lemmas.Option.{slice_get-map, slice_get_within, same_Some}
-use Rattle.name_table.proofs.list_laws.Lists.{all_at, slice_get-append_left, slice_get-append_right, AreAll-right, AreAll-left}
-use Rattle.link_names.specs.verilog_tree.declared.tree.Module.{Module}
-use Rattle.link_names.specs.verilog_tree.declared.tree.Port.{Port}
-use Rattle.link_names.specs.verilog_tree.declared.tree.Wire.{Wire}
-use Rattle.link_names.specs.verilog_tree.declared.tree.Item.{Item}
-use Rattle.link_names.specs.verilog_tree.declared.tree.Item.TheVariants as item
-use Rattle.link_names.specs.verilog_tree.declared.tree.Range as tree
-use Rattle.link_names.specs.verilog_tree.IsTree.{IsTree, IsTreeRange, IsTreePort, IsTreeWire}
-use Rattle.link_names.specs.verilog_tree.declared.tree.Instance.{Instance}
-use Rattle.link_names.specs.cell_library.declared.listed.ListedCell.{ListedCell}
-use Rattle.link_names.specs.cell_library.declared.Kind.{Kind}
-use Rattle.link_names.specs.cell_library.declared.Kind.TheVariants as kind
-use Rattle.link_names.specs.cell_library.Library.{cell_name, kind_named}
-use Rattle.link_names.specs.cell_library.Sound.{IsLibrary}
-use Rattle.link_names.specs.netlist_model.declared.Name.{Name}
-use Rattle.link_names.specs.netlist_model.declared.Name.TheVariants.{Original, Added}
-use Rattle.link_names.specs.netlist_model.declared.NetId.{NetId}
-use Rattle.link_names.specs.netlist_model.Lists.{PortView, NetView, CellView, NetlistView, cell_at}
-use Rattle.link_names.specs.netlist_model.Formed.{width_of}
+use Rattle.list_laws.proofs.Lists.{all_at, slice_get-append_left, slice_get-append_right, AreAll-right, AreAll-left}
+use Rattle.verilog_tree.specs.declared.tree.Module.{Module}
+use Rattle.verilog_tree.specs.declared.tree.Port.{Port}
+use Rattle.verilog_tree.specs.declared.tree.Wire.{Wire}
+use Rattle.verilog_tree.specs.declared.tree.Item.{Item}
+use Rattle.verilog_tree.specs.declared.tree.Item.TheVariants as item
+use Rattle.verilog_tree.specs.declared.tree.Range as tree
+use Rattle.verilog_tree.specs.IsTree.{IsTree, IsTreeRange, IsTreePort, IsTreeWire}
+use Rattle.verilog_tree.specs.declared.tree.Instance.{Instance}
+use Rattle.cell_library.specs.declared.listed.ListedCell.{ListedCell}
+use Rattle.cell_library.specs.declared.Kind.{Kind}
+use Rattle.cell_library.specs.declared.Kind.TheVariants as kind
+use Rattle.cell_library.specs.Library.{cell_name, kind_named}
+use Rattle.cell_library.specs.Sound.{IsLibrary}
+use Rattle.netlist_model.specs.declared.Name.{Name}
+use Rattle.netlist_model.specs.declared.Name.TheVariants.{Original, Added}
+use Rattle.netlist_model.specs.declared.NetId.{NetId}
+use Rattle.netlist_model.specs.Lists.{PortView, NetView, CellView, NetlistView, cell_at}
+use Rattle.netlist_model.specs.Formed.{width_of}
 use Rattle.link_names.specs.link_model.Nets.{NamedNet, NetDeclaration, width, index_at, net_at, port_nets, wire_nets, declared_nets, declared_names, nets_in}
 use Rattle.link_names.specs.link_model.Cells.{NamedCell, cell_of, kind_of_gate}
 use Rattle.link_names.specs.link_model.declared.fault.LinkFault.TheVariants as fault
 use Rattle.link_names.specs.link_model.Faults.{names_of, item_name, cells_in, text_fault, cell_unknown}
 use Rattle.link_names.specs.link_model.Denoted.{IsNamed, IsNet, IsPort, IsCell, IsName, AreAll, denoted, name_bytes, range_of, ports_from}
-use Rattle.link_arena.specs.link_drivers.Drivers.{dir_at}
+use Rattle.link_arena.specs.link_rules.DriversLaws.{dir_at}
 use Rattle.netlist_link.specs.WellNamed.{IsKnown, IsWireNet, IsWireName, IsWellNamed, IsShortRange, index_from}
 use Rattle.netlist_link.proofs.LibraryKinds.{gate_unnamed, gate_no_assign, library_kind, known_cells}
 use Rattle.netlist_link.proofs.Ports.{bits_of, nets_in-first, nets_in-rest, port_bit}
-use Rattle.link_order.proofs.Cells.{named_at}
+use Rattle.link_arena.proofs.link_rules.ClocksCells.{named_at}
 use Rattle.netlist_link.proofs.Spelled.{spelled_names}
 use Rattle.netlist_link.proofs.Formed.{direction_is}
 

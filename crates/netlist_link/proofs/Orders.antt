@@ -1,20 +1,20 @@
 -- Loops and orders of the netlist are those of its named cells.
 use Rattle.std.proofs.Common.{ℕ, List, ap, sym, ◌∙◌}
-use Rattle.link_names.specs.cell_library.Gates.{is_flop}
-use Rattle.link_names.specs.verilog_tree.declared.tree.Module.{Module}
-use Rattle.link_names.specs.netlist_model.declared.CellId.{CellId}
-use Rattle.link_names.specs.netlist_model.Lists.{NetlistView}
-use Rattle.link_names.specs.netlist_model.Formed.{IsNumbered}
-use Rattle.link_names.specs.netlist_model.Orders.{IsCellOrder}
-use Rattle.link_order.specs.cell_order.Loops.{IsGateLoop, ReadsGate}
+use Rattle.cell_library.specs.Gates.{is_flop}
+use Rattle.verilog_tree.specs.declared.tree.Module.{Module}
+use Rattle.netlist_model.specs.declared.CellId.{CellId}
+use Rattle.netlist_model.specs.Lists.{NetlistView}
+use Rattle.netlist_model.specs.Formed.{IsNumbered}
+use Rattle.netlist_model.specs.Orders.{IsCellOrder}
+use Rattle.link_arena.specs.cell_order.Loops.{IsGateLoop, ReadsGate}
 use Rattle.link_names.specs.link_model.Nets.{declared_nets, nets_in}
 use Rattle.link_names.specs.link_model.Cells.{NamedCell}
 use Rattle.link_names.specs.link_model.Faults.{cells_in}
 use Rattle.link_names.specs.link_model.Late.{IsLoop, ReadsItem}
 use Rattle.link_names.specs.link_model.Denoted.{AreCells, IsNamed, denoted}
-use Rattle.link_arena.specs.link_drivers.Drivers.{HasItsDrivers}
-use Rattle.link_order.proofs.Cells.{Keeps, kept, drives_named, reads_named}
-use Rattle.link_order.proofs.Cones.{gate_reads-live}
+use Rattle.link_arena.specs.link_rules.DriversLaws.{HasItsDrivers}
+use Rattle.link_arena.proofs.link_rules.ClocksCells.{Keeps, kept, drives_named, reads_named}
+use Rattle.link_arena.proofs.link_rules.Cones.{gate_reads-live}
 use Rattle.netlist_link.proofs.Formed.{driven_once, numbered}
 use Rattle.netlist_link.proofs.Loops.{IsRising, feeds_lower, no_loop}
 

@@ -7,19 +7,19 @@ use Rattle.std.specs.Str.{bytes_eq}
 use Rattle.std.proofs.lemmas.Bool.{ltb-false}
 use Rattle.std.proofs.lemmas.List.Elements.{All-nil}
 use Rattle.std.proofs.lemmas.Option.{same_Some}
-use Rattle.link_names.specs.verilog_tree.IsTree.{IsTreeName}
-use Rattle.link_names.specs.cell_library.Sound.{IsLibrary, IsSoundCell}
-use Rattle.link_names.specs.netlist_model.declared.What.{What}
-use Rattle.link_names.specs.netlist_model.declared.What.TheVariants.{Cells, Nets, Ports}
-use Rattle.link_names.specs.netlist_model.declared.Name.{Name}
-use Rattle.link_names.specs.netlist_model.declared.Name.TheVariants.{Original, Added}
-use Rattle.link_names.specs.netlist_model.Lists.{NetlistView, cell_count}
-use Rattle.link_names.specs.netlist_model.Formed.{IsWellFormed}
-use Rattle.link_arena.specs.netlist_arena.Arena.{bit_count}
-use Rattle.link_arena.specs.netlist_arena.Room.{excess_of, too_many}
-use Rattle.link_arena.specs.netlist_arena.declared.room.ReserveFault.{ReserveFault}
+use Rattle.verilog_tree.specs.IsTree.{IsTreeName}
+use Rattle.cell_library.specs.Sound.{IsLibrary, IsSoundCell}
+use Rattle.netlist_model.specs.declared.What.{What}
+use Rattle.netlist_model.specs.declared.What.TheVariants.{Cells, Nets, Ports}
+use Rattle.netlist_model.specs.declared.Name.{Name}
+use Rattle.netlist_model.specs.declared.Name.TheVariants.{Original, Added}
+use Rattle.netlist_model.specs.Lists.{NetlistView, cell_count}
+use Rattle.netlist_model.specs.Formed.{IsWellFormed}
+use Rattle.netlist_arena.specs.Arena.{bit_count}
+use Rattle.netlist_arena.specs.Room.{excess_of, too_many}
+use Rattle.netlist_arena.specs.declared.room.ReserveFault.{ReserveFault}
 use Rattle.link_names.specs.link_model.Denoted.{name_bytes}
-use Rattle.name_table.specs.Names.{IsOnce, number_of, with_name}
+use Rattle.link_arena.specs.NameTableNames.{IsOnce, number_of, with_name}
 use Rattle.netlist_link.specs.WellNamed.{IsKnown, IsWellNamed}
 use Rattle.netlist_link.proofs.PinLaws.{number_found}
 

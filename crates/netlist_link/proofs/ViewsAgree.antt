@@ -1,25 +1,25 @@
 -- Two link views of one tree are the same, and each is well named.
 use Rattle.std.proofs.Common.{◌≡◌, subst, ℕ, List, [], ◌∷◌, length, refl, ap, sym, ◌∙◌, Option, Some, None}
-use Rattle.name_table.proofs.list_laws.Options.{or_else-parts}
-use Rattle.link_names.specs.cell_library.declared.listed.ListedCell.{ListedCell}
-use Rattle.link_names.specs.verilog_tree.declared.tree.Module.{Module}
-use Rattle.link_names.specs.netlist_model.declared.Name.{Name}
-use Rattle.link_names.specs.netlist_model.Lists.{PortView, NetView, CellView, NetlistView, cell_at}
+use Rattle.list_laws.proofs.Options.{or_else-parts}
+use Rattle.cell_library.specs.declared.listed.ListedCell.{ListedCell}
+use Rattle.verilog_tree.specs.declared.tree.Module.{Module}
+use Rattle.netlist_model.specs.declared.Name.{Name}
+use Rattle.netlist_model.specs.Lists.{PortView, NetView, CellView, NetlistView, cell_at}
 use Rattle.link_names.specs.link_model.Nets.{NamedNet, declared_nets, nets_in}
 use Rattle.link_names.specs.link_model.Cells.{NamedCell}
 use Rattle.link_names.specs.link_model.Denoted.{AreAll, AreCells, IsCell, IsLive, IsName, IsNamed, IsNet, IsPort, NamedPort, denoted}
 use Rattle.link_names.specs.link_model.Faults.{cells_in, driver_fault, names_of, text_fault}
 use Rattle.link_names.specs.link_model.Late.{IsLinkable}
 use Rattle.link_names.specs.Laws.{ClearTextFits}
-use Rattle.link_arena.specs.link_drivers.Drivers.{HaveTheirDrivers}
-use Rattle.link_order.specs.Cones.{ControlsAreLinks}
-use Rattle.link_order.specs.cell_order.Loops.{LooplessHasOrder}
-use Rattle.name_table.specs.Names.{IsOnce}
+use Rattle.link_arena.specs.link_rules.DriversLaws.{HaveTheirDrivers}
+use Rattle.link_arena.specs.link_rules.Cones.{ControlsAreLinks}
+use Rattle.link_arena.specs.cell_order.Loops.{LooplessHasOrder}
+use Rattle.link_arena.specs.NameTableNames.{IsOnce}
 use Rattle.link_arena.proofs.Parts.{are_below}
 use Rattle.netlist_link.specs.Linked.{LinkedView}
 use Rattle.netlist_link.specs.Links.{IsLinkOf}
 use Rattle.netlist_link.specs.ViewLaws.{LinkViewsAgree, LinkViewIsFormed, LinkViewIsNamed}
-use Rattle.link_order.proofs.Cells.{kept, named_at}
+use Rattle.link_arena.proofs.link_rules.ClocksCells.{kept, named_at}
 use Rattle.netlist_link.proofs.Formed.{driven_once, well_formed}
 use Rattle.netlist_link.proofs.Orders.{loop_named}
 use Rattle.netlist_link.proofs.Named.{same_name, well_named}

@@ -1,13 +1,13 @@
 -- What is known of a module on the way to its link.
 use Rattle.std.specs.Prelude.{◌≡◌, ℕ, List, length, None}
-use Rattle.link_names.specs.cell_library.declared.listed.ListedCell.{ListedCell}
-use Rattle.link_names.specs.cell_library.Sound.{IsLibrary}
-use Rattle.link_names.specs.verilog_tree.declared.tree.Module.{Module}
-use Rattle.link_names.specs.verilog_tree.IsTree.{IsTree}
-use Rattle.link_names.specs.netlist_model.Lists.{NetlistView}
-use Rattle.link_names.specs.netlist_model.Contained.{IsDense}
-use Rattle.link_order.specs.cell_order.declared.fault.OrderFault.{OrderFault}
-use Rattle.link_order.specs.cell_order.declared.fault.OrderFault.TheVariants as order
+use Rattle.cell_library.specs.declared.listed.ListedCell.{ListedCell}
+use Rattle.cell_library.specs.Sound.{IsLibrary}
+use Rattle.verilog_tree.specs.declared.tree.Module.{Module}
+use Rattle.verilog_tree.specs.IsTree.{IsTree}
+use Rattle.netlist_model.specs.Lists.{NetlistView}
+use Rattle.netlist_model.specs.Contained.{IsDense}
+use Rattle.link_arena.specs.cell_order.declared.fault.OrderFault.{OrderFault}
+use Rattle.link_arena.specs.cell_order.declared.fault.OrderFault.TheVariants as order
 use Rattle.link_names.specs.link_model.declared.fault.LinkFault.{LinkFault}
 use Rattle.link_names.specs.link_model.declared.fault.LinkFault.TheVariants as fault
 use Rattle.link_names.specs.link_model.Nets.{NamedNet, declared_nets, nets_in}

@@ -1,12 +1,12 @@
 -- Link views of a tree: where it can be linked there is one, and all are the same but for spare room, walks and order.
 -- IEEE Std 1364-2001: hierarchical structures, data types; that a tree has one netlist is own.
 use Rattle.std.specs.Prelude.{◌≡◌, ℕ, List}
-use Rattle.link_names.specs.cell_library.declared.listed.ListedCell.{ListedCell}
-use Rattle.link_names.specs.cell_library.Sound.{IsLibrary}
-use Rattle.link_names.specs.verilog_tree.declared.tree.Module.{Module}
-use Rattle.link_names.specs.verilog_tree.IsTree.{IsTree}
-use Rattle.link_names.specs.netlist_model.Lists.{cell_at}
-use Rattle.link_names.specs.netlist_model.Formed.{IsWellFormed}
+use Rattle.cell_library.specs.declared.listed.ListedCell.{ListedCell}
+use Rattle.cell_library.specs.Sound.{IsLibrary}
+use Rattle.verilog_tree.specs.declared.tree.Module.{Module}
+use Rattle.verilog_tree.specs.IsTree.{IsTree}
+use Rattle.netlist_model.specs.Lists.{cell_at}
+use Rattle.netlist_model.specs.Formed.{IsWellFormed}
 use Rattle.link_names.specs.link_model.Late.{IsLinkable}
 use Rattle.netlist_link.specs.Linked.{LinkedView}
 use Rattle.netlist_link.specs.Links.{IsLinkOf}

@@ -1,17 +1,17 @@
 -- When a netlist is well named by a table of names: it can be written as a module again.
 -- IEEE Std 1364-2001: data types (vectors), hierarchical names; names that were added later are own.
 use Rattle.std.specs.Prelude.{◌≡◌, ℕ, ◌+◌, ◌-◌, ◌<◌, ◌≤◌, ◌^◌, nat_le, List, length, slice_get, Option, Some, None, IsSome, IfSome, if◌then◌else◌, ⊤}
-use Rattle.link_names.specs.verilog_tree.IsTree.{IsTreeName}
-use Rattle.link_names.specs.cell_library.declared.Kind.TheVariants.{Assign}
-use Rattle.link_names.specs.cell_library.Library.{cell_name}
-use Rattle.link_names.specs.cell_library.Sound.{IsLibrary}
-use Rattle.link_names.specs.netlist_model.declared.NetId.{NetId}
-use Rattle.link_names.specs.netlist_model.declared.Name.{Name}
-use Rattle.link_names.specs.netlist_model.declared.Name.TheVariants.{Original, Added}
-use Rattle.link_names.specs.netlist_model.declared.Range.{Range}
-use Rattle.link_names.specs.netlist_model.Lists.{PortView, NetView, CellView, NetlistView, cell_at, direction}
-use Rattle.link_names.specs.netlist_model.Formed.{width_of}
-use Rattle.name_table.specs.Names.{IsOnce}
+use Rattle.verilog_tree.specs.IsTree.{IsTreeName}
+use Rattle.cell_library.specs.declared.Kind.TheVariants.{Assign}
+use Rattle.cell_library.specs.Library.{cell_name}
+use Rattle.cell_library.specs.Sound.{IsLibrary}
+use Rattle.netlist_model.specs.declared.NetId.{NetId}
+use Rattle.netlist_model.specs.declared.Name.{Name}
+use Rattle.netlist_model.specs.declared.Name.TheVariants.{Original, Added}
+use Rattle.netlist_model.specs.declared.Range.{Range}
+use Rattle.netlist_model.specs.Lists.{PortView, NetView, CellView, NetlistView, cell_at, direction}
+use Rattle.netlist_model.specs.Formed.{width_of}
+use Rattle.link_arena.specs.NameTableNames.{IsOnce}
 
 -- own: an original name is one of the table
 abbrev pub IsKnown : List (List ℕ) → Name → Type 0

@@ -1,7 +1,7 @@
 ghost use Rattle.std.specs.Prelude.{◌≡◌, IfOk};
-ghost use Rattle.link_names.specs.netlist_model.Formed.{IsWellFormed};
-ghost use Rattle.link_names.specs.netlist_model.Orders.{IsCellOrder};
-ghost use Rattle.link_order.specs.cell_order.Tables.{FitsRoom};
+ghost use Rattle.netlist_model.specs.Formed.{IsWellFormed};
+ghost use Rattle.netlist_model.specs.Orders.{IsCellOrder};
+ghost use Rattle.link_arena.specs.cell_order.Tables.{FitsRoom};
 ghost use Rattle.netlist_link.specs.Links.{IsLinkOf};
 ghost use Rattle.netlist_link.specs.Steps.{IsBuilt, IsSound};
 ghost use Rattle.netlist_link.specs.WellNamed.{IsWellNamed};
@@ -9,15 +9,14 @@ ghost use Rattle.netlist_link.specs.WellNamed.{IsWellNamed};
 use crate::linked::Linked;
 use crate::port_names::ports_by_name;
 use link_arena::Built;
-use link_arena::lower_link_drivers::nets_have_their_drivers;
-use link_arena::lower_netlist_arena::Netlist;
-use link_names::lower_netlist_model::CellId;
-use link_names::lower_verilog_tree::Module;
-use link_order::controls_are_links;
-use link_order::lower_cell_order::WorkArea;
-use name_table::NameTable;
+use link_arena::lower_cell_order::WorkArea;
+use link_arena::lower_link_rules::{controls_are_links, nets_have_their_drivers};
+use link_arena::name_table::NameTable;
+use netlist_arena::Netlist;
+use netlist_model::CellId;
 use std::alloc::Global;
 use texts::{OutOfMemory, Text};
+use verilog_tree::Module;
 
 /// A linked netlist from what was built of a module and an order of its cells, where no fault stands.
 pub fn assemble(

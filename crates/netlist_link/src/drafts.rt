@@ -2,14 +2,14 @@
 
 ghost use Rattle.std.specs.Prelude.{◌≡◌, ◌+◌, ◌↔◌, ◌≤◌, [], length, Some, None, IfOk, IsOkUnless, OnErr, OnOk, MatchOption, vec_capacity};
 ghost use Rattle.std.specs.Borrow.{sem};
-ghost use Rattle.link_names.specs.verilog_tree.IsTree.{IsTreeName};
-ghost use Rattle.link_names.specs.netlist_model.declared.Name.{Name as NameNumber};
-ghost use Rattle.link_names.specs.netlist_model.Lists.{cell_count};
-ghost use Rattle.link_names.specs.netlist_model.Formed.{IsWellFormed};
-ghost use Rattle.link_arena.specs.netlist_arena.Room.{too_many};
-ghost use Rattle.link_order.specs.cell_order.Tables.{FitsRoom, with_room};
+ghost use Rattle.verilog_tree.specs.IsTree.{IsTreeName};
+ghost use Rattle.netlist_model.specs.declared.Name.{Name as NameNumber};
+ghost use Rattle.netlist_model.specs.Lists.{cell_count};
+ghost use Rattle.netlist_model.specs.Formed.{IsWellFormed};
+ghost use Rattle.netlist_arena.specs.Room.{too_many};
+ghost use Rattle.link_arena.specs.cell_order.Tables.{FitsRoom, with_room};
 ghost use Rattle.link_names.specs.link_model.Denoted.{name_bytes};
-ghost use Rattle.name_table.specs.Names.{with_name};
+ghost use Rattle.link_arena.specs.NameTableNames.{with_name};
 ghost use Rattle.netlist_link.specs.Drafts.{IsEmpty, reserved, with_spare};
 ghost use Rattle.netlist_link.specs.LentDrafts.{LendsNetlist};
 ghost use Rattle.netlist_link.specs.Linked.{IsLinked};
@@ -17,10 +17,10 @@ ghost use Rattle.netlist_link.specs.WellNamed.{IsWellNamed};
 
 use crate::linked::Linked;
 use crate::port_names::list_ports;
-use link_arena::lower_netlist_arena::{Netlist, ReserveFault};
-use link_names::lower_cell_library::Library;
-use link_names::lower_netlist_model::{Name, PortId};
-use link_order::lower_cell_order::WorkArea;
+use cell_library::Library;
+use link_arena::lower_cell_order::WorkArea;
+use netlist_arena::{Netlist, ReserveFault};
+use netlist_model::{Name, PortId};
 use texts::OutOfMemory;
 
 /// A linked netlist that is being rewritten. It may be anything until it is closed.

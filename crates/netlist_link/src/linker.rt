@@ -1,26 +1,25 @@
 ghost use Rattle.std.specs.Prelude.{◌≡◌, None, IfErr, IfOk};
-ghost use Rattle.link_names.specs.verilog_tree.IsTree.{IsTree};
+ghost use Rattle.verilog_tree.specs.IsTree.{IsTree};
 ghost use Rattle.link_names.specs.link_model.Faults.{cells_in, driver_fault};
 ghost use Rattle.link_names.specs.link_model.Late.{HasNoDerived};
-ghost use Rattle.link_names.specs.netlist_model.Orders.{IsCellOrder};
-ghost use Rattle.link_order.specs.cell_order.Loops.{IsOrderFault};
-ghost use Rattle.link_order.specs.cell_order.Tables.{FitsRoom};
+ghost use Rattle.netlist_model.specs.Orders.{IsCellOrder};
+ghost use Rattle.link_arena.specs.cell_order.Loops.{IsOrderFault};
+ghost use Rattle.link_arena.specs.cell_order.Tables.{FitsRoom};
 ghost use Rattle.netlist_link.specs.Links.{IsLinkFault, IsLinkOf};
 ghost use Rattle.netlist_link.specs.Steps.{AreNetsAndCells, IsBuilt, link_fault};
 
 use crate::assemble::assemble;
 use crate::linked::Linked;
-use link_arena::lower_link_drivers::{find_driver_fault, nets_have_their_drivers};
-use link_arena::lower_netlist_arena::Netlist;
+use cell_library::Library;
+use link_arena::lower_cell_order::{OrderFault, WorkArea};
+use link_arena::lower_link_rules::{find_derived, find_driver_fault, nets_have_their_drivers};
 use link_arena::{Built, build};
-use link_names::lower_cell_library::Library;
 use link_names::lower_link_model::{LinkFault, NetBit};
-use link_names::lower_verilog_tree::Module;
 use link_names::{Resolved, resolve};
-use link_order::find_derived;
-use link_order::lower_cell_order::{OrderFault, WorkArea};
+use netlist_arena::Netlist;
 use std::alloc::Global;
 use texts::OutOfMemory;
+use verilog_tree::Module;
 
 /// The netlist that a module denotes, or the first fault of the module. Time and memory are linear in nets, cells and
 /// operands.

@@ -1,3 +1,23 @@
-pub use Rattle.cell_library.proofs.signal_values as signal_values
 pub use Rattle.cell_library.proofs.list_laws as list_laws
-pub use Rattle.cell_library.proofs as cell_library
+pub mod Behind
+pub mod Carried
+pub mod Contained
+pub mod Controls
+pub mod Example
+pub mod Exists
+pub mod Flops
+pub mod Forms
+pub mod Inside
+pub mod KindLaws
+pub mod Knowledge
+pub mod LawsRuns
+pub mod Moments
+pub mod Nests
+pub mod Numbers
+pub mod Once
+pub mod Ordered
+pub mod Pins
+pub mod Ports
+pub mod Renumbered
+pub mod Repeats
+pub mod Search

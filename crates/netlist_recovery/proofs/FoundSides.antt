@@ -3,8 +3,8 @@ use Rattle.std.proofs.Common.{◌≡◌, ℕ, Bool, true, false, List, [], ◌�
 use Rattle.std.specs.Borrow.{Bor}
 use Rattle.std.specs.Map.{lookup}
 use Rattle.std.specs.Str.{bytes_eq}
-use Rattle.bsdl_checks.proofs.Tables.{found, not_found, position-map}
-use Rattle.first_faults.specs.Repeated.{texts}
+use Rattle.bsdl_port_rules.proofs.Tables.{found, not_found, position-map}
+use Rattle.texts.specs.Repeated.{texts}
 use Rattle.strip_model.specs.declared.Side.{Side}
 use Rattle.strip_model.specs.Core.{find_side}
 use Rattle.netlist_recovery.specs.Tables.{FindsSides}

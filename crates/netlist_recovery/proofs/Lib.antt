@@ -1,5 +1,7 @@
+pub mod Ends
+pub mod EqualityLists
+pub mod Found
 pub mod FoundSides
 pub mod Items
-pub mod Found
-pub mod Ends
+pub mod KindNumbers
 pub mod Walk

@@ -1,2 +1,3 @@
-pub mod Tables
+pub mod Kinds
 pub mod Pairs
+pub mod Tables

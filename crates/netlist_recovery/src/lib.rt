@@ -3,12 +3,14 @@
 // IEEE Std 1149.1-2001: boundary-scan register, the annex on BSDL; the places of gates are own.
 //
 // - `recover` answers exactly what the definition gives: nothing, or a module and a plan.
+// - `equality`: whether two modules, or two devices, are equal.
 // By the contract of `recover`.
 #![tactic(auto)]
 
 mod copies;
 mod core_items;
 mod core_modules;
+pub mod equality;
 mod pin_lines;
 mod plan;
 mod prefix;

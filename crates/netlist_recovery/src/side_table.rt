@@ -2,16 +2,16 @@
 ghost use Rattle.std.specs.Prelude.{◌≡◌, IfOk, map, position};
 ghost use Rattle.std.specs.Option.{option_copied};
 ghost use Rattle.std.specs.Str.{bytes_eq};
-ghost use Rattle.first_faults.specs.Repeated.{texts};
+ghost use Rattle.texts.specs.Repeated.{texts};
 ghost use Rattle.strip_model.specs.Core as model;
 
 use crate::copies::copy_operand;
-use first_faults::first_places;
 use indexmap::IndexMap;
 use std::alloc::Global;
 use std::marker::Model;
 use strip_model::Side;
 use texts::OutOfMemory;
+use texts::first_faults::first_places;
 use verilog_tree::Operand;
 
 /// The nets between. Of nets of one name the first is found.

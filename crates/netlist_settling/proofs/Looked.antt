@@ -2,7 +2,7 @@
 use Rattle.std.proofs.Common.{◌≡◌, ℕ, zero, suc, ◌+◌, ◌<◌, ◌≤◌, true, false, List, [], ◌∷◌, length, map, take, set, refl, sym, ◌∙◌, inl, inr, arith, Option, Some, None, IsTrue, add-one}
 use Rattle.std.specs.Option.{option_map, option_and_then}
 use Rattle.std.specs.List.{slice_get}
-use Rattle.netlist_laws.specs.Runs.{cell_next}
+use Rattle.netlist_model.specs.LawsRuns.{cell_next}
 use Rattle.signal_values.specs.declared.Sig.{Sig}
 use Rattle.signal_values.specs.declared.PinSig.{PinSig}
 use Rattle.signal_values.specs.Values.{pin_of}
@@ -18,7 +18,7 @@ use Rattle.netlist_model.specs.declared.Feed.{Feed}
 use Rattle.netlist_model.specs.Lists.{CellView, NetlistView, cell_at}
 use Rattle.netlist_model.specs.Settled.{feed_values, cell_value, cell_drive, drive_by, driver_of}
 use Rattle.netlist_model.specs.Formed.{IsWellFormed}
-use Rattle.netlist_laws.proofs.KindLaws.{flop_or_gate, cell_value-flop, cell_value-two_state, two_state}
+use Rattle.netlist_model.proofs.KindLaws.{flop_or_gate, cell_value-flop, cell_value-two_state, two_state}
 use Rattle.netlist_settling.specs.Values.{value_at, feeds_of}
 use Rattle.netlist_settling.specs.Passes.{driven_value, after_turn}
 use Rattle.netlist_settling.specs.Tables.{IsDriverOf}

@@ -13,13 +13,13 @@ use Rattle.verilog_tree.specs.declared.tree.Port.{Port}
 use Rattle.netlist_model.specs.declared.What.{What}
 use Rattle.netlist_model.specs.declared.What.TheVariants as what
 use Rattle.netlist_model.specs.Lists.{NetlistView, cell_at, cell_count}
-use Rattle.netlist_link.specs.link_model.declared.fault.LinkFault.{LinkFault}
-use Rattle.netlist_link.specs.link_model.declared.fault.LinkFault.TheVariants as fault
-use Rattle.netlist_link.specs.link_model.Lists.{first_in, or_else}
-use Rattle.netlist_link.specs.link_model.Nets.{NetDeclaration, bits_in, declared_names, declared_nets, nets_in, port_nets, width}
-use Rattle.netlist_link.specs.link_model.Cells.{cell_of}
-use Rattle.netlist_link.specs.link_model.Denoted.{IsNamed, IsNet, NamedNetlist, denoted}
-use Rattle.netlist_link.specs.link_model.Faults.{bit_faults, cells_in, counted, driver_fault, early_fault, gate_operands, instance_faults, item_width, name_twice, text_fault, too_many, too_many_in}
+use Rattle.link_model.specs.declared.fault.LinkFault.{LinkFault}
+use Rattle.link_model.specs.declared.fault.LinkFault.TheVariants as fault
+use Rattle.link_model.specs.Lists.{first_in, or_else}
+use Rattle.link_model.specs.Nets.{NetDeclaration, bits_in, declared_names, declared_nets, nets_in, port_nets, width}
+use Rattle.link_model.specs.Cells.{cell_of}
+use Rattle.link_model.specs.Denoted.{IsNamed, IsNet, NamedNetlist, denoted}
+use Rattle.link_model.specs.Faults.{bit_faults, cells_in, counted, driver_fault, early_fault, gate_operands, instance_faults, item_width, name_twice, text_fault, too_many, too_many_in}
 use Rattle.netlist_link.proofs.link_names.NetCounts.{length-nets_in}
 use Rattle.netlist_link.specs.Linked.{LinkedView}
 use Rattle.netlist_unlink.specs.Trees.{naming_of, tree_of}

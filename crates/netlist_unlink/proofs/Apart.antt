@@ -4,7 +4,7 @@ use Rattle.std.specs.Prelude.{slice_get}
 use Rattle.std.specs.Str.{bytes_eq}
 use Rattle.std.proofs.lemmas.Option.{same_Some}
 use Rattle.std.proofs.lemmas.Slice.Eq.{bytes_eq-Decides}
-use Rattle.netlist_link.specs.link_model.Lists.{has_name, repeated, repeated_after}
+use Rattle.link_model.specs.Lists.{has_name, repeated, repeated_after}
 
 -- it stands nowhere in the list
 abbrev pub NotIn : {X : Type 0} → X → List X → Type 0

@@ -14,9 +14,9 @@ use Rattle.verilog_tree.specs.declared.tree.Port.{Port}
 use Rattle.verilog_tree.specs.declared.tree.Wire.{Wire}
 use Rattle.netlist_model.specs.declared.NetId.{NetId}
 use Rattle.netlist_model.specs.Lists.{NetlistView}
-use Rattle.netlist_link.specs.link_model.Nets.{NamedNet, NetDeclaration, declared_names, declared_nets, nets_in, port_nets, wire_nets}
-use Rattle.netlist_link.specs.link_model.Denoted.{net_id}
-use Rattle.netlist_link.specs.link_model.Faults.{item_name, names_of}
+use Rattle.link_model.specs.Nets.{NamedNet, NetDeclaration, declared_names, declared_nets, nets_in, port_nets, wire_nets}
+use Rattle.link_model.specs.Denoted.{net_id}
+use Rattle.link_model.specs.Faults.{item_name, names_of}
 use Rattle.netlist_link.specs.Linked.{LinkedView}
 use Rattle.netlist_unlink.specs.Trees.{bit_of, naming_of, tree_of}
 use Rattle.netlist_unlink.specs.Renumbered.{IsEachOnce, named_net, net_order, place_of}

@@ -8,8 +8,8 @@ use Rattle.std.proofs.lemmas.Bool.Decides.{nat_tests}
 use Rattle.list_laws.proofs.Bytes.{bytes_eq-same}
 use Rattle.verilog_tree.specs.declared.tree.Range.{Range}
 use Rattle.verilog_tree.specs.declared.tree.Bit.{Bit}
-use Rattle.netlist_link.specs.link_model.Nets.{Declared, NamedNet, NetDeclaration, declared_as, index_at, is_within, names_from, net_at, net_in, net_of, nets_in, offset, width}
-use Rattle.netlist_link.specs.link_model.Faults.{at_bit, bit_outside, name_unknown, wrong_width}
+use Rattle.link_model.specs.Nets.{Declared, NamedNet, NetDeclaration, declared_as, index_at, is_within, names_from, net_at, net_in, net_of, nets_in, offset, width}
+use Rattle.link_model.specs.Faults.{at_bit, bit_outside, name_unknown, wrong_width}
 use Rattle.netlist_link.proofs.Named.{bit_in, start}
 use Rattle.netlist_unlink.proofs.Apart.{Apart, bytes_differ}
 

@@ -14,14 +14,14 @@ use Rattle.netlist_model.specs.declared.NetId.{NetId}
 use Rattle.netlist_model.specs.declared.Range.{Range}
 use Rattle.netlist_model.specs.declared.What.TheVariants as what
 use Rattle.netlist_model.specs.Lists.{CellView, NetlistView, PortView, cell_at, cell_count}
-use Rattle.netlist_link.specs.link_model.declared.fault.LinkFault.{LinkFault}
-use Rattle.netlist_link.specs.link_model.declared.fault.LinkFault.TheVariants as fault
-use Rattle.netlist_link.specs.link_model.Lists.{first_in, or_else}
-use Rattle.netlist_link.specs.link_model.Nets.{Declared, NamedNet, dir_of as net_dir_of, bits_in, counted_from, declared_names, declared_nets, port_nets, width}
-use Rattle.netlist_link.specs.link_model.Cells.{cell_of}
-use Rattle.netlist_link.specs.link_model.Denoted as link
-use Rattle.netlist_link.specs.link_model.Denoted.{NamedNetlist, NamedPort, denoted, net_id, ports_from}
-use Rattle.netlist_link.specs.link_model.Faults.{at_bit, at_instance, bit_faults, bit_outside, cell_unknown, first_bit, gate_operands, instance_faults, item_bits, item_width, names_of, name_twice, name_unknown, port_missing, port_twice, port_unknown, text_fault, too_many, too_many_in}
+use Rattle.link_model.specs.declared.fault.LinkFault.{LinkFault}
+use Rattle.link_model.specs.declared.fault.LinkFault.TheVariants as fault
+use Rattle.link_model.specs.Lists.{first_in, or_else}
+use Rattle.link_model.specs.Nets.{Declared, NamedNet, dir_of as net_dir_of, bits_in, counted_from, declared_names, declared_nets, port_nets, width}
+use Rattle.link_model.specs.Cells.{cell_of}
+use Rattle.link_model.specs.Denoted as link
+use Rattle.link_model.specs.Denoted.{NamedNetlist, NamedPort, denoted, net_id, ports_from}
+use Rattle.link_model.specs.Faults.{at_bit, at_instance, bit_faults, bit_outside, cell_unknown, first_bit, gate_operands, instance_faults, item_bits, item_width, names_of, name_twice, name_unknown, port_missing, port_twice, port_unknown, text_fault, too_many, too_many_in}
 use Rattle.netlist_link.proofs.link_names.NetCounts.{length-nets_in}
 use Rattle.netlist_link.specs.Linked.{LinkedView}
 use Rattle.netlist_unlink.specs.Trees.{Naming, bit_of, dir_of, item_of, items_from, naming_of, port_of, port_text, range_of, tree_of}

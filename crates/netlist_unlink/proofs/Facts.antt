@@ -17,8 +17,8 @@ use Rattle.netlist_model.specs.declared.Name.{Name}
 use Rattle.netlist_model.specs.declared.Name.TheVariants.{Original, Added}
 use Rattle.netlist_model.specs.Lists.{PortView, CellView, NetlistView, cell_at}
 use Rattle.netlist_model.specs.Formed.{IsWellFormed}
-use Rattle.netlist_link.specs.netlist_arena.Arena.{ArenaView}
-use Rattle.netlist_link.specs.netlist_arena.Looks.{feed_at}
+use Rattle.netlist_arena.specs.Arena.{ArenaView}
+use Rattle.netlist_arena.specs.Looks.{feed_at}
 use Rattle.netlist_link.specs.WellNamed.{IsWellNamed}
 use Rattle.netlist_unlink.specs.Parts.{feeds_of, name_of, output_of}
 use Rattle.netlist_unlink.specs.Trees.{Naming, gate_of, operand_links, operand_of}

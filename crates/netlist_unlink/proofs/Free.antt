@@ -13,7 +13,7 @@ use Rattle.netlist_model.specs.declared.Name.{Name}
 use Rattle.netlist_model.specs.declared.Name.TheVariants.{Original, Added}
 use Rattle.netlist_model.specs.Lists.{CellView, NetView, NetlistView, PortView, cell_at}
 use Rattle.netlist_model.specs.Orders.{IsCellOrder}
-use Rattle.netlist_link.specs.netlist_arena.Arena.{ArenaView}
+use Rattle.netlist_arena.specs.Arena.{ArenaView}
 use Rattle.netlist_link.specs.Linked.{IsLinked, LinkedView}
 use Rattle.netlist_link.specs.WellNamed.{IsKnown}
 use Rattle.netlist_unlink.specs.Trees.{original}

@@ -4,10 +4,10 @@ use Rattle.std.proofs.Math.Seq.{drop-nil}
 use Rattle.std.specs.Option.{option_map}
 use Rattle.std.specs.List.{slice_get}
 use Rattle.std.proofs.lemmas.List.Sums.{sum_by-cons}
-use Rattle.netlist_link.proofs.netlist_arena.Changes.{one_if_live}
+use Rattle.netlist_arena.proofs.Changes.{one_if_live}
 use Rattle.verilog_tree.specs.declared.tree.Item.{Item}
 use Rattle.netlist_model.specs.Lists.{CellView, live_cell}
-use Rattle.netlist_link.specs.netlist_arena.Arena.{live_count}
+use Rattle.netlist_arena.specs.Arena.{live_count}
 use Rattle.netlist_unlink.specs.Trees.{Naming, item_of, items_from}
 
 live_count-cons : (p : Option CellView) (ps : List (Option CellView)) → live_count (p ∷ ps) ≡ one_if_live p + live_count ps

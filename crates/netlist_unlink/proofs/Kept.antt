@@ -13,8 +13,8 @@ use Rattle.cell_library.proofs.NameLaws.{named_is_found}
 use Rattle.netlist_model.specs.declared.Name.{Name}
 use Rattle.netlist_model.specs.Lists.{CellView, NetlistView}
 use Rattle.netlist_model.specs.Formed.{IsWellFormed}
-use Rattle.netlist_link.specs.link_model.Nets.{Declared}
-use Rattle.netlist_link.specs.link_model.Cells.{cell_of, feed_of, kind_of_gate, port_feed}
+use Rattle.link_model.specs.Nets.{Declared}
+use Rattle.link_model.specs.Cells.{cell_of, feed_of, kind_of_gate, port_feed}
 use Rattle.netlist_link.specs.WellNamed.{IsWellNamed}
 use Rattle.netlist_unlink.specs.Trees.{Naming, cell_text, gate_of, operand_links, operand_of, output_links, written}
 use Rattle.netlist_unlink.specs.Kept.{AreKept, IsKept}

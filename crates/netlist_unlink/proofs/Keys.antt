@@ -16,8 +16,8 @@ use Rattle.cell_library.specs.declared.listed.ListedCell.{ListedCell}
 use Rattle.netlist_model.specs.declared.Name.{Name}
 use Rattle.netlist_model.specs.declared.Name.TheVariants.{Original, Added}
 use Rattle.netlist_model.specs.Lists.{PortView, NetView, CellView, NetlistView, cell_at, live_cell}
-use Rattle.netlist_link.specs.link_model.Cells.{cell_of}
-use Rattle.netlist_link.specs.link_model.Faults.{item_name, names_of}
+use Rattle.link_model.specs.Cells.{cell_of}
+use Rattle.link_model.specs.Faults.{item_name, names_of}
 use Rattle.netlist_link.specs.Linked.{LinkedView}
 use Rattle.netlist_link.specs.WellNamed.{IsWellNamed, IsWireNet}
 use Rattle.netlist_unlink.specs.declared.rows.NetRow.{NetRow}

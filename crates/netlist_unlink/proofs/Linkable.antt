@@ -24,15 +24,15 @@ use Rattle.netlist_model.specs.Lists.{CellView, Drives, NetlistView, Reads, cell
 use Rattle.netlist_model.specs.Formed.{IsCombinational, IsDriven, IsLaidOut, IsWellFormed}
 use Rattle.netlist_model.specs.Cones as cone
 use Rattle.netlist_model.specs.Cones.InCone.{itself, behind}
-use Rattle.netlist_link.specs.link_model.Lists.{or_else}
-use Rattle.netlist_link.specs.link_model.Nets.{Declared, NamedNet, declared_names, declared_nets, net_of, nets_in}
-use Rattle.netlist_link.specs.link_model.Cells.{NamedCell}
-use Rattle.netlist_link.specs.link_model.Denoted.{NamedNetlist, denoted, net_id}
-use Rattle.netlist_link.specs.link_model.Faults.{cells_in, driver_fault}
-use Rattle.netlist_link.specs.link_model.Late as late
-use Rattle.netlist_link.specs.link_model.Late.InCone.{itself as late_itself, behind as late_behind}
-use Rattle.netlist_link.specs.link_model.Late.{ControlLink, IsLinkable, IsLoop, flop_links, item_links}
-use Rattle.netlist_link.specs.link_drivers.Drivers.{DrivesNet, HasDriver, HasItsDrivers, ReadsNet, dir_at}
+use Rattle.link_model.specs.Lists.{or_else}
+use Rattle.link_model.specs.Nets.{Declared, NamedNet, declared_names, declared_nets, net_of, nets_in}
+use Rattle.link_model.specs.Cells.{NamedCell}
+use Rattle.link_model.specs.Denoted.{NamedNetlist, denoted, net_id}
+use Rattle.link_model.specs.Faults.{cells_in, driver_fault}
+use Rattle.link_model.specs.Late as late
+use Rattle.link_model.specs.Late.InCone.{itself as late_itself, behind as late_behind}
+use Rattle.link_model.specs.Late.{ControlLink, IsLinkable, IsLoop, flop_links, item_links}
+use Rattle.netlist_link.specs.link_rules.DriversLaws.{DrivesNet, HasDriver, HasItsDrivers, ReadsNet, dir_at}
 use Rattle.netlist_link.specs.Linked.{LinkedView}
 use Rattle.netlist_link.proofs.Drivers.{no_driver_fault}
 use Rattle.netlist_link.proofs.Loops.{IsRising, feeds_lower, no_loop}

@@ -3,7 +3,7 @@ use Rattle.std.proofs.Common.{◌≡◌, ℕ, zero, suc, ◌+◌, Bool, true, fa
 use Rattle.std.specs.Prelude.{slice_get, ◌==◌}
 use Rattle.std.proofs.lemmas.Option.{same_Some}
 use Rattle.netlist_model.specs.Lists.{NetView}
-use Rattle.netlist_link.specs.link_model.Nets.{counted_from}
+use Rattle.link_model.specs.Nets.{counted_from}
 use Rattle.netlist_unlink.specs.Renumbered.{numbers_from, one_if, place_of}
 use Rattle.netlist_unlink.proofs.Apart.{Apart}
 

@@ -9,8 +9,8 @@ use Rattle.netlist_model.specs.declared.Name.TheVariants.{Original, Added}
 use Rattle.netlist_model.specs.declared.NetId.{NetId}
 use Rattle.netlist_model.specs.Lists.{PortView, NetView, NetlistView, bit_net, direction}
 use Rattle.netlist_model.specs.Formed.{IsLaidOut}
-use Rattle.netlist_link.proofs.netlist_laws.Ports.{direction_has_bit}
-use Rattle.netlist_link.specs.link_model.Denoted.{net_id}
+use Rattle.netlist_model.proofs.Ports.{direction_has_bit}
+use Rattle.link_model.specs.Denoted.{net_id}
 use Rattle.netlist_unlink.specs.Renumbered.{added_test, net_order, numbers_from, port_numbers, wire_test}
 use Rattle.netlist_unlink.proofs.Members.{IsIn, in_left, in_right, joined_source, mapped_source, number_in, number_source}
 

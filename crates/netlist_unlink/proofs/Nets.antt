@@ -15,10 +15,10 @@ use Rattle.netlist_model.specs.declared.NetId.{NetId}
 use Rattle.netlist_model.specs.declared.Range.{Range}
 use Rattle.netlist_model.specs.Lists.{PortView, NetView, NetlistView, direction}
 use Rattle.netlist_model.specs.Formed.{IsLaidOut, IsWellFormed, width_of}
-use Rattle.netlist_link.proofs.netlist_laws.Ports.{bit_has_direction, direction_has_bit}
-use Rattle.netlist_link.specs.link_model.Nets as link
-use Rattle.netlist_link.specs.link_model.Nets.{NamedNet, NetDeclaration, counted_from, declared_nets, index_at, net_at, nets_in, port_nets, width, wire_nets}
-use Rattle.netlist_link.specs.link_model.Denoted.{net_id}
+use Rattle.netlist_model.proofs.Ports.{bit_has_direction, direction_has_bit}
+use Rattle.link_model.specs.Nets as link
+use Rattle.link_model.specs.Nets.{NamedNet, NetDeclaration, counted_from, declared_nets, index_at, net_at, nets_in, port_nets, width, wire_nets}
+use Rattle.link_model.specs.Denoted.{net_id}
 use Rattle.netlist_link.specs.WellNamed.{IsWellNamed, IsWireNet, index_from}
 use Rattle.netlist_link.specs.Linked.{LinkedView}
 use Rattle.netlist_unlink.specs.declared.rows.NetRow.{NetRow}

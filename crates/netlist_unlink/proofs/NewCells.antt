@@ -16,8 +16,8 @@ use Rattle.netlist_model.specs.declared.Name.{Name}
 use Rattle.netlist_model.specs.declared.NetId.{NetId}
 use Rattle.netlist_model.specs.Lists.{CellView, NetlistView, cell_at, live_cell}
 use Rattle.netlist_model.specs.Formed.{IsLaidOut}
-use Rattle.netlist_link.specs.link_model.Nets.{Declared, net_of}
-use Rattle.netlist_link.specs.link_model.Cells.{NamedCell, cell_of, feed_of, library_cell}
+use Rattle.link_model.specs.Nets.{Declared, net_of}
+use Rattle.link_model.specs.Cells.{NamedCell, cell_of, feed_of, library_cell}
 use Rattle.netlist_unlink.specs.Trees.{Naming, bit_of, cell_text, first_operand, gate_of, item_of, items_from, operand_of, output_bit, written}
 use Rattle.netlist_unlink.specs.Renumbered.{cells_from, new_cell, new_feed, new_net}
 use Rattle.netlist_unlink.proofs.Facts.{FitsLibrary, assign_kind, fits_library, gate_no_flop, gate_unnamed, library_count, library_ports}

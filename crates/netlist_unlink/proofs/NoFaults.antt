@@ -20,11 +20,11 @@ use Rattle.netlist_model.specs.declared.Feed.TheVariants.{Net, Const}
 use Rattle.netlist_model.specs.declared.NetId.{NetId}
 use Rattle.netlist_model.specs.declared.What.TheVariants as what
 use Rattle.netlist_model.specs.Lists.{CellView, NetlistView, cell_at, live_cell}
-use Rattle.netlist_link.specs.link_model.declared.fault.LinkFault.{LinkFault}
-use Rattle.netlist_link.specs.link_model.declared.fault.LinkFault.TheVariants as fault
-use Rattle.netlist_link.specs.link_model.Lists.{first_in, or_else}
-use Rattle.netlist_link.specs.link_model.Nets.{Declared}
-use Rattle.netlist_link.specs.link_model.Faults.{at_bit, at_instance, cell_unknown, gate_operands, is_output_place, item_bits, item_width, link_bits, link_width, operand_bits, port_missing, port_twice, port_unknown, too_many, wrong_width}
+use Rattle.link_model.specs.declared.fault.LinkFault.{LinkFault}
+use Rattle.link_model.specs.declared.fault.LinkFault.TheVariants as fault
+use Rattle.link_model.specs.Lists.{first_in, or_else}
+use Rattle.link_model.specs.Nets.{Declared}
+use Rattle.link_model.specs.Faults.{at_bit, at_instance, cell_unknown, gate_operands, is_output_place, item_bits, item_width, link_bits, link_width, operand_bits, port_missing, port_twice, port_unknown, too_many, wrong_width}
 use Rattle.netlist_unlink.specs.Trees.{Naming, bit_of, cell_text, first_operand, gate_of, item_of, items_from, operand_links, operand_of, output_bit, output_links, written}
 use Rattle.netlist_unlink.proofs.Facts.{FitsLibrary, fits_library, gate_few, gate_unnamed, library_count, library_ports}
 use Rattle.cell_library.proofs.NameLaws.{named_is_found}

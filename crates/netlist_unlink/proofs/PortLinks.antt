@@ -22,13 +22,13 @@ use Rattle.cell_library.proofs.PortLaws.{apart_not_at}
 use Rattle.netlist_model.specs.declared.Feed.{Feed}
 use Rattle.netlist_model.specs.declared.Feed.TheVariants.{Net, Const}
 use Rattle.netlist_model.specs.declared.NetId.{NetId}
-use Rattle.netlist_link.specs.link_model.declared.fault.LinkFault.{LinkFault}
-use Rattle.netlist_link.specs.link_model.declared.fault.LinkFault.TheVariants as fault
-use Rattle.netlist_link.specs.link_model.Lists.{repeated}
-use Rattle.netlist_link.specs.link_model.Nets.{Declared, net_of}
-use Rattle.netlist_link.specs.link_model.Cells.{feed_of, linked_operand, operand_net, port_feed, port_net}
-use Rattle.netlist_link.specs.link_model.Faults.{is_connected, is_output_place, port_missing, port_twice, port_unknown}
-use Rattle.netlist_link.specs.link_model.Late.{ControlLink, bit_links, is_control_place}
+use Rattle.link_model.specs.declared.fault.LinkFault.{LinkFault}
+use Rattle.link_model.specs.declared.fault.LinkFault.TheVariants as fault
+use Rattle.link_model.specs.Lists.{repeated}
+use Rattle.link_model.specs.Nets.{Declared, net_of}
+use Rattle.link_model.specs.Cells.{feed_of, linked_operand, operand_net, port_feed, port_net}
+use Rattle.link_model.specs.Faults.{is_connected, is_output_place, port_missing, port_twice, port_unknown}
+use Rattle.link_model.specs.Late.{ControlLink, bit_links, is_control_place}
 use Rattle.netlist_unlink.specs.Trees.{Naming, bit_of, operand_links, operand_of, output_links}
 use Rattle.netlist_unlink.proofs.Apart.{Apart, NotIn, apart_joined, none_repeated}
 use Rattle.netlist_unlink.proofs.Facts.{links_at}

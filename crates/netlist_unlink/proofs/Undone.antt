@@ -15,11 +15,11 @@ use Rattle.netlist_model.specs.declared.Name.{Name}
 use Rattle.netlist_model.specs.declared.Name.TheVariants.{Original, Added}
 use Rattle.netlist_model.specs.declared.NetId.{NetId}
 use Rattle.netlist_model.specs.Lists.{CellView, NetView, NetlistView, PortView, bit_net, cell_at, direction, live_cell}
-use Rattle.netlist_link.specs.link_model.Nets.{NamedNet, counted_from, declared_nets, nets_in, width}
-use Rattle.netlist_link.specs.link_model.Cells.{NamedCell}
-use Rattle.netlist_link.specs.link_model.Denoted.{AreAll, IsCell, IsLive, IsName, IsNamed, IsNet, IsPort, NamedPort, denoted, name_bytes, net_id, ports_from}
+use Rattle.link_model.specs.Nets.{NamedNet, counted_from, declared_nets, nets_in, width}
+use Rattle.link_model.specs.Cells.{NamedCell}
+use Rattle.link_model.specs.Denoted.{AreAll, IsCell, IsLive, IsName, IsNamed, IsNet, IsPort, NamedPort, denoted, name_bytes, net_id, ports_from}
 use Rattle.netlist_model.specs.Formed.{IsLaidOut}
-use Rattle.netlist_link.proofs.netlist_laws.Ports.{bit_has_direction, direction_has_bit}
+use Rattle.netlist_model.proofs.Ports.{bit_has_direction, direction_has_bit}
 use Rattle.netlist_link.proofs.Cells.{kept}
 use Rattle.netlist_link.proofs.Formed.{direction_is}
 use Rattle.netlist_unlink.specs.Trees.{Naming, cell_text, original, port_text, spelled}

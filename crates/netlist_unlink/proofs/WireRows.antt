@@ -10,7 +10,7 @@ use Rattle.netlist_model.specs.declared.Name.TheVariants.{Original}
 use Rattle.netlist_model.specs.declared.Range.{Range}
 use Rattle.netlist_model.specs.Lists.{NetView, NetlistView, direction}
 use Rattle.netlist_model.specs.Formed.{width_of}
-use Rattle.netlist_link.specs.link_model.Nets.{NamedNet, NetDeclaration, counted_from, index_at, net_at, nets_in, width, wire_nets}
+use Rattle.link_model.specs.Nets.{NamedNet, NetDeclaration, counted_from, index_at, net_at, nets_in, width, wire_nets}
 use Rattle.netlist_link.specs.WellNamed.{IsWellNamed, IsWire, IsWireName, IsWireNet, index_from}
 use Rattle.netlist_unlink.specs.declared.rows.NetRow.{NetRow}
 use Rattle.netlist_unlink.specs.Rows.{before, joined_range, one_index}

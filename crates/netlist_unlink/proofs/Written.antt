@@ -33,7 +33,7 @@ use Rattle.netlist_model.specs.declared.NetId.{NetId}
 use Rattle.netlist_model.specs.declared.Range.{Range}
 use Rattle.netlist_model.specs.Lists.{PortView, NetView, CellView, NetlistView, cell_at, live_cell}
 use Rattle.netlist_model.specs.Formed.{IsLaidOut, IsWellFormed}
-use Rattle.netlist_link.proofs.netlist_arena.Laid.{All-slice_get}
+use Rattle.netlist_arena.proofs.Laid.{All-slice_get}
 use Rattle.netlist_link.specs.WellNamed.{IsShortRange, IsWellNamed}
 use Rattle.std.specs.Fmt.{decimal}
 use Rattle.list_laws.proofs.Lists.{all_append, slice_get_there}

@@ -3,8 +3,8 @@
 use Rattle.std.specs.Prelude.{◌≡◌, ℕ, List, length, Some}
 use Rattle.std.specs.Option.{option_map}
 use Rattle.netlist_model.specs.Lists.{CellView, NetlistView, cell_at}
-use Rattle.netlist_link.specs.link_model.Nets.{Declared}
-use Rattle.netlist_link.specs.link_model.Cells.{NamedCell, cell_of}
+use Rattle.link_model.specs.Nets.{Declared}
+use Rattle.link_model.specs.Cells.{NamedCell, cell_of}
 use Rattle.netlist_unlink.specs.Trees.{Naming, cell_text, item_of}
 
 -- own: the cell of an item has this cell's kind, its spelled name, and as many operands

@@ -15,13 +15,13 @@ use Rattle.netlist_model.specs.declared.Name.TheVariants.{Original, Added}
 use Rattle.netlist_model.specs.declared.NetId.{NetId}
 use Rattle.netlist_model.specs.declared.What.TheVariants as what
 use Rattle.netlist_model.specs.Lists.{PortView, NetView, CellView, NetlistView, cell_count, direction}
-use Rattle.netlist_link.specs.link_model.declared.fault.LinkFault.{LinkFault}
-use Rattle.netlist_link.specs.link_model.Lists.{or_else}
-use Rattle.netlist_link.specs.link_model.Nets.{NamedNet}
-use Rattle.netlist_link.specs.link_model.Cells.{NamedCell}
-use Rattle.netlist_link.specs.link_model.Denoted.{NamedPort, NamedNetlist, denoted, net_id}
-use Rattle.netlist_link.specs.link_model.Faults.{text_fault, too_many}
-use Rattle.netlist_link.specs.link_model.Late.{IsLinkable}
+use Rattle.link_model.specs.declared.fault.LinkFault.{LinkFault}
+use Rattle.link_model.specs.Lists.{or_else}
+use Rattle.link_model.specs.Nets.{NamedNet}
+use Rattle.link_model.specs.Cells.{NamedCell}
+use Rattle.link_model.specs.Denoted.{NamedPort, NamedNetlist, denoted, net_id}
+use Rattle.link_model.specs.Faults.{text_fault, too_many}
+use Rattle.link_model.specs.Late.{IsLinkable}
 use Rattle.netlist_link.specs.Linked.{LinkedView}
 use Rattle.netlist_unlink.specs.Trees.{Naming, bit_of, cell_text, naming_of, port_text}
 

@@ -2,7 +2,7 @@
 ghost use Rattle.std.specs.Prelude.{◌≡◌, ◌<◌, ◌^◌, ℕ, option_map, Some, None, IfOk, IfSome, OnOk};
 ghost use Rattle.cell_library.specs.Library.{cell_name};
 ghost use Rattle.netlist_model.specs.Lists.{cell_at};
-ghost use Rattle.netlist_link.specs.netlist_arena.Looks.{IsLive};
+ghost use Rattle.netlist_arena.specs.Looks.{IsLive};
 ghost use Rattle.netlist_link.specs.Linked.{IsLinked};
 ghost use Rattle.netlist_unlink.specs.Trees.{gate_of, item_of, items_from, naming_of, written};
 

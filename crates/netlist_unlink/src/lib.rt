@@ -15,10 +15,12 @@
 // - A law: written right after linking, the tree denotes what the linked tree denotes, and can be linked, with the
 //   same library.
 // - A law: the item of each live cell keeps its kind, its name and its count of operands.
+// - `images`: laws of written netlists.
 // By the contract of `unlink`, `is_free_prefix` and its law functions.
 #![tactic(auto)]
 
 mod cells;
+pub mod images;
 mod kinds;
 mod links;
 pub mod lower_netlist_link;

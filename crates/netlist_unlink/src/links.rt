@@ -2,7 +2,7 @@
 ghost use Rattle.std.specs.Prelude.{◌≡◌, ◌++◌, ◌<◌, ◌≤◌, length, IfOk, IfSome, OnOk};
 ghost use Rattle.cell_library.specs.Library.{operand_ports, output_port as port_of_output};
 ghost use Rattle.netlist_model.specs.Lists.{cell_at};
-ghost use Rattle.netlist_link.specs.netlist_arena.Looks.{IsLive};
+ghost use Rattle.netlist_arena.specs.Looks.{IsLive};
 ghost use Rattle.netlist_unlink.specs.Parts.{feeds_of, output_of};
 ghost use Rattle.netlist_unlink.specs.Trees.{naming_of, operand_links, output_links};
 

@@ -1,7 +1,7 @@
 // The parts of a cell, as a tree has them.
 ghost use Rattle.std.specs.Prelude.{◌≡◌, ◌<◌, [], map, length, option_map, unwrap_or, IfOk, IsSome};
 ghost use Rattle.netlist_model.specs.Lists.{cell_at};
-ghost use Rattle.netlist_link.specs.netlist_arena.Looks.{IsLive};
+ghost use Rattle.netlist_arena.specs.Looks.{IsLive};
 ghost use Rattle.netlist_unlink.specs.Parts.{feeds_of, name_of, output_of};
 ghost use Rattle.netlist_unlink.specs.Trees.{cell_text, first_operand, naming_of, operand_of, output_bit};
 

@@ -2,7 +2,7 @@
 ghost use Rattle.std.specs.Prelude.{◌≡◌, ◌↔◌, ◌<◌, IsTrue, length};
 ghost use Rattle.std.specs.List.{list_all};
 ghost use Rattle.netlist_model.specs.Lists.{cell_at};
-ghost use Rattle.netlist_link.specs.netlist_arena.Looks.{IsLive};
+ghost use Rattle.netlist_arena.specs.Looks.{IsLive};
 ghost use Rattle.netlist_link.specs.WellNamed.{IsKnown};
 ghost use Rattle.netlist_unlink.specs.FreeNames as named;
 ghost use Rattle.netlist_unlink.specs.FreeNames.{is_word_byte};

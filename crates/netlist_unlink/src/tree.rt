@@ -2,7 +2,7 @@
 ghost use Rattle.std.specs.Prelude.{◌≡◌, ◌<◌, ◌^◌, ℕ, length, IfOk, OnOk};
 ghost use Rattle.verilog_tree.specs.IsTree.{IsTree, IsTreeName};
 ghost use Rattle.netlist_model.specs.Formed.{IsLaidOut};
-ghost use Rattle.netlist_link.specs.netlist_arena.Looks.{IsLive};
+ghost use Rattle.netlist_arena.specs.Looks.{IsLive};
 ghost use Rattle.netlist_link.specs.Linked.{IsLinked};
 ghost use Rattle.netlist_link.specs.Links.{IsLinkOf};
 ghost use Rattle.netlist_unlink.specs.Prefixes.{IsFreePrefix};

@@ -13,7 +13,7 @@ use Rattle.netlist_model.specs.declared.Feed.TheVariants.{Net, Const}
 use Rattle.netlist_model.specs.Lists.{CellView, NetlistView, cell_at, cell_count, Drives}
 use Rattle.netlist_model.specs.Below.{IsFeedBelow}
 use Rattle.netlist_model.specs.Formed.{IsWellFormed}
-use Rattle.netlist_laws.specs.Contained.{ContainedParts}
+use Rattle.netlist_model.specs.LawsContained.{ContainedParts}
 use Rattle.netlist_arena.specs.Arena.{ArenaView}
 use Rattle.gate_parts.specs.declared.Gate.{Gate}
 use Rattle.gate_parts.specs.Laws.{FlopOn}
@@ -21,22 +21,22 @@ use Rattle.gate_parts.specs.declared.Pin.TheVariants.{Given}
 use Rattle.gate_parts.specs.declared.Pins.TheVariants.{One}
 use Rattle.gate_parts.specs.Parts.{is_flop_kind}
 use Rattle.gate_parts.specs.PartLaws.{ContainedPartHasFlops}
-use Rattle.draft_laws.specs.Grown.{GrownIsFormed}
-use Rattle.draft_laws.specs.Readable.{CanBeRead}
-use Rattle.draft_laws.specs.Tables.{IsPartTable, IsControl, CanBeGiven, PartIsFormed, PartIsReadable}
-use Rattle.register_bits.specs.declared.TheConstants.{SHIFT_BIT}
-use Rattle.register_bits.specs.Bits.{shift_bit_given, shift_bit_cells}
-use Rattle.open_runs.specs.register_gates.Registers.{selected_cells, selected_steering}
+use Rattle.netlist_link.specs.Grown.{GrownIsFormed}
+use Rattle.netlist_link.specs.Readable.{CanBeRead}
+use Rattle.netlist_link.specs.DraftLawsTables.{IsPartTable, IsControl, CanBeGiven, PartIsFormed, PartIsReadable}
+use Rattle.register_gates.specs.declared.bits.TheConstants.{SHIFT_BIT}
+use Rattle.register_gates.specs.BitsLaws.{shift_bit_given, shift_bit_cells}
+use Rattle.register_gates.specs.Registers.{selected_cells, selected_steering}
 use Rattle.plan_fitting.specs.declared.fitted.Fitted.{Fitted}
-use Rattle.reconnected.specs.Laws.{Reconnects, ReadsFlop, HasLowNets, ReconnectedToLow}
-use Rattle.open_runs.specs.stitch_model.declared.TapNames.{TapNames}
-use Rattle.open_runs.specs.stitch_model.Rows.{nets_of_rows}
-use Rattle.open_runs.specs.stitch_model.Logic.{bypass_from, logic_size, code_size, tap_at, instruction_at, bypass_at}
-use Rattle.open_runs.specs.stitch_model.Stitched.{boundary_at, first_net, test_logic_nets, stitched_cells, stitched}
-use Rattle.open_runs.specs.stitch_laws.Places.{port_of, bypass_number}
-use Rattle.open_runs.specs.stitch_laws.Laws.{StitchedHoldsParts}
+use Rattle.status_build.specs.ReconnectedLaws.{Reconnects, ReadsFlop, HasLowNets, ReconnectedToLow}
+use Rattle.stitched_netlist.specs.declared.model.TapNames.{TapNames}
+use Rattle.stitched_netlist.specs.ModelRows.{nets_of_rows}
+use Rattle.stitched_netlist.specs.ModelLogic.{bypass_from, logic_size, code_size, tap_at, instruction_at, bypass_at}
+use Rattle.stitched_netlist.specs.Stitched.{boundary_at, first_net, test_logic_nets, stitched_cells, stitched}
+use Rattle.stitched_netlist.specs.PlacesLawsLaws.{port_of, bypass_number}
+use Rattle.stitched_netlist.specs.PlacesLaws.{StitchedHoldsParts}
 use Rattle.scan_stitch.proofs.Known.{same_is_formed}
-use Rattle.open_runs.proofs.Connected.{choice_at}
+use Rattle.open_stitch.proofs.Connected.{choice_at}
 use Rattle.open_stitch.specs.declared.TheConstants.{THROUGH}
 use Rattle.open_stitch.specs.Open.{through_cell}
 use Rattle.open_stitch.proofs.Places.{Steps, net_number, listed, buffer_at, choice_there, other_at, shown_at}

@@ -5,15 +5,15 @@ use Rattle.netlist_model.specs.declared.Feed.{Feed}
 use Rattle.netlist_model.specs.Lists.{NetView, NetlistView}
 use Rattle.netlist_link.specs.Linked.{LinkedView}
 use Rattle.netlist_link.specs.WellNamed.{IsWellNamed}
-use Rattle.draft_laws.specs.Grown.{GrownIsFormed}
+use Rattle.netlist_link.specs.Grown.{GrownIsFormed}
 use Rattle.plan_fitting.specs.declared.fitted.Fitted.{Fitted}
 use Rattle.plan_fitting.specs.Devices.{device_of_fitted}
-use Rattle.open_runs.specs.stitch_model.declared.TapNames.{TapNames}
-use Rattle.open_runs.specs.stitch_model.Stitched.{stitched}
-use Rattle.scan_stitch.specs.stitch_names.Prepared.{AreTapNames}
-use Rattle.scan_stitch.specs.stitch_names.Same.{IsSameNetlist, SameIsNamed}
-use Rattle.scan_stitch.specs.stitch_names.Laws.{StitchedIsNamed}
-use Rattle.scan_stitch.specs.stitch_formed.Laws.{StitchedIsFormed}
+use Rattle.stitched_netlist.specs.declared.model.TapNames.{TapNames}
+use Rattle.stitched_netlist.specs.Stitched.{stitched}
+use Rattle.written_netlists.specs.Prepared.{AreTapNames}
+use Rattle.written_netlists.specs.Same.{IsSameNetlist, SameIsNamed}
+use Rattle.written_netlists.specs.NamesLaws.{StitchedIsNamed}
+use Rattle.stitched_netlist.specs.FormedLaws.{StitchedIsFormed}
 use Rattle.scan_stitch.specs.Stitch.{CanStitch}
 use Rattle.scan_stitch.proofs.Known.{lists_before, laid_before, named_of, formed_of}
 use Rattle.open_stitch.specs.declared.Parts.{Parts}

@@ -1,11 +1,9 @@
-pub use Rattle.open_runs.proofs.stitch_laws as stitch_laws
-pub use Rattle.scan_stitch.proofs as scan_stitch
-pub use Rattle.open_runs.proofs.plan_devices as plan_devices
-pub use Rattle.open_runs.proofs as open_runs
-mod Places
+pub mod Connected
 mod Formed
+mod Known
 mod Named
+mod Open
+mod Places
+pub mod RunsOpen
 mod Same
 mod Undriven
-mod Open
-mod Known

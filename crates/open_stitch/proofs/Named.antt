@@ -12,14 +12,14 @@ use Rattle.netlist_model.specs.Lists.{PortView, NetView, CellView, NetlistView, 
 use Rattle.netlist_arena.specs.Arena.{ArenaView}
 use Rattle.gate_parts.specs.Parts.{part_cells}
 use Rattle.netlist_link.specs.WellNamed.{IsWellNamed, IsWireNet, IsWireName}
-use Rattle.draft_laws.specs.Names.{AppendedIsNamed}
-use Rattle.draft_laws.specs.Sources.{PartIsNamed}
+use Rattle.netlist_link.specs.DraftLawsNames.{AppendedIsNamed}
+use Rattle.netlist_link.specs.Sources.{PartIsNamed}
 use Rattle.plan_fitting.specs.declared.fitted.Fitted.{Fitted}
-use Rattle.open_runs.specs.stitch_model.declared.TapNames.{TapNames}
-use Rattle.open_runs.specs.stitch_model.Logic.{bypass_at}
-use Rattle.open_runs.specs.stitch_model.Stitched.{first_net, stitched}
-use Rattle.scan_stitch.specs.stitch_names.Same.{SameIsNamed}
-use Rattle.open_runs.proofs.Connected.{choice_at}
+use Rattle.stitched_netlist.specs.declared.model.TapNames.{TapNames}
+use Rattle.stitched_netlist.specs.ModelLogic.{bypass_at}
+use Rattle.stitched_netlist.specs.Stitched.{first_net, stitched}
+use Rattle.written_netlists.specs.Same.{SameIsNamed}
+use Rattle.open_stitch.proofs.Connected.{choice_at}
 use Rattle.open_stitch.specs.declared.TheConstants.{THROUGH}
 use Rattle.open_stitch.proofs.Places.{Steps, choice_there, other_at, shown_at}
 

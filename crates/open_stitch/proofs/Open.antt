@@ -15,13 +15,13 @@ use Rattle.netlist_model.specs.Settled.{feed_value, driver_of, follows_pin}
 use Rattle.netlist_model.specs.Formed.{IsWellFormed}
 use Rattle.netlist_model.specs.Contained.{HasCells}
 use Rattle.netlist_model.specs.Runs.{Moment, reading_at}
-use Rattle.netlist_laws.specs.Drivers.{IsDriverOf, DriverDrives}
-use Rattle.netlist_laws.specs.Ports.{DirectionHasBit}
-use Rattle.netlist_laws.specs.Runs.{RunHasMoments}
+use Rattle.netlist_model.specs.Drivers.{IsDriverOf, DriverDrives}
+use Rattle.netlist_model.specs.Ports.{DirectionHasBit}
+use Rattle.netlist_model.specs.LawsRuns.{RunHasMoments}
 use Rattle.netlist_link.specs.Linked.{LinkedView}
 use Rattle.gate_parts.specs.PartLaws.{ContainedPartMeets}
 use Rattle.gate_parts.specs.Parts.{part_cells}
-use Rattle.open_runs.specs.instruction_gates.Copies.{row_values}
+use Rattle.instruction_gates.specs.Copies.{row_values}
 use Rattle.bsdl_device.specs.declared.values.Device.{Device}
 use Rattle.wrapped_chip.specs.Beside.{HasPins}
 use Rattle.wrapped_chip.specs.ChipRuns.{ChipEvent, ChipMoment}
@@ -30,29 +30,29 @@ use Rattle.plan_texts.specs.declared.plan.Plan.{Plan}
 use Rattle.plan_fitting.specs.declared.fitted.Fitted.{Fitted}
 use Rattle.plan_fitting.specs.Pins.{PinSeen}
 use Rattle.plan_fitting.specs.Devices.{fitted_of, device_of}
-use Rattle.open_runs.specs.plan_devices.FittingPlan.{IsFitting}
-use Rattle.open_runs.specs.surrounded_core.Places.{Places}
-use Rattle.open_runs.specs.surrounded_core.Laws.{core_value}
+use Rattle.plan_fitting.specs.FittingPlan.{IsFitting}
+use Rattle.surrounded_core.specs.Places.{Places}
+use Rattle.surrounded_core.specs.Laws.{core_value}
 use Rattle.test_logic.specs.Machine.{test_logic_of}
-use Rattle.open_runs.specs.surrounded_core.Open.{HoldsAsChip, tdo_step}
-use Rattle.open_runs.specs.status_runs.Placed.{IsCoreWire}
-use Rattle.open_runs.specs.stitch_model.declared.TapNames.{TapNames}
-use Rattle.open_runs.specs.stitch_model.Logic.{bypass_at}
-use Rattle.open_runs.specs.stitch_model.Stitched.{first_net, stitched_cells_by, stitched_cells, stitched}
-use Rattle.open_runs.specs.stitch_laws.Laws.{ExtendsStitched}
-use Rattle.open_runs.proofs.stitch_laws.Places.{listed_at}
-use Rattle.open_runs.specs.stitch_inside.Places.{places_in}
-use Rattle.scan_stitch.specs.stitch_ranks.Laws.{StitchedHasPins}
-use Rattle.open_runs.specs.Laws.{OpenNetlistsFollow, DrivenWiresStay, PinsByPorts}
-use Rattle.open_runs.proofs.Connected.{opened_length}
+use Rattle.surrounded_core.specs.Open.{HoldsAsChip, tdo_step}
+use Rattle.status_gates.specs.Placed.{IsCoreWire}
+use Rattle.stitched_netlist.specs.declared.model.TapNames.{TapNames}
+use Rattle.stitched_netlist.specs.ModelLogic.{bypass_at}
+use Rattle.stitched_netlist.specs.Stitched.{first_net, stitched_cells_by, stitched_cells, stitched}
+use Rattle.stitched_netlist.specs.PlacesLaws.{ExtendsStitched}
+use Rattle.stitched_netlist.proofs.PlacesLaws.{listed_at}
+use Rattle.stitched_netlist.specs.InsidePlaces.{places_in}
+use Rattle.stitched_netlist.specs.RanksLaws.{StitchedHasPins}
+use Rattle.open_stitch.specs.RunsLaws.{OpenNetlistsFollow, DrivenWiresStay, PinsByPorts}
+use Rattle.open_stitch.proofs.Connected.{opened_length}
 use Rattle.open_stitch.specs.declared.TheConstants.{THROUGH}
 use Rattle.open_stitch.specs.Open.{through_number, through_net, through_cell, open_cells, stitched_open, parts_at}
 use Rattle.open_stitch.specs.Runs.{Extends, HoldsOpen}
 use Rattle.open_stitch.specs.Laws.{FittingPlansAreOpen}
 use Rattle.wrapped_chip.proofs.Known.{run_settled}
-use Rattle.scan_stitch.specs.stitch_cells.Directions.{StitchedDirections}
-use Rattle.scan_stitch.specs.stitch_rows.Rows.{RowsStandSomewhere, RowsStandOnce, NetsHaveRows}
-use Rattle.scan_stitch.proofs.stitch_formed.Context.{fits_well}
+use Rattle.stitched_netlist.specs.Directions.{StitchedDirections}
+use Rattle.stitched_netlist.specs.RowsLaws.{RowsStandSomewhere, RowsStandOnce, NetsHaveRows}
+use Rattle.stitched_netlist.proofs.FormedContext.{fits_well}
 use Rattle.open_stitch.proofs.Undriven.{stays_undriven}
 use Rattle.open_stitch.proofs.Places.{through_part}
 

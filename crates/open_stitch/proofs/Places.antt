@@ -16,16 +16,16 @@ use Rattle.gate_parts.specs.Appended.{Appended}
 use Rattle.gate_parts.specs.Parts.{added_nets, part_cells}
 use Rattle.gate_parts.proofs.Steps.{length-added_nets}
 use Rattle.plan_fitting.specs.declared.fitted.Fitted.{Fitted}
-use Rattle.open_runs.specs.stitch_model.declared.TapNames.{TapNames}
-use Rattle.open_runs.specs.stitch_model.Sites.{sides_of}
-use Rattle.open_runs.specs.stitch_model.declared.Logic.{Logic}
-use Rattle.open_runs.specs.stitch_model.Rows.{nets_of_rows}
-use Rattle.open_runs.specs.stitch_model.Logic.{logic_size, code_size, bypass_from, bypass_at, logic_at}
-use Rattle.open_runs.specs.stitch_model.Stitched.{tap_port, tap_net_views, boundary_at, first_net, test_logic_nets, stitched_cells, stitched}
-use Rattle.open_runs.proofs.stitch_laws.Places.{listed_at, counts_live, counts_empty}
-use Rattle.scan_stitch.specs.stitch_names.Same.{IsSameNetlist}
-use Rattle.open_runs.specs.Connected.{shows}
-use Rattle.open_runs.proofs.Connected.{choice_at, choice_stands}
+use Rattle.stitched_netlist.specs.declared.model.TapNames.{TapNames}
+use Rattle.stitched_netlist.specs.Sites.{sides_of}
+use Rattle.stitched_netlist.specs.declared.model.Logic.{Logic}
+use Rattle.stitched_netlist.specs.ModelRows.{nets_of_rows}
+use Rattle.stitched_netlist.specs.ModelLogic.{logic_size, code_size, bypass_from, bypass_at, logic_at}
+use Rattle.stitched_netlist.specs.Stitched.{tap_port, tap_net_views, boundary_at, first_net, test_logic_nets, stitched_cells, stitched}
+use Rattle.stitched_netlist.proofs.PlacesLaws.{listed_at, counts_live, counts_empty}
+use Rattle.written_netlists.specs.Same.{IsSameNetlist}
+use Rattle.open_stitch.specs.Connected.{shows}
+use Rattle.open_stitch.proofs.Connected.{choice_at, choice_stands}
 use Rattle.open_stitch.specs.declared.TheConstants.{THROUGH}
 use Rattle.open_stitch.specs.Open.{through_number, through_net, through_cell}
 

@@ -10,13 +10,13 @@ use Rattle.netlist_model.specs.Lists.{NetView, CellView, NetlistView, cell_at, c
 use Rattle.netlist_arena.specs.Arena.{ArenaView}
 use Rattle.gate_parts.specs.Parts.{added_nets}
 use Rattle.plan_fitting.specs.declared.fitted.Fitted.{Fitted}
-use Rattle.open_runs.specs.stitch_model.declared.TapNames.{TapNames}
-use Rattle.open_runs.specs.stitch_model.Logic.{bypass_at}
-use Rattle.open_runs.specs.stitch_model.Stitched.{first_net, stitched_cells_by, stitched_cells, stitched}
-use Rattle.open_runs.proofs.stitch_laws.Places.{listed_at}
-use Rattle.scan_stitch.specs.stitch_names.Same.{IsSameNetlist}
-use Rattle.open_runs.specs.Connected.{shows, Connects, ConnectedExtends}
-use Rattle.open_runs.proofs.Connected.{choice_at, choice_stands, opened_length}
+use Rattle.stitched_netlist.specs.declared.model.TapNames.{TapNames}
+use Rattle.stitched_netlist.specs.ModelLogic.{bypass_at}
+use Rattle.stitched_netlist.specs.Stitched.{first_net, stitched_cells_by, stitched_cells, stitched}
+use Rattle.stitched_netlist.proofs.PlacesLaws.{listed_at}
+use Rattle.written_netlists.specs.Same.{IsSameNetlist}
+use Rattle.open_stitch.specs.Connected.{shows, Connects, ConnectedExtends}
+use Rattle.open_stitch.proofs.Connected.{choice_at, choice_stands, opened_length}
 use Rattle.open_stitch.specs.Open.{through_net, through_cell, open_cells, stitched_open}
 use Rattle.open_stitch.proofs.Places.{Steps, net_number, listed, buffer_at, other_at, shown_at}
 

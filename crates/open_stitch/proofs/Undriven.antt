@@ -13,17 +13,17 @@ use Rattle.netlist_model.specs.Lists.{CellView, NetlistView, cell_at, direction,
 use Rattle.netlist_arena.specs.Moves.{with_feed}
 use Rattle.gate_parts.specs.Parts.{added_nets}
 use Rattle.plan_fitting.specs.declared.fitted.Fitted.{Fitted}
-use Rattle.open_runs.specs.stitch_model.declared.TapNames.{TapNames}
-use Rattle.open_runs.specs.stitch_model.Sites.{sides_of}
-use Rattle.open_runs.specs.stitch_model.Rows.{nets_of_rows}
-use Rattle.open_runs.specs.stitch_model.Logic.{logic_size, bypass_at}
-use Rattle.open_runs.specs.stitch_model.Stitched.{boundary_at, first_net, test_logic_nets, stitched_cells_by, stitched_cells, stitched}
-use Rattle.open_runs.proofs.stitch_laws.Places.{listed_at}
-use Rattle.scan_stitch.proofs.stitch_formed.Context.{FitsWell}
-use Rattle.scan_stitch.proofs.stitch_formed.Places.{PinDriver, own_pin, cell_pin, added_pin, DriverOf, of_pin, of_tdo_pin, of_side, of_logic, of_row_net, of_tdo_net}
-use Rattle.scan_stitch.proofs.stitch_formed.OneDriver.{within}
-use Rattle.scan_stitch.proofs.stitch_formed.Laid.{driver_in}
-use Rattle.open_runs.proofs.Connected.{opened_length, opened_output}
+use Rattle.stitched_netlist.specs.declared.model.TapNames.{TapNames}
+use Rattle.stitched_netlist.specs.Sites.{sides_of}
+use Rattle.stitched_netlist.specs.ModelRows.{nets_of_rows}
+use Rattle.stitched_netlist.specs.ModelLogic.{logic_size, bypass_at}
+use Rattle.stitched_netlist.specs.Stitched.{boundary_at, first_net, test_logic_nets, stitched_cells_by, stitched_cells, stitched}
+use Rattle.stitched_netlist.proofs.PlacesLaws.{listed_at}
+use Rattle.stitched_netlist.proofs.FormedContext.{FitsWell}
+use Rattle.stitched_netlist.proofs.FormedPlaces.{PinDriver, own_pin, cell_pin, added_pin, DriverOf, of_pin, of_tdo_pin, of_side, of_logic, of_row_net, of_tdo_net}
+use Rattle.stitched_netlist.proofs.OneDriver.{within}
+use Rattle.stitched_netlist.proofs.Laid.{driver_in}
+use Rattle.open_stitch.proofs.Connected.{opened_length, opened_output}
 use Rattle.open_stitch.specs.Open.{through_number, through_net, through_cell, open_cells, stitched_open}
 use Rattle.open_stitch.specs.Runs.{Extends}
 use Rattle.open_stitch.proofs.Places.{stitched_nets}

@@ -7,8 +7,8 @@ use Rattle.netlist_link.specs.Linked.{LinkedView}
 use Rattle.plan_texts.specs.declared.plan.Plan.{Plan}
 use Rattle.plan_fitting.specs.Pins.{PinSeen}
 use Rattle.plan_fitting.specs.Devices.{fitted_of, device_of}
-use Rattle.open_runs.specs.plan_devices.FittingPlan.{IsFitting}
-use Rattle.open_runs.specs.stitch_model.declared.TapNames.{TapNames}
+use Rattle.plan_fitting.specs.FittingPlan.{IsFitting}
+use Rattle.stitched_netlist.specs.declared.model.TapNames.{TapNames}
 use Rattle.open_stitch.specs.Open.{stitched_open, parts_at}
 use Rattle.open_stitch.specs.Runs.{IsOpen}
 

@@ -9,10 +9,10 @@ use Rattle.netlist_model.specs.declared.Feed.TheVariants.{Net}
 use Rattle.netlist_model.specs.Lists.{CellView, NetlistView}
 use Rattle.gate_parts.specs.Parts.{added_nets}
 use Rattle.plan_fitting.specs.declared.fitted.Fitted.{Fitted}
-use Rattle.open_runs.specs.stitch_model.declared.TapNames.{TapNames}
-use Rattle.open_runs.specs.stitch_model.Logic.{tap_at, instruction_at, bypass_at}
-use Rattle.open_runs.specs.stitch_model.Stitched.{boundary_at, first_net, test_logic_nets, stitched_cells_by, stitched_cells, stitched}
-use Rattle.open_runs.specs.stitch_laws.Places.{port_of}
+use Rattle.stitched_netlist.specs.declared.model.TapNames.{TapNames}
+use Rattle.stitched_netlist.specs.ModelLogic.{tap_at, instruction_at, bypass_at}
+use Rattle.stitched_netlist.specs.Stitched.{boundary_at, first_net, test_logic_nets, stitched_cells_by, stitched_cells, stitched}
+use Rattle.stitched_netlist.specs.PlacesLawsLaws.{port_of}
 use Rattle.open_stitch.specs.declared.Parts.{Parts}
 
 -- own: the number of the buffer, and its net: behind all others

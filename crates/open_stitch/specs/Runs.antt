@@ -11,20 +11,20 @@ use Rattle.netlist_model.specs.Lists.{CellView, NetlistView, cell_at, direction,
 use Rattle.netlist_model.specs.Settled.{feed_value}
 use Rattle.netlist_model.specs.Formed.{IsWellFormed}
 use Rattle.netlist_model.specs.Runs.{Moment}
-use Rattle.netlist_laws.specs.Settle.{SameFlops}
+use Rattle.netlist_model.specs.Settle.{SameFlops}
 use Rattle.netlist_arena.specs.Moves.{with_feed}
 use Rattle.bsdl_device.specs.declared.values.Device.{Device}
 use Rattle.test_logic.specs.Registers.{first_bit}
 use Rattle.test_logic.specs.Machine.{in_effect, test_logic_of}
 use Rattle.tap_gates.specs.Laws.{ShowsState}
-use Rattle.register_bits.specs.Laws.{Carries}
-use Rattle.open_runs.specs.instruction_gates.Copies.{row_values}
-use Rattle.open_runs.specs.instruction_gates.Selections.{Selected}
+use Rattle.register_gates.specs.BitsLawsLaws.{Carries}
+use Rattle.instruction_gates.specs.Copies.{row_values}
+use Rattle.instruction_gates.specs.Selections.{Selected}
 use Rattle.wrapped_chip.specs.Cells.{chip_reading}
 use Rattle.wrapped_chip.specs.ChipRuns.{ChipEvent, ChipMoment, IsChipRun}
 use Rattle.wrapped_chip.specs.Suits.{IsRead}
 use Rattle.wrapped_chip.specs.Realises.{IsRunBeside, ReadsBit, ReadsTdo}
-use Rattle.open_runs.specs.surrounded_core.Open.{tdo_step}
+use Rattle.surrounded_core.specs.Open.{tdo_step}
 use Rattle.open_stitch.specs.declared.Parts.{Parts}
 
 -- M is well formed and has this netlist's library, its ports and its cells under their numbers, but that the cell

@@ -3,9 +3,9 @@
 use Rattle.std.specs.Prelude.{◌≡◌}
 use Rattle.netlist_link.specs.Linked.{LinkedView, IsLinked}
 use Rattle.plan_fitting.specs.declared.fitted.Fitted.{Fitted}
-use Rattle.open_runs.specs.stitch_model.declared.TapNames.{TapNames}
-use Rattle.scan_stitch.specs.stitch_names.Prepared.{AreTapNames}
-use Rattle.scan_stitch.specs.stitch_names.Same.{IsSameNetlist}
+use Rattle.stitched_netlist.specs.declared.model.TapNames.{TapNames}
+use Rattle.written_netlists.specs.Prepared.{AreTapNames}
+use Rattle.written_netlists.specs.Same.{IsSameNetlist}
 use Rattle.open_stitch.specs.Open.{stitched_open}
 
 -- the netlist is that with the test logic built in and the buffer, by the names that were entered, and it is linked;

@@ -10,29 +10,25 @@
 //   has, reads as the original wrapped in the device's test logic at every pin but TDO; TDO moves as there with the
 //   value of the buffer's operand in the place of the bypass bit; the core's flip-flops and its wires hold the
 //   core's values, and the nets that are answered carry the test logic (`fitting_plans_are_open`).
+// - `runs`: laws: how netlists behave that have the stitched one's cells, with any net for the bypass bit at TDO.
 // By the contract of `stitch_open`, `open_netlist` and a law function.
 #![tactic(auto)]
 
 ghost use Rattle.open_stitch.specs.Laws.{FittingPlansAreOpen};
 
-pub mod lower_open_runs;
-pub mod lower_scan_stitch;
 mod netlists;
+pub mod runs;
 mod whole;
 
+use crate::runs::{driven_wires_stay, open_netlists_follow, pins_are_by_ports};
 use cell_library::Kind;
 use gate_parts::{Gate, Pin, Pins, contained_part_meets};
-use netlist_laws::{bit_of_a_direction, found_driver_drives, moments_of_a_run};
+use netlist_model::laws::{bit_of_a_direction, found_driver_drives, moments_of_a_run};
 use netlist_model::{CellId, NetId};
 pub use netlists::open_netlist;
-pub use open_runs::{lower_plan_devices, lower_stitch_inside, lower_stitch_laws};
-use open_runs::{driven_wires_stay, open_netlists_follow, pins_are_by_ports};
-use scan_stitch::lower_stitch_cells::stitched_directions;
-use scan_stitch::lower_stitch_formed::stitched_has_pins;
-use scan_stitch::lower_stitch_rows::{nets_have_rows, rows_stand_once, rows_stand_somewhere};
-pub use scan_stitch::{
-    lower_stitch_cells, lower_stitch_formed, lower_stitch_names, lower_stitch_ready,
-};
+use stitched_netlist::cells::stitched_directions;
+use stitched_netlist::ranks::stitched_has_pins;
+use stitched_netlist::rows::{nets_have_rows, rows_stand_once, rows_stand_somewhere};
 use test_logic::{InstrNets, TapNets};
 pub use whole::stitch_open;
 

@@ -8,28 +8,28 @@ ghost use Rattle.netlist_model.specs.Formed.{IsLaidOut, IsWellFormed};
 ghost use Rattle.netlist_link.specs.WellNamed.{IsWellNamed};
 ghost use Rattle.gate_parts.specs.Appended.{Appended};
 ghost use Rattle.gate_parts.specs.Parts.{part_cells};
-ghost use Rattle.open_runs.specs.stitch_model.Stitched.{stitched};
-ghost use Rattle.scan_stitch.specs.stitch_names.Prepared.{room_of};
-ghost use Rattle.scan_stitch.specs.stitch_names.Same.{IsSameNetlist};
+ghost use Rattle.stitched_netlist.specs.Stitched.{stitched};
+ghost use Rattle.written_netlists.specs.Prepared.{room_of};
+ghost use Rattle.written_netlists.specs.Same.{IsSameNetlist};
 ghost use Rattle.scan_stitch.specs.Stitched.{CanBeStitched, HasStitchRoom};
 ghost use Rattle.open_stitch.specs.declared.TheConstants.{THROUGH};
 ghost use Rattle.open_stitch.specs.Open.{stitched_open, parts_at};
 
+use crate::runs::connected_extends;
 use crate::{Parts, THROUGH};
-use draft_laws::{
-    appended_is_named, grown_is_formed, part_is_formed, part_is_named, part_is_readable,
-};
 use gate_parts::{add_part, appended_count, contained_part_has_flops};
 use netlist_arena::Netlist;
-use netlist_laws::contained_parts;
+use netlist_link::draft_laws::{
+    appended_is_named, grown_is_formed, part_is_formed, part_is_named, part_is_readable,
+};
+use netlist_model::laws::contained_parts;
 use netlist_model::{CellId, Feed, NetId};
-use open_runs::connected_extends;
-use open_runs::lower_stitch_laws::stitched_holds_its_parts;
-use open_runs::lower_stitch_model::TapNames;
 use plan_fitting::Fitted;
-use reconnected::reconnected_to_low;
-use scan_stitch::lower_stitch_names::same_is_named;
 use scan_stitch::stitch_netlist;
+use status_build::reconnected::reconnected_to_low;
+use stitched_netlist::model::TapNames;
+use stitched_netlist::places::stitched_holds_its_parts;
+use written_netlists::names::same_is_named;
 
 // Adds the buffer, and answers its net.
 fn add_through(netlist: &mut Netlist, bypass: NetId) -> NetId

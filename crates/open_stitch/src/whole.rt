@@ -3,7 +3,7 @@
 ghost use Rattle.std.specs.Prelude.{◌≡◌, ◌+◌, ◌≤◌, length};
 ghost use Rattle.netlist_model.specs.Lists.{cell_count};
 ghost use Rattle.plan_fitting.specs.Devices.{device_of_fitted};
-ghost use Rattle.scan_stitch.specs.stitch_names.Prepared.{room_of};
+ghost use Rattle.written_netlists.specs.Prepared.{room_of};
 ghost use Rattle.scan_stitch.specs.Stitch.{CanStitch};
 ghost use Rattle.open_stitch.specs.Open.{parts_at};
 ghost use Rattle.open_stitch.specs.Runs.{IsOpen};
@@ -11,13 +11,13 @@ ghost use Rattle.open_stitch.specs.Stitch.{IsStitchedOpen};
 
 use crate::netlists::open_netlist;
 use crate::{Parts, fitting_plans_are_open};
-use draft_laws::grown_is_formed;
 use netlist_link::Linked;
+use netlist_link::draft_laws::grown_is_formed;
 use plan_fitting::Fitted;
-use scan_stitch::lower_stitch_formed::stitched_is_formed;
-use scan_stitch::lower_stitch_names::{same_is_named, stitched_is_named, tap_names_are_entered};
-use scan_stitch::lower_stitch_ready::fitted_can_stand_behind;
 use scan_stitch::tap_names;
+use stitched_netlist::formed::stitched_is_formed;
+use written_netlists::names::{same_is_named, stitched_is_named, tap_names_are_entered};
+use written_netlists::ready::fitted_can_stand_behind;
 
 /// Builds the test logic of a plan into the prepared netlist that it was fitted to, open to further data registers. It
 /// takes no memory.

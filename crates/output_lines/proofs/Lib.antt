@@ -1,3 +1,4 @@
-pub mod Pieces
 pub mod Fronts
+pub mod GatheredFronts
 pub mod Given
+pub mod Pieces

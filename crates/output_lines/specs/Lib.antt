@@ -1,2 +1,3 @@
-pub mod Puts
+pub mod GatheredLaws
 pub mod Lines
+pub mod Puts

@@ -9,10 +9,12 @@
 //   count never falls.
 // - `add_word`, `add_words` and `add_line` add a word, words and a line to a text, in the same form.
 // - `Field::of_bit` prints a scalar as its name, and a bit of a vector as `name[index]`.
+// - `gathered`: a sink on another, which gathers up to 65,536 bytes before it hands them on.
 // By the contract of `put_line`, `put_numbers`, `put_pieces`, `add_word`, `add_words`, `add_line`, `Field::of_bit`.
 #![tactic(auto)]
 
 mod field;
+pub mod gathered;
 mod put;
 mod text;
 

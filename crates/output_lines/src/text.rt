@@ -3,7 +3,7 @@ ghost use Rattle.std.specs.Prelude.{◌≡◌, ◌++◌, map, OnOk};
 ghost use Rattle.std.specs.List.{flat_map};
 ghost use Rattle.output_lines.specs.Lines.{blank_word, words_line};
 
-use edge_io::{OutOfMemory, Text};
+use texts::{OutOfMemory, Text};
 
 /// Adds a word behind a blank.
 pub fn add_word(text: &mut Text, word: &[u8]) -> Result<(), OutOfMemory>

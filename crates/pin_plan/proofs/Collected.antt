@@ -11,7 +11,7 @@ use Rattle.netlist_model.specs.Lists.{PortView, NetView, CellView, NetlistView, 
 use Rattle.netlist_model.specs.Formed.{IsLaidOut, width_of}
 use Rattle.netlist_arena.specs.Arena.{bit_count}
 use Rattle.link_model.specs.Denoted.{name_bytes}
-use Rattle.first_faults.specs.Repeated.{texts}
+use Rattle.texts.specs.Repeated.{texts}
 use Rattle.plan_fitting.specs.Names.{name_of_cell}
 
 -- One by one.

@@ -15,7 +15,7 @@ use Rattle.netlist_model.specs.Lists.{PortView, CellView}
 use Rattle.netlist_link.specs.Linked.{LinkedView}
 use Rattle.netlist_link.specs.PinWords.{pin_at}
 use Rattle.link_model.specs.Nets.{counted_from}
-use Rattle.first_faults.specs.First.{or_else}
+use Rattle.texts.specs.First.{or_else}
 use Rattle.plan_texts.specs.declared.plan.Plan.{Plan}
 use Rattle.plan_texts.specs.declared.plan.PinLine.{PinLine}
 use Rattle.plan_fitting.specs.declared.fault.FitFault.{FitFault}

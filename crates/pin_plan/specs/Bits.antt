@@ -4,7 +4,7 @@ use Rattle.std.specs.Option.{option_map_or}
 use Rattle.netlist_model.specs.declared.PinBit.{PinBit}
 use Rattle.netlist_model.specs.Lists.{PortView}
 use Rattle.netlist_link.specs.Linked.{LinkedView}
-use Rattle.first_faults.specs.First.{first_in}
+use Rattle.texts.specs.First.{first_in}
 use Rattle.plan_fitting.specs.declared.fault.FitFault.{FitFault}
 use Rattle.plan_fitting.specs.Pins.{PinSeen}
 use Rattle.plan_fitting.specs.Names.{bits_of_port, port_bits, named_bit}

@@ -1,6 +1,6 @@
-pub mod Tables
-pub mod Seen
-pub mod Keys
-pub mod Taken
 pub mod Bits
+pub mod Keys
 pub mod Names
+pub mod Seen
+pub mod Tables
+pub mod Taken

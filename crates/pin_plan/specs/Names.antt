@@ -1,6 +1,6 @@
 -- own: faults of names, where these are the names of a netlist's ports, and those of its nets, gates and instances.
 use Rattle.std.specs.Prelude.{ℕ, List, [], ◌∷◌, ◌++◌, Option}
-use Rattle.first_faults.specs.First.{or_else, first_in}
+use Rattle.texts.specs.First.{or_else, first_in}
 use Rattle.plan_texts.specs.declared.plan.Plan.{Plan}
 use Rattle.plan_fitting.specs.declared.fault.FitFault.{FitFault}
 use Rattle.plan_fitting.specs.Fits.{barred_after, begun_fault, names_of, tap_lines}

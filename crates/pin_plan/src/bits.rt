@@ -5,12 +5,12 @@ ghost use Rattle.pin_plan.specs.Keys.{key_of_bit, keys_of_pins};
 
 use crate::keys::BitKey;
 use crate::pins::PinAt;
-use first_faults::first_places;
 use indexmap::IndexMap;
 use netlist_model::PinBit;
 use std::alloc::Global;
 use std::marker::Model;
 use texts::OutOfMemory;
+use texts::first_faults::first_places;
 
 /// The bits that pin lines name. Of lines of one bit the first is found.
 #[derive(Drop)]

@@ -8,7 +8,7 @@ ghost use Rattle.pin_plan.specs.Bits.{word_at, missing_among, missing_at};
 
 use crate::bits::BitTable;
 use crate::netlist_names::{port_width, text_of_port};
-use bsdl_runs::written::put_number;
+use bsdl_device::runs::written::put_number;
 use netlist_link::Linked;
 use netlist_model::{PinBit, PortId, Range};
 use plan_fitting::FitFault;

@@ -2,13 +2,13 @@
 ghost use Rattle.std.specs.Prelude.{◌≡◌, ◌++◌, ◌∷◌, [], true, false, not, IfOk, None};
 ghost use Rattle.std.specs.List.{list_any};
 ghost use Rattle.bsdl_lexicon.specs.Names.{is_same_name};
-ghost use Rattle.first_faults.specs.Repeated.{has_name, texts};
+ghost use Rattle.texts.specs.Repeated.{has_name, texts};
 ghost use Rattle.plan_fitting.specs.Fits as fits;
 ghost use Rattle.bsdl_lexicon.specs.NameKeys.{names_in};
 ghost use Rattle.pin_plan.specs.Names.{name_fault_among};
 
+use bsdl_device::runs::runs::is_identifier;
 use bsdl_lexicon::{NameKey, is_reserved};
-use bsdl_runs::runs::is_identifier;
 use indexmap::IndexSet;
 use plan_fitting::FitFault;
 use plan_texts::{Plan, TapLine};

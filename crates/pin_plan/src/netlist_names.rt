@@ -5,7 +5,7 @@ ghost use Rattle.std.specs.Option.{option_map};
 ghost use Rattle.netlist_model.specs.Lists.{cell_at};
 ghost use Rattle.netlist_link.specs.WellNamed.{IsKnown};
 ghost use Rattle.link_model.specs.Denoted.{name_bytes};
-ghost use Rattle.first_faults.specs.Repeated.{bytes_of, texts};
+ghost use Rattle.texts.specs.Repeated.{bytes_of, texts};
 ghost use Rattle.plan_fitting.specs.Names as fitting;
 
 use netlist_arena::Netlist;

@@ -2,7 +2,7 @@
 ghost use Rattle.std.specs.Prelude.{◌≡◌, ◌<◌, ◌^◌, IfErr, IfOk, length};
 ghost use Rattle.plan_fitting.specs.Devices.{IsFitted, fitted_of};
 ghost use Rattle.plan_fitting.specs.Fits.{IsFault, fault_with, name_fault, prefix_fault};
-ghost use Rattle.first_faults.specs.First.{or_else};
+ghost use Rattle.texts.specs.First.{or_else};
 
 use crate::bits::BitTable;
 use crate::cells::find_unsuited;

@@ -1,7 +1,7 @@
 // Names that begin with the prefix.
 ghost use Rattle.std.specs.Prelude.{◌≡◌, IfOk};
-ghost use Rattle.first_faults.specs.First.{first_in};
-ghost use Rattle.first_faults.specs.Repeated.{texts};
+ghost use Rattle.texts.specs.First.{first_in};
+ghost use Rattle.texts.specs.Repeated.{texts};
 ghost use Rattle.plan_fitting.specs.Fits as fits;
 ghost use Rattle.pin_plan.specs.Names.{prefix_fault_among};
 

@@ -1,17 +1,17 @@
 -- What the pin lines of the examples are of.
 use Rattle.std.proofs.Common.{◌≡◌, ℕ, zero, suc, ◌⊎◌, Bool, true, false, List, [], ◌∷◌, ◌++◌, codes, slice_get, is_some, Option, Some, None, refl, sym, ap, ◌∙◌, subst, inl, inr}
-use Rattle.test_logic.specs.cell_library.Gates.{is_flop}
-use Rattle.test_logic.specs.cell_library.declared.codes.BoundaryKind.{BoundaryKind}
-use Rattle.test_logic.specs.cell_library.declared.codes.BoundaryKind.TheVariants.{Bc1, Bc4}
-use Rattle.test_logic.specs.netlist_model.declared.Dir.{Dir}
-use Rattle.test_logic.specs.netlist_model.declared.Dir.TheVariants.{Input, Output}
-use Rattle.test_logic.specs.netlist_model.declared.Feed.{Feed}
-use Rattle.test_logic.specs.netlist_model.declared.Feed.TheVariants.{Net, Const}
-use Rattle.test_logic.specs.netlist_model.Lists.{CellView, NetlistView, cell_at}
-use Rattle.test_logic.specs.netlist_model.Cones.{GateReads, InCone, FlopReads, IsClockPort, IsControlPort}
-use Rattle.test_logic.specs.netlist_model.Cones.InCone.{itself, behind}
-use Rattle.netlist_link.specs.Linked.{LinkedView}
-use Rattle.netlist_link.specs.PinWords.IsPinWord.{scalar as scalar_word}
+use Rattle.cell_library.specs.Gates.{is_flop}
+use Rattle.cell_library.specs.declared.codes.BoundaryKind.{BoundaryKind}
+use Rattle.cell_library.specs.declared.codes.BoundaryKind.TheVariants.{Bc1, Bc4}
+use Rattle.netlist_model.specs.declared.Dir.{Dir}
+use Rattle.netlist_model.specs.declared.Dir.TheVariants.{Input, Output}
+use Rattle.netlist_model.specs.declared.Feed.{Feed}
+use Rattle.netlist_model.specs.declared.Feed.TheVariants.{Net, Const}
+use Rattle.netlist_model.specs.Lists.{CellView, NetlistView, cell_at}
+use Rattle.netlist_model.specs.Cones.{GateReads, InCone, FlopReads, IsClockPort, IsControlPort}
+use Rattle.netlist_model.specs.Cones.InCone.{itself, behind}
+use Rattle.netlist_unlink.specs.netlist_link.Linked.{LinkedView}
+use Rattle.netlist_unlink.specs.netlist_link.PinWords.IsPinWord.{scalar as scalar_word}
 use Rattle.plan_texts.specs.declared.plan.PinLine.{PinLine}
 use Rattle.plan_fitting.specs.Pins.{PinSeen, IsSeen, AreSeen}
 use Rattle.plan_fitting.specs.Examples.{linked, pin_line, scalar, seen_at, as_clock, netlist_d, linked_d, plan_d, seen_d, netlist_c, linked_c, plan_c, seen_c, netlist_n}

@@ -1,31 +1,31 @@
 -- Small modules with their plans: their boundary cells, and what a plan of theirs is refused for.
 -- IEEE Std 1149.1-2001: boundary-scan register, the annex on BSDL; the modules are own.
 use Rattle.std.specs.Prelude.{◌≡◌, ℕ, Bool, true, false, List, [], ◌∷◌, ◌++◌, codes, Option, Some, None}
-use Rattle.test_logic.specs.cell_library.declared.Kind.{Kind}
-use Rattle.test_logic.specs.cell_library.declared.Kind.TheVariants.{And, Not, Buf, Bufif0, Bufif1, Flop}
-use Rattle.test_logic.specs.cell_library.declared.Edge.TheVariants.{Rise}
-use Rattle.test_logic.specs.cell_library.declared.ResetTo.TheVariants.{Nothing}
-use Rattle.test_logic.specs.cell_library.declared.codes.BoundaryKind.{BoundaryKind}
-use Rattle.test_logic.specs.cell_library.declared.codes.BoundaryKind.TheVariants.{Bc1, Bc4, Bc7}
-use Rattle.test_logic.specs.cell_library.declared.codes.Function.{Function}
-use Rattle.test_logic.specs.cell_library.declared.codes.Function.TheVariants as function
-use Rattle.test_logic.specs.cell_library.declared.codes.Instr.{Instr}
-use Rattle.test_logic.specs.cell_library.declared.codes.Instr.TheVariants.{Extest, Sample, Preload, Bypass, Highz}
-use Rattle.test_logic.specs.cell_library.declared.codes.Opcode.{Opcode}
-use Rattle.test_logic.specs.netlist_model.declared.Dir.{Dir}
-use Rattle.test_logic.specs.netlist_model.declared.Dir.TheVariants.{Input, Output, Inout}
-use Rattle.test_logic.specs.netlist_model.declared.Feed.{Feed}
-use Rattle.test_logic.specs.netlist_model.declared.Feed.TheVariants.{Net, Const}
-use Rattle.test_logic.specs.netlist_model.declared.Name.TheVariants.{Original}
-use Rattle.test_logic.specs.netlist_model.Lists.{PortView, NetView, CellView, NetlistView}
-use Rattle.test_logic.specs.netlist_model.Settled.{driver_of}
-use Rattle.netlist_link.specs.link_model.Denoted.{net_id}
-use Rattle.netlist_link.specs.Linked.{LinkedView}
-use Rattle.netlist_link.specs.PinWords.{pin_at}
-use Rattle.test_logic.specs.bsdl_device.declared.values.Safe.{Safe}
-use Rattle.test_logic.specs.bsdl_device.declared.values.Safe.TheVariants as safe
-use Rattle.test_logic.specs.bsdl_device.declared.values.Disable.{Disable}
-use Rattle.test_logic.specs.bsdl_device.declared.values.CellRow.{CellRow}
+use Rattle.cell_library.specs.declared.Kind.{Kind}
+use Rattle.cell_library.specs.declared.Kind.TheVariants.{And, Not, Buf, Bufif0, Bufif1, Flop}
+use Rattle.cell_library.specs.declared.Edge.TheVariants.{Rise}
+use Rattle.cell_library.specs.declared.ResetTo.TheVariants.{Nothing}
+use Rattle.cell_library.specs.declared.codes.BoundaryKind.{BoundaryKind}
+use Rattle.cell_library.specs.declared.codes.BoundaryKind.TheVariants.{Bc1, Bc4, Bc7}
+use Rattle.cell_library.specs.declared.codes.Function.{Function}
+use Rattle.cell_library.specs.declared.codes.Function.TheVariants as function
+use Rattle.cell_library.specs.declared.codes.Instr.{Instr}
+use Rattle.cell_library.specs.declared.codes.Instr.TheVariants.{Extest, Sample, Preload, Bypass, Highz}
+use Rattle.cell_library.specs.declared.codes.Opcode.{Opcode}
+use Rattle.netlist_model.specs.declared.Dir.{Dir}
+use Rattle.netlist_model.specs.declared.Dir.TheVariants.{Input, Output, Inout}
+use Rattle.netlist_model.specs.declared.Feed.{Feed}
+use Rattle.netlist_model.specs.declared.Feed.TheVariants.{Net, Const}
+use Rattle.netlist_model.specs.declared.Name.TheVariants.{Original}
+use Rattle.netlist_model.specs.Lists.{PortView, NetView, CellView, NetlistView}
+use Rattle.netlist_model.specs.Settled.{driver_of}
+use Rattle.link_model.specs.Denoted.{net_id}
+use Rattle.netlist_unlink.specs.netlist_link.Linked.{LinkedView}
+use Rattle.netlist_unlink.specs.netlist_link.PinWords.{pin_at}
+use Rattle.bsdl_device.specs.declared.values.Safe.{Safe}
+use Rattle.bsdl_device.specs.declared.values.Safe.TheVariants as safe
+use Rattle.bsdl_device.specs.declared.values.Disable.{Disable}
+use Rattle.bsdl_device.specs.declared.values.CellRow.{CellRow}
 use Rattle.plan_texts.specs.declared.plan.Plan.{Plan}
 use Rattle.plan_texts.specs.declared.plan.TapLine.{TapLine}
 use Rattle.plan_texts.specs.declared.plan.PinLine.{PinLine}

@@ -7,21 +7,21 @@ use Rattle.std.specs.Str.{bytes_eq}
 use Rattle.std.specs.Fmt.{decimal}
 use Rattle.std.specs.Cmp.Lexicographic.{bytes_decides}
 use Rattle.std.proofs.lemmas.List.Elements.{All-nil, All-cons, All-head, All-tail}
-use Rattle.first_faults.proofs.list_laws.Tests.{both_true, not_false, or_second}
-use Rattle.first_faults.proofs.list_laws.Options.{or_else-parts, not_there, found}
-use Rattle.bsdl_runs.specs.cell_library.declared.codes.Instr.{Instr}
-use Rattle.bsdl_runs.specs.cell_library.declared.codes.Instr.TheVariants as instr
-use Rattle.bsdl_runs.specs.bsdl_lexicon.Bytes.{is_digit}
-use Rattle.bsdl_runs.specs.bsdl_device.Instructions.{instruction_word}
-use Rattle.bsdl_runs.specs.bsdl_device.Canonical.{bits_text, pattern_text}
-use Rattle.bsdl_runs.specs.bsdl_device.Runs.{is_integer, value_after}
-use Rattle.bsdl_runs.specs.bsdl_device.Checks.{has_instruction, has_other_length}
-use Rattle.bsdl_runs.specs.bsdl_device.declared.entries.OpcodeEntry.{OpcodeEntry}
-use Rattle.line_texts.specs.Words.{is_line_end, is_blank_byte, kept_lines}
-use Rattle.line_texts.specs.Rows.{IsWordByte, IsWord, IsRow, rows_text}
-use Rattle.line_texts.specs.Laws.{KeptAreRows, ReadsBack, RowsReadBack}
-use Rattle.first_faults.specs.First.{first_in}
-use Rattle.line_texts.proofs.Rows.{IsNumberedRow}
+use Rattle.list_laws.proofs.Tests.{both_true, not_false, or_second}
+use Rattle.list_laws.proofs.Options.{or_else-parts, not_there, found}
+use Rattle.cell_library.specs.declared.codes.Instr.{Instr}
+use Rattle.cell_library.specs.declared.codes.Instr.TheVariants as instr
+use Rattle.bsdl_lexicon.specs.Bytes.{is_digit}
+use Rattle.bsdl_device.specs.Instructions.{instruction_word}
+use Rattle.bsdl_device.specs.Canonical.{bits_text, pattern_text}
+use Rattle.bsdl_device.specs.Runs.{is_integer, value_after}
+use Rattle.bsdl_device.specs.Checks.{has_instruction, has_other_length}
+use Rattle.bsdl_device.specs.declared.entries.OpcodeEntry.{OpcodeEntry}
+use Rattle.word_cutter.specs.LinesWords.{is_line_end, is_blank_byte, kept_lines}
+use Rattle.word_cutter.specs.Rows.{IsWordByte, IsWord, IsRow, rows_text}
+use Rattle.word_cutter.specs.LinesLaws.{KeptAreRows, ReadsBack, RowsReadBack}
+use Rattle.texts.specs.First.{first_in}
+use Rattle.word_cutter.proofs.Rows.{IsNumberedRow}
 use Rattle.plan_texts.specs.declared.fault.PlanFault.TheVariants as fault
 use Rattle.plan_texts.specs.declared.plan.Plan.{Plan}
 use Rattle.plan_texts.specs.declared.written.Written.{Written}

@@ -3,9 +3,9 @@ use Rattle.std.proofs.Common.{◌≡◌, ◌≢◌, ℕ, List, [], ◌∷◌, �
 use Rattle.std.specs.Prelude.{All, ◌==◌, Bool, true, false, if◌then◌else◌, option_and_then}
 use Rattle.std.specs.Option.{option_map}
 use Rattle.std.proofs.lemmas.List.Elements.{All-head, All-tail}
-use Rattle.bsdl_runs.specs.cell_library.declared.codes.BoundaryKind.{BoundaryKind}
-use Rattle.bsdl_runs.specs.bsdl_device.Runs.{value_after}
-use Rattle.bsdl_runs.specs.bsdl_device.Grammar.{cell_word}
+use Rattle.cell_library.specs.declared.codes.BoundaryKind.{BoundaryKind}
+use Rattle.bsdl_device.specs.Runs.{value_after}
+use Rattle.bsdl_device.specs.Grammar.{cell_word}
 use Rattle.plan_texts.specs.declared.plan.TapLine.{TapLine}
 use Rattle.plan_texts.specs.declared.plan.PinLine.{PinLine}
 use Rattle.plan_texts.specs.declared.written.Codes.{Codes}

@@ -3,10 +3,10 @@ use Rattle.std.proofs.Common.{◌≡◌, ◌≢◌, ℕ, Bool, true, List, [], �
 use Rattle.std.specs.Prelude.{All}
 use Rattle.std.specs.Option.{option_map}
 use Rattle.std.proofs.lemmas.List.Elements.{All-nil, All-cons}
-use Rattle.bsdl_runs.specs.cell_library.declared.codes.Bits.{Bits}
-use Rattle.bsdl_runs.specs.bsdl_device.Runs.{is_pattern, value_after}
-use Rattle.bsdl_runs.specs.bsdl_device.declared.entries.OpcodeEntry.{OpcodeEntry}
-use Rattle.bsdl_runs.specs.bsdl_device.Grammar.{cell_word}
+use Rattle.cell_library.specs.declared.codes.Bits.{Bits}
+use Rattle.bsdl_device.specs.Runs.{is_pattern, value_after}
+use Rattle.bsdl_device.specs.declared.entries.OpcodeEntry.{OpcodeEntry}
+use Rattle.bsdl_device.specs.Grammar.{cell_word}
 use Rattle.plan_texts.specs.declared.plan.TapLine.{TapLine}
 use Rattle.plan_texts.specs.declared.plan.PinLine.{PinLine}
 use Rattle.plan_texts.specs.declared.written.Names.{Names}

@@ -1,9 +1,9 @@
 -- Where the reading of a plan's lines stops at a fault: other lines can follow those before it, so that a plan is read, and none is
 -- read whatever follows the line of the fault.
 use Rattle.std.proofs.Common.{◌≡◌, ℕ, List, [], ◌∷◌, ◌++◌, length, drop, Option, Some, None, codes, refl, sym, ap, ◌∙◌, subst, append_assoc, zero, suc}
-use Rattle.bsdl_runs.specs.cell_library.declared.codes.BoundaryKind.TheVariants as kind
-use Rattle.bsdl_runs.specs.bsdl_device.declared.entries.OpcodeEntry.{OpcodeEntry}
-use Rattle.bsdl_runs.specs.cell_library.declared.codes.Bits.{Bits}
+use Rattle.cell_library.specs.declared.codes.BoundaryKind.TheVariants as kind
+use Rattle.bsdl_device.specs.declared.entries.OpcodeEntry.{OpcodeEntry}
+use Rattle.cell_library.specs.declared.codes.Bits.{Bits}
 use Rattle.plan_texts.specs.declared.plan.TapLine.{TapLine}
 use Rattle.plan_texts.specs.declared.plan.PinLine.{PinLine}
 use Rattle.plan_texts.specs.declared.written.CodeGroups.{CodeGroups}

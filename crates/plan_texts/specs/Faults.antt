@@ -1,7 +1,7 @@
 -- own: the faults of a plan's text. A line that can't stand there comes before any rule that is broken.
 use Rattle.std.specs.Prelude.{◌≡◌, ℕ, ◌+◌, ◌<◌, ◌≤◌, List, ◌++◌, length, map, take, drop, Some}
-use Rattle.line_texts.specs.Words.{lines_of, kept_lines}
-use Rattle.line_texts.specs.Ahead.{first_number}
+use Rattle.word_cutter.specs.LinesWords.{lines_of, kept_lines}
+use Rattle.word_cutter.specs.Ahead.{first_number}
 use Rattle.plan_texts.specs.declared.fault.PlanFault.{PlanFault}
 use Rattle.plan_texts.specs.declared.fault.PlanFault.TheVariants as fault
 use Rattle.plan_texts.specs.Rules.{rule_fault}

@@ -4,14 +4,14 @@ use Rattle.std.specs.Prelude.{ℕ, ◌+◌, ◌*◌, ◌%◌, ◌^◌, ◌==◌,
 use Rattle.std.specs.List.{list_any}
 use Rattle.std.specs.Option.{option_map}
 use Rattle.std.specs.Str.{bytes_eq}
-use Rattle.bsdl_runs.specs.cell_library.declared.codes.Bits.{Bits}
-use Rattle.bsdl_runs.specs.cell_library.declared.codes.Instr.{Instr}
-use Rattle.bsdl_runs.specs.cell_library.declared.codes.Instr.TheVariants as instr
-use Rattle.bsdl_runs.specs.bsdl_device.declared.entries.OpcodeEntry.{OpcodeEntry}
-use Rattle.bsdl_runs.specs.bsdl_device.Instructions.{instruction_word, all_instructions, required_instructions}
-use Rattle.bsdl_runs.specs.bsdl_device.Checks.{has_instruction, has_other_length, bypass_is_not_ones, opcodes_clash, code_is_barred}
-use Rattle.first_faults.specs.First.{or_else, first_in}
-use Rattle.first_faults.specs.Repeated.{repeated}
+use Rattle.cell_library.specs.declared.codes.Bits.{Bits}
+use Rattle.cell_library.specs.declared.codes.Instr.{Instr}
+use Rattle.cell_library.specs.declared.codes.Instr.TheVariants as instr
+use Rattle.bsdl_device.specs.declared.entries.OpcodeEntry.{OpcodeEntry}
+use Rattle.bsdl_device.specs.Instructions.{instruction_word, all_instructions, required_instructions}
+use Rattle.bsdl_device.specs.Checks.{has_instruction, has_other_length, bypass_is_not_ones, opcodes_clash, code_is_barred}
+use Rattle.texts.specs.First.{or_else, first_in}
+use Rattle.texts.specs.Repeated.{repeated}
 use Rattle.plan_texts.specs.declared.fault.PlanFault.{PlanFault}
 use Rattle.plan_texts.specs.declared.fault.PlanFault.TheVariants as fault
 use Rattle.plan_texts.specs.declared.written.CodeGroups.{CodeGroups}

@@ -10,11 +10,11 @@ use crate::lines::{
 };
 use crate::plan::{PinLine, TapLine};
 use crate::written::{CodeGroups, Codes, Names, Pins, Registers, TapLines, Written};
-use bsdl_runs::lower_bsdl_device::OpcodeEntry;
-use bsdl_runs::lower_cell_library::{Bits, BoundaryKind};
-use line_texts::LineReader;
+use bsdl_device::OpcodeEntry;
+use cell_library::{Bits, BoundaryKind};
 use std::alloc::Global;
 use texts::{OutOfMemory, Row, Text};
+use word_cutter::lines::LineReader;
 
 fn read_version(reader: &mut LineReader<'_>) -> Result<u32, LineFault>
     ensures gives { Gives result reader.new.rows (line_at forms.version_line reader.old.rows) }

@@ -1,11 +1,11 @@
 // The instructions of a version, by their names.
 ghost use Rattle.std.specs.Prelude.{◌≡◌, find};
 ghost use Rattle.std.specs.Str.{bytes_eq};
-ghost use Rattle.bsdl_runs.specs.bsdl_device.Instructions.{instruction_word};
+ghost use Rattle.bsdl_device.specs.Instructions.{instruction_word};
 ghost use Rattle.plan_texts.specs.Rules as rules;
 
-use bsdl_runs::lower_bsdl_device::{INSTRUCTIONS, instruction_word};
-use bsdl_runs::lower_cell_library::Instr;
+use bsdl_device::{INSTRUCTIONS, instruction_word};
+use cell_library::Instr;
 
 // Those of version 1.
 const FIRST_INSTRUCTIONS: [Instr; 7] = [

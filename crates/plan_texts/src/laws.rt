@@ -2,7 +2,7 @@ ghost use Rattle.plan_texts.specs.Exactly.{SpelledOnce, SpelledIsFaultless, Faul
 ghost use Rattle.plan_texts.specs.First.{FirstVersionStays};
 ghost use Rattle.plan_texts.specs.Spells.{CanonicalPlansSpell};
 
-use line_texts::{rows_of_texts_are_rows, texts_of_rows_read_back};
+use word_cutter::lines::{rows_of_texts_are_rows, texts_of_rows_read_back};
 
 /// A law: bytes spell one plan, or have one fault, and not both.
 pub fn texts_of_plans_are_spelled_or_at_fault()

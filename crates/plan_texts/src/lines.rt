@@ -1,15 +1,15 @@
 // What a line of a plan is seen as.
 ghost use Rattle.std.specs.Prelude.{◌≡◌, MatchOption, Some, None, codes};
-ghost use Rattle.line_texts.specs.Words.{words_of};
-ghost use Rattle.first_faults.specs.Repeated.{bytes_of};
+ghost use Rattle.word_cutter.specs.LinesWords.{words_of};
+ghost use Rattle.texts.specs.Repeated.{bytes_of};
 ghost use Rattle.plan_texts.specs.Forms as forms;
 
 use crate::forms::{
     bits_of, cell_named, is_clock, is_name, is_pin, is_prefix, length_of, version_of,
 };
 use crate::written::CodeGroups;
-use bsdl_runs::lower_cell_library::{Bits, BoundaryKind};
-use line_texts::{after_key, four_words, one_word, three_words, two_words};
+use cell_library::{Bits, BoundaryKind};
+use word_cutter::lines::{after_key, four_words, one_word, three_words, two_words};
 
 // The one word behind the key.
 fn word_behind<'a>(key: &[u8], line: &'a [u8]) -> Option<&'a [u8]>

@@ -9,8 +9,8 @@ use crate::instructions::instruction_of;
 use crate::plan::Plan;
 use crate::rules::code_of;
 use crate::written::{CodeGroups, Codes, Names, Pins, Registers, TapLines, Written};
-use bsdl_runs::lower_bsdl_device::OpcodeEntry;
-use bsdl_runs::lower_cell_library::{Bits, Opcode};
+use bsdl_device::OpcodeEntry;
+use cell_library::{Bits, Opcode};
 use std::alloc::Global;
 use texts::{OutOfMemory, Row};
 

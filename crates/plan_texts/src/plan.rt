@@ -1,15 +1,15 @@
-use bsdl_runs::lower_cell_library::{Bits, BoundaryKind, Opcode};
+use cell_library::{Bits, BoundaryKind, Opcode};
 use texts::{Row, Text};
 
 /// A port beside the netlist's, of the test access port or for linkage, and its physical pin.
-#[derive(Debug, Drop)]
+#[derive(Drop)]
 pub struct TapLine {
     pub name: Text,
     pub pin: Text,
 }
 
 /// A bit of a port of the netlist, `name` or `name[index]`, its physical pin and the kind of its boundary cell.
-#[derive(Debug, Drop)]
+#[derive(Drop)]
 pub struct PinLine {
     pub port: Text,
     pub pin: Text,

@@ -1,20 +1,20 @@
 // The canonical text of a plan, line by line.
 ghost use Rattle.std.specs.Prelude.{◌≡◌, ◌++◌, ◌∷◌, [], map, codes, IfOk, OnOk};
 ghost use Rattle.std.specs.Fmt.{decimal};
-ghost use Rattle.bsdl_runs.specs.bsdl_device.Canonical.{bits_text, pattern_text};
-ghost use Rattle.line_texts.specs.Rows.{row_text, rows_text};
+ghost use Rattle.bsdl_device.specs.Canonical.{bits_text, pattern_text};
+ghost use Rattle.word_cutter.specs.Rows.{row_text, rows_text};
 ghost use Rattle.plan_texts.specs.Grammar as grammar;
 ghost use Rattle.plan_texts.specs.Canonical as canonical;
 
 use crate::plan::{PinLine, Plan, TapLine};
-use bsdl_runs::lower_bsdl_device::instruction_word;
-use bsdl_runs::lower_cell_library::{Bits, Opcode};
-use bsdl_runs::written::{cell_word, put_bits, put_number, put_pattern};
-use line_texts::{
-    put_five, put_four, put_three, put_two, rows_of_texts_are_rows, texts_of_rows_read_back,
-};
+use bsdl_device::instruction_word;
+use bsdl_device::runs::written::{cell_word, put_bits, put_number, put_pattern};
+use cell_library::{Bits, Opcode};
 use std::alloc::Global;
 use texts::{OutOfMemory, Text};
+use word_cutter::lines::{
+    put_five, put_four, put_three, put_two, rows_of_texts_are_rows, texts_of_rows_read_back,
+};
 
 fn pattern_word(alloc: Global, bits: Bits) -> Result<Text, OutOfMemory>
     ensures { IfOk result (λ word. word ≡ pattern_text bits) }

@@ -1,21 +1,21 @@
 // The rules on a plan's instructions, its identification code and its usercode.
 ghost use Rattle.std.specs.Prelude.{◌≡◌, [], IfOk};
 ghost use Rattle.std.specs.List.{list_any};
-ghost use Rattle.bsdl_runs.specs.bsdl_device.Checks as check;
-ghost use Rattle.first_faults.specs.First.{first_in};
-ghost use Rattle.first_faults.specs.Repeated.{texts};
+ghost use Rattle.bsdl_device.specs.Checks as check;
+ghost use Rattle.texts.specs.First.{first_in};
+ghost use Rattle.texts.specs.Repeated.{texts};
 ghost use Rattle.plan_texts.specs.Rules as rules;
 
 use crate::fault::PlanFault;
 use crate::instructions::instruction_of;
 use crate::written::{CodeGroups, Written};
-use bsdl_runs::lower_bsdl_device::{OpcodeEntry, REQUIRED_INSTRUCTIONS, instruction_word};
-use bsdl_runs::lower_cell_library::{Bits, Instr};
-use bsdl_runs::opcodes::{
+use bsdl_device::runs::opcodes::{
     bypass_is_not_ones, clash, code_is_barred, has_instruction, has_other_length,
 };
-use first_faults::first_repeated;
+use bsdl_device::{OpcodeEntry, REQUIRED_INSTRUCTIONS, instruction_word};
+use cell_library::{Bits, Instr};
 use std::alloc::Global;
+use texts::first_faults::first_repeated;
 use texts::{OutOfMemory, Row, Text};
 
 fn gather_names<'a>(alloc: Global, opcodes: &'a [OpcodeEntry]) -> Result<Vec<&'a [u8]>, OutOfMemory>

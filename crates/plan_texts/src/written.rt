@@ -1,7 +1,7 @@
 // A plan as it is written, in the order of its lines.
 use crate::plan::{PinLine, TapLine};
-use bsdl_runs::lower_bsdl_device::OpcodeEntry;
-use bsdl_runs::lower_cell_library::{Bits, BoundaryKind};
+use bsdl_device::OpcodeEntry;
+use cell_library::{Bits, BoundaryKind};
 use texts::{Row, Text};
 
 /// The lines `plan`, `entity`, `package` and `prefix`.

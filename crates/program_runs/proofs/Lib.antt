@@ -1,10 +1,23 @@
 mod Alone
-mod Cells
-mod Sides
-mod Bits
-mod Plays
 mod Beside
+mod Bits
+mod Cells
+pub mod Events
+mod Expectations
+mod Found
+mod Legal
+mod Levels
 mod Lines
-mod Sets
-mod There
+mod Named
+pub mod Pins
+pub mod Plain
 mod Plans
+mod Plays
+pub mod ScriptsPlaces
+mod ScriptsSets
+mod ScriptsWhole
+pub mod ScriptsWords
+mod Sets
+mod Sides
+pub mod Starts
+mod There

@@ -20,8 +20,8 @@ use Rattle.plan_fitting.specs.Pins.{PinSeen}
 use Rattle.plan_fitting.specs.Rows.{rows}
 use Rattle.plan_fitting.specs.Fits.{tap_lines}
 use Rattle.plan_fitting.specs.Devices.{mode_of_side, fitted_of, dev_bit, cell_row, device_of}
-use Rattle.plan_devices.specs.FittingPlan.{IsFitting}
-use Rattle.plan_devices.specs.Laws.{HasPorts, HasTapPlaces, DevicesHavePorts, RowsStandAtBits, IsBehindItsRow, ControlsFollowTheirRows, TapNamesAreNew}
+use Rattle.plan_fitting.specs.FittingPlan.{IsFitting}
+use Rattle.plan_fitting.specs.DevicesLaws.{HasPorts, HasTapPlaces, DevicesHavePorts, RowsStandAtBits, IsBehindItsRow, ControlsFollowTheirRows, TapNamesAreNew}
 use Rattle.scan_programs.specs.Pins.{port_word}
 use Rattle.scan_programs.specs.Met.{input_place}
 use Rattle.program_runs.specs.Around.{StandsAtNet, StandsAtNone}

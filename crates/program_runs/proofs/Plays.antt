@@ -6,7 +6,7 @@ use Rattle.signal_values.specs.declared.PinSig.{PinSig}
 use Rattle.signal_values.specs.Values.{bit, pin_of}
 use Rattle.netlist_model.specs.Lists.{NetlistView}
 use Rattle.netlist_model.specs.Formed.{IsWellFormed}
-use Rattle.netlist_laws.specs.Ports.{BitHasDirection}
+use Rattle.netlist_model.specs.Ports.{BitHasDirection}
 use Rattle.test_logic.specs.declared.Levels.{Levels}
 use Rattle.test_logic.specs.declared.TapInput.{TapInput}
 use Rattle.test_logic.specs.declared.TapInput.TheVariants.{Tck, Tms, Tdi, Trst}

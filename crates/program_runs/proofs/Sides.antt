@@ -9,7 +9,7 @@ use Rattle.netlist_model.specs.declared.Dir.{Dir}
 use Rattle.netlist_model.specs.declared.Dir.TheVariants.{Input, Output, Inout}
 use Rattle.netlist_model.specs.Lists.{PortView, NetlistView, direction}
 use Rattle.netlist_model.specs.Formed.{IsWellFormed}
-use Rattle.netlist_laws.specs.Ports.{BitHasDirection}
+use Rattle.netlist_model.specs.Ports.{BitHasDirection}
 use Rattle.bsdl_device.specs.declared.values.DevBit.{DevBit}
 use Rattle.bsdl_device.specs.declared.values.CellRow.{CellRow}
 use Rattle.bsdl_device.specs.declared.values.Device.{Device}

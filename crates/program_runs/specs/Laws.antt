@@ -14,7 +14,7 @@ use Rattle.wrapped_chip.specs.Realises.{Realises, IsRunBeside}
 use Rattle.plan_texts.specs.declared.plan.Plan.{Plan}
 use Rattle.plan_fitting.specs.Pins.{PinSeen}
 use Rattle.plan_fitting.specs.Devices.{device_of}
-use Rattle.plan_devices.specs.FittingPlan.{IsFitting}
+use Rattle.plan_fitting.specs.FittingPlan.{IsFitting}
 use Rattle.scan_programs.specs.Program.{program_of}
 use Rattle.program_runs.specs.Around.{StandsAround}
 use Rattle.program_runs.specs.Lines.{NamePins}

@@ -1,6 +1,10 @@
 pub mod Around
-pub mod Played
-pub mod Lines
-pub mod Readings
-pub mod There
+pub mod Beside
 pub mod Laws
+pub mod Levels
+pub mod Lines
+pub mod Played
+pub mod Readings
+pub mod ScriptsLaws
+pub mod ScriptsWords
+pub mod There

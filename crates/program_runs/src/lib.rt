@@ -15,13 +15,16 @@
 //   have one name.
 // - `fitting_plans_meet_programs`: so each netlist that realises the chip of a plan that fits meets the program,
 //   with no other premise.
+// - `scripts`: a law: the program of a device, resolved on a linked netlist that realises its chip, misses nothing.
 // By the contract of its law functions.
 #![tactic(auto)]
 
 ghost use Rattle.program_runs.specs.Laws.{ProgramNamesPins, ChipMeetsProgram, RealisingMeetsProgram, ProgramRunExists, RunBesideProgramExists, NetlistMeetsProgram, ProgramRunThereExists, PlansStandAround, FittingPlansMeetPrograms};
 
-use netlist_laws::direction_of_a_bit;
-use plan_devices::{
+pub mod scripts;
+
+use netlist_model::laws::direction_of_a_bit;
+use plan_fitting::devices::{
     controls_follow_their_rows, devices_have_ports, plans_suit_netlists, rows_stand_at_bits,
     tap_names_are_new,
 };

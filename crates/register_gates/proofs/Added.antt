@@ -1,17 +1,17 @@
 -- Two parts that are added one after the other; what is left after the gates that steer a register; and registers in parts.
 use Rattle.std.proofs.Common.{◌≡◌, ℕ, ◌+◌, ◌*◌, ◌<◌, ◌≤◌, false, List, ◌++◌, length, refl, sym, ◌∙◌, ap, subst, Some, None, arith}
-use Rattle.register_bits.specs.netlist_model.declared.NetId.{NetId}
-use Rattle.register_bits.specs.netlist_model.declared.Feed.{Feed}
-use Rattle.register_bits.specs.netlist_model.declared.Feed.TheVariants.{Net, Const}
-use Rattle.register_bits.specs.netlist_model.Lists.{cell_count}
-use Rattle.register_bits.specs.netlist_model.Below.{IsFeedBelow, AreFeedsBelow}
-use Rattle.register_bits.specs.netlist_arena.Arena.{ArenaView}
-use Rattle.register_bits.specs.gate_parts.Appended.{Appended}
-use Rattle.register_bits.specs.gate_parts.Laws.{AppendedCount, AppendedMore}
-use Rattle.register_bits.specs.test_logic.declared.TapNets.{TapNets}
-use Rattle.register_bits.specs.declared.Steering.{Steering}
-use Rattle.register_bits.specs.Bits.{AreNetsBelow, shift_bit_cells}
-use Rattle.register_bits.specs.Chains.{chain_cells, chain_last}
+use Rattle.netlist_model.specs.declared.NetId.{NetId}
+use Rattle.netlist_model.specs.declared.Feed.{Feed}
+use Rattle.netlist_model.specs.declared.Feed.TheVariants.{Net, Const}
+use Rattle.netlist_model.specs.Lists.{cell_count}
+use Rattle.netlist_model.specs.Below.{IsFeedBelow, AreFeedsBelow}
+use Rattle.netlist_arena.specs.Arena.{ArenaView}
+use Rattle.gate_parts.specs.Appended.{Appended}
+use Rattle.gate_parts.specs.Laws.{AppendedCount, AppendedMore}
+use Rattle.tap_gates.specs.test_logic.declared.TapNets.{TapNets}
+use Rattle.register_gates.specs.declared.bits.Steering.{Steering}
+use Rattle.register_gates.specs.BitsLaws.{AreNetsBelow, shift_bit_cells}
+use Rattle.register_gates.specs.Chains.{chain_cells, chain_last}
 use Rattle.register_gates.specs.Constants.{constant_bits}
 use Rattle.register_gates.specs.Choices.{choice_bits}
 use Rattle.register_gates.specs.Registers.{selected_cells, selected_steering, bypass_cells, data_cells, data_last, inverse_cells, ident_size, ident_cells}

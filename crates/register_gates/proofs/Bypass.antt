@@ -3,25 +3,25 @@ use Rattle.std.proofs.Common.{◌≡◌, ℕ, suc, ◌+◌, ◌≤◌, Bool, fal
 use Rattle.signal_values.specs.declared.Sig.{Sig}
 use Rattle.signal_values.specs.declared.Sig.TheVariants.{Zero}
 use Rattle.signal_values.specs.Values.{bit}
-use Rattle.register_bits.specs.netlist_model.declared.NetId.{NetId}
-use Rattle.register_bits.specs.netlist_model.declared.Feed.TheVariants.{Const}
-use Rattle.register_bits.specs.netlist_model.Lists.{NetlistView}
-use Rattle.register_bits.specs.netlist_model.Settled.{IsSettled}
-use Rattle.register_bits.specs.netlist_model.Formed.{IsWellFormed}
-use Rattle.register_bits.specs.netlist_model.Contained.{HasCells}
-use Rattle.register_bits.specs.netlist_model.Runs.{Moment, PinEvent, IsStart, IsStep, IsRun}
-use Rattle.register_bits.specs.netlist_laws.Contained.{ContainedParts}
-use Rattle.register_bits.specs.netlist_laws.Runs.{RunHasMoments}
-use Rattle.register_bits.specs.gate_parts.PartLaws.{ContainedPartMeets}
-use Rattle.register_bits.specs.bsdl_device.declared.entries.Register.TheVariants as register
-use Rattle.register_bits.specs.test_logic.declared.TapNets.{TapNets}
-use Rattle.register_bits.specs.test_logic.declared.TapState.{TapState}
-use Rattle.register_bits.specs.test_logic.declared.Levels.{Levels}
-use Rattle.register_bits.specs.test_logic.Controller.{act}
-use Rattle.register_bits.specs.test_logic.Registers.{bypass_after}
-use Rattle.register_bits.specs.test_logic.Machine.{TestLogic, Machine, IsHistory, selects}
-use Rattle.register_bits.specs.Bits.{shift_bit_cells}
-use Rattle.register_bits.specs.Laws.{Carries, bit_after, ShiftBitsFollow}
+use Rattle.netlist_model.specs.declared.NetId.{NetId}
+use Rattle.netlist_model.specs.declared.Feed.TheVariants.{Const}
+use Rattle.netlist_model.specs.Lists.{NetlistView}
+use Rattle.netlist_model.specs.Settled.{IsSettled}
+use Rattle.netlist_model.specs.Formed.{IsWellFormed}
+use Rattle.netlist_model.specs.Contained.{HasCells}
+use Rattle.netlist_model.specs.Runs.{Moment, PinEvent, IsStart, IsStep, IsRun}
+use Rattle.netlist_model.specs.LawsContained.{ContainedParts}
+use Rattle.netlist_model.specs.LawsRuns.{RunHasMoments}
+use Rattle.gate_parts.specs.PartLaws.{ContainedPartMeets}
+use Rattle.tap_gates.specs.bsdl_device.declared.entries.Register.TheVariants as register
+use Rattle.tap_gates.specs.test_logic.declared.TapNets.{TapNets}
+use Rattle.tap_gates.specs.test_logic.declared.TapState.{TapState}
+use Rattle.tap_gates.specs.test_logic.declared.Levels.{Levels}
+use Rattle.tap_gates.specs.test_logic.Controller.{act}
+use Rattle.tap_gates.specs.test_logic.Registers.{bypass_after}
+use Rattle.tap_gates.specs.test_logic.Machine.{TestLogic, Machine, IsHistory, selects}
+use Rattle.register_gates.specs.BitsLaws.{shift_bit_cells}
+use Rattle.register_gates.specs.BitsLawsLaws.{Carries, bit_after, ShiftBitsFollow}
 use Rattle.register_gates.specs.Registers.{selected_cells, selected_steering, bypass_cells}
 use Rattle.register_gates.specs.Laws.{Directs, DirectsRun, BypassFollows}
 use Rattle.register_gates.proofs.Steps.{by_register, all_along}

@@ -5,12 +5,12 @@ use Rattle.std.proofs.lemmas.List.{append_assoc, append-nil, take_all, take_more
 use Rattle.std.proofs.lemmas.List.Elements.{All-nil, All-cons}
 use Rattle.signal_values.specs.declared.Sig.{Sig}
 use Rattle.signal_values.specs.Values.{bit}
-use Rattle.register_bits.specs.netlist_model.declared.NetId.{NetId}
-use Rattle.register_bits.specs.netlist_model.declared.Feed.{Feed}
-use Rattle.register_bits.specs.netlist_model.declared.Feed.TheVariants.{Net, Const}
-use Rattle.register_bits.specs.netlist_model.Settled.{feed_value, feed_values}
-use Rattle.register_bits.specs.netlist_model.Below.{IsFeedBelow}
-use Rattle.register_bits.specs.test_logic.Instructions.{bits_of}
+use Rattle.netlist_model.specs.declared.NetId.{NetId}
+use Rattle.netlist_model.specs.declared.Feed.{Feed}
+use Rattle.netlist_model.specs.declared.Feed.TheVariants.{Net, Const}
+use Rattle.netlist_model.specs.Settled.{feed_value, feed_values}
+use Rattle.netlist_model.specs.Below.{IsFeedBelow}
+use Rattle.tap_gates.specs.test_logic.Instructions.{bits_of}
 use Rattle.register_gates.specs.Choices.{choice, choice_bits, ChoicesAreBits}
 
 pub counted_choices : (count code user : ℕ) (on off : NetId) → length (choice_bits count code user on off) ≡ count

@@ -4,11 +4,11 @@ use Rattle.std.proofs.lemmas.List.{append_assoc, append-nil, take_all, take_more
 use Rattle.std.proofs.lemmas.List.Elements.{All-nil, All-cons}
 use Rattle.signal_values.specs.declared.Sig.{Sig}
 use Rattle.signal_values.specs.Values.{bit}
-use Rattle.register_bits.specs.netlist_model.declared.Feed.{Feed}
-use Rattle.register_bits.specs.netlist_model.declared.Feed.TheVariants.{Const}
-use Rattle.register_bits.specs.netlist_model.Settled.{feed_values}
-use Rattle.register_bits.specs.netlist_model.Below.{IsFeedBelow, AreFeedsBelow}
-use Rattle.register_bits.specs.test_logic.Instructions.{bits_of}
+use Rattle.netlist_model.specs.declared.Feed.{Feed}
+use Rattle.netlist_model.specs.declared.Feed.TheVariants.{Const}
+use Rattle.netlist_model.specs.Settled.{feed_values}
+use Rattle.netlist_model.specs.Below.{IsFeedBelow, AreFeedsBelow}
+use Rattle.tap_gates.specs.test_logic.Instructions.{bits_of}
 use Rattle.register_gates.specs.Constants.{constant_bits, ConstantsAreBits}
 
 pub counted : (count value : ℕ) → length (constant_bits count value) ≡ count

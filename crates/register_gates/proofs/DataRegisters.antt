@@ -3,23 +3,23 @@ use Rattle.std.proofs.Common.{◌≡◌, ℕ, ◌+◌, ◌<◌, Bool, List, [], 
 use Rattle.signal_values.specs.declared.Sig.{Sig}
 use Rattle.signal_values.specs.declared.Sig.TheVariants.{Zero}
 use Rattle.signal_values.specs.Values.{bit}
-use Rattle.register_bits.specs.netlist_model.declared.NetId.{NetId}
-use Rattle.register_bits.specs.netlist_model.declared.Feed.{Feed}
-use Rattle.register_bits.specs.netlist_model.Lists.{NetlistView}
-use Rattle.register_bits.specs.netlist_model.Settled.{feed_values, IsSettled}
-use Rattle.register_bits.specs.netlist_model.Formed.{IsWellFormed}
-use Rattle.register_bits.specs.netlist_model.Contained.{HasCells}
-use Rattle.register_bits.specs.netlist_model.Runs.{Moment, PinEvent, IsStep}
-use Rattle.register_bits.specs.netlist_laws.Contained.{ContainedParts}
-use Rattle.register_bits.specs.gate_parts.PartLaws.{ContainedPartMeets}
-use Rattle.register_bits.specs.test_logic.declared.TapNets.{TapNets}
-use Rattle.register_bits.specs.test_logic.declared.TapState.{TapState}
-use Rattle.register_bits.specs.test_logic.declared.Levels.{Levels}
-use Rattle.register_bits.specs.test_logic.Controller.{act}
-use Rattle.register_bits.specs.test_logic.Registers.{first_bit, shifted, ident_after}
-use Rattle.register_bits.specs.test_logic.Machine.{zeros}
-use Rattle.register_bits.specs.Chains.{chain_cells, chain_last, chain_values, cleared, ChainsFollow}
-use Rattle.register_bits.specs.Laws.{Carries, bit_after}
+use Rattle.netlist_model.specs.declared.NetId.{NetId}
+use Rattle.netlist_model.specs.declared.Feed.{Feed}
+use Rattle.netlist_model.specs.Lists.{NetlistView}
+use Rattle.netlist_model.specs.Settled.{feed_values, IsSettled}
+use Rattle.netlist_model.specs.Formed.{IsWellFormed}
+use Rattle.netlist_model.specs.Contained.{HasCells}
+use Rattle.netlist_model.specs.Runs.{Moment, PinEvent, IsStep}
+use Rattle.netlist_model.specs.LawsContained.{ContainedParts}
+use Rattle.gate_parts.specs.PartLaws.{ContainedPartMeets}
+use Rattle.tap_gates.specs.test_logic.declared.TapNets.{TapNets}
+use Rattle.tap_gates.specs.test_logic.declared.TapState.{TapState}
+use Rattle.tap_gates.specs.test_logic.declared.Levels.{Levels}
+use Rattle.tap_gates.specs.test_logic.Controller.{act}
+use Rattle.tap_gates.specs.test_logic.Registers.{first_bit, shifted, ident_after}
+use Rattle.tap_gates.specs.test_logic.Machine.{zeros}
+use Rattle.register_gates.specs.Chains.{chain_cells, chain_last, chain_values, cleared, ChainsFollow}
+use Rattle.register_gates.specs.BitsLawsLaws.{Carries, bit_after}
 use Rattle.register_gates.specs.Registers.{selected_cells, selected_steering, data_cells, data_values}
 use Rattle.register_gates.specs.Laws.{Directs, DataFollows}
 use Rattle.register_gates.proofs.Selection.{selected_action, acted, steered}

@@ -4,25 +4,25 @@ use Rattle.std.specs.Prelude.{if◌then◌else◌, unwrap_or}
 use Rattle.signal_values.specs.declared.Sig.{Sig}
 use Rattle.signal_values.specs.declared.Sig.TheVariants.{Zero}
 use Rattle.signal_values.specs.Values.{bit, sig_not}
-use Rattle.register_bits.specs.netlist_model.declared.NetId.{NetId}
-use Rattle.register_bits.specs.netlist_model.declared.Feed.{Feed}
-use Rattle.register_bits.specs.netlist_model.declared.Feed.TheVariants.{Net}
-use Rattle.register_bits.specs.netlist_model.Lists.{NetlistView}
-use Rattle.register_bits.specs.netlist_model.Settled.{feed_values, IsSettled}
-use Rattle.register_bits.specs.netlist_model.Formed.{IsWellFormed}
-use Rattle.register_bits.specs.netlist_model.Contained.{HasCells}
-use Rattle.register_bits.specs.netlist_model.Runs.{Moment, PinEvent, IsStart, IsStep, IsRun}
-use Rattle.register_bits.specs.netlist_laws.Contained.{ContainedParts}
-use Rattle.register_bits.specs.netlist_laws.Runs.{RunHasMoments}
-use Rattle.register_bits.specs.gate_parts.PartLaws.{ContainedPartMeets}
-use Rattle.register_bits.specs.bsdl_device.declared.entries.Register.TheVariants as register
-use Rattle.register_bits.specs.test_logic.declared.TapNets.{TapNets}
-use Rattle.register_bits.specs.test_logic.declared.TapState.{TapState}
-use Rattle.register_bits.specs.test_logic.declared.Levels.{Levels}
-use Rattle.register_bits.specs.test_logic.Instructions.{is_usercode, bits_of}
-use Rattle.register_bits.specs.test_logic.Registers.{ident_after}
-use Rattle.register_bits.specs.test_logic.Machine.{TestLogic, Machine, IsHistory, in_effect, selects, captured_code, zeros}
-use Rattle.register_bits.specs.Laws.{Carries, bit_after}
+use Rattle.netlist_model.specs.declared.NetId.{NetId}
+use Rattle.netlist_model.specs.declared.Feed.{Feed}
+use Rattle.netlist_model.specs.declared.Feed.TheVariants.{Net}
+use Rattle.netlist_model.specs.Lists.{NetlistView}
+use Rattle.netlist_model.specs.Settled.{feed_values, IsSettled}
+use Rattle.netlist_model.specs.Formed.{IsWellFormed}
+use Rattle.netlist_model.specs.Contained.{HasCells}
+use Rattle.netlist_model.specs.Runs.{Moment, PinEvent, IsStart, IsStep, IsRun}
+use Rattle.netlist_model.specs.LawsContained.{ContainedParts}
+use Rattle.netlist_model.specs.LawsRuns.{RunHasMoments}
+use Rattle.gate_parts.specs.PartLaws.{ContainedPartMeets}
+use Rattle.tap_gates.specs.bsdl_device.declared.entries.Register.TheVariants as register
+use Rattle.tap_gates.specs.test_logic.declared.TapNets.{TapNets}
+use Rattle.tap_gates.specs.test_logic.declared.TapState.{TapState}
+use Rattle.tap_gates.specs.test_logic.declared.Levels.{Levels}
+use Rattle.tap_gates.specs.test_logic.Instructions.{is_usercode, bits_of}
+use Rattle.tap_gates.specs.test_logic.Registers.{ident_after}
+use Rattle.tap_gates.specs.test_logic.Machine.{TestLogic, Machine, IsHistory, in_effect, selects, captured_code, zeros}
+use Rattle.register_gates.specs.BitsLawsLaws.{Carries, bit_after}
 use Rattle.register_gates.specs.declared.ident.TheConstants.{INVERSE}
 use Rattle.register_gates.specs.Registers.{data_cells, user_size, inverse_cells, captured_feeds, ident_cells, ident_values}
 use Rattle.register_gates.specs.Laws.{Directs, DirectsRun, DataLaws, DataFollows, captured_bits, TellsUsercode, IdentFollows}

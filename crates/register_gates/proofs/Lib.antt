@@ -1,12 +1,15 @@
-pub use Rattle.register_bits.proofs.test_logic as test_logic
-pub use Rattle.register_bits.proofs as register_bits
-pub mod ConstantBits
-pub mod ChoiceBits
 pub mod Added
-pub mod Steps
-pub mod Selection
 pub mod Bypass
+pub mod ChainBits
+pub mod ChainSteps
+pub mod ChoiceBits
+pub mod ConstantBits
 pub mod DataRegisters
+pub mod HeldBit
 pub mod Identified
+pub mod Lengths
+pub mod Selection
+pub mod ShiftBit
+pub mod Steps
 pub mod TdoAdded
 pub mod TdoFollows

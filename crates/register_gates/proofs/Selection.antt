@@ -2,22 +2,22 @@
 use Rattle.std.proofs.Common.{◌≡◌, ℕ, ◌+◌, Bool, true, false, refl, arith}
 use Rattle.std.specs.Prelude.{if◌then◌else◌}
 use Rattle.signal_values.specs.Values.{bit, sig_and}
-use Rattle.register_bits.specs.netlist_model.declared.NetId.{NetId}
-use Rattle.register_bits.specs.netlist_model.Lists.{NetlistView}
-use Rattle.register_bits.specs.netlist_model.Settled.{IsSettled}
-use Rattle.register_bits.specs.netlist_model.Formed.{IsWellFormed}
-use Rattle.register_bits.specs.netlist_model.Contained.{HasCells}
-use Rattle.register_bits.specs.netlist_model.Runs.{Moment}
-use Rattle.register_bits.specs.gate_parts.PartLaws.{ContainedPartMeets}
-use Rattle.register_bits.specs.test_logic.declared.TapNets.{TapNets}
-use Rattle.register_bits.specs.test_logic.declared.TapState.{TapState}
-use Rattle.register_bits.specs.test_logic.declared.TapState.TheVariants.{CaptureDr, ShiftDr}
-use Rattle.register_bits.specs.test_logic.declared.Action.{Action}
-use Rattle.register_bits.specs.test_logic.declared.Action.TheVariants.{Keeps}
-use Rattle.register_bits.specs.test_logic.Controller.{dr_action, act}
+use Rattle.netlist_model.specs.declared.NetId.{NetId}
+use Rattle.netlist_model.specs.Lists.{NetlistView}
+use Rattle.netlist_model.specs.Settled.{IsSettled}
+use Rattle.netlist_model.specs.Formed.{IsWellFormed}
+use Rattle.netlist_model.specs.Contained.{HasCells}
+use Rattle.netlist_model.specs.Runs.{Moment}
+use Rattle.gate_parts.specs.PartLaws.{ContainedPartMeets}
+use Rattle.tap_gates.specs.test_logic.declared.TapNets.{TapNets}
+use Rattle.tap_gates.specs.test_logic.declared.TapState.{TapState}
+use Rattle.tap_gates.specs.test_logic.declared.TapState.TheVariants.{CaptureDr, ShiftDr}
+use Rattle.tap_gates.specs.test_logic.declared.Action.{Action}
+use Rattle.tap_gates.specs.test_logic.declared.Action.TheVariants.{Keeps}
+use Rattle.tap_gates.specs.test_logic.Controller.{dr_action, act}
 use Rattle.tap_gates.specs.Controller.{same_state}
 use Rattle.tap_gates.specs.Laws.{ShowsState}
-use Rattle.register_bits.specs.Laws.{Steers, is_capture, is_shift}
+use Rattle.register_gates.specs.BitsLawsLaws.{Steers, is_capture, is_shift}
 use Rattle.register_gates.specs.declared.TheConstants.{SELECTED}
 use Rattle.register_gates.specs.Registers.{selected_given, selected_cells, selected_steering}
 

@@ -3,15 +3,15 @@ use Rattle.std.proofs.Common.{◌≡◌, ℕ, zero, suc, ◌≤◌, Bool, true, 
 use Rattle.std.specs.Prelude.{Option, Some, None, if◌then◌else◌}
 use Rattle.signal_values.specs.declared.Sig.{Sig}
 use Rattle.signal_values.specs.Values.{bit}
-use Rattle.register_bits.specs.cell_library.declared.Edge.{Edge}
-use Rattle.register_bits.specs.cell_library.declared.Edge.TheVariants.{Rise, Fall}
-use Rattle.register_bits.specs.netlist_model.Lists.{NetlistView}
-use Rattle.register_bits.specs.netlist_model.Settled.{IsSettled}
-use Rattle.register_bits.specs.netlist_model.Runs.{Moment, PinEvent, IsStep, IsRun}
-use Rattle.register_bits.specs.netlist_laws.Runs.{RunHasMoments}
-use Rattle.register_bits.specs.test_logic.declared.Levels.{Levels}
-use Rattle.register_bits.specs.test_logic.Machine.{TestLogic, Machine, reset, rise, fall, edge_of, clocked, step_under, machine_step}
-use Rattle.register_bits.specs.Laws.{on_edge, bit_after}
+use Rattle.cell_library.specs.declared.Edge.{Edge}
+use Rattle.cell_library.specs.declared.Edge.TheVariants.{Rise, Fall}
+use Rattle.netlist_model.specs.Lists.{NetlistView}
+use Rattle.netlist_model.specs.Settled.{IsSettled}
+use Rattle.netlist_model.specs.Runs.{Moment, PinEvent, IsStep, IsRun}
+use Rattle.netlist_model.specs.LawsRuns.{RunHasMoments}
+use Rattle.tap_gates.specs.test_logic.declared.Levels.{Levels}
+use Rattle.tap_gates.specs.test_logic.Machine.{TestLogic, Machine, reset, rise, fall, edge_of, clocked, step_under, machine_step}
+use Rattle.register_gates.specs.BitsLawsLaws.{on_edge, bit_after}
 use Rattle.register_gates.specs.Steps.{StepsByRegister}
 
 clocked_is : (L : TestLogic) (edge : Option Edge) (tms : Bool) (tdi : Sig) (captured : List Sig) (m : Machine)

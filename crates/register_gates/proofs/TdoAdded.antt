@@ -2,18 +2,18 @@
 use Rattle.std.proofs.Common.{◌≡◌, ℕ, ◌+◌, ◌<◌, ◌≤◌, List, [], ◌∷◌, length, refl, sym, subst, arith, Some, None}
 use Rattle.std.specs.Prelude.{Option}
 use Rattle.std.proofs.lemmas.List.Elements.{All-nil, All-cons}
-use Rattle.register_bits.specs.netlist_model.declared.NetId.{NetId}
-use Rattle.register_bits.specs.netlist_model.declared.Feed.{Feed}
-use Rattle.register_bits.specs.netlist_model.declared.Feed.TheVariants.{Net}
-use Rattle.register_bits.specs.netlist_model.Lists.{cell_count}
-use Rattle.register_bits.specs.netlist_model.Below.{IsFeedBelow, AreFeedsBelow}
-use Rattle.register_bits.specs.netlist_arena.Arena.{ArenaView}
-use Rattle.register_bits.specs.gate_parts.Appended.{Appended}
-use Rattle.register_bits.specs.gate_parts.Laws.{AppendedCount, AppendedMore}
-use Rattle.register_bits.specs.gate_parts.Parts.{part_cells}
-use Rattle.register_bits.specs.test_logic.declared.InstrNets.{InstrNets}
-use Rattle.register_bits.specs.test_logic.declared.TapNets.{TapNets}
-use Rattle.register_bits.specs.Bits.{AreNetsBelow}
+use Rattle.netlist_model.specs.declared.NetId.{NetId}
+use Rattle.netlist_model.specs.declared.Feed.{Feed}
+use Rattle.netlist_model.specs.declared.Feed.TheVariants.{Net}
+use Rattle.netlist_model.specs.Lists.{cell_count}
+use Rattle.netlist_model.specs.Below.{IsFeedBelow, AreFeedsBelow}
+use Rattle.netlist_arena.specs.Arena.{ArenaView}
+use Rattle.gate_parts.specs.Appended.{Appended}
+use Rattle.gate_parts.specs.Laws.{AppendedCount, AppendedMore}
+use Rattle.gate_parts.specs.Parts.{part_cells}
+use Rattle.tap_gates.specs.test_logic.declared.InstrNets.{InstrNets}
+use Rattle.tap_gates.specs.test_logic.declared.TapNets.{TapNets}
+use Rattle.register_gates.specs.BitsLaws.{AreNetsBelow}
 use Rattle.register_gates.specs.declared.tdo.TheConstants.{TDO}
 use Rattle.register_gates.specs.Tdo.{AreIdentBelow, ident_feed, tdo_given, tdo_driver, tdo_cells}
 use Rattle.register_gates.proofs.Added.{in_turn}

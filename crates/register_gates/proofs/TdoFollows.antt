@@ -7,36 +7,36 @@ use Rattle.signal_values.specs.declared.PinSig.{PinSig}
 use Rattle.signal_values.specs.declared.PinSig.TheVariants.{HighZ}
 use Rattle.signal_values.specs.Values.{bit, sig_mux, sig_or, drive}
 use Rattle.signal_values.proofs.Laws.{mux-one, mux-zero}
-use Rattle.register_bits.specs.cell_library.declared.Edge.{Edge}
-use Rattle.register_bits.specs.cell_library.declared.Edge.TheVariants.{Rise, Fall}
-use Rattle.register_bits.specs.cell_library.declared.ResetTo.TheVariants.{Zero as ToZero}
-use Rattle.register_bits.specs.cell_library.Flops.{is_edge, reset_or}
-use Rattle.register_bits.specs.netlist_model.declared.Dir.TheVariants.{Output}
-use Rattle.register_bits.specs.netlist_model.declared.NetId.{NetId}
-use Rattle.register_bits.specs.netlist_model.Lists.{CellView, NetlistView, direction}
-use Rattle.register_bits.specs.netlist_model.Settled.{feed_value, IsSettled, drive_by, driver_of}
-use Rattle.register_bits.specs.netlist_model.Readings.{reading_of}
-use Rattle.register_bits.specs.netlist_model.Formed.{IsWellFormed}
-use Rattle.register_bits.specs.netlist_model.Contained.{HasCells}
-use Rattle.register_bits.specs.netlist_model.Runs.{Moment, PinEvent, IsStart, IsStep, IsRun, reading_at}
-use Rattle.register_bits.specs.netlist_laws.Contained.{ContainedParts}
-use Rattle.register_bits.specs.netlist_laws.Drivers.{DriverIsFound}
-use Rattle.register_bits.specs.netlist_laws.Runs.{RunHasMoments}
-use Rattle.register_bits.specs.gate_parts.Laws.{FlopStarts, FlopSteps}
-use Rattle.register_bits.specs.gate_parts.Parts.{part_cells}
-use Rattle.register_bits.specs.gate_parts.PartLaws.{ContainedPartMeets, ContainedPartHasFlops}
-use Rattle.register_bits.specs.bsdl_device.declared.entries.Register.{Register}
-use Rattle.register_bits.specs.bsdl_device.declared.entries.Register.TheVariants as register
-use Rattle.register_bits.specs.bsdl_device.Instructions.{is_register, selected_register}
-use Rattle.register_bits.specs.test_logic.declared.InstrNets.{InstrNets}
-use Rattle.register_bits.specs.test_logic.declared.TapNets.{TapNets}
-use Rattle.register_bits.specs.test_logic.declared.TapState.{TapState}
-use Rattle.register_bits.specs.test_logic.declared.TapState.TheVariants.{TestLogicReset, RunTestIdle, SelectDrScan, CaptureDr, ShiftDr, Exit1Dr, PauseDr, Exit2Dr, UpdateDr, SelectIrScan, CaptureIr, ShiftIr, Exit1Ir, PauseIr, Exit2Ir, UpdateIr}
-use Rattle.register_bits.specs.test_logic.declared.Levels.{Levels}
-use Rattle.register_bits.specs.test_logic.Registers.{first_bit, tdo_after}
-use Rattle.register_bits.specs.test_logic.Machine.{TestLogic, Machine, IsHistory, in_effect, bit_of, edge_of}
+use Rattle.cell_library.specs.declared.Edge.{Edge}
+use Rattle.cell_library.specs.declared.Edge.TheVariants.{Rise, Fall}
+use Rattle.cell_library.specs.declared.ResetTo.TheVariants.{Zero as ToZero}
+use Rattle.cell_library.specs.Flops.{is_edge, reset_or}
+use Rattle.netlist_model.specs.declared.Dir.TheVariants.{Output}
+use Rattle.netlist_model.specs.declared.NetId.{NetId}
+use Rattle.netlist_model.specs.Lists.{CellView, NetlistView, direction}
+use Rattle.netlist_model.specs.Settled.{feed_value, IsSettled, drive_by, driver_of}
+use Rattle.netlist_model.specs.Readings.{reading_of}
+use Rattle.netlist_model.specs.Formed.{IsWellFormed}
+use Rattle.netlist_model.specs.Contained.{HasCells}
+use Rattle.netlist_model.specs.Runs.{Moment, PinEvent, IsStart, IsStep, IsRun, reading_at}
+use Rattle.netlist_model.specs.LawsContained.{ContainedParts}
+use Rattle.netlist_model.specs.Drivers.{DriverIsFound}
+use Rattle.netlist_model.specs.LawsRuns.{RunHasMoments}
+use Rattle.gate_parts.specs.Laws.{FlopStarts, FlopSteps}
+use Rattle.gate_parts.specs.Parts.{part_cells}
+use Rattle.gate_parts.specs.PartLaws.{ContainedPartMeets, ContainedPartHasFlops}
+use Rattle.tap_gates.specs.bsdl_device.declared.entries.Register.{Register}
+use Rattle.tap_gates.specs.bsdl_device.declared.entries.Register.TheVariants as register
+use Rattle.tap_gates.specs.bsdl_device.Instructions.{is_register, selected_register}
+use Rattle.tap_gates.specs.test_logic.declared.InstrNets.{InstrNets}
+use Rattle.tap_gates.specs.test_logic.declared.TapNets.{TapNets}
+use Rattle.tap_gates.specs.test_logic.declared.TapState.{TapState}
+use Rattle.tap_gates.specs.test_logic.declared.TapState.TheVariants.{TestLogicReset, RunTestIdle, SelectDrScan, CaptureDr, ShiftDr, Exit1Dr, PauseDr, Exit2Dr, UpdateDr, SelectIrScan, CaptureIr, ShiftIr, Exit1Ir, PauseIr, Exit2Ir, UpdateIr}
+use Rattle.tap_gates.specs.test_logic.declared.Levels.{Levels}
+use Rattle.tap_gates.specs.test_logic.Registers.{first_bit, tdo_after}
+use Rattle.tap_gates.specs.test_logic.Machine.{TestLogic, Machine, IsHistory, in_effect, bit_of, edge_of}
 use Rattle.tap_gates.specs.Controller.{same_state}
-use Rattle.register_bits.specs.Laws.{Carries, on_edge, bit_after}
+use Rattle.register_gates.specs.BitsLawsLaws.{Carries, on_edge, bit_after}
 use Rattle.register_gates.specs.declared.tdo.TheConstants.{TDO}
 use Rattle.register_gates.specs.Tdo.{ident_feed, tdo_given, tdo_driver, tdo_cells, tdo_given_by, data_bit, Presents, TdoFollows, TdoLetsGo}
 use Rattle.register_gates.proofs.Steps.{by_register, all_along}

@@ -4,12 +4,12 @@
 use Rattle.std.specs.Prelude.{◌≡◌, ℕ, zero, suc, ◌/◌, ◌%◌, ◌==◌, ◌<◌, Bool, true, false, not, List, [], ◌∷◌, length, if◌then◌else◌}
 use Rattle.signal_values.specs.declared.Sig.{Sig}
 use Rattle.signal_values.specs.Values.{bit}
-use Rattle.register_bits.specs.netlist_model.declared.NetId.{NetId}
-use Rattle.register_bits.specs.netlist_model.declared.Feed.{Feed}
-use Rattle.register_bits.specs.netlist_model.declared.Feed.TheVariants.{Net, Const}
-use Rattle.register_bits.specs.netlist_model.Settled.{feed_values}
-use Rattle.register_bits.specs.netlist_model.Below.{AreFeedsBelow}
-use Rattle.register_bits.specs.test_logic.Instructions.{bits_of}
+use Rattle.netlist_model.specs.declared.NetId.{NetId}
+use Rattle.netlist_model.specs.declared.Feed.{Feed}
+use Rattle.netlist_model.specs.declared.Feed.TheVariants.{Net, Const}
+use Rattle.netlist_model.specs.Settled.{feed_values}
+use Rattle.netlist_model.specs.Below.{AreFeedsBelow}
+use Rattle.tap_gates.specs.test_logic.Instructions.{bits_of}
 
 -- a bit of the code, and of the usercode: a constant where they agree, else whether USERCODE is in effect, or isn't
 abbrev pub choice : Bool → Bool → NetId → NetId → Feed

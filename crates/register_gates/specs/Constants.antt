@@ -1,11 +1,11 @@
 -- The bits of a number as constants, bit 0 first, as it is nearest TDO.
 use Rattle.std.specs.Prelude.{◌≡◌, ℕ, zero, suc, ◌/◌, ◌%◌, ◌==◌, ◌≤◌, List, [], ◌∷◌, length, take}
 use Rattle.signal_values.specs.declared.Sig.{Sig}
-use Rattle.register_bits.specs.netlist_model.declared.Feed.{Feed}
-use Rattle.register_bits.specs.netlist_model.declared.Feed.TheVariants.{Const}
-use Rattle.register_bits.specs.netlist_model.Settled.{feed_values}
-use Rattle.register_bits.specs.netlist_model.Below.{AreFeedsBelow}
-use Rattle.register_bits.specs.test_logic.Instructions.{bits_of}
+use Rattle.netlist_model.specs.declared.Feed.{Feed}
+use Rattle.netlist_model.specs.declared.Feed.TheVariants.{Const}
+use Rattle.netlist_model.specs.Settled.{feed_values}
+use Rattle.netlist_model.specs.Below.{AreFeedsBelow}
+use Rattle.tap_gates.specs.test_logic.Instructions.{bits_of}
 
 -- own: so many of them
 unfoldable pub constant_bits : ℕ → ℕ → List Feed

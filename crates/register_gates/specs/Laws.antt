@@ -4,23 +4,23 @@ use Rattle.std.specs.Prelude.{◌≡◌, ℕ, ◌+◌, ◌<◌, ◌≤◌, Bool,
 use Rattle.signal_values.specs.declared.Sig.{Sig}
 use Rattle.signal_values.specs.declared.Sig.TheVariants.{Zero}
 use Rattle.signal_values.specs.Values.{bit}
-use Rattle.register_bits.specs.netlist_model.declared.NetId.{NetId}
-use Rattle.register_bits.specs.netlist_model.declared.Feed.{Feed}
-use Rattle.register_bits.specs.netlist_model.Lists.{NetlistView}
-use Rattle.register_bits.specs.netlist_model.Settled.{feed_values, IsSettled}
-use Rattle.register_bits.specs.netlist_model.Formed.{IsWellFormed}
-use Rattle.register_bits.specs.netlist_model.Contained.{HasCells}
-use Rattle.register_bits.specs.netlist_model.Runs.{Moment, PinEvent, IsStart, IsStep, IsRun}
-use Rattle.register_bits.specs.bsdl_device.declared.entries.Register.{Register}
-use Rattle.register_bits.specs.bsdl_device.declared.entries.Register.TheVariants as register
-use Rattle.register_bits.specs.test_logic.declared.TapState.{TapState}
-use Rattle.register_bits.specs.test_logic.declared.TapNets.{TapNets}
-use Rattle.register_bits.specs.test_logic.declared.Levels.{Levels}
-use Rattle.register_bits.specs.test_logic.Instructions.{is_usercode, bits_of}
-use Rattle.register_bits.specs.test_logic.Registers.{first_bit, bypass_after, ident_after}
-use Rattle.register_bits.specs.test_logic.Machine.{TestLogic, Machine, IsHistory, in_effect, selects, zeros}
+use Rattle.netlist_model.specs.declared.NetId.{NetId}
+use Rattle.netlist_model.specs.declared.Feed.{Feed}
+use Rattle.netlist_model.specs.Lists.{NetlistView}
+use Rattle.netlist_model.specs.Settled.{feed_values, IsSettled}
+use Rattle.netlist_model.specs.Formed.{IsWellFormed}
+use Rattle.netlist_model.specs.Contained.{HasCells}
+use Rattle.netlist_model.specs.Runs.{Moment, PinEvent, IsStart, IsStep, IsRun}
+use Rattle.tap_gates.specs.bsdl_device.declared.entries.Register.{Register}
+use Rattle.tap_gates.specs.bsdl_device.declared.entries.Register.TheVariants as register
+use Rattle.tap_gates.specs.test_logic.declared.TapState.{TapState}
+use Rattle.tap_gates.specs.test_logic.declared.TapNets.{TapNets}
+use Rattle.tap_gates.specs.test_logic.declared.Levels.{Levels}
+use Rattle.tap_gates.specs.test_logic.Instructions.{is_usercode, bits_of}
+use Rattle.tap_gates.specs.test_logic.Registers.{first_bit, bypass_after, ident_after}
+use Rattle.tap_gates.specs.test_logic.Machine.{TestLogic, Machine, IsHistory, in_effect, selects, zeros}
 use Rattle.tap_gates.specs.Laws.{ShowsState}
-use Rattle.register_bits.specs.Laws.{Carries, bit_after}
+use Rattle.register_gates.specs.BitsLawsLaws.{Carries, bit_after}
 use Rattle.register_gates.specs.Registers.{bypass_cells, data_cells, data_values, data_last, captured_feeds, ident_cells, ident_values, ident_last}
 
 -- own: the nets that are handed to a test data register carry the controller's state, whether it is

@@ -2,15 +2,15 @@
 -- IEEE Std 1149.1-2001: bypass register, device identification register; the gates are own.
 use Rattle.std.specs.Prelude.{ℕ, ◌+◌, false, List, [], ◌∷◌, ◌++◌, Option, Some, None}
 use Rattle.signal_values.specs.declared.Sig.{Sig}
-use Rattle.register_bits.specs.netlist_model.declared.NetId.{NetId}
-use Rattle.register_bits.specs.netlist_model.declared.Feed.{Feed}
-use Rattle.register_bits.specs.netlist_model.declared.Feed.TheVariants.{Net, Const}
-use Rattle.register_bits.specs.netlist_model.Lists.{CellView}
-use Rattle.register_bits.specs.gate_parts.Parts.{part_cells}
-use Rattle.register_bits.specs.test_logic.declared.TapNets.{TapNets}
-use Rattle.register_bits.specs.declared.Steering.{Steering}
-use Rattle.register_bits.specs.Bits.{shift_bit_cells}
-use Rattle.register_bits.specs.Chains.{chain_cells, chain_last, chain_values}
+use Rattle.netlist_model.specs.declared.NetId.{NetId}
+use Rattle.netlist_model.specs.declared.Feed.{Feed}
+use Rattle.netlist_model.specs.declared.Feed.TheVariants.{Net, Const}
+use Rattle.netlist_model.specs.Lists.{CellView}
+use Rattle.gate_parts.specs.Parts.{part_cells}
+use Rattle.tap_gates.specs.test_logic.declared.TapNets.{TapNets}
+use Rattle.register_gates.specs.declared.bits.Steering.{Steering}
+use Rattle.register_gates.specs.BitsLaws.{shift_bit_cells}
+use Rattle.register_gates.specs.Chains.{chain_cells, chain_last, chain_values}
 use Rattle.register_gates.specs.declared.TheConstants.{SELECTED}
 use Rattle.register_gates.specs.declared.ident.TheConstants.{INVERSE}
 use Rattle.register_gates.specs.Constants.{constant_bits}

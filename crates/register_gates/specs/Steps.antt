@@ -5,16 +5,16 @@ use Rattle.signal_values.specs.declared.Sig.{Sig}
 use Rattle.signal_values.specs.declared.Sig.TheVariants.{Zero}
 use Rattle.signal_values.specs.declared.PinSig.TheVariants.{HighZ}
 use Rattle.signal_values.specs.Values.{bit}
-use Rattle.register_bits.specs.netlist_model.Lists.{CellView, cell_count}
-use Rattle.register_bits.specs.netlist_arena.Arena.{ArenaView}
-use Rattle.register_bits.specs.gate_parts.Appended.{Appended}
-use Rattle.register_bits.specs.bsdl_device.declared.entries.Register.TheVariants as register
-use Rattle.register_bits.specs.bsdl_device.Instructions.{selected_register}
-use Rattle.register_bits.specs.test_logic.declared.Levels.{Levels}
-use Rattle.register_bits.specs.test_logic.Instructions.{reset_opcode}
-use Rattle.register_bits.specs.test_logic.Registers.{first_bit, shifted_after, bypass_after, ident_after, latched_after, tdo_after}
-use Rattle.register_bits.specs.test_logic.Machine.{TestLogic, Machine, zeros, in_effect, selects, bit_of, captured_code, machine_step}
-use Rattle.register_bits.specs.Laws.{bit_after}
+use Rattle.netlist_model.specs.Lists.{CellView, cell_count}
+use Rattle.netlist_arena.specs.Arena.{ArenaView}
+use Rattle.gate_parts.specs.Appended.{Appended}
+use Rattle.tap_gates.specs.bsdl_device.declared.entries.Register.TheVariants as register
+use Rattle.tap_gates.specs.bsdl_device.Instructions.{selected_register}
+use Rattle.tap_gates.specs.test_logic.declared.Levels.{Levels}
+use Rattle.tap_gates.specs.test_logic.Instructions.{reset_opcode}
+use Rattle.tap_gates.specs.test_logic.Registers.{first_bit, shifted_after, bypass_after, ident_after, latched_after, tdo_after}
+use Rattle.tap_gates.specs.test_logic.Machine.{TestLogic, Machine, zeros, in_effect, selects, bit_of, captured_code, machine_step}
+use Rattle.register_gates.specs.BitsLawsLaws.{bit_after}
 
 pub record RegistersStep (L : TestLogic) (before after : Levels) (captured : List Sig) (m : Machine) : Type 0 where
   pub shift : (machine_step L before after captured m).shift

@@ -5,31 +5,31 @@ use Rattle.signal_values.specs.declared.Sig.{Sig}
 use Rattle.signal_values.specs.declared.PinSig.{PinSig}
 use Rattle.signal_values.specs.declared.PinSig.TheVariants.{HighZ}
 use Rattle.signal_values.specs.Values.{bit, drive}
-use Rattle.register_bits.specs.cell_library.declared.Edge.TheVariants.{Fall}
-use Rattle.register_bits.specs.cell_library.declared.Kind.TheVariants.{Bufif1}
-use Rattle.register_bits.specs.netlist_model.declared.Dir.TheVariants.{Output}
-use Rattle.register_bits.specs.netlist_model.declared.Name.TheVariants.{Added}
-use Rattle.register_bits.specs.netlist_model.declared.NetId.{NetId}
-use Rattle.register_bits.specs.netlist_model.declared.Feed.{Feed}
-use Rattle.register_bits.specs.netlist_model.declared.Feed.TheVariants.{Net, Const}
-use Rattle.register_bits.specs.netlist_model.Lists.{CellView, NetlistView, direction}
-use Rattle.register_bits.specs.netlist_model.Settled.{feed_value, IsSettled}
-use Rattle.register_bits.specs.netlist_model.Formed.{IsWellFormed}
-use Rattle.register_bits.specs.netlist_model.Contained.{HasCells}
-use Rattle.register_bits.specs.netlist_model.Runs.{Moment, PinEvent, IsStart, IsStep, IsRun, reading_at}
-use Rattle.register_bits.specs.gate_parts.Parts.{part_cells}
-use Rattle.register_bits.specs.bsdl_device.declared.entries.Register.{Register}
-use Rattle.register_bits.specs.bsdl_device.declared.entries.Register.TheVariants as register
-use Rattle.register_bits.specs.bsdl_device.Instructions.{is_register, selected_register}
-use Rattle.register_bits.specs.test_logic.declared.InstrNets.{InstrNets}
-use Rattle.register_bits.specs.test_logic.declared.TapNets.{TapNets}
-use Rattle.register_bits.specs.test_logic.declared.TapState.{TapState}
-use Rattle.register_bits.specs.test_logic.declared.TapState.TheVariants.{TestLogicReset}
-use Rattle.register_bits.specs.test_logic.declared.Levels.{Levels}
-use Rattle.register_bits.specs.test_logic.Registers.{first_bit, tdo_after}
-use Rattle.register_bits.specs.test_logic.Machine.{TestLogic, Machine, IsHistory, in_effect, bit_of, edge_of}
+use Rattle.cell_library.specs.declared.Edge.TheVariants.{Fall}
+use Rattle.cell_library.specs.declared.Kind.TheVariants.{Bufif1}
+use Rattle.netlist_model.specs.declared.Dir.TheVariants.{Output}
+use Rattle.netlist_model.specs.declared.Name.TheVariants.{Added}
+use Rattle.netlist_model.specs.declared.NetId.{NetId}
+use Rattle.netlist_model.specs.declared.Feed.{Feed}
+use Rattle.netlist_model.specs.declared.Feed.TheVariants.{Net, Const}
+use Rattle.netlist_model.specs.Lists.{CellView, NetlistView, direction}
+use Rattle.netlist_model.specs.Settled.{feed_value, IsSettled}
+use Rattle.netlist_model.specs.Formed.{IsWellFormed}
+use Rattle.netlist_model.specs.Contained.{HasCells}
+use Rattle.netlist_model.specs.Runs.{Moment, PinEvent, IsStart, IsStep, IsRun, reading_at}
+use Rattle.gate_parts.specs.Parts.{part_cells}
+use Rattle.tap_gates.specs.bsdl_device.declared.entries.Register.{Register}
+use Rattle.tap_gates.specs.bsdl_device.declared.entries.Register.TheVariants as register
+use Rattle.tap_gates.specs.bsdl_device.Instructions.{is_register, selected_register}
+use Rattle.tap_gates.specs.test_logic.declared.InstrNets.{InstrNets}
+use Rattle.tap_gates.specs.test_logic.declared.TapNets.{TapNets}
+use Rattle.tap_gates.specs.test_logic.declared.TapState.{TapState}
+use Rattle.tap_gates.specs.test_logic.declared.TapState.TheVariants.{TestLogicReset}
+use Rattle.tap_gates.specs.test_logic.declared.Levels.{Levels}
+use Rattle.tap_gates.specs.test_logic.Registers.{first_bit, tdo_after}
+use Rattle.tap_gates.specs.test_logic.Machine.{TestLogic, Machine, IsHistory, in_effect, bit_of, edge_of}
 use Rattle.tap_gates.specs.Laws.{ShowsState}
-use Rattle.register_bits.specs.Laws.{Carries, bit_after}
+use Rattle.register_gates.specs.BitsLawsLaws.{Carries, bit_after}
 use Rattle.register_gates.specs.declared.tdo.TheConstants.{TDO}
 
 abbrev pub AreIdentBelow : ℕ → Option NetId → Type 0

@@ -4,7 +4,7 @@ ghost use Rattle.std.specs.Prelude.{◌≡◌};
 ghost use Rattle.register_gates.specs.Choices as choices;
 ghost use Rattle.register_gates.specs.Constants.{constant_bits};
 
-use register_bits::lower_netlist_model::{Feed, NetId};
+use netlist_model::{Feed, NetId};
 
 /// The 32 bits of a number as constants, bit 0 first.
 pub fn constants_of(value: u32) -> [Feed; 32]

@@ -1,19 +1,19 @@
 // The identification register.
 
 ghost use Rattle.std.specs.Prelude.{◌≡◌, ◌+◌, ◌<◌, ◌≤◌, length, Some};
-ghost use Rattle.register_bits.specs.netlist_model.Lists.{cell_count};
-ghost use Rattle.register_bits.specs.netlist_model.Contained.{IsDense};
-ghost use Rattle.register_bits.specs.gate_parts.Appended.{Appended};
-ghost use Rattle.register_bits.specs.Bits.{AreNetsBelow};
+ghost use Rattle.netlist_model.specs.Lists.{cell_count};
+ghost use Rattle.netlist_model.specs.Contained.{IsDense};
+ghost use Rattle.gate_parts.specs.Appended.{Appended};
+ghost use Rattle.register_gates.specs.BitsLaws.{AreNetsBelow};
 ghost use Rattle.register_gates.specs.Registers.{inverse_cells, ident_cells, ident_last, ident_size};
 
 use crate::add_data;
 use crate::constants::{choices_of, constants_of};
-use register_bits::lower_cell_library::Kind;
-use register_bits::lower_gate_parts::{Gate, Pin, Pins, add_part, appended_count, appended_more};
-use register_bits::lower_netlist_arena::Netlist;
-use register_bits::lower_netlist_model::{Feed, NetId};
-use register_bits::lower_test_logic::{InstrNets, TapNets};
+use cell_library::Kind;
+use gate_parts::{Gate, Pin, Pins, add_part, appended_count, appended_more};
+use netlist_arena::Netlist;
+use netlist_model::{Feed, NetId};
+use tap_gates::lower_test_logic::{InstrNets, TapNets};
 
 /// The inverse of a bit. Handed in is the bit.
 pub const INVERSE: [Gate; 1] = [

@@ -4,12 +4,12 @@ ghost use Rattle.register_gates.specs.Choices.{ChoicesAreBits};
 ghost use Rattle.register_gates.specs.Constants.{ConstantsAreBits};
 ghost use Rattle.register_gates.specs.Steps.{AddedInTurn, StepsByRegister};
 
-use register_bits::lower_gate_parts::{
+use crate::bits::{chains_follow, shift_bits_follow};
+use gate_parts::{
     appended_count, appended_more, contained_part_has_flops, contained_part_meets, flop_starts,
     flop_steps,
 };
-use register_bits::lower_netlist_laws::{contained_parts, driver_is_found, moments_of_a_run};
-use register_bits::{chains_follow, shift_bits_follow};
+use netlist_model::laws::{contained_parts, driver_is_found, moments_of_a_run};
 
 /// In every well-formed netlist that contains its cells, the bypass register is that of the test logic.
 pub fn bypass_follows()

@@ -12,39 +12,37 @@
 //   USERCODE is in effect, and else the code.
 // - A register of any length captures what it is fed, shifts or keeps (`data_registers_follow`).
 // - A falling edge of TCK in Test-Logic-Reset lets TDO go, whatever the registers hold (`tdo_lets_go`).
+// - `bits`: a bit of a shift stage, one that is held behind it, stages of any length.
 // By the contract of the four calls, `constants_of` and its law functions.
 #![tactic(auto)]
 
 ghost use Rattle.std.specs.Prelude.{◌≡◌, ◌+◌, ◌*◌, ◌<◌, ◌≤◌, length};
-ghost use Rattle.register_bits.specs.netlist_model.Lists.{cell_count};
-ghost use Rattle.register_bits.specs.netlist_model.Contained.{IsDense};
-ghost use Rattle.register_bits.specs.gate_parts.Appended.{Appended};
-ghost use Rattle.register_bits.specs.Bits.{AreNetsBelow};
-ghost use Rattle.register_bits.specs.netlist_model.Below.{AreFeedsBelow};
+ghost use Rattle.netlist_model.specs.Lists.{cell_count};
+ghost use Rattle.netlist_model.specs.Contained.{IsDense};
+ghost use Rattle.gate_parts.specs.Appended.{Appended};
+ghost use Rattle.register_gates.specs.BitsLaws.{AreNetsBelow};
+ghost use Rattle.netlist_model.specs.Below.{AreFeedsBelow};
 ghost use Rattle.register_gates.specs.Registers.{selected_cells, selected_steering, bypass_cells, data_cells, data_last};
 
+pub mod bits;
 mod constants;
 mod ident;
 mod laws;
-pub mod lower_register_bits;
 pub mod lower_tap_gates;
 mod tdo;
 
+use crate::bits::{Steering, add_shift_bit, add_shift_chain};
+use cell_library::Kind;
 pub use constants::constants_of;
+use gate_parts::{Gate, Pin, Pins, add_part, appended_count, appended_more};
 pub use ident::{INVERSE, add_ident};
 pub use laws::{
     added_in_turn, bypass_follows, choices_are_bits, constants_are_bits, data_registers_follow,
     ident_follows, steps_by_register, tdo_follows, tdo_lets_go,
 };
-use register_bits::lower_cell_library::Kind;
-use register_bits::lower_gate_parts::{Gate, Pin, Pins, add_part, appended_count, appended_more};
-use register_bits::lower_netlist_arena::Netlist;
-use register_bits::lower_netlist_model::{Feed, NetId};
-use register_bits::lower_test_logic::{InstrNets, TapNets};
-pub use register_bits::{
-    lower_gate_parts, lower_netlist_arena, lower_netlist_laws, lower_test_logic,
-};
-use register_bits::{Steering, add_shift_bit, add_shift_chain};
+use netlist_arena::Netlist;
+use netlist_model::{Feed, NetId};
+use tap_gates::lower_test_logic::{InstrNets, TapNets};
 pub use tdo::{TDO, add_tdo};
 
 /// What steers a test data register. Handed in are Capture-DR, Shift-DR, and whether the register is selected.

@@ -1,20 +1,20 @@
 // The flip-flops of TDO and its driver.
 
 ghost use Rattle.std.specs.Prelude.{◌≡◌, ◌<◌, ◌≤◌, length};
-ghost use Rattle.register_bits.specs.netlist_model.Lists.{cell_count};
-ghost use Rattle.register_bits.specs.netlist_model.Contained.{IsDense};
-ghost use Rattle.register_bits.specs.netlist_arena.Adds.{IsFree};
-ghost use Rattle.register_bits.specs.gate_parts.Appended.{Appended};
-ghost use Rattle.register_bits.specs.Bits.{AreNetsBelow};
+ghost use Rattle.netlist_model.specs.Lists.{cell_count};
+ghost use Rattle.netlist_model.specs.Contained.{IsDense};
+ghost use Rattle.netlist_arena.specs.Adds.{IsFree};
+ghost use Rattle.gate_parts.specs.Appended.{Appended};
+ghost use Rattle.register_gates.specs.BitsLaws.{AreNetsBelow};
 ghost use Rattle.register_gates.specs.Tdo.{AreIdentBelow, ident_feed, tdo_cells};
 
-use register_bits::lower_cell_library::{Edge, FlopKind, Kind, ResetTo};
-use register_bits::lower_gate_parts::{
+use cell_library::{Edge, FlopKind, Kind, ResetTo};
+use gate_parts::{
     Gate, Pin, Pins, add_driver, add_part, appended_count, appended_more, part_leaves_free_nets,
 };
-use register_bits::lower_netlist_arena::Netlist;
-use register_bits::lower_netlist_model::{Feed, NetId};
-use register_bits::lower_test_logic::{InstrNets, TapNets};
+use netlist_arena::Netlist;
+use netlist_model::{Feed, NetId};
+use tap_gates::lower_test_logic::{InstrNets, TapNets};
 
 const CLEARED: FlopKind = FlopKind {
     edge: Edge::Fall,

@@ -1,10 +1,10 @@
-pub mod Pairs
-pub mod Lists
-pub mod Opened
-pub mod Keys
 pub mod Bits
-pub mod Rows
 pub mod Bounds
-pub mod Words
 pub mod Chain
 pub mod Goes
+pub mod Keys
+pub mod Lists
+pub mod Opened
+pub mod Pairs
+pub mod Rows
+pub mod Words

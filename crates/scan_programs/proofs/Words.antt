@@ -19,7 +19,7 @@ use Rattle.bsdl_device.specs.declared.values.Device.{Device}
 use Rattle.bsdl_device.specs.Ports.{width, indices, index_at, counted_from, is_mode}
 use Rattle.bsdl_device.specs.IsDevice.{IsDevice, IsDevicePort, IsDeviceRange, is_scalar_at}
 use Rattle.test_logic.specs.Machine.{Machine}
-use Rattle.line_texts.specs.Rows.{IsWordByte, IsWord}
+use Rattle.word_cutter.specs.Rows.{IsWordByte, IsWord}
 use Rattle.scan_vectors.specs.declared.lines.Line.{Line}
 use Rattle.scan_vectors.specs.declared.lines.Line.TheVariants.{Start, Expect}
 use Rattle.scan_vectors.specs.Grammar.{pin_of}

@@ -1,9 +1,9 @@
-pub mod Scans
 pub mod Cells
+pub mod Fits
+pub mod Met
 pub mod Pins
 pub mod Program
-pub mod Met
-pub mod Views
-pub mod Fits
-pub mod Tables
 pub mod Runs
+pub mod Scans
+pub mod Tables
+pub mod Views

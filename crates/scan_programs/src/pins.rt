@@ -7,8 +7,8 @@ ghost use Rattle.bsdl_device.specs.declared.values.PortMode.TheVariants as mode;
 ghost use Rattle.scan_programs.specs.Pins as definition;
 
 use crate::cell_table::CellTable;
+use bsdl_device::runs::written::put_number;
 use bsdl_device::{DevBit, DevPort, Device, PortMode, PortRange};
-use bsdl_runs::written::put_number;
 use std::alloc::Global;
 use texts::{OutOfMemory, Text};
 

@@ -10,7 +10,7 @@ use Rattle.cell_library.specs.declared.codes.Function.TheVariants as function
 use Rattle.bsdl_device.specs.declared.values.CellRow.{CellRow}
 use Rattle.bsdl_device.specs.declared.values.Disable.{Disable}
 use Rattle.bsdl_device.specs.IsDevice.{is_disabled, is_control_at, disable_right}
-use Rattle.first_faults.specs.First.{or_else}
+use Rattle.texts.specs.First.{or_else}
 use Rattle.netlist_model.specs.declared.Dir.{Dir}
 use Rattle.netlist_model.specs.declared.Dir.TheVariants as dir
 use Rattle.netlist_model.specs.declared.Feed.{Feed}
@@ -21,9 +21,9 @@ use Rattle.netlist_model.specs.Contained.{IsDense}
 use Rattle.netlist_model.specs.Formed.{IsLaidOut}
 use Rattle.netlist_model.specs.Lists.{NetView, CellView, NetlistView, cell_at}
 use Rattle.netlist_model.specs.Settled.{driver_of}
-use Rattle.netlist_laws.specs.Drivers.{IsDriverOf}
-use Rattle.netlist_laws.proofs.Inside.{driver_found, driver_drives}
-use Rattle.netlist_laws.proofs.Ports.{bit_has_direction}
+use Rattle.netlist_model.specs.Drivers.{IsDriverOf}
+use Rattle.netlist_model.proofs.Inside.{driver_found, driver_drives}
+use Rattle.netlist_model.proofs.Ports.{bit_has_direction}
 use Rattle.gate_parts.specs.Parts.{added_nets}
 use Rattle.gate_parts.proofs.Steps.{length-added_nets}
 use Rattle.netlist_link.specs.Linked.{LinkedView}
@@ -35,17 +35,17 @@ use Rattle.plan_fitting.specs.Rows.{Driver, three_state, added_driver, same_feed
 use Rattle.plan_fitting.specs.Devices.{fitted_of, cell_row, disable_by, device_of}
 use Rattle.plan_fitting.proofs.Controls.{control_cells_are_there}
 use Rattle.plan_fitting.proofs.Drivers.{gate_is}
-use Rattle.stitch_ready.specs.plan_devices.FittingPlan.{IsFitting}
-use Rattle.stitch_ready.proofs.plan_devices.Lined.{IsLined}
-use Rattle.stitch_ready.proofs.plan_devices.Rows.{side_driver, data_core, Controlled, IsDataRow, IsControlRow}
-use Rattle.stitch_ready.proofs.plan_devices.RowPlaces.{net_of_line}
-use Rattle.stitch_ready.proofs.plan_devices.Facts.{Facts, facts_of}
-use Rattle.scan_parts.specs.stitch_model.declared.TapNames.{TapNames}
-use Rattle.scan_parts.specs.stitch_model.Sites.{sides_of}
-use Rattle.scan_parts.specs.stitch_model.Stitched.{tap_net_views}
-use Rattle.stitch_names.specs.Prepared.{room_of}
-use Rattle.stitch_ready.specs.Laws.{FittedCanStandBehind}
-use Rattle.stitch_ready.proofs.Rows.{all_at}
+use Rattle.plan_fitting.specs.FittingPlan.{IsFitting}
+use Rattle.plan_fitting.proofs.Lined.{IsLined}
+use Rattle.plan_fitting.proofs.Rows.{side_driver, data_core, Controlled, IsDataRow, IsControlRow}
+use Rattle.plan_fitting.proofs.RowPlaces.{net_of_line}
+use Rattle.plan_fitting.proofs.DevicesFacts.{Facts, facts_of}
+use Rattle.stitched_netlist.specs.declared.model.TapNames.{TapNames}
+use Rattle.stitched_netlist.specs.Sites.{sides_of}
+use Rattle.stitched_netlist.specs.Stitched.{tap_net_views}
+use Rattle.written_netlists.specs.Prepared.{room_of}
+use Rattle.written_netlists.specs.ReadyLaws.{FittedCanStandBehind}
+use Rattle.written_netlists.proofs.Rows.{all_at}
 use Rattle.scan_stitch.specs.Ready.{IsSmall}
 use Rattle.scan_stitch.specs.Stitched.{nets_around, IsRowFit, CanBeStitched}
 

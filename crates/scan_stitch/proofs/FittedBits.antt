@@ -23,8 +23,8 @@ use Rattle.plan_fitting.specs.declared.fitted.Fitted.{Fitted}
 use Rattle.plan_fitting.specs.Pins.{PinSeen, IsSeen}
 use Rattle.plan_fitting.specs.Rows.{Driver, controls, input_row, two_state_row, data_row, control_row, controlled_by, output_rows, inout_rows, rows_at, rows_after, output_driver, three_state, has_highz}
 use Rattle.plan_fitting.specs.Devices.{fit_port, fitted_of, range_at}
-use Rattle.scan_parts.specs.stitch_model.Sites.{pin_net}
-use Rattle.scan_parts.specs.scan_sides.Pins.{ArePinsThere}
+use Rattle.stitched_netlist.specs.Sites.{pin_net}
+use Rattle.written_netlists.specs.core_sides.Pins.{ArePinsThere}
 use Rattle.scan_stitch.specs.Ready.{IsBitInRange, AreBitsInRange}
 use Rattle.scan_stitch.specs.Laws.{FittedBitsAreThere}
 

@@ -13,18 +13,18 @@ use Rattle.gate_parts.specs.Appended.{Appended}
 use Rattle.gate_parts.proofs.Steps.{length-added_nets, added_nets-add}
 use Rattle.plan_fitting.specs.declared.fitted.FitRow.{FitRow}
 use Rattle.plan_fitting.specs.declared.fitted.Fitted.{Fitted}
-use Rattle.scan_parts.specs.stitch_model.declared.TapNames.{TapNames}
-use Rattle.scan_parts.specs.stitch_model.Sites.{Boundary, sides_of}
-use Rattle.scan_parts.specs.stitch_model.Sides.{core_cell}
-use Rattle.scan_parts.specs.stitch_model.Stitched.{tap_port, tap_ports, tap_net_views, live_cells, boundary_at, first_net, test_logic_nets, test_logic_cells, stitched, with_nets}
-use Rattle.stitch_names.specs.stitch_laws.Laws.{StitchedHoldsTheCore}
-use Rattle.stitch_names.proofs.stitch_laws.Places.{listed_at}
-use Rattle.stitch_names.proofs.stitch_cells.Cells.{live_length}
-use Rattle.scan_parts.specs.scan_sides.Pins.{between}
-use Rattle.stitch_ready.specs.core_moves.Ready.{CanStandBehind, with_core_behind}
-use Rattle.stitch_ready.proofs.core_moves.Behind.{mapped_at}
-use Rattle.scan_parts.specs.Ports.{with_ports}
-use Rattle.stitch_names.specs.Same.{IsSameNetlist}
+use Rattle.stitched_netlist.specs.declared.model.TapNames.{TapNames}
+use Rattle.stitched_netlist.specs.Sites.{Boundary, sides_of}
+use Rattle.stitched_netlist.specs.Sides.{core_cell}
+use Rattle.stitched_netlist.specs.Stitched.{tap_port, tap_ports, tap_net_views, live_cells, boundary_at, first_net, test_logic_nets, test_logic_cells, stitched, with_nets}
+use Rattle.stitched_netlist.specs.PlacesLaws.{StitchedHoldsTheCore}
+use Rattle.stitched_netlist.proofs.PlacesLaws.{listed_at}
+use Rattle.stitched_netlist.proofs.CellsLaws.{live_length}
+use Rattle.written_netlists.specs.core_sides.Pins.{between}
+use Rattle.written_netlists.specs.core_sides.Ready.{CanStandBehind, with_core_behind}
+use Rattle.written_netlists.proofs.core_sides.Behind.{mapped_at}
+use Rattle.test_logic_parts.specs.Ports.{with_ports}
+use Rattle.written_netlists.specs.Same.{IsSameNetlist}
 use Rattle.scan_stitch.specs.Stitched.{nets_around, surrounded, CanBeStitched}
 use Rattle.scan_stitch.proofs.Surrounded.{mapped_count}
 

@@ -4,22 +4,22 @@ use Rattle.cell_library.specs.declared.listed.ListedCell.{ListedCell}
 use Rattle.cell_library.specs.Gates.{is_flop}
 use Rattle.netlist_model.specs.Formed.{IsWellFormed, IsNumbered, IsLaidOut}
 use Rattle.netlist_model.specs.Lists.{CellView, NetlistView, cell_count, Drives}
-use Rattle.netlist_laws.specs.Settle.{IsDrivenOnce}
+use Rattle.netlist_model.specs.Settle.{IsDrivenOnce}
 use Rattle.netlist_arena.specs.Arena.{ArenaView}
 use Rattle.cell_order.specs.Tables.{RoomView, FitsRoom}
-use Rattle.draft_laws.specs.Grown.{GrownIsFormed}
+use Rattle.netlist_link.specs.Grown.{GrownIsFormed}
 use Rattle.netlist_link.specs.Linked.{LinkedView}
 use Rattle.netlist_link.specs.WellNamed.{IsWellNamed}
 use Rattle.netlist_link.proofs.Rewrites.{few_nets}
 use Rattle.plan_fitting.specs.declared.fitted.Fitted.{Fitted}
 use Rattle.plan_fitting.specs.Devices.{fitted_of}
-use Rattle.scan_parts.specs.stitch_model.declared.TapNames.{TapNames}
-use Rattle.scan_parts.specs.stitch_model.Stitched.{stitched}
-use Rattle.stitch_names.specs.Prepared.{room_of, ports_of, prepared, with_tap_names, AreTapNames, HasEntered}
-use Rattle.stitch_names.specs.Same.{IsSameNetlist, SameIsNamed}
-use Rattle.stitch_names.specs.Laws.{TapNamesAreEntered, StitchedIsNamed}
-use Rattle.stitch_ready.specs.Laws.{FittedCanStandBehind}
-use Rattle.stitch_runs.specs.FormedLaws.{StitchedIsFormed}
+use Rattle.stitched_netlist.specs.declared.model.TapNames.{TapNames}
+use Rattle.stitched_netlist.specs.Stitched.{stitched}
+use Rattle.written_netlists.specs.Prepared.{room_of, ports_of, prepared, with_tap_names, AreTapNames, HasEntered}
+use Rattle.written_netlists.specs.Same.{IsSameNetlist, SameIsNamed}
+use Rattle.written_netlists.specs.NamesLaws.{TapNamesAreEntered, StitchedIsNamed}
+use Rattle.written_netlists.specs.ReadyLaws.{FittedCanStandBehind}
+use Rattle.stitched_netlist.specs.FormedLaws.{StitchedIsFormed}
 use Rattle.scan_stitch.specs.Ready.{IsSmall}
 use Rattle.scan_stitch.specs.Stitched.{CanBeStitched, HasStitchRoom}
 use Rattle.scan_stitch.specs.Stitch.{CanStitch}

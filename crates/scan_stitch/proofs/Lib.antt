@@ -1,10 +1,8 @@
-pub use Rattle.stitch_runs.proofs.stitch_formed as stitch_formed
-pub use Rattle.stitch_names.proofs as stitch_names
-pub use Rattle.stitch_ready.proofs.plan_devices as plan_devices
-pub mod FittedBits
-pub mod Surrounded
-pub mod Joined
-pub mod StitchSteps
+pub use Rattle.written_netlists.proofs as written_netlists
 pub mod Fit
+pub mod FittedBits
+pub mod Joined
 pub mod Known
 pub mod Runs
+pub mod StitchSteps
+pub mod Surrounded

@@ -6,16 +6,16 @@ use Rattle.netlist_link.specs.Linked.{LinkedView}
 use Rattle.bsdl_device.specs.declared.values.Device.{Device}
 use Rattle.wrapped_chip.specs.Home.{FindsHome, AloneFromHome, HomeIsAlone}
 use Rattle.wrapped_chip.specs.Realises.{Realises, Alone}
-use Rattle.realised_copies.specs.Laws.{HasNumbers, SameRealises, SameAlone, SameFindsHome}
+use Rattle.wrapped_chip.specs.CopiesLaws.{HasNumbers, SameRealises, SameAlone, SameFindsHome}
 use Rattle.plan_fitting.specs.declared.fitted.Fitted.{Fitted}
 use Rattle.plan_fitting.specs.Devices.{fitted_of, device_of, device_of_fitted}
-use Rattle.stitch_ready.specs.plan_devices.Laws.{PlansSuitNetlists}
-use Rattle.scan_parts.specs.stitch_model.declared.TapNames.{TapNames}
-use Rattle.scan_parts.specs.stitch_model.Stitched.{stitched}
-use Rattle.stitch_names.specs.stitch_laws.Laws.{StitchedKeeps}
-use Rattle.stitch_names.specs.Same.{IsSameNetlist}
-use Rattle.stitch_runs.specs.FormedLaws.{StitchedIsFormed}
-use Rattle.stitch_runs.specs.Laws.{FittingPlansRealise, FittingPlansAreAlone, FittingPlansFindHome}
+use Rattle.plan_fitting.specs.DevicesLaws.{PlansSuitNetlists}
+use Rattle.stitched_netlist.specs.declared.model.TapNames.{TapNames}
+use Rattle.stitched_netlist.specs.Stitched.{stitched}
+use Rattle.stitched_netlist.specs.PlacesLaws.{StitchedKeeps}
+use Rattle.written_netlists.specs.Same.{IsSameNetlist}
+use Rattle.stitched_netlist.specs.FormedLaws.{StitchedIsFormed}
+use Rattle.stitched_netlist.specs.RunsLaws.{FittingPlansRealise, FittingPlansAreAlone, FittingPlansFindHome}
 use Rattle.scan_stitch.specs.Stitch.{CanStitch}
 use Rattle.scan_stitch.proofs.Known.{lists_before, laid_before, stitched_same}
 

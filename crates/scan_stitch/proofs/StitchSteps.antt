@@ -13,20 +13,20 @@ use Rattle.gate_parts.specs.Laws.{AppendedCount}
 use Rattle.gate_parts.proofs.Steps.{dense_after}
 use Rattle.plan_fitting.specs.declared.fitted.FitRow.{FitRow}
 use Rattle.plan_fitting.specs.declared.fitted.Fitted.{Fitted}
-use Rattle.scan_parts.specs.stitch_model.declared.TapNames.{TapNames}
-use Rattle.scan_parts.specs.stitch_model.declared.TapPort.{TapPort}
-use Rattle.scan_parts.specs.stitch_model.Sites.{Boundary, boundary_of, sides_of}
-use Rattle.scan_parts.specs.stitch_model.Sides.{core_cell}
-use Rattle.scan_parts.specs.stitch_model.declared.Logic.{Logic}
-use Rattle.scan_parts.specs.stitch_model.Logic.{logic_at}
-use Rattle.scan_parts.specs.stitch_model.Stitched.{tap_port, first_net, live_cells, test_logic_nets, test_logic_cells, stitched_cells}
-use Rattle.scan_parts.proofs.stitch_model.Moves.{sides_few}
-use Rattle.stitch_names.proofs.stitch_cells.Cells.{core_length}
-use Rattle.stitch_names.specs.Prepared.{room_of}
-use Rattle.scan_parts.specs.scan_sides.Pins.{between}
-use Rattle.scan_parts.specs.Ports.{with_ports, CanBePort}
-use Rattle.scan_parts.specs.Rows.{into_from, IsApart}
-use Rattle.scan_parts.specs.Whole.{net_room, cell_room, CanTakeLogic}
+use Rattle.stitched_netlist.specs.declared.model.TapNames.{TapNames}
+use Rattle.stitched_netlist.specs.declared.model.TapPort.{TapPort}
+use Rattle.stitched_netlist.specs.Sites.{Boundary, boundary_of, sides_of}
+use Rattle.stitched_netlist.specs.Sides.{core_cell}
+use Rattle.stitched_netlist.specs.declared.model.Logic.{Logic}
+use Rattle.stitched_netlist.specs.ModelLogic.{logic_at}
+use Rattle.stitched_netlist.specs.Stitched.{tap_port, first_net, live_cells, test_logic_nets, test_logic_cells, stitched_cells}
+use Rattle.stitched_netlist.proofs.ModelMoves.{sides_few}
+use Rattle.stitched_netlist.proofs.CellsLaws.{core_length}
+use Rattle.written_netlists.specs.Prepared.{room_of}
+use Rattle.written_netlists.specs.core_sides.Pins.{between}
+use Rattle.test_logic_parts.specs.Ports.{with_ports, CanBePort}
+use Rattle.test_logic_parts.specs.Rows.{into_from, IsApart}
+use Rattle.test_logic_parts.specs.Whole.{net_room, cell_room, CanTakeLogic}
 use Rattle.scan_stitch.specs.Stitched.{surrounded, CanBeStitched}
 use Rattle.scan_stitch.proofs.Surrounded.{no_port, lone_free, length_around, mapped_count, can_take, port_apart}
 

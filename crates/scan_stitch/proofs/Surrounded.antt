@@ -23,25 +23,25 @@ use Rattle.netlist_arena.specs.Adds.{IsFree}
 use Rattle.netlist_arena.proofs.Laid.{All-slice_get}
 use Rattle.gate_parts.specs.Parts.{added_nets}
 use Rattle.gate_parts.proofs.Steps.{length-added_nets}
-use Rattle.netlist_images.specs.Nested.{renamed_net, renamed_feed}
+use Rattle.netlist_model.specs.Nested.{renamed_net, renamed_feed}
 use Rattle.plan_fitting.specs.declared.fitted.FitRow.{FitRow}
 use Rattle.plan_fitting.specs.declared.fitted.Fitted.{Fitted}
-use Rattle.scan_parts.specs.stitch_model.declared.Site.{Site}
-use Rattle.scan_parts.specs.stitch_model.declared.Site.TheVariants as site
-use Rattle.scan_parts.specs.stitch_model.declared.TapNames.{TapNames}
-use Rattle.scan_parts.specs.stitch_model.Sites.{Boundary, boundary_of, pin_net, row_net, is_own_net, site_by, site_of, side_count, row_sides, sides_of, side_at}
-use Rattle.scan_parts.specs.stitch_model.Sides.{is_moved, core_side, core_cell, core_feed}
-use Rattle.scan_parts.specs.stitch_model.Rows.{net_at}
-use Rattle.scan_parts.specs.stitch_model.Stitched.{tap_port, tap_net_views, with_nets}
-use Rattle.scan_parts.proofs.stitch_model.Moves.{sides_within, side_range}
-use Rattle.scan_parts.specs.scan_sides.Pins.{IsPinThere}
-use Rattle.stitch_ready.specs.core_moves.Ready.{IsDrivenAt, IsControlAt, HasControl}
-use Rattle.stitch_ready.proofs.core_moves.Behind.{mapped_at}
-use Rattle.scan_parts.specs.Rows.{into_from, IsApart, IsReady}
-use Rattle.scan_parts.specs.Whole.{net_room, cell_room, CanTakeLogic}
+use Rattle.stitched_netlist.specs.declared.model.Site.{Site}
+use Rattle.stitched_netlist.specs.declared.model.Site.TheVariants as site
+use Rattle.stitched_netlist.specs.declared.model.TapNames.{TapNames}
+use Rattle.stitched_netlist.specs.Sites.{Boundary, boundary_of, pin_net, row_net, is_own_net, site_by, site_of, side_count, row_sides, sides_of, side_at}
+use Rattle.stitched_netlist.specs.Sides.{is_moved, core_side, core_cell, core_feed}
+use Rattle.stitched_netlist.specs.ModelRows.{net_at}
+use Rattle.stitched_netlist.specs.Stitched.{tap_port, tap_net_views, with_nets}
+use Rattle.stitched_netlist.proofs.ModelMoves.{sides_within, side_range}
+use Rattle.written_netlists.specs.core_sides.Pins.{IsPinThere}
+use Rattle.written_netlists.specs.core_sides.Ready.{IsDrivenAt, IsControlAt, HasControl}
+use Rattle.written_netlists.proofs.core_sides.Behind.{mapped_at}
+use Rattle.test_logic_parts.specs.Rows.{into_from, IsApart, IsReady}
+use Rattle.test_logic_parts.specs.Whole.{net_room, cell_room, CanTakeLogic}
 use Rattle.scan_stitch.specs.Stitched.{nets_around, surrounded, IsRowFit, CanBeStitched}
-use Rattle.scan_parts.proofs.IntoNets.{EachFits, before_rows, core_apart, into_apart, into_free}
-use Rattle.scan_parts.proofs.Outputs.{net_number}
+use Rattle.test_logic_parts.proofs.IntoNets.{EachFits, before_rows, core_apart, into_apart, into_free}
+use Rattle.test_logic_parts.proofs.Outputs.{net_number}
 
 -- Bits of rows.
 

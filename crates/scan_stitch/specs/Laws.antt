@@ -8,10 +8,10 @@ use Rattle.plan_texts.specs.declared.plan.Plan.{Plan}
 use Rattle.plan_fitting.specs.declared.fitted.Fitted.{Fitted}
 use Rattle.plan_fitting.specs.Pins.{PinSeen}
 use Rattle.plan_fitting.specs.Devices.{IsFitted, fitted_of}
-use Rattle.stitch_ready.specs.plan_devices.FittingPlan.{IsFitting}
-use Rattle.scan_parts.specs.stitch_model.declared.TapNames.{TapNames}
-use Rattle.stitch_names.specs.Prepared.{room_of}
-use Rattle.scan_parts.specs.scan_sides.Pins.{ArePinsThere}
+use Rattle.plan_fitting.specs.FittingPlan.{IsFitting}
+use Rattle.stitched_netlist.specs.declared.model.TapNames.{TapNames}
+use Rattle.written_netlists.specs.Prepared.{room_of}
+use Rattle.written_netlists.specs.core_sides.Pins.{ArePinsThere}
 use Rattle.scan_stitch.specs.Ready.{AreBitsInRange, IsSmall}
 use Rattle.scan_stitch.specs.Stitched.{CanBeStitched}
 

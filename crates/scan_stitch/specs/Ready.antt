@@ -7,7 +7,7 @@ use Rattle.netlist_model.specs.Formed.{width_of}
 use Rattle.plan_fitting.specs.declared.fitted.FitRow.{FitRow}
 use Rattle.plan_fitting.specs.declared.fitted.Fitted.{Fitted}
 use Rattle.plan_fitting.specs.Devices.{range_at}
-use Rattle.scan_parts.specs.scan_sides.Pins.{AreFew}
+use Rattle.written_netlists.specs.core_sides.Pins.{AreFew}
 
 -- Bits of ports.
 

@@ -7,11 +7,11 @@ use Rattle.netlist_link.specs.Linked.{LinkedView, IsLinked}
 use Rattle.plan_texts.specs.declared.plan.Plan.{Plan}
 use Rattle.plan_fitting.specs.declared.fitted.Fitted.{Fitted}
 use Rattle.plan_fitting.specs.Devices.{IsFitted}
-use Rattle.stitch_ready.specs.plan_devices.FittingPlan.{IsFitting}
-use Rattle.scan_parts.specs.stitch_model.declared.TapNames.{TapNames}
-use Rattle.scan_parts.specs.stitch_model.Stitched.{stitched}
-use Rattle.stitch_names.specs.Prepared.{room_of, ports_of, prepared, AreTapNames}
-use Rattle.stitch_names.specs.Same.{IsSameNetlist}
+use Rattle.plan_fitting.specs.FittingPlan.{IsFitting}
+use Rattle.stitched_netlist.specs.declared.model.TapNames.{TapNames}
+use Rattle.stitched_netlist.specs.Stitched.{stitched}
+use Rattle.written_netlists.specs.Prepared.{room_of, ports_of, prepared, AreTapNames}
+use Rattle.written_netlists.specs.Same.{IsSameNetlist}
 use Rattle.scan_stitch.specs.Ready.{IsSmall}
 
 -- the linked netlist is one without gaps that the plan was fitted to, and which was prepared, as its limits allow

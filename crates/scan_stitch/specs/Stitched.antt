@@ -11,12 +11,12 @@ use Rattle.netlist_arena.specs.Arena.{ArenaView}
 use Rattle.gate_parts.specs.Parts.{added_nets}
 use Rattle.plan_fitting.specs.declared.fitted.FitRow.{FitRow}
 use Rattle.plan_fitting.specs.declared.fitted.Fitted.{Fitted}
-use Rattle.scan_parts.specs.stitch_model.declared.TapNames.{TapNames}
-use Rattle.scan_parts.specs.stitch_model.Sites.{boundary_of, sides_of}
-use Rattle.scan_parts.specs.stitch_model.Sides.{core_cell}
-use Rattle.scan_parts.specs.stitch_model.Stitched.{tap_net_views, with_nets}
-use Rattle.stitch_names.specs.Prepared.{room_of}
-use Rattle.stitch_ready.specs.core_moves.Ready.{CanStandBehind}
+use Rattle.stitched_netlist.specs.declared.model.TapNames.{TapNames}
+use Rattle.stitched_netlist.specs.Sites.{boundary_of, sides_of}
+use Rattle.stitched_netlist.specs.Sides.{core_cell}
+use Rattle.stitched_netlist.specs.Stitched.{tap_net_views, with_nets}
+use Rattle.written_netlists.specs.Prepared.{room_of}
+use Rattle.written_netlists.specs.core_sides.Ready.{CanStandBehind}
 use Rattle.scan_stitch.specs.Ready.{IsSmall}
 
 -- own: the nets that are added before anything else: those of the test access port, and those between

@@ -1,6 +1,6 @@
 ghost use Rattle.scan_stitch.specs.Laws.{FittedBitsAreThere, FittedCanBeStitched};
 
-use stitch_ready::fitted_can_stand_behind;
+use written_netlists::ready::fitted_can_stand_behind;
 
 /// A law: the bits of what was fitted are bits of its ports, and of the netlist's.
 pub fn fitted_bits_are_there()

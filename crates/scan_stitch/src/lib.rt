@@ -1,5 +1,5 @@
 // Builds the test logic of a plan into the netlist that it fits.
-// Contracts cite stitch_model's specs/Stitched.antt for the netlist, and plan_fitting's
+// Contracts cite stitched_netlist's specs/Stitched.antt for the netlist, and plan_fitting's
 // specs/Devices.antt for the device.
 // IEEE Std 1149.1-2001: test logic architecture, boundary-scan register.
 //
@@ -21,8 +21,6 @@
 
 mod device;
 mod laws;
-pub mod lower_stitch_names;
-pub mod lower_stitch_ready;
 mod names;
 mod needed_room;
 mod parts;
@@ -33,7 +31,4 @@ pub use laws::{fitted_bits_are_there, fitted_can_be_stitched};
 pub use names::tap_names;
 pub use needed_room::{prepare, room};
 pub use parts::{Built, stitch_netlist};
-pub use stitch_names::lower_stitch_cells;
-pub use stitch_ready::lower_plan_devices;
-pub use stitch_runs::{lower_stitch_formed, lower_stitch_rows};
 pub use whole::stitch;

@@ -2,12 +2,12 @@
 
 ghost use Rattle.std.specs.Prelude.{◌≡◌, Some};
 ghost use Rattle.link_model.specs.Denoted.{name_bytes};
-ghost use Rattle.stitch_names.specs.Prepared.{AreTapNames, HasEntered, IsEntered};
+ghost use Rattle.written_netlists.specs.Prepared.{AreTapNames, HasEntered, IsEntered};
 
 use netlist_link::Linked;
 use netlist_model::Name;
 use plan_fitting::Fitted;
-use scan_parts::lower_stitch_model::TapNames;
+use stitched_netlist::model::TapNames;
 use texts::Text;
 
 // The name of the table with these bytes.

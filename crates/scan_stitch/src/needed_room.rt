@@ -3,7 +3,7 @@
 ghost use Rattle.std.specs.Prelude.{◌≡◌, OnOk, IsOkUnless, MatchOption};
 ghost use Rattle.netlist_arena.specs.Room.{too_many};
 ghost use Rattle.scan_stitch.specs.Ready.{IsSmall, HasTapNames};
-ghost use Rattle.stitch_names.specs.Prepared.{room_of, ports_of, with_tap_names, prepared};
+ghost use Rattle.written_netlists.specs.Prepared.{room_of, ports_of, with_tap_names, prepared};
 
 use netlist_arena::ReserveFault;
 use netlist_link::Linked;

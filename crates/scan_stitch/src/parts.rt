@@ -3,22 +3,21 @@
 ghost use Rattle.std.specs.Prelude.{◌≡◌, ◌+◌, ◌<◌, ◌≤◌, length};
 ghost use Rattle.netlist_model.specs.Lists.{cell_count};
 ghost use Rattle.netlist_model.specs.Contained.{IsDense};
-ghost use Rattle.scan_parts.specs.stitch_model.Sites as sites;
-ghost use Rattle.scan_parts.specs.stitch_model.Logic.{logic_at};
-ghost use Rattle.scan_parts.specs.stitch_model.Stitched.{first_net, tap_port, stitched_cells, stitched};
-ghost use Rattle.stitch_names.specs.Prepared.{room_of};
-ghost use Rattle.stitch_names.specs.Same.{IsSameNetlist};
+ghost use Rattle.stitched_netlist.specs.Sites as sites;
+ghost use Rattle.stitched_netlist.specs.ModelLogic.{logic_at};
+ghost use Rattle.stitched_netlist.specs.Stitched.{first_net, tap_port, stitched_cells, stitched};
+ghost use Rattle.written_netlists.specs.Prepared.{room_of};
+ghost use Rattle.written_netlists.specs.Same.{IsSameNetlist};
 ghost use Rattle.scan_stitch.specs.Stitched.{surrounded, CanBeStitched, HasStitchRoom};
 
 use gate_parts::appended_count;
 use netlist_arena::Netlist;
 use netlist_model::{CellId, NetId};
 use plan_fitting::Fitted;
-use scan_parts::lower_scan_sides::sides_of;
-use scan_parts::lower_stitch_model::{Logic, TapNames, TapPort};
-use scan_parts::{add_port_nets, add_ports, add_sides, add_test_logic};
-use stitch_names::lower_stitch_laws::stitched_holds_the_core;
-use stitch_ready::lower_core_moves::stand_behind;
+use stitched_netlist::model::{Logic, TapNames, TapPort};
+use stitched_netlist::places::stitched_holds_the_core;
+use test_logic_parts::{add_port_nets, add_ports, add_sides, add_test_logic};
+use written_netlists::lower_core_sides::{sides_of, stand_behind};
 
 // What stands round the core: the nets of the test access port, and the nets between, from `first` up to `end`.
 struct Surroundings {

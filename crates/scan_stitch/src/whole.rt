@@ -7,18 +7,19 @@ ghost use Rattle.scan_stitch.specs.Stitch.{CanStitch, IsStitched};
 
 use crate::names::tap_names;
 use crate::parts::stitch_netlist;
-use draft_laws::grown_is_formed;
 use netlist_link::Linked;
+use netlist_link::draft_laws::grown_is_formed;
 use plan_fitting::Fitted;
-use realised_copies::{same_finds_home, same_is_alone, same_realises};
-use stitch_names::lower_stitch_laws::stitched_keeps;
-use stitch_names::{same_is_named, stitched_is_named, tap_names_are_entered};
-use stitch_ready::fitted_can_stand_behind;
-use stitch_ready::lower_plan_devices::plans_suit_netlists;
-use stitch_runs::{
-    fitting_plans_are_alone, fitting_plans_find_home, fitting_plans_realise, stitched_is_formed,
+use plan_fitting::devices::plans_suit_netlists;
+use stitched_netlist::formed::stitched_is_formed;
+use stitched_netlist::places::stitched_keeps;
+use stitched_netlist::runs::{
+    fitting_plans_are_alone, fitting_plans_find_home, fitting_plans_realise,
 };
+use wrapped_chip::copies::{same_finds_home, same_is_alone, same_realises};
 use wrapped_chip::home_is_alone;
+use written_netlists::names::{same_is_named, stitched_is_named, tap_names_are_entered};
+use written_netlists::ready::fitted_can_stand_behind;
 
 /// Builds the test logic of a plan into the prepared netlist that it was fitted to. It takes no memory.
 pub fn stitch(linked: &mut Linked, fitted: &Fitted)

@@ -1,4 +1,4 @@
-mod Trees
 pub mod MadeAgain
 pub mod Refused
+mod Trees
 pub mod Whole

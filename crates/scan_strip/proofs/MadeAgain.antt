@@ -16,19 +16,19 @@ use Rattle.plan_texts.specs.Spells.{CanonicalPlansSpell}
 use Rattle.plan_fitting.specs.declared.fitted.Fitted.{Fitted}
 use Rattle.plan_fitting.specs.Pins.{PinSeen, AreSeen}
 use Rattle.plan_fitting.specs.Devices.{IsFitted, fitted_of, device_of}
-use Rattle.plan_devices.specs.Laws.{FittedIsFitting}
-use Rattle.stitch_model.specs.declared.TapNames.{TapNames}
-use Rattle.strip_law.specs.inserted_netlists.Inserted.{with_test_logic}
-use Rattle.stitch_names.specs.Laws.{TapNamesAreEntered}
-use Rattle.stitch_names.specs.Prepared.{room_of, ports_of, prepared, with_tap_names, AreTapNames}
+use Rattle.plan_fitting.specs.DevicesLaws.{FittedIsFitting}
+use Rattle.stitched_netlist.specs.declared.model.TapNames.{TapNames}
+use Rattle.written_netlists.specs.InsertedLaws.{with_test_logic}
+use Rattle.written_netlists.specs.NamesLaws.{TapNamesAreEntered}
+use Rattle.written_netlists.specs.Prepared.{room_of, ports_of, prepared, with_tap_names, AreTapNames}
 use Rattle.insertion_inputs.specs.Inputs.{IsFittingAs, IsLinkedTree}
-use Rattle.insertion_inputs.specs.Stitch.{CanStitch, IsStitched}
-use Rattle.stitch_texts.specs.Written.{IsStitchedOf}
-use Rattle.stitch_texts.specs.Laws.{IsStitching, StitchedCanBeWritten}
-use Rattle.strip_law.specs.strip_gives.Gives.{GivesAt, Gives}
-use Rattle.strip_law.specs.strip_gives.Laid.{LinkViewIsLaidOut}
-use Rattle.strip_law.specs.Law.{LawOfStripping, Recovers}
-use Rattle.strip_law.specs.Once.{PinsAreSeenOnce}
+use Rattle.insertion_inputs.specs.scan_stitch.Stitch.{CanStitch, IsStitched}
+use Rattle.written_netlists.specs.Written.{IsStitchedOf}
+use Rattle.written_netlists.specs.ModulesLaws.{IsStitching, StitchedCanBeWritten}
+use Rattle.strip_model.specs.GivesLaws.{GivesAt, Gives}
+use Rattle.strip_model.specs.Laid.{LinkViewIsLaidOut}
+use Rattle.strip_model.specs.LawLaws.{LawOfStripping, Recovers}
+use Rattle.strip_model.specs.Once.{PinsAreSeenOnce}
 use Rattle.scan_strip.specs.Stripped.{GivesBy, IsFound, IsMadeAgain}
 use Rattle.scan_strip.proofs.Trees.{tree_is}
 

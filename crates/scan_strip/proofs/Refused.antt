@@ -30,7 +30,7 @@ use Rattle.insertion_inputs.specs.declared.fault.InsertFault.{InsertFault}
 use Rattle.insertion_inputs.specs.declared.fault.InsertFault.TheVariants as insert
 use Rattle.insertion_inputs.specs.Inputs.{HasRoomFor, IsLinkedTree}
 use Rattle.insertion_inputs.specs.Faults.{HasTooMany, StandsInPlan}
-use Rattle.strip_law.specs.Once.{PinsAreSeenOnce}
+use Rattle.strip_model.specs.Once.{PinsAreSeenOnce}
 use Rattle.scan_strip.specs.declared.fault.StripFault.TheVariants.{NotInserted, OutOfMemory}
 use Rattle.scan_strip.specs.Refusals.{of_link, of_insert, CanBeFitted}
 

@@ -8,11 +8,11 @@ use Rattle.netlist_link.specs.Linked.{LinkedView}
 use Rattle.netlist_unlink.specs.Rows.{rows}
 use Rattle.netlist_unlink.specs.Trees.{Naming, item_of, items_from, port_of, wire_of, added_from, tree_of}
 use Rattle.plan_fitting.specs.declared.fitted.Fitted.{Fitted}
-use Rattle.stitch_model.specs.declared.TapNames.{TapNames}
-use Rattle.stitch_model.specs.Stitched.{stitched}
-use Rattle.stitch_names.specs.Prepared.{with_tap_names}
-use Rattle.stitch_names.specs.Same.{IsSameNetlist}
-use Rattle.strip_law.specs.inserted_netlists.Inserted.{with_test_logic}
+use Rattle.stitched_netlist.specs.declared.model.TapNames.{TapNames}
+use Rattle.stitched_netlist.specs.Stitched.{stitched}
+use Rattle.written_netlists.specs.Prepared.{with_tap_names}
+use Rattle.written_netlists.specs.Same.{IsSameNetlist}
+use Rattle.written_netlists.specs.InsertedLaws.{with_test_logic}
 
 same_cell : (a b : CellView) → Some a ≡ Some b → a ≡ b
 same_cell a b e = cc

@@ -11,12 +11,12 @@ use Rattle.netlist_link.specs.Links.{IsLinkOf}
 use Rattle.netlist_link.specs.ViewLaws.{IsSameView, LinkViewsAgree}
 use Rattle.plan_texts.specs.declared.plan.Plan.{Plan}
 use Rattle.strip_model.specs.Recovered.{recovered}
-use Rattle.strip_law.specs.strip_gives.Gives.{Gives, GivesByTheView}
-use Rattle.strip_law.specs.Answer.{IsNotInserted, RefusedByAll}
-use Rattle.strip_law.specs.Law.{RecoveredIsTheNetlist}
+use Rattle.strip_model.specs.GivesLaws.{Gives, GivesByTheView}
+use Rattle.strip_model.specs.Answer.{IsNotInserted, RefusedByAll}
+use Rattle.strip_model.specs.LawLaws.{RecoveredIsTheNetlist}
 use Rattle.netlist_recovery.specs.declared.recovery.Recovered.{Recovered}
 use Rattle.netlist_recovery.specs.Pairs.{pair_of}
-use Rattle.strip_law.specs.Tree.{CoreIsTree}
+use Rattle.strip_model.specs.Tree.{CoreIsTree}
 use Rattle.scan_strip.specs.declared.fault.StripFault.{StripFault}
 use Rattle.scan_strip.specs.declared.fault.StripFault.TheVariants.{NotInserted}
 use Rattle.scan_strip.specs.Stripped.{GivesBy, IsFound, IsGivenBy, IsStripped, IsStrippedTree}

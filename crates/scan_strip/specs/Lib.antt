@@ -1,3 +1,3 @@
-pub use Rattle.strip_law.specs.Answer
+pub use Rattle.strip_model.specs as strip_model
 pub mod Refusals
 pub mod Stripped

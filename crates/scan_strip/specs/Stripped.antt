@@ -10,12 +10,12 @@ use Rattle.netlist_unlink.specs.Trees.{tree_of}
 use Rattle.plan_texts.specs.declared.plan.Plan.{Plan}
 use Rattle.plan_texts.specs.Canonical.{IsPlan}
 use Rattle.plan_fitting.specs.declared.fitted.Fitted.{Fitted}
-use Rattle.stitch_model.specs.declared.TapNames.{TapNames}
-use Rattle.strip_law.specs.inserted_netlists.Inserted.{with_test_logic}
-use Rattle.stitch_names.specs.Prepared.{with_tap_names, AreTapNames}
+use Rattle.stitched_netlist.specs.declared.model.TapNames.{TapNames}
+use Rattle.written_netlists.specs.InsertedLaws.{with_test_logic}
+use Rattle.written_netlists.specs.Prepared.{with_tap_names, AreTapNames}
 use Rattle.insertion_inputs.specs.Inputs.{IsFittingAs, IsLinkedTree}
 use Rattle.strip_model.specs.Recovered.{recovered}
-use Rattle.strip_law.specs.strip_gives.Gives.{GivesAt, Gives}
+use Rattle.strip_model.specs.GivesLaws.{GivesAt, Gives}
 
 -- The module and the plan that are recovered give the module with test logic and the device; this is the plan, and the
 -- netlist that the module denotes with this library.

@@ -13,20 +13,22 @@ ghost use Rattle.scan_strip.specs.Stripped.{GivesBy, IsFound, IsMadeAgain, IsRea
 use crate::fault::StripFault;
 use bsdl_device::Device;
 use cell_library::Library;
-use equality::Same;
-use insertion_inputs::{Fitting, fit_text, stitch};
+use insertion_inputs::lower_scan_stitch::stitch;
+use insertion_inputs::{Fitting, fit_text};
 use netlist_link::{Linked, faults_forbid_links, link, link_view_is_named};
+use netlist_recovery::equality::Same;
 use netlist_unlink::unlink;
-use plan_devices::fitted_is_fitting;
+use plan_fitting::devices::fitted_is_fitting;
 use plan_texts::{
     Plan, canonical_plans_spell_themselves, texts_of_plans_are_spelled_or_at_fault, write_plan,
 };
 use std::alloc::Global;
-use stitch_names::tap_names_are_entered;
-use stitch_texts::stitched_can_be_written;
-use strip_law::{law_of_stripping, link_view_is_laid_out, pins_are_seen_once};
+use strip_model::gives::link_view_is_laid_out;
+use strip_model::law::{law_of_stripping, pins_are_seen_once};
 use texts::OutOfMemory;
 use verilog_tree::Module;
+use written_netlists::modules::stitched_can_be_written;
+use written_netlists::names::tap_names_are_entered;
 
 /// The netlist of a module.
 #[tactic(auto, using(crate::proofs::Refused::link_refused))]

@@ -3,7 +3,7 @@ ghost use Rattle.std.specs.Prelude.{◌≡◌, IfErr, IfOk, OnOk, Some};
 ghost use Rattle.verilog_tree.specs.IsTree.{IsTree};
 ghost use Rattle.netlist_link.specs.Links.{IsLinkOf};
 ghost use Rattle.strip_model.specs.Recovered.{recovered};
-ghost use Rattle.strip_law.specs.Answer.{IsNotInserted};
+ghost use Rattle.strip_model.specs.Answer.{IsNotInserted};
 ghost use Rattle.scan_strip.specs.declared.fault.StripFault.TheVariants.{NotInserted};
 ghost use Rattle.scan_strip.specs.Stripped.{IsGivenBy, IsStripped, IsStrippedTree};
 
@@ -15,7 +15,8 @@ use netlist_link::{Linked, link_views_agree};
 use netlist_recovery::{Recovered, recover};
 use plan_texts::Plan;
 use std::alloc::Global;
-use strip_law::{core_is_tree, gives_by_the_view, recovered_is_the_netlist, refused_by_all};
+use strip_model::gives::gives_by_the_view;
+use strip_model::law::{core_is_tree, recovered_is_the_netlist, refused_by_all};
 use verilog_tree::Module;
 
 /// A module without test logic, and the plan of the test logic.

@@ -3,15 +3,12 @@ use link_model::LinkFault;
 use plan_fitting::FitFault;
 use plan_texts::PlanFault;
 use texts::OutOfMemory;
-use thiserror::Error;
 
 /// Why nothing is stripped.
-#[derive(Clone, Copy, Debug, Drop, Error)]
+#[derive(Clone, Copy, Drop)]
 pub enum StripFault {
     /// No netlist with the library, and no plan, give the module and the device.
-    #[error("no netlist and plan give these")]
     NotInserted,
-    #[error("out of memory")]
     OutOfMemory,
 }
 

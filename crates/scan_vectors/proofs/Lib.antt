@@ -1,5 +1,11 @@
 pub mod Events
-pub mod Steps
-pub mod Spelled
-pub mod Printed
+pub mod Flags
+pub mod Marked
+pub mod Named
 pub mod Pins
+pub mod Printed
+pub mod ScriptsSteps
+pub mod Sides
+pub mod Spelled
+pub mod Steps
+pub mod Verdicts

@@ -3,10 +3,10 @@ use Rattle.std.proofs.Common.{◌≡◌, ℕ, ◌+◌, ◌≤◌, Bool, true, fa
 use Rattle.std.specs.Prelude.{All}
 use Rattle.std.proofs.lemmas.List.{append-nil}
 use Rattle.std.proofs.lemmas.List.Elements.{All-nil, All-cons, All-head, All-tail}
-use Rattle.line_texts.specs.Words.{lines_of}
-use Rattle.line_texts.specs.Rows.{IsWord}
-use Rattle.line_texts.specs.Laws.{KeptAreRows}
-use Rattle.line_texts.proofs.Rows.{IsNumberedRow}
+use Rattle.word_cutter.specs.LinesWords.{lines_of}
+use Rattle.word_cutter.specs.Rows.{IsWord}
+use Rattle.word_cutter.specs.LinesLaws.{KeptAreRows}
+use Rattle.word_cutter.proofs.Rows.{IsNumberedRow}
 use Rattle.scan_vectors.specs.declared.lines.Line.{Line}
 use Rattle.scan_vectors.specs.declared.lines.Lines.{Lines}
 use Rattle.scan_vectors.specs.Grammar.{Written, written_words, header_words, act_word, act_of, pin_of, SpellsLines}

@@ -6,9 +6,9 @@ use Rattle.std.proofs.lemmas.List.Elements.{All-nil, All-cons, All-head, All-tai
 use Rattle.signal_values.specs.declared.PinSig.{PinSig}
 use Rattle.signal_values.specs.declared.PinSig.TheVariants as pin_sig
 use Rattle.signal_values.specs.Values.{pin_sig_of, show_byte}
-use Rattle.line_texts.specs.Words.{is_line_end, is_blank_byte, is_kept, lines_of, kept_lines}
-use Rattle.line_texts.specs.Rows.{IsWordByte, IsWord, IsRow}
-use Rattle.line_texts.specs.Laws.{KeptAreRows, ReadsBack, RowsReadBack}
+use Rattle.word_cutter.specs.LinesWords.{is_line_end, is_blank_byte, is_kept, lines_of, kept_lines}
+use Rattle.word_cutter.specs.Rows.{IsWordByte, IsWord, IsRow}
+use Rattle.word_cutter.specs.LinesLaws.{KeptAreRows, ReadsBack, RowsReadBack}
 use Rattle.scan_vectors.specs.declared.lines.Act.{Act}
 use Rattle.scan_vectors.specs.declared.lines.Act.TheVariants as act
 use Rattle.scan_vectors.specs.declared.lines.Line.{Line}

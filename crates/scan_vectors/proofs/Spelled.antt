@@ -13,9 +13,9 @@ use Rattle.scan_vectors.specs.declared.lines.Act.TheVariants as act
 use Rattle.scan_vectors.specs.declared.lines.Line.{Line}
 use Rattle.scan_vectors.specs.declared.lines.Line.TheVariants as line
 use Rattle.scan_vectors.specs.declared.lines.Lines.{Lines}
-use Rattle.line_texts.specs.Words.{kept_lines, lines_of}
+use Rattle.word_cutter.specs.LinesWords.{kept_lines, lines_of}
 use Rattle.scan_vectors.specs.Grammar.{Written, written_words, HasLetter, header_words, event_words, value_of, SpellsLines}
-use Rattle.first_faults.specs.First.{or_else, first_in}
+use Rattle.texts.specs.First.{or_else, first_in}
 use Rattle.scan_vectors.specs.Faults.{line_fault, line_if, fault_in, first_fault, event_of, is_header}
 use Rattle.scan_vectors.proofs.Events.{header_is, event_has_words, HasWords}
 use Rattle.scan_vectors.proofs.Steps.{line_fault-fits}

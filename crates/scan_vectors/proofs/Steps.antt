@@ -11,10 +11,10 @@ use Rattle.scan_vectors.specs.declared.fault.EventFault.TheVariants as fault
 use Rattle.scan_vectors.specs.declared.lines.Line.{Line}
 use Rattle.scan_vectors.specs.declared.lines.Lines.{Lines}
 use Rattle.scan_vectors.specs.declared.reader.Reader.{Reader}
-use Rattle.line_texts.specs.Words.{words_of, is_kept, kept_from, kept_lines, lines_of}
+use Rattle.word_cutter.specs.LinesWords.{words_of, is_kept, kept_from, kept_lines, lines_of}
 use Rattle.scan_vectors.specs.Grammar.{Written, written_words, HasLetter, header_words}
-use Rattle.first_faults.specs.First.{or_else, first_in}
-use Rattle.line_texts.proofs.Written.{kept_from-kept}
+use Rattle.texts.specs.First.{or_else, first_in}
+use Rattle.word_cutter.proofs.Written.{kept_from-kept}
 use Rattle.scan_vectors.specs.Faults.{line_fault, fault_in, first_fault, event_of, is_header, IsFault}
 use Rattle.scan_vectors.specs.Reader.{IsBefore, IsBehind, IsReading, HasRead, AddsLine, CannotAdd}
 use Rattle.scan_vectors.proofs.Events.{header_is, event_has_words, HasWords}

@@ -2,7 +2,7 @@
 use Rattle.std.specs.Prelude.{ℕ, ◌+◌, ◌≤◌, List, ◌∷◌, All, map, length}
 use Rattle.std.specs.List.{enumerate_from}
 use Rattle.signal_values.specs.Values.{show_byte}
-use Rattle.line_texts.specs.Rows.{IsWord, rows_text}
+use Rattle.word_cutter.specs.Rows.{IsWord, rows_text}
 use Rattle.scan_vectors.specs.declared.lines.Line.{Line}
 use Rattle.scan_vectors.specs.declared.lines.Lines.{Lines}
 use Rattle.scan_vectors.specs.Grammar.{pin_of, value_of, event_words, header_words}

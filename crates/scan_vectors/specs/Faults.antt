@@ -2,7 +2,7 @@
 use Rattle.std.specs.Prelude.{◌≡◌, ℕ, ◌+◌, Bool, false, ◌&&◌, nat_lt, is_some, List, [], ◌∷◌, length, Option, Some, None, codes, if◌then◌else◌}
 use Rattle.std.specs.List.{enumerate_from}
 use Rattle.std.specs.Str.{bytes_eq}
-use Rattle.first_faults.specs.First.{first_in}
+use Rattle.texts.specs.First.{first_in}
 use Rattle.signal_values.specs.declared.PinSig.{PinSig}
 use Rattle.signal_values.specs.Values.{pin_sig_of}
 use Rattle.netlist_model.specs.declared.What.TheVariants as what
@@ -12,7 +12,7 @@ use Rattle.scan_vectors.specs.declared.lines.Act.{Act}
 use Rattle.scan_vectors.specs.declared.lines.Act.TheVariants as act
 use Rattle.scan_vectors.specs.declared.lines.Line.{Line}
 use Rattle.scan_vectors.specs.declared.lines.Line.TheVariants as line
-use Rattle.line_texts.specs.Words.{lines_of, kept_lines}
+use Rattle.word_cutter.specs.LinesWords.{lines_of, kept_lines}
 
 abbrev pub act_named : List ℕ → Option Act
 act_named word =

@@ -2,7 +2,7 @@
 use Rattle.std.specs.Prelude.{◌≡◌, ℕ, true, false, List, Some, None}
 use Rattle.scan_vectors.specs.declared.form.Form.{Form}
 use Rattle.scan_vectors.specs.declared.form.Form.TheVariants as form
-use Rattle.line_texts.specs.Words.{is_kept}
+use Rattle.word_cutter.specs.LinesWords.{is_kept}
 use Rattle.scan_vectors.specs.Faults.{event_of, is_header, line_of}
 
 -- what these words are of, where they aren't skipped

@@ -7,7 +7,7 @@ use Rattle.scan_vectors.specs.declared.lines.Act.TheVariants as act
 use Rattle.scan_vectors.specs.declared.lines.Line.{Line}
 use Rattle.scan_vectors.specs.declared.lines.Line.TheVariants.{Start, Set, Expect}
 use Rattle.scan_vectors.specs.declared.lines.Lines.{Lines}
-use Rattle.line_texts.specs.Words.{lines_of, kept_lines}
+use Rattle.word_cutter.specs.LinesWords.{lines_of, kept_lines}
 
 abbrev pub act_word : Act → List ℕ
 act_word act.Start = codes "start"

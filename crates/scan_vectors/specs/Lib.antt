@@ -1,6 +1,11 @@
-pub mod Grammar
-pub mod Faults
-pub mod Forms
-pub mod Reader
 pub mod Canonical
 pub mod Exactly
+pub mod Faults
+pub mod Forms
+pub mod Grammar
+pub mod Pins
+pub mod Reader
+pub mod Rules
+pub mod ScriptsLaws
+pub mod ScriptsLawsLaws
+pub mod Starts

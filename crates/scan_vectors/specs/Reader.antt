@@ -7,9 +7,9 @@ use Rattle.netlist_model.specs.declared.What.TheVariants as what
 use Rattle.scan_vectors.specs.declared.lines.Line.{Line}
 use Rattle.scan_vectors.specs.declared.lines.Lines.{Lines}
 use Rattle.scan_vectors.specs.declared.reader.Reader.{Reader}
-use Rattle.line_texts.specs.Words.{lines_of, kept_from, kept_lines}
+use Rattle.word_cutter.specs.LinesWords.{lines_of, kept_from, kept_lines}
 use Rattle.scan_vectors.specs.Grammar.{Written, written_words, HasLetter, header_words}
-use Rattle.first_faults.specs.First.{first_in}
+use Rattle.texts.specs.First.{first_in}
 use Rattle.scan_vectors.specs.Faults.{line_fault, first_fault, IsFault}
 
 -- no line was kept so far; n is the number of the next line, and the rest are the lines from it on

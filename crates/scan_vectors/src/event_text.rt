@@ -6,8 +6,8 @@ ghost use Rattle.scan_vectors.specs.Canonical.{IsLines};
 use crate::fault::EventFault;
 use crate::lines::Lines;
 use crate::reader::Reader;
-use line_texts::{rows_of_texts_are_rows, split_line};
 use std::alloc::Global;
+use word_cutter::lines::{rows_of_texts_are_rows, split_line};
 
 /// The event lines that the bytes spell, or the first fault.
 pub fn read_events(alloc: Global, bytes: &[u8]) -> Result<Lines, EventFault>

@@ -1,15 +1,13 @@
 use netlist_model::What;
 use texts::OutOfMemory;
-use thiserror::Error;
 
 /// Why bytes spell no event lines; of several faults, that of the first line in the text.
-#[derive(Debug, Drop, Error)]
+#[derive(Drop)]
 pub enum EventFault {
-    #[error("line {line} is no line of events, or stands where it can't")]
+    /// A line that is none of events, or stands where it can't.
     EventLine { line: u64 },
-    #[error("{count} event lines, where {limit} is the limit")]
+    /// More event lines than the limit.
     TooMany { what: What, count: u64, limit: u64 },
-    #[error("out of memory")]
     OutOfMemory,
 }
 

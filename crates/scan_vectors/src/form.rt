@@ -1,12 +1,12 @@
 // What a line is of, by its words.
 ghost use Rattle.std.specs.Prelude.{◌≡◌, ◌∷◌, []};
-ghost use Rattle.line_texts.specs.Words.{words_of};
+ghost use Rattle.word_cutter.specs.LinesWords.{words_of};
 ghost use Rattle.scan_vectors.specs.Faults.{act_named, value_named, is_header};
 ghost use Rattle.scan_vectors.specs.Forms.{HasShape, HasForm};
 
 use crate::lines::Act;
-use line_texts::{is_remark, next_word};
 use signal_values::{PinSig, read_sig};
+use word_cutter::lines::{is_remark, next_word};
 
 /// What a line is of: skipped, the header, an event, or none of these forms.
 #[derive(Drop)]

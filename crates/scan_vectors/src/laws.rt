@@ -1,7 +1,7 @@
 ghost use Rattle.scan_vectors.specs.Exactly.{SpelledOnce, SpelledIsFaultless, FaultlessIsSpelled, SpelledIsPrintable};
 ghost use Rattle.scan_vectors.specs.Exactly.{CanonicalIsSpelled};
 
-use line_texts::{rows_of_texts_are_rows, texts_of_rows_read_back};
+use word_cutter::lines::{rows_of_texts_are_rows, texts_of_rows_read_back};
 
 /// A law: bytes spell one list of event lines, or have a first fault, and not both. What some bytes
 /// spell can be printed.

@@ -14,6 +14,7 @@
 // - The lines that some text spells are exactly those whose pins are words and that aren't too many. The canonical
 //   text of such lines spells them, numbered from 2 (`canonical_texts_spell_their_lines`): so lines that were made
 //   and not read are lines that some text spells.
+// - `scripts`: finds the pins of event lines, and refuses lines that break a rule.
 // By the contract of `read_events`, `print_events` and its law functions.
 #![tactic(auto)]
 
@@ -24,6 +25,7 @@ mod laws;
 mod lines;
 mod printed_events;
 mod reader;
+pub mod scripts;
 
 pub use event_text::read_events;
 pub use fault::EventFault;

@@ -2,13 +2,13 @@ ghost use Rattle.std.specs.Prelude.{◌≡◌, ◌++◌, ◌∷◌, [], map, IfO
 ghost use Rattle.signal_values.specs.Values.{show_byte};
 ghost use Rattle.scan_vectors.specs.Grammar as grammar;
 ghost use Rattle.scan_vectors.specs.Canonical.{canonical_words, canonical_text, canonical_lines, IsLines};
-ghost use Rattle.line_texts.specs.Rows.{row_text, rows_text};
+ghost use Rattle.word_cutter.specs.Rows.{row_text, rows_text};
 
 use crate::lines::{Act, Line, Lines};
-use line_texts::{put_three, texts_of_rows_read_back};
 use signal_values::{PinSig, show};
 use std::alloc::Global;
 use texts::{OutOfMemory, Text};
+use word_cutter::lines::{put_three, texts_of_rows_read_back};
 
 fn act_word(act: Act) -> &'static [u8]
     ensures { result.now ≡ grammar.act_word act }

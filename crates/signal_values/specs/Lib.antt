@@ -1,4 +1,4 @@
-pub mod Values
+pub mod Joined
 pub mod Knowledge
 pub mod Known
-pub mod Joined
+pub mod Values

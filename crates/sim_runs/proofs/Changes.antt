@@ -11,7 +11,7 @@ use Rattle.signal_values.specs.Values.{show_byte}
 use Rattle.netlist_model.specs.declared.NetId.{NetId}
 use Rattle.netlist_model.specs.Lists.{NetlistView}
 use Rattle.netlist_model.specs.Runs.{Moment, reading_at}
-use Rattle.netlist_meaning.specs.netlist_link.Linked.{LinkedView}
+use Rattle.netlist_link.specs.Linked.{LinkedView}
 use Rattle.event_sim.specs.Sims.{IsIn, Pops}
 use Rattle.sim_runs.specs.declared.shown.Shown.{Shown}
 use Rattle.sim_runs.specs.Outputs.{changed_line}

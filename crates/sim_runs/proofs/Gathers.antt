@@ -2,8 +2,8 @@
 use Rattle.std.proofs.Common.{◌≡◌, ◌≤◌, ℕ, List, [], length, take, Option, Some, None, refl, sym, ap, subst, ◌∙◌, arith}
 use Rattle.std.proofs.Math.Seq.{take-length}
 use Rattle.edge_io.specs.Shelf.{Rose, appended}
-use Rattle.gathered_puts.specs.Gathered.{HasGrown}
-use Rattle.gathered_puts.proofs.Fronts.{given_front}
+use Rattle.output_lines.specs.GatheredLaws.{HasGrown}
+use Rattle.output_lines.proofs.GatheredFronts.{given_front}
 use Rattle.sim_runs.proofs.Texts.{IsFront, appended-none}
 
 -- nothing was given yet

@@ -6,7 +6,7 @@ use Rattle.netlist_model.specs.declared.Name.{Name}
 use Rattle.netlist_model.specs.declared.Name.TheVariants.{Original, Added}
 use Rattle.netlist_model.specs.Lists.{NetView, NetlistView}
 use Rattle.link_model.specs.Denoted.{name_bytes}
-use Rattle.netlist_meaning.specs.netlist_link.WellNamed.{IsWellNamed, IsKnown}
+use Rattle.netlist_link.specs.WellNamed.{IsWellNamed, IsKnown}
 use Rattle.output_lines.specs.Lines.{bit_text}
 use Rattle.sim_runs.specs.Shown.{label_of}
 

@@ -1,9 +1,9 @@
-pub mod Lists
-pub mod Same
-pub mod Texts
-pub mod Steps
-pub mod Starts
-pub mod Labels
 pub mod Adds
 pub mod Changes
 pub mod Gathers
+pub mod Labels
+pub mod Lists
+pub mod Same
+pub mod Starts
+pub mod Steps
+pub mod Texts

@@ -9,8 +9,8 @@ use Rattle.netlist_model.specs.Lists.{CellView, NetlistView, direction}
 use Rattle.netlist_model.specs.Settled.{feed_values, driver_of, drive_by, cell_drive}
 use Rattle.netlist_model.specs.Readings.{reading_of}
 use Rattle.netlist_model.specs.Runs.{Moment, reading_at}
-use Rattle.netlist_laws.specs.Runs.{SameMoment}
-use Rattle.netlist_laws.proofs.Once.{feed_values_same}
+use Rattle.netlist_model.specs.LawsRuns.{SameMoment}
+use Rattle.netlist_model.proofs.Once.{feed_values_same}
 
 drive_same : (driver : Option CellView) (v v' : ℕ → Sig) (net : ℕ) → ((n : ℕ) → v n ≡ v' n) → drive_by driver v net ≡ drive_by driver v' net
 drive_same None v v' net same = ap pin_of (same net)

@@ -18,12 +18,12 @@ use Rattle.netlist_model.specs.Lists.{PortView, NetlistView, bit_net}
 use Rattle.netlist_model.specs.Settled.{feed_values, follows_pin}
 use Rattle.netlist_model.specs.Formed.{IsWellFormed}
 use Rattle.netlist_model.specs.Runs.{Moment, IsLegal, IsStart}
-use Rattle.netlist_laws.specs.Runs.{SameMoment}
-use Rattle.netlist_laws.proofs.Runs.{run_exists, start_same}
+use Rattle.netlist_model.specs.LawsRuns.{SameMoment}
+use Rattle.netlist_model.proofs.LawsRuns.{run_exists, start_same}
 use Rattle.scan_vectors.specs.declared.lines.Act.{Act}
 use Rattle.scan_vectors.specs.declared.lines.Act.TheVariants.{Start, Set, Expect}
-use Rattle.event_scripts.specs.declared.script.ScriptLine.{ScriptLine}
-use Rattle.event_scripts.specs.Scripts.{IsPlayable, IsStartAt}
+use Rattle.scan_vectors.specs.declared.scripts.script.ScriptLine.{ScriptLine}
+use Rattle.scan_vectors.specs.ScriptsLaws.{IsPlayable, IsStartAt}
 use Rattle.netlist_meaning.specs.Pins.{PinsView, ArePinsOf, AreFirstPins, SetsPin, net_of, outside}
 use Rattle.sim_runs.specs.Runs.{net_number, event_of, events_at, events_of, IsRunOf}
 use Rattle.sim_runs.specs.PlayedScript.{AreKnown, CanPlay, CanStart, IsFirst, TakesStart}

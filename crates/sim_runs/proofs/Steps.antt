@@ -3,19 +3,19 @@ use Rattle.std.proofs.Common.{◌≡◌, ◌≢◌, ℕ, suc, ◌+◌, ◌<◌, 
 use Rattle.std.specs.List.{slice_get}
 use Rattle.std.proofs.lemmas.Option.{slice_get_within}
 use Rattle.list_laws.proofs.Lists.{left_at, none_left}
-use Rattle.netlist_laws.proofs.Runs.{step_same}
+use Rattle.netlist_model.proofs.LawsRuns.{step_same}
 use Rattle.edge_io.specs.Shelf.{appended}
 use Rattle.netlist_model.specs.declared.NetId.{NetId}
 use Rattle.netlist_model.specs.Lists.{NetlistView, bit_net}
 use Rattle.netlist_model.specs.Formed.{IsWellFormed}
 use Rattle.netlist_model.specs.Runs.{Moment, PinEvent, IsStep}
-use Rattle.netlist_laws.specs.Runs.{SameMoment}
-use Rattle.netlist_meaning.specs.netlist_link.Linked.{LinkedView}
+use Rattle.netlist_model.specs.LawsRuns.{SameMoment}
+use Rattle.netlist_link.specs.Linked.{LinkedView}
 use Rattle.scan_vectors.specs.declared.lines.Act.{Act}
 use Rattle.scan_vectors.specs.declared.lines.Act.TheVariants.{Start, Set, Expect}
 use Rattle.scan_vectors.specs.declared.lines.Line.{Line}
 use Rattle.scan_vectors.specs.Grammar.{pin_of}
-use Rattle.event_scripts.specs.declared.script.ScriptLine.{ScriptLine}
+use Rattle.scan_vectors.specs.declared.scripts.script.ScriptLine.{ScriptLine}
 use Rattle.netlist_meaning.specs.Events.{IsEventStep}
 use Rattle.output_lines.proofs.Pieces.{appended-twice, appended-front}
 use Rattle.sim_runs.specs.Runs.{net_number, event_of, events_at, events_of, IsRunOf}

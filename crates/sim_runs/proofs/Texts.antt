@@ -10,12 +10,12 @@ use Rattle.netlist_model.specs.declared.PinBit.{PinBit}
 use Rattle.netlist_meaning.specs.Pins.{net_of}
 use Rattle.netlist_model.specs.Lists.{NetlistView}
 use Rattle.netlist_model.specs.Runs.{Moment, reading_at}
-use Rattle.netlist_laws.specs.Runs.{SameMoment}
-use Rattle.netlist_meaning.specs.netlist_link.Linked.{LinkedView}
+use Rattle.netlist_model.specs.LawsRuns.{SameMoment}
+use Rattle.netlist_link.specs.Linked.{LinkedView}
 use Rattle.output_lines.proofs.Pieces.{front-of_parts, appended-twice, appended-front, take-front}
 use Rattle.scan_vectors.specs.declared.lines.Act.{Act}
 use Rattle.scan_vectors.specs.declared.lines.Act.TheVariants.{Start, Set, Expect}
-use Rattle.event_scripts.specs.declared.script.ScriptLine.{ScriptLine}
+use Rattle.scan_vectors.specs.declared.scripts.script.ScriptLine.{ScriptLine}
 use Rattle.sim_runs.specs.declared.shown.Shown.{Shown}
 use Rattle.sim_runs.specs.Shown.{shown_nets}
 use Rattle.sim_runs.specs.Runs.{net_number}

@@ -5,7 +5,7 @@ use Rattle.signal_values.specs.declared.PinSig.{PinSig}
 use Rattle.netlist_model.specs.declared.NetId.{NetId}
 use Rattle.netlist_model.specs.Lists.{PortView, NetlistView}
 use Rattle.netlist_model.specs.Runs.{Moment, reading_at}
-use Rattle.netlist_meaning.specs.netlist_link.Linked.{LinkedView}
+use Rattle.netlist_link.specs.Linked.{LinkedView}
 use Rattle.netlist_meaning.specs.Pins.{net_of}
 use Rattle.sim_runs.specs.declared.shown.Shown.{Shown}
 use Rattle.sim_runs.specs.Shown.{shown_nets}

@@ -1,5 +1,5 @@
-pub mod Shown
-pub mod Runs
-pub mod Outputs
 pub mod Bits
+pub mod Outputs
 pub mod PlayedScript
+pub mod Runs
+pub mod Shown

@@ -6,12 +6,12 @@ use Rattle.signal_values.specs.declared.PinSig.{PinSig}
 use Rattle.signal_values.specs.Values.{show_byte}
 use Rattle.netlist_model.specs.declared.NetId.{NetId}
 use Rattle.netlist_model.specs.Runs.{Moment, reading_at}
-use Rattle.netlist_meaning.specs.netlist_link.Linked.{LinkedView}
+use Rattle.netlist_link.specs.Linked.{LinkedView}
 use Rattle.scan_vectors.specs.declared.lines.Act.{Act}
 use Rattle.scan_vectors.specs.declared.lines.Act.TheVariants.{Start, Set, Expect}
 use Rattle.scan_vectors.specs.declared.lines.Line.{Line}
 use Rattle.scan_vectors.specs.Grammar.{pin_of}
-use Rattle.event_scripts.specs.declared.script.ScriptLine.{ScriptLine}
+use Rattle.scan_vectors.specs.declared.scripts.script.ScriptLine.{ScriptLine}
 use Rattle.output_lines.specs.Lines.{words_line}
 use Rattle.sim_runs.specs.Shown.{shown_nets, label}
 use Rattle.sim_runs.specs.Runs.{net_number, events_of, IsRunOf}

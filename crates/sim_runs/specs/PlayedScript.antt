@@ -7,7 +7,7 @@ use Rattle.netlist_model.specs.Cones.{IsControlPort}
 use Rattle.netlist_model.specs.Runs.{Moment, IsKnownPin, IsStart}
 use Rattle.scan_vectors.specs.declared.lines.Act.{Act}
 use Rattle.scan_vectors.specs.declared.lines.Act.TheVariants.{Start, Set, Expect}
-use Rattle.event_scripts.specs.declared.script.ScriptLine.{ScriptLine}
+use Rattle.scan_vectors.specs.declared.scripts.script.ScriptLine.{ScriptLine}
 use Rattle.netlist_meaning.specs.declared.event.Event.{Event}
 use Rattle.netlist_meaning.specs.Pins.{net_of, IsDrivenPin, SetsPin}
 use Rattle.netlist_meaning.specs.Events.{IsLegalEvent, IsEventStep}

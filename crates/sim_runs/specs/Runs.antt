@@ -9,7 +9,7 @@ use Rattle.netlist_model.specs.Lists.{NetlistView, bit_net}
 use Rattle.netlist_model.specs.Runs.{Moment, PinEvent, IsRun}
 use Rattle.scan_vectors.specs.declared.lines.Act.{Act}
 use Rattle.scan_vectors.specs.declared.lines.Act.TheVariants.{Start, Set, Expect}
-use Rattle.event_scripts.specs.declared.script.ScriptLine.{ScriptLine}
+use Rattle.scan_vectors.specs.declared.scripts.script.ScriptLine.{ScriptLine}
 
 -- the number of a bit's net
 abbrev pub net_number : NetlistView → PinBit → ℕ

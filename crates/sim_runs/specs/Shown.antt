@@ -3,7 +3,7 @@
 use Rattle.std.specs.Prelude.{ℕ, List, [], slice_get, Option, Some, None, unwrap_or}
 use Rattle.netlist_model.specs.Lists.{NetView}
 use Rattle.link_model.specs.Denoted.{name_bytes}
-use Rattle.netlist_meaning.specs.netlist_link.Linked.{LinkedView}
+use Rattle.netlist_link.specs.Linked.{LinkedView}
 use Rattle.output_lines.specs.Lines.{bit_text}
 pub use Rattle.event_sim.specs.Shown.{shown_of, shown_nets}
 

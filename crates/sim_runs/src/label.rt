@@ -4,7 +4,7 @@ ghost use Rattle.std.specs.Prelude.{◌≡◌, ◌<◌, length};
 ghost use Rattle.output_lines.specs.Lines.{field_text};
 ghost use Rattle.sim_runs.specs.Shown.{label};
 
-use netlist_meaning::lower_netlist_link::Linked;
+use netlist_link::Linked;
 use netlist_model::{Name, NetId};
 use output_lines::Field;
 

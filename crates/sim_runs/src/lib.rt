@@ -18,6 +18,7 @@
 
 mod fault;
 mod label;
+pub mod lower_event_sim;
 mod moments;
 mod readings;
 mod script_run;

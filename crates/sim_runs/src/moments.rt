@@ -2,18 +2,18 @@
 
 ghost use Rattle.std.specs.Prelude.{◌≡◌, true, length, IfOk};
 ghost use Rattle.netlist_model.specs.Formed.{IsWellFormed};
-ghost use Rattle.event_scripts.specs.Scripts.{IsPlayable};
+ghost use Rattle.scan_vectors.specs.ScriptsLaws.{IsPlayable};
 ghost use Rattle.netlist_meaning.specs.Pins.{ArePinsOf, outside};
 ghost use Rattle.netlist_meaning.specs.Sims.{moment_of};
 ghost use Rattle.sim_runs.specs.PlayedScript.{AreKnown, CanStart, HaveStarts, IsFirst, TakesStart};
 
-use edge_io::OutOfMemory;
-use event_scripts::ScriptLine;
 use event_sim::EventSim;
-use netlist_meaning::lower_netlist_link::Linked;
+use netlist_link::Linked;
 use netlist_meaning::{Pins, State};
 use scan_vectors::Act;
+use scan_vectors::scripts::ScriptLine;
 use std::alloc::Global;
+use texts::OutOfMemory;
 
 /// A linked netlist at the first moment of a script.
 pub fn begin<'a>(

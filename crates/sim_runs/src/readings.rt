@@ -14,7 +14,7 @@ use crate::shown::Shown;
 use edge_io::sink::Sink;
 use edge_io::whole::WriteFault;
 use event_sim::EventSim;
-use netlist_meaning::lower_netlist_link::Linked;
+use netlist_link::Linked;
 use netlist_model::NetId;
 use output_lines::{Field, put_line};
 use signal_values::{PinSig, show};

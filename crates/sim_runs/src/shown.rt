@@ -3,11 +3,11 @@
 ghost use Rattle.std.specs.Prelude.{◌≡◌, ◌<◌, ◌++◌, length, map, slice_get, IfOk, OnOk};
 ghost use Rattle.sim_runs.specs.Bits.{AreBits, HavePins, net_at, port_nets, shown_at, told_of, untold};
 
-use edge_io::OutOfMemory;
 use netlist_arena::Netlist;
 use netlist_model::{Dir, NetId, PinBit, PortId, width_of};
 use signal_values::PinSig;
 use std::alloc::Global;
+use texts::OutOfMemory;
 
 /// An output or inout bit with its net.
 #[derive(Clone, Copy)]

@@ -4,7 +4,7 @@ use Rattle.std.specs.Prelude.{slice_get}
 use Rattle.std.specs.Bool.{IsFalse}
 use Rattle.std.proofs.lemmas.Option.{same_Some}
 use Rattle.list_laws.proofs.Lists.{left_at, none_left, taken_more}
-use Rattle.status_texts.specs.declared.fault.StatusFault.{StatusFault}
+use Rattle.status_fitting.specs.declared.register_texts.fault.StatusFault.{StatusFault}
 use Rattle.status_fitting.specs.First.{Stands, IsFirst}
 use Rattle.status_fitting.specs.Steps.{fault_behind}
 

@@ -7,11 +7,11 @@ use Rattle.std.proofs.lemmas.List.Elements.{All-head, All-tail}
 use Rattle.list_laws.specs.Lists.{AreAll}
 use Rattle.netlist_link.specs.Linked.{LinkedView}
 use Rattle.plan_texts.specs.declared.plan.Plan.{Plan}
-use Rattle.status_texts.specs.declared.fault.StatusFault.{StatusFault}
-use Rattle.status_texts.specs.declared.fault.StatusFault.TheVariants as fault
-use Rattle.status_texts.specs.declared.plan.StatusRow.{StatusRow}
-use Rattle.status_texts.specs.declared.plan.StatusPlan.{StatusPlan}
-use Rattle.status_texts.specs.Grammar.{RegisterWords, IsRegister as IsWritten, register_of}
+use Rattle.status_fitting.specs.declared.register_texts.fault.StatusFault.{StatusFault}
+use Rattle.status_fitting.specs.declared.register_texts.fault.StatusFault.TheVariants as fault
+use Rattle.status_fitting.specs.declared.register_texts.plan.StatusRow.{StatusRow}
+use Rattle.status_fitting.specs.declared.register_texts.plan.StatusPlan.{StatusPlan}
+use Rattle.status_fitting.specs.Grammar.{RegisterWords, IsRegister as IsWritten, register_of}
 use Rattle.status_fitting.specs.declared.fitted.FittedRegister.{FittedRegister}
 use Rattle.status_fitting.specs.First.{Stands, IsFirst}
 use Rattle.status_fitting.specs.Faults.{HasFault, HasNoFault, IsFault, IsSpelled, in_name, in_wire, in_opcode, words_of}

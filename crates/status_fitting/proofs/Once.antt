@@ -7,10 +7,10 @@ use Rattle.netlist_model.specs.declared.NetId.{NetId}
 use Rattle.netlist_link.specs.Linked.{LinkedView}
 use Rattle.netlist_link.specs.WellNamed.{IsWellNamed}
 use Rattle.plan_texts.specs.declared.plan.Plan.{Plan}
-use Rattle.status_texts.specs.declared.fault.StatusFault.{StatusFault}
-use Rattle.status_texts.specs.declared.fault.StatusFault.TheVariants as fault
-use Rattle.status_texts.specs.declared.plan.StatusRow.{StatusRow}
-use Rattle.status_texts.specs.declared.plan.StatusPlan.{StatusPlan}
+use Rattle.status_fitting.specs.declared.register_texts.fault.StatusFault.{StatusFault}
+use Rattle.status_fitting.specs.declared.register_texts.fault.StatusFault.TheVariants as fault
+use Rattle.status_fitting.specs.declared.register_texts.plan.StatusRow.{StatusRow}
+use Rattle.status_fitting.specs.declared.register_texts.plan.StatusPlan.{StatusPlan}
 use Rattle.status_fitting.specs.declared.fitted.FittedRegister.{FittedRegister}
 use Rattle.status_fitting.specs.declared.fitted.FittedStatus.{FittedStatus}
 use Rattle.status_fitting.specs.Faults.{HasFault, in_name, in_wire, in_opcode, words_of}

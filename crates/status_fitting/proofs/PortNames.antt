@@ -9,7 +9,7 @@ use Rattle.netlist_model.specs.declared.Name.{Name}
 use Rattle.netlist_model.specs.declared.Name.TheVariants.{Original, Added}
 use Rattle.netlist_model.specs.declared.NetId.{NetId}
 use Rattle.netlist_model.specs.Lists.{PortView, NetView, NetlistView, direction}
-use Rattle.netlist_laws.proofs.Ports.{direction_has_bit}
+use Rattle.netlist_model.proofs.Ports.{direction_has_bit}
 use Rattle.netlist_link.specs.PortNames.{HasOriginal}
 use Rattle.netlist_link.specs.WellNamed.{IsWellNamed, IsWireNet, index_from}
 use Rattle.netlist_link.proofs.TableLaws.{has_original, named_inside}

@@ -11,9 +11,9 @@ use Rattle.cell_library.specs.declared.codes.Bits.{Bits}
 use Rattle.netlist_model.specs.declared.NetId.{NetId}
 use Rattle.netlist_link.specs.Linked.{LinkedView}
 use Rattle.plan_texts.specs.declared.plan.Plan.{Plan}
-use Rattle.status_texts.specs.declared.fault.StatusFault.{StatusFault}
-use Rattle.status_texts.specs.declared.fault.StatusFault.TheVariants as fault
-use Rattle.status_texts.specs.declared.plan.StatusRow.{StatusRow}
+use Rattle.status_fitting.specs.declared.register_texts.fault.StatusFault.{StatusFault}
+use Rattle.status_fitting.specs.declared.register_texts.fault.StatusFault.TheVariants as fault
+use Rattle.status_fitting.specs.declared.register_texts.plan.StatusRow.{StatusRow}
 use Rattle.status_fitting.specs.declared.fitted.FittedRegister.{FittedRegister}
 use Rattle.status_fitting.specs.Faults.{words_of}
 use Rattle.status_fitting.specs.Fitted.{IsNetOf, IsRegister}

@@ -12,7 +12,7 @@ use Rattle.netlist_model.specs.declared.NetId.{NetId}
 use Rattle.netlist_model.specs.declared.Range.{Range}
 use Rattle.netlist_model.specs.Lists.{NetView, NetlistView}
 use Rattle.netlist_model.specs.Formed.{IsDriven, width_of}
-use Rattle.netlist_link.specs.link_model.Denoted.{name_bytes}
+use Rattle.link_model.specs.Denoted.{name_bytes}
 use Rattle.netlist_link.specs.Linked.{LinkedView}
 use Rattle.netlist_link.specs.PinWords.{IsIndexed}
 use Rattle.netlist_link.specs.WellNamed.{IsWellNamed, IsWireNet, index_from}

@@ -4,8 +4,8 @@ use Rattle.std.specs.Prelude.{◌≡◌, ℕ, List, length}
 use Rattle.list_laws.specs.Lists.{AreAll}
 use Rattle.netlist_model.specs.declared.NetId.{NetId}
 use Rattle.netlist_link.specs.Linked.{LinkedView}
-use Rattle.status_texts.specs.declared.plan.StatusRow.{StatusRow}
-use Rattle.status_texts.specs.declared.plan.StatusPlan.{StatusPlan}
+use Rattle.status_fitting.specs.declared.register_texts.plan.StatusRow.{StatusRow}
+use Rattle.status_fitting.specs.declared.register_texts.plan.StatusPlan.{StatusPlan}
 use Rattle.status_fitting.specs.declared.fitted.FittedRegister.{FittedRegister}
 use Rattle.status_fitting.specs.declared.fitted.FittedStatus.{FittedStatus}
 use Rattle.status_fitting.specs.Wires.{NamesDriven}

@@ -5,9 +5,9 @@ use Rattle.std.specs.List.{list_any}
 use Rattle.bsdl_lexicon.specs.Names.{is_same_name}
 use Rattle.bsdl_lexicon.specs.Reserved.{is_reserved}
 use Rattle.bsdl_device.specs.Runs.{is_identifier}
-use Rattle.extended_device.specs.Rules.{names_register, names_some_instruction}
-use Rattle.status_texts.specs.declared.plan.StatusRow.{StatusRow}
-use Rattle.status_texts.specs.declared.plan.StatusPlan.{StatusPlan}
+use Rattle.bsdl_device.specs.Rules.{names_register, names_some_instruction}
+use Rattle.status_fitting.specs.declared.register_texts.plan.StatusRow.{StatusRow}
+use Rattle.status_fitting.specs.declared.register_texts.plan.StatusPlan.{StatusPlan}
 
 -- what a line gives a name
 pub data Given : Type 0 where

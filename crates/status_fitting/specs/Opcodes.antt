@@ -7,7 +7,7 @@ use Rattle.cell_library.specs.declared.codes.Opcode.{Opcode}
 use Rattle.bsdl_device.specs.Instructions.{same_bits}
 use Rattle.bsdl_device.specs.Checks.{has_other_length}
 use Rattle.plan_texts.specs.declared.plan.Plan.{Plan}
-use Rattle.status_texts.specs.declared.plan.StatusRow.{StatusRow}
+use Rattle.status_fitting.specs.declared.register_texts.plan.StatusRow.{StatusRow}
 
 abbrev pub opcodes_of : List StatusRow → List Bits
 opcodes_of rows = map (λ (row : StatusRow). row.bits) rows

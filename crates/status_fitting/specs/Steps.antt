@@ -3,9 +3,9 @@ use Rattle.std.specs.Prelude.{◌≡◌, ℕ, ◌≤◌, Bool, List, [], ◌∷�
 use Rattle.std.specs.List.{AllByRecursion}
 use Rattle.netlist_model.specs.declared.NetId.{NetId}
 use Rattle.netlist_link.specs.Linked.{LinkedView}
-use Rattle.status_texts.specs.declared.fault.StatusFault.{StatusFault}
-use Rattle.status_texts.specs.declared.fault.StatusFault.TheVariants as fault
-use Rattle.status_texts.specs.declared.plan.StatusRow.{StatusRow}
+use Rattle.status_fitting.specs.declared.register_texts.fault.StatusFault.{StatusFault}
+use Rattle.status_fitting.specs.declared.register_texts.fault.StatusFault.TheVariants as fault
+use Rattle.status_fitting.specs.declared.register_texts.plan.StatusRow.{StatusRow}
 use Rattle.status_fitting.specs.Wires.{NamesDriven, IsUnnamed}
 use Rattle.status_fitting.specs.Names.{Given, name_of}
 

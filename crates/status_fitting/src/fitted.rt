@@ -1,4 +1,4 @@
-use extended_device::TestRegister;
+use bsdl_device::registers::TestRegister;
 use netlist_model::NetId;
 use texts::Row;
 

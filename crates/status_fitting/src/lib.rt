@@ -9,6 +9,7 @@
 //   instruction's, a word that names no bit of a wire with a driver, an opcode that can't be its instruction's, each
 //   the first along all lines.
 // - Laws: in a well-named netlist a word names one net at most, and what is fitted or the first fault is one answer.
+// - `register_texts`: data registers of a design's own, as texts, read.
 // By the contract of `fit_status` and its law function. What no clause says: wires are found by a table of names and
 // indexes, made in one pass over the nets; drivers are flagged in one pass over the cells; names and opcodes that were
 // given before are found by tables.
@@ -19,6 +20,7 @@ mod driven;
 mod flags;
 mod keys;
 mod port_names;
+pub mod register_texts;
 mod wires;
 mod words;
 

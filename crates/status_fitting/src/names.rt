@@ -7,11 +7,11 @@ ghost use Rattle.status_fitting.specs.Names as names;
 ghost use Rattle.status_fitting.specs.Steps.{fault_behind, name_fault};
 
 use crate::keys::GivenKey;
+use crate::register_texts::{StatusFault, StatusPlan, StatusRow};
+use bsdl_checks::registers::{names_register, names_some_instruction};
+use bsdl_device::runs::runs::is_identifier;
 use bsdl_lexicon::{NameKey, is_reserved, same_name};
-use bsdl_runs::runs::is_identifier;
-use extended_rules::{names_register, names_some_instruction};
 use indexmap::IndexSet;
-use status_texts::{StatusFault, StatusPlan, StatusRow};
 use std::alloc::Global;
 use texts::{OutOfMemory, Text};
 

@@ -6,10 +6,10 @@ ghost use Rattle.status_fitting.specs.Fitted.{IsNetOf, IsRegister};
 ghost use Rattle.status_fitting.specs.Steps.{HasFewWords, HaveFewWords, IsNetFault, IsWordFault};
 
 use crate::fitted::FittedRegister;
+use crate::register_texts::{StatusFault, StatusRow};
 use crate::wires::WireTable;
-use extended_device::TestRegister;
+use bsdl_device::registers::TestRegister;
 use netlist_model::NetId;
-use status_texts::{StatusFault, StatusRow};
 use std::alloc::Global;
 use texts::{OutOfMemory, Row, Text};
 

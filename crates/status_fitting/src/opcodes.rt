@@ -7,11 +7,11 @@ ghost use Rattle.status_fitting.specs.Opcodes as opcodes;
 ghost use Rattle.status_fitting.specs.Steps.{fault_behind, opcode_fault};
 
 use crate::keys::PatternKey;
-use bsdl_runs::opcodes::has_other_length;
+use crate::register_texts::{StatusFault, StatusRow};
+use bsdl_device::runs::opcodes::has_other_length;
 use cell_library::{Bits, Opcode};
 use indexmap::IndexSet;
 use plan_texts::Plan;
-use status_texts::{StatusFault, StatusRow};
 use std::alloc::Global;
 use texts::{OutOfMemory, Text};
 

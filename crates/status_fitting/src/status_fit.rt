@@ -7,10 +7,10 @@ use crate::fitted::FittedStatus;
 use crate::names::find_name_fault;
 use crate::nets::fit_rows;
 use crate::opcodes::find_taken;
+use crate::register_texts::{StatusFault, StatusPlan};
 use crate::wires::WireTable;
 use netlist_link::Linked;
 use plan_texts::Plan;
-use status_texts::{StatusFault, StatusPlan};
 use std::alloc::Global;
 
 /// Fits registers to a plan and a netlist, in time linear in lines, nets and cells: the nets that they capture where no

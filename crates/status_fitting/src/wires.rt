@@ -6,7 +6,7 @@ ghost use Rattle.status_fitting.specs.declared.keys.WireKey.{WireKey};
 ghost use Rattle.status_fitting.specs.Keys.{same_key};
 ghost use Rattle.status_fitting.specs.Steps.{Finds};
 ghost use Rattle.netlist_model.specs.declared.Name.{Name as NameNumber};
-ghost use Rattle.netlist_link.specs.link_model.Denoted.{name_bytes};
+ghost use Rattle.link_model.specs.Denoted.{name_bytes};
 ghost use Rattle.netlist_link.specs.WellNamed.{IsWellNamed};
 ghost use Rattle.status_fitting.specs.Tables.{FindsWires, FlagsPorts, IsKeyOf, IsWireUnder};
 ghost use Rattle.status_fitting.specs.Wires.{IsVectorWord, IsWireBit, NamesDriven, NamesWire};

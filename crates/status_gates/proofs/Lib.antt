@@ -1,4 +1,12 @@
-pub use Rattle.register_gates.proofs.register_bits as register_bits
-pub mod Told
 pub mod Added
+pub mod Each
 pub mod Feeds
+pub mod Known
+pub mod PartsAdded
+pub mod PartsTold
+pub mod Realises
+pub mod RunsLists
+pub mod Stands
+pub mod Tdo
+pub mod Told
+pub mod Wires

@@ -7,7 +7,7 @@ use Rattle.signal_values.proofs.Laws.{and-bit}
 use Rattle.netlist_model.specs.declared.Feed.{Feed}
 use Rattle.netlist_model.specs.declared.Feed.TheVariants.{Net}
 use Rattle.netlist_model.specs.Settled.{feed_value}
-use Rattle.netlist_laws.specs.Contained.{ContainedParts}
+use Rattle.netlist_model.specs.LawsContained.{ContainedParts}
 use Rattle.gate_parts.specs.Parts.{part_cells}
 use Rattle.gate_parts.specs.PartLaws.{ContainedPartMeets}
 use Rattle.test_logic.specs.Instructions.{is_pattern, is_same_bit}

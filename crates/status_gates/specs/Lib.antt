@@ -1,6 +1,11 @@
-pub use Rattle.register_gates.specs.register_bits as register_bits
-pub use Rattle.register_gates.specs as register_gates
-pub use Rattle.instruction_gates.specs as instruction_gates
+pub mod Extended
 pub mod Opcodes
+pub mod PartsLaws
+pub mod Placed
+pub mod Realises
+pub mod Registers
+pub mod RunsLaws
 pub mod Shown
+pub mod Stands
+pub mod SurroundedLaws
 pub mod Wires

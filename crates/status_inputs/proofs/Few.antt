@@ -5,14 +5,14 @@ use Rattle.std.proofs.lemmas.List.Elements.{All-nil, All-cons, All-head, All-tai
 use Rattle.list_laws.specs.Lists.{AreAll}
 use Rattle.list_laws.proofs.Lists.{AreAll-length}
 use Rattle.netlist_link.specs.Linked.{LinkedView}
-use Rattle.status_texts.specs.declared.plan.StatusRow.{StatusRow}
-use Rattle.status_texts.specs.declared.plan.StatusPlan.{StatusPlan}
-use Rattle.status_texts.specs.Grammar.{RegisterWords, IsRegister as IsWritten, register_of}
+use Rattle.status_fitting.specs.declared.register_texts.plan.StatusRow.{StatusRow}
+use Rattle.status_fitting.specs.declared.register_texts.plan.StatusPlan.{StatusPlan}
+use Rattle.status_fitting.specs.Grammar.{RegisterWords, IsRegister as IsWritten, register_of}
 use Rattle.status_fitting.specs.declared.fitted.FittedRegister.{FittedRegister}
 use Rattle.status_fitting.specs.declared.fitted.FittedStatus.{FittedStatus}
 use Rattle.status_fitting.specs.Faults.{IsSpelled}
 use Rattle.status_fitting.specs.Fitted.{IsNetOf, IsRegister, IsFitted as AreFitted}
-use Rattle.status_written.specs.status_register.status_room.Ready.{HasFewWires}
+use Rattle.status_register.specs.status_room.Ready.{HasFewWires}
 
 abbrev HasFewWords : StatusRow → Type 0
 HasFewWords row = length row.words ≤ 256

@@ -1,3 +1,3 @@
 mod Few
-mod Stand
 mod Ready
+mod Stand

@@ -9,18 +9,18 @@ use Rattle.plan_texts.specs.declared.plan.Plan.{Plan}
 use Rattle.plan_texts.specs.Canonical.{IsPlan}
 use Rattle.plan_fitting.specs.declared.fitted.Fitted.{Fitted}
 use Rattle.plan_fitting.specs.Devices.{IsFitted, device_of}
-use Rattle.extended_device.specs.IsExtended.{IsExtended}
+use Rattle.bsdl_device.specs.IsExtended.{IsExtended}
 use Rattle.insertion_inputs.specs.Inputs.{IsLinkedTree, IsReadyAs}
 use Rattle.status_fitting.specs.declared.fitted.FittedStatus.{FittedStatus}
-use Rattle.status_written.specs.status_register.stitch_names.Prepared.{ports_of}
-use Rattle.status_written.specs.status_register.stitch_names.plan_devices.FittingPlan.{IsFitting, HasRoom}
-use Rattle.status_written.specs.status_register.stitch_names.plan_devices.Laws.{FittedIsFitting}
-use Rattle.status_written.specs.status_register.Devices.{extended_of}
-use Rattle.status_written.specs.status_register.Laws.{RegistersMakeDevices}
-use Rattle.status_written.specs.status_register.status_room.Ready.{whole_room}
-use Rattle.status_written.specs.status_register.status_room.Prepared.{prepared_status}
-use Rattle.status_written.specs.status_register.Stitch.{AreRegisters, excess, HasRoomFor}
-use Rattle.status_written.proofs.stitch_names.Limits.{few_bits}
+use Rattle.written_netlists.specs.Prepared.{ports_of}
+use Rattle.plan_fitting.specs.FittingPlan.{IsFitting, HasRoom}
+use Rattle.plan_fitting.specs.DevicesLaws.{FittedIsFitting}
+use Rattle.status_register.specs.Devices.{extended_of}
+use Rattle.status_register.specs.Laws.{RegistersMakeDevices}
+use Rattle.status_register.specs.status_room.Ready.{whole_room}
+use Rattle.status_register.specs.status_room.Prepared.{prepared_status}
+use Rattle.status_register.specs.Stitch.{AreRegisters, excess, HasRoomFor}
+use Rattle.written_netlists.proofs.NamesLimits.{few_bits}
 use Rattle.status_inputs.specs.Inputs.{IsPreparedAs}
 
 fitting_of : FittedIsFitting → (L : LinkedView) (p : Plan) (f : Fitted) → IsLinkedTree L → IsPlan p → (is : IsFitted L p f) → IsFitting L p is.seen

@@ -11,15 +11,15 @@ use Rattle.plan_fitting.specs.Fits.{Fits}
 use Rattle.plan_fitting.specs.Devices.{IsFitted}
 use Rattle.insertion_inputs.specs.declared.fault.InsertFault.{InsertFault}
 use Rattle.insertion_inputs.specs.declared.fault.InsertFault.TheVariants as insert
-use Rattle.status_texts.specs.declared.fault.StatusFault.{StatusFault}
-use Rattle.status_texts.specs.declared.fault.StatusFault.TheVariants as status
-use Rattle.status_texts.specs.declared.plan.StatusPlan.{StatusPlan}
-use Rattle.status_texts.specs.Faults as lines
-use Rattle.status_texts.specs.Grammar.{SpellsStatus}
+use Rattle.status_fitting.specs.declared.register_texts.fault.StatusFault.{StatusFault}
+use Rattle.status_fitting.specs.declared.register_texts.fault.StatusFault.TheVariants as status
+use Rattle.status_fitting.specs.declared.register_texts.plan.StatusPlan.{StatusPlan}
+use Rattle.status_fitting.specs.RegisterTextsFaults as lines
+use Rattle.status_fitting.specs.Grammar.{SpellsStatus}
 use Rattle.status_fitting.specs.declared.fitted.FittedStatus.{FittedStatus}
 use Rattle.status_fitting.specs.Faults as fits
 use Rattle.status_fitting.specs.Fitted.{IsFitted as AreFitted}
-use Rattle.status_written.specs.status_register.Stitch.{AreRegisters, excess}
+use Rattle.status_register.specs.Stitch.{AreRegisters, excess}
 use Rattle.status_inputs.specs.Inputs.{SpellsRegisters}
 use Rattle.status_inputs.specs.Faults.{StandsInRegisters, StandsInRoom, StandsInPlanText, StandsBehindPlan}
 use Rattle.status_inputs.specs.Reserves.{reserve_fault}

@@ -16,14 +16,14 @@ use Rattle.insertion_inputs.specs.declared.fault.InsertFault.{InsertFault}
 use Rattle.insertion_inputs.specs.declared.fault.InsertFault.TheVariants as insert
 use Rattle.insertion_inputs.specs.Inputs.{IsNetlistOf}
 use Rattle.insertion_inputs.specs.Faults.{StandsInTexts, HasPlanAtFault}
-use Rattle.status_texts.specs.declared.fault.StatusFault.{StatusFault}
-use Rattle.status_texts.specs.declared.fault.StatusFault.TheVariants as status
-use Rattle.status_texts.specs.declared.plan.StatusPlan.{StatusPlan}
-use Rattle.status_texts.specs.Faults as lines
-use Rattle.status_texts.specs.Grammar.{SpellsStatus}
+use Rattle.status_fitting.specs.declared.register_texts.fault.StatusFault.{StatusFault}
+use Rattle.status_fitting.specs.declared.register_texts.fault.StatusFault.TheVariants as status
+use Rattle.status_fitting.specs.declared.register_texts.plan.StatusPlan.{StatusPlan}
+use Rattle.status_fitting.specs.RegisterTextsFaults as lines
+use Rattle.status_fitting.specs.Grammar.{SpellsStatus}
 use Rattle.status_fitting.specs.declared.fitted.FittedStatus.{FittedStatus}
 use Rattle.status_fitting.specs.Faults as fits
-use Rattle.status_written.specs.status_register.Stitch.{excess}
+use Rattle.status_register.specs.Stitch.{excess}
 use Rattle.status_inputs.specs.declared.fault.StatusInsertFault.{StatusInsertFault}
 use Rattle.status_inputs.specs.declared.fault.StatusInsertFault.TheVariants as fault
 use Rattle.status_inputs.specs.Inputs.{SpellsRegisters}

@@ -7,17 +7,17 @@ use Rattle.plan_texts.specs.declared.plan.Plan.{Plan}
 use Rattle.plan_texts.specs.Grammar.{SpellsPlan}
 use Rattle.plan_fitting.specs.declared.fitted.Fitted.{Fitted}
 use Rattle.plan_fitting.specs.Devices.{device_of, device_of_fitted}
-use Rattle.extended_device.specs.declared.values.Extended.{Extended}
-use Rattle.extended_device.specs.IsExtended.{IsExtended}
+use Rattle.bsdl_device.specs.declared.registers.values.Extended.{Extended}
+use Rattle.bsdl_device.specs.IsExtended.{IsExtended}
 use Rattle.insertion_inputs.specs.Inputs.{IsReadyAs}
-use Rattle.status_texts.specs.declared.plan.StatusPlan.{StatusPlan}
-use Rattle.status_texts.specs.Grammar.{SpellsStatus}
+use Rattle.status_fitting.specs.declared.register_texts.plan.StatusPlan.{StatusPlan}
+use Rattle.status_fitting.specs.Grammar.{SpellsStatus}
 use Rattle.status_fitting.specs.declared.fitted.FittedStatus.{FittedStatus}
 use Rattle.status_fitting.specs.Faults.{HasNoFault}
 use Rattle.status_fitting.specs.Fitted.{IsFitted as AreFitted}
-use Rattle.status_written.specs.status_register.Devices.{extended_of}
-use Rattle.status_written.specs.status_register.status_room.Prepared.{prepared_status}
-use Rattle.status_written.specs.status_register.Stitch.{AreRegisters, HasRoomFor}
+use Rattle.status_register.specs.Devices.{extended_of}
+use Rattle.status_register.specs.status_room.Prepared.{prepared_status}
+use Rattle.status_register.specs.Stitch.{AreRegisters, HasRoomFor}
 
 -- the bytes spell the plan, which fits the netlist as this
 pub record IsPlanned (text : List ℕ) (linked : LinkedView) (p : Plan) (f : Fitted) : Type 0 where

@@ -1,6 +1,6 @@
-pub use Rattle.status_written.specs as status_written
-pub use Rattle.insertion_inputs.specs.Inputs as InsertInputs
-pub use Rattle.insertion_inputs.specs.Faults as InsertFaults
+pub use Rattle.status_register.specs.status_room as status_room
+pub use Rattle.status_register.specs.status_stitch as status_stitch
+pub use Rattle.status_register.specs as status_register
+pub mod Faults
 pub mod Inputs
 pub mod Reserves
-pub mod Faults

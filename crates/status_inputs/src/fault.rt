@@ -1,19 +1,16 @@
 use insertion_inputs::InsertFault;
 use netlist_arena::ReserveFault;
-use status_written::StatusFault;
+use status_fitting::register_texts::StatusFault;
 use texts::OutOfMemory;
-use thiserror::Error;
 
 /// Why nothing can be inserted with these registers. The faults of the registers come behind those of the netlist and
 /// the plan, and before there is too much of something.
-#[derive(Debug, Drop, Error)]
+#[derive(Drop)]
 pub enum StatusInsertFault {
     /// The netlist or the plan is at fault, with the registers there would be too many of something, or memory was
     /// refused.
-    #[error("{0}")]
     Insert(InsertFault),
     /// The text of the registers is none, or they don't fit the plan and the netlist.
-    #[error("{0}")]
     Registers(StatusFault),
 }
 

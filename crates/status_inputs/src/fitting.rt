@@ -2,19 +2,22 @@
 ghost use Rattle.std.specs.Prelude.{IfErr, IfOk, OnOk};
 ghost use Rattle.plan_texts.specs.Canonical.{IsPlan};
 ghost use Rattle.insertion_inputs.specs.Inputs.{IsLinkedTree, IsReadyAs};
-ghost use Rattle.status_written.specs.status_register.Stitch.{AreRegisters};
+ghost use Rattle.status_register.specs.Stitch.{AreRegisters};
 ghost use Rattle.status_inputs.specs.Inputs.{IsPreparedAs, IsFittingAs};
 ghost use Rattle.status_inputs.specs.Faults.{StandsBehindPlan, StandsInRoom};
 
 use crate::fault::StatusInsertFault;
 use crate::plan::plan_text;
 use crate::registers::registers_text;
+use bsdl_device::registers::Extended;
 use netlist_arena::ReserveFault;
 use netlist_link::Linked;
 use plan_fitting::Fitted;
+use plan_fitting::devices::fitted_is_fitting;
 use plan_texts::Plan;
-use status_written::lower_plan_devices::fitted_is_fitting;
-use status_written::{Extended, FittedStatus, extended_of, prepare_status, registers_make_devices};
+use status_fitting::FittedStatus;
+use status_register::lower_status_room::prepare_status;
+use status_register::{extended_of, registers_make_devices};
 use std::alloc::Global;
 
 /// A plan and registers, what they come to for a netlist, and the device with these registers.

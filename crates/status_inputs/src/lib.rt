@@ -14,14 +14,9 @@
 
 mod fault;
 mod fitting;
+pub mod lower_status_register;
 mod plan;
 mod registers;
 
 pub use fault::StatusInsertFault;
 pub use fitting::{StatusFitting, fit_texts};
-pub use insertion_inputs::{InsertFault, link_text};
-pub use status_written::{
-    lower_plan_devices, status_can_be_written, status_is_written, stitch_status,
-    texts_of_registers_are_spelled_or_at_fault, written_status_has_controls,
-    written_status_is_alone, written_status_realises,
-};

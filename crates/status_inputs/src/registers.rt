@@ -5,7 +5,8 @@ ghost use Rattle.status_inputs.specs.Faults.{StandsInRegisters};
 
 use netlist_link::Linked;
 use plan_texts::Plan;
-use status_written::{FittedStatus, StatusFault, fit_status, read_status};
+use status_fitting::register_texts::{StatusFault, read_status};
+use status_fitting::{FittedStatus, fit_status};
 use std::alloc::Global;
 
 /// The registers that a text spells, fitted to a plan and a netlist.

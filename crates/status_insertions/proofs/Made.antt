@@ -3,12 +3,12 @@ use Rattle.std.proofs.Common.{◌≡◌, ℕ, ◌+◌, List, length, Result, Ok,
 use Rattle.std.proofs.lemmas.List.Sums.{sum_by-append}
 use Rattle.verilog_tree.specs.Texts.{SpellsText}
 use Rattle.cell_library.specs.declared.listed.ListedCell.{ListedCell}
-use Rattle.extended_device.specs.declared.values.Extended.{Extended}
-use Rattle.extended_device.specs.IsExtended.{IsExtended}
-use Rattle.extended_device.specs.Canonical.{canonical_extended}
-use Rattle.extended_device.specs.Spelled.{SpellsExtendedText}
-use Rattle.extended_round_trip.specs.Laws.{CanonicalExtendedSpells}
-use Rattle.extended_texts.specs.Laws.{SpellsOneExtended}
+use Rattle.bsdl_device.specs.declared.registers.values.Extended.{Extended}
+use Rattle.bsdl_device.specs.IsExtended.{IsExtended}
+use Rattle.bsdl_device.specs.RegistersCanonical.{canonical_extended}
+use Rattle.bsdl_device.specs.RegistersSpelled.{SpellsExtendedText}
+use Rattle.bsdl_device.specs.RegistersRoundTripLaws.{CanonicalExtendedSpells}
+use Rattle.bsdl_values.specs.RegisterTextsLaws.{SpellsOneExtended}
 use Rattle.netlist_model.specs.Lists.{PortView, cell_count}
 use Rattle.netlist_model.specs.Formed.{IsLaidOut}
 use Rattle.netlist_arena.specs.Arena.{bit_count}
@@ -19,20 +19,20 @@ use Rattle.plan_texts.specs.declared.plan.Plan.{Plan}
 use Rattle.plan_texts.specs.Exactly as plans
 use Rattle.plan_fitting.specs.declared.fitted.Fitted.{Fitted}
 use Rattle.plan_fitting.specs.Devices.{IsFitted, device_of_fitted, device_of}
-use Rattle.status_texts.specs.Exactly as lines
+use Rattle.status_fitting.specs.Exactly as lines
 use Rattle.status_fitting.specs.declared.fitted.FittedStatus.{FittedStatus}
 use Rattle.insertions.specs.Insertions.{IsNetlistText}
-use Rattle.insertions.specs.Written.{WritesStitched}
-use Rattle.status_inputs.specs.InsertInputs.{IsNetlistOf}
+use Rattle.written_netlists.specs.Written.{WritesStitched}
+use Rattle.insertions.specs.insertion_inputs.Inputs.{IsNetlistOf}
 use Rattle.status_inputs.specs.Inputs.{IsFittingAs}
-use Rattle.status_inputs.specs.status_written.status_register.stitch_names.plan_devices.Laws.{FittedIsFitting}
-use Rattle.status_inputs.specs.status_written.status_register.stitch_names.stitch_model.declared.TapNames.{TapNames}
-use Rattle.status_inputs.specs.status_written.status_register.stitch_names.stitch_model.declared.TapPort.{TapPort}
-use Rattle.status_inputs.specs.status_written.status_register.stitch_names.stitch_model.Stitched.{tap_ports, tap_port}
-use Rattle.status_inputs.specs.status_written.status_register.Devices.{extended_of}
-use Rattle.status_inputs.specs.status_written.status_register.status_room.Prepared.{prepared_status}
-use Rattle.status_inputs.specs.status_written.status_register.status_stitch.Stitch.{CanStitchStatus, IsStitchedStatus}
-use Rattle.status_inputs.specs.status_written.Laws.{IsStitchedOf, IsStitching, StatusCanBeWritten, StatusIsWritten, WrittenStatusRealises, WrittenStatusIsAlone, WrittenStatusHasControls}
+use Rattle.plan_fitting.specs.DevicesLaws.{FittedIsFitting}
+use Rattle.stitched_netlist.specs.declared.model.TapNames.{TapNames}
+use Rattle.stitched_netlist.specs.declared.model.TapPort.{TapPort}
+use Rattle.stitched_netlist.specs.Stitched.{tap_ports, tap_port}
+use Rattle.status_inputs.specs.status_register.Devices.{extended_of}
+use Rattle.status_inputs.specs.status_room.Prepared.{prepared_status}
+use Rattle.status_inputs.specs.status_stitch.Stitch.{CanStitchStatus, IsStitchedStatus}
+use Rattle.status_inputs.specs.status_register.WrittenLaws.{IsStitchedOf, IsStitching, StatusCanBeWritten, StatusIsWritten, WrittenStatusRealises, WrittenStatusIsAlone, WrittenStatusHasControls}
 use Rattle.insertions.specs.declared.written_texts.Inserted.{Inserted}
 use Rattle.status_insertions.specs.Reports.{extended_report}
 use Rattle.status_insertions.specs.Insertions.{IsExtendedText, IsStatusInsertion}

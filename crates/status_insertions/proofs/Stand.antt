@@ -3,13 +3,13 @@ use Rattle.std.proofs.Common.{ℕ, List, sym, subst}
 use Rattle.cell_library.specs.declared.listed.ListedCell.{ListedCell}
 use Rattle.cell_library.specs.Sound.{IsLibrary}
 use Rattle.netlist_link.specs.Linked.{LinkedView}
-use Rattle.status_inputs.specs.InsertInputs.{IsNetlistOf, IsLinkedTree}
-use Rattle.status_inputs.specs.InsertFaults.{StandsInNetlist}
-use Rattle.insertions.specs.InsertFault.{InsertFault}
-use Rattle.insertions.specs.InsertFault.TheVariants as insert
+use Rattle.insertions.specs.insertion_inputs.Inputs.{IsNetlistOf, IsLinkedTree}
+use Rattle.insertions.specs.insertion_inputs.Faults.{StandsInNetlist}
+use Rattle.insertions.specs.insertion_inputs.declared.fault.InsertFault.{InsertFault}
+use Rattle.insertions.specs.insertion_inputs.declared.fault.InsertFault.TheVariants as insert
 use Rattle.status_inputs.specs.Faults.{StandsBehindPlan, StandsInStatusTexts}
-use Rattle.status_insertions.specs.StatusInsertFault.{StatusInsertFault}
-use Rattle.status_insertions.specs.StatusInsertFault.TheVariants as fault
+use Rattle.status_inputs.specs.declared.fault.StatusInsertFault.{StatusInsertFault}
+use Rattle.status_inputs.specs.declared.fault.StatusInsertFault.TheVariants as fault
 
 pub netlist_stands : (library : List ListedCell) (net text lines : List ℕ) (f : InsertFault) → StandsInNetlist library net f → StandsInStatusTexts library net text lines (fault.Insert f)
 netlist_stands library net text lines (insert.Netlist f) stands = stands

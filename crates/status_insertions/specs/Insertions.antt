@@ -8,9 +8,9 @@ use Rattle.verilog_tree.specs.IsTree.{IsTree}
 use Rattle.verilog_tree.specs.Canonical.{canonical}
 use Rattle.cell_library.specs.declared.listed.ListedCell.{ListedCell}
 use Rattle.cell_library.specs.Sound.{IsLibrary}
-use Rattle.extended_device.specs.declared.values.Extended.{Extended}
-use Rattle.extended_device.specs.Spelled.{SpellsExtendedText}
-use Rattle.extended_device.specs.Canonical.{canonical_extended}
+use Rattle.bsdl_device.specs.declared.registers.values.Extended.{Extended}
+use Rattle.bsdl_device.specs.RegistersSpelled.{SpellsExtendedText}
+use Rattle.bsdl_device.specs.RegistersCanonical.{canonical_extended}
 use Rattle.netlist_model.specs.Lists.{cell_count}
 use Rattle.netlist_model.specs.Formed.{IsLaidOut}
 use Rattle.netlist_arena.specs.Arena.{bit_count}
@@ -24,15 +24,15 @@ use Rattle.plan_fitting.specs.Fits.{Fits}
 use Rattle.plan_fitting.specs.Devices.{device_of}
 use Rattle.wrapped_chip.specs.Realises.{Keeps, Alone}
 use Rattle.wrapped_chip.specs.Legal.{HasControls}
-use Rattle.status_inputs.specs.status_written.Written.{spelt, tap_of}
-use Rattle.status_texts.specs.declared.plan.StatusPlan.{StatusPlan}
-use Rattle.status_texts.specs.Grammar.{SpellsStatus}
+use Rattle.written_netlists.specs.Written.{spelt, tap_of}
+use Rattle.status_fitting.specs.declared.register_texts.plan.StatusPlan.{StatusPlan}
+use Rattle.status_fitting.specs.Grammar.{SpellsStatus}
 use Rattle.status_fitting.specs.declared.fitted.FittedStatus.{FittedStatus}
 use Rattle.status_fitting.specs.Faults.{HasNoFault}
 use Rattle.status_fitting.specs.Fitted.{IsFitted as AreFitted}
-use Rattle.status_inputs.specs.status_written.status_register.Devices.{extended_of}
-use Rattle.status_inputs.specs.status_written.status_register.Realises.{RealisesStatus}
-use Rattle.status_inputs.specs.InsertInputs.{IsNetlistOf}
+use Rattle.status_inputs.specs.status_register.Devices.{extended_of}
+use Rattle.status_gates.specs.Realises.{RealisesStatus}
+use Rattle.insertions.specs.insertion_inputs.Inputs.{IsNetlistOf}
 use Rattle.status_inputs.specs.Inputs.{IsFittingAs}
 use Rattle.status_insertions.specs.Reports.{extended_report}
 

@@ -1,7 +1,6 @@
-pub use Rattle.status_inputs.specs.status_written.status_register.Stitch
-pub use Rattle.status_inputs.specs.InsertInputs
-pub use Rattle.status_inputs.specs.Inputs
-pub use Rattle.status_inputs.specs.Faults
-pub use Rattle.status_inputs.specs.declared.fault.StatusInsertFault
-pub mod Reports
+pub use Rattle.insertions.specs.insertion_inputs as insertion_inputs
+pub use Rattle.insertions.specs as insertions
+pub use Rattle.status_inputs.specs.status_register as status_register
+pub use Rattle.status_inputs.specs as status_inputs
 pub mod Insertions
+pub mod Reports

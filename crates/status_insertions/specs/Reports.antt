@@ -3,8 +3,8 @@ use Rattle.std.specs.Prelude.{ℕ, List, [], ◌∷◌, ◌++◌, codes}
 use Rattle.std.specs.Fmt.{decimal}
 use Rattle.std.specs.List.{flat_map}
 use Rattle.output_lines.specs.Lines.{words_line}
-use Rattle.extended_device.specs.declared.values.TestRegister.{TestRegister}
-use Rattle.extended_device.specs.declared.values.Extended.{Extended}
+use Rattle.bsdl_device.specs.declared.registers.values.TestRegister.{TestRegister}
+use Rattle.bsdl_device.specs.declared.registers.values.Extended.{Extended}
 use Rattle.insertion_report.specs.Reports.{report_of}
 
 -- `register NAME n INSTR`: how many bits it has, and the instruction that selects it

@@ -3,7 +3,7 @@ ghost use Rattle.std.specs.Prelude.{ℕ, List, IfErr, IfOk};
 ghost use Rattle.cell_library.specs.declared.listed.ListedCell.{ListedCell};
 ghost use Rattle.netlist_model.specs.Formed.{IsLaidOut};
 ghost use Rattle.netlist_link.specs.Linked.{LinkedView};
-ghost use Rattle.status_inputs.specs.InsertInputs.{IsNetlistOf};
+ghost use Rattle.insertions.specs.insertion_inputs.Inputs.{IsNetlistOf};
 ghost use Rattle.status_inputs.specs.Inputs.{IsFittingAs};
 ghost use Rattle.status_inputs.specs.Faults.{StandsInStatusTexts};
 ghost use Rattle.status_insertions.specs.Insertions.{IsReadied, IsStatusInsertion};
@@ -11,14 +11,16 @@ ghost use Rattle.status_insertions.specs.Insertions.{IsReadied, IsStatusInsertio
 use crate::written_texts::write_texts;
 use cell_library::Library;
 use insertions::Inserted;
+use insertions::lower_insertion_inputs::link_text;
 use netlist_link::Linked;
+use plan_fitting::devices::fitted_is_fitting;
 use plan_texts::texts_of_plans_are_spelled_or_at_fault;
-use status_inputs::lower_plan_devices::fitted_is_fitting;
-use status_inputs::{
-    StatusFitting, StatusInsertFault, fit_texts, link_text, status_can_be_written,
-    status_is_written, stitch_status, texts_of_registers_are_spelled_or_at_fault,
-    written_status_has_controls, written_status_is_alone, written_status_realises,
+use status_fitting::register_texts::texts_of_registers_are_spelled_or_at_fault;
+use status_inputs::lower_status_register::{
+    status_can_be_written, status_is_written, stitch_status, written_status_has_controls,
+    written_status_is_alone, written_status_realises,
 };
+use status_inputs::{StatusFitting, StatusInsertFault, fit_texts};
 use std::alloc::Global;
 use texts::{OutOfMemory, Text};
 

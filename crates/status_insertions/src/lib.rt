@@ -8,7 +8,7 @@
 // - `insert_status` gives, of a text that spells one netlist with the library, one that spells one plan, which fits it,
 //   and one that spells registers, which fit both: the canonical text of a module that it alone spells, in which no
 //   fault stands and which tells one netlist; that keeps the first one's ports, with the test access port behind them,
-//   and its cells' places, kinds and names, and behaves as `status_written` says; the canonical text of the plan's
+//   and its cells' places, kinds and names, and behaves as `status_register` says; the canonical text of the plan's
 //   device with the registers, which it alone spells; and the report, with a line for each register.
 // - Else it tells the first fault that stands in the three texts.
 // By the contract of `insert_status`.
@@ -16,8 +16,9 @@
 
 mod insertion;
 mod lines;
+pub mod lower_insertion_inputs;
+pub mod lower_insertions;
+pub mod lower_status_inputs;
 mod written_texts;
 
 pub use insertion::insert_status;
-pub use insertions::Inserted;
-pub use status_inputs::StatusInsertFault;

@@ -4,7 +4,7 @@ ghost use Rattle.std.specs.List.{flat_map};
 ghost use Rattle.netlist_arena.specs.Arena.{bit_count};
 ghost use Rattle.status_insertions.specs.Reports.{extended_report, register_line};
 
-use extended_device::{Extended, TestRegister};
+use bsdl_device::registers::{Extended, TestRegister};
 use insertion_report::report;
 use itoa::Buffer;
 use netlist_link::Linked;

@@ -1,6 +1,6 @@
 // The texts that are written.
 ghost use Rattle.std.specs.Prelude.{◌≡◌, IfOk};
-ghost use Rattle.extended_device.specs.IsExtended.{IsExtended};
+ghost use Rattle.bsdl_device.specs.IsExtended.{IsExtended};
 ghost use Rattle.netlist_arena.specs.Arena.{bit_count};
 ghost use Rattle.netlist_unlink.specs.Prefixes.{IsFreePrefix};
 ghost use Rattle.insertions.specs.Insertions.{IsNetlistText};
@@ -8,10 +8,10 @@ ghost use Rattle.status_insertions.specs.Insertions.{IsExtendedText};
 ghost use Rattle.status_insertions.specs.Reports.{extended_report};
 
 use crate::lines::report_all;
-use extended_device::Extended;
-use extended_printing::print_extended;
-use extended_round_trip::canonical_extended_texts_spell;
-use extended_texts::spells_one_extended;
+use bsdl_device::registers::Extended;
+use bsdl_device::registers_round_trip::canonical_extended_texts_spell;
+use bsdl_printing::registers::print_extended;
+use bsdl_values::register_texts::spells_one_extended;
 use insertions::{Inserted, netlist_text};
 use netlist_link::Linked;
 use status_inputs::StatusFitting;

@@ -7,13 +7,13 @@ use Rattle.plan_fitting.specs.declared.fitted.Fitted.{Fitted}
 use Rattle.plan_fitting.specs.Devices.{fitted_of, device_of_fitted}
 use Rattle.wrapped_chip.specs.Legal.{HasControls}
 use Rattle.wrapped_chip.specs.Realises.{Alone}
-use Rattle.status_stitch.specs.stitch_model.declared.TapNames.{TapNames}
-use Rattle.status_stitch.proofs.stitch_laws.Places.{listed_at}
-use Rattle.status_stitch.specs.stitch_names.Same.{IsSameNetlist}
+use Rattle.stitched_netlist.specs.declared.model.TapNames.{TapNames}
+use Rattle.stitched_netlist.proofs.PlacesLaws.{listed_at}
+use Rattle.written_netlists.specs.Same.{IsSameNetlist}
 use Rattle.status_fitting.specs.declared.fitted.FittedRegister.{FittedRegister}
-use Rattle.built_status.specs.surrounded_status.Realises.{RealisesStatus}
-use Rattle.built_status.specs.Built.{IsBuilt}
-use Rattle.built_status.specs.Laws.{BuiltHasStatus, BuiltStatusRealises, BuiltStatusIsAlone, IsWholeStatus}
+use Rattle.status_gates.specs.Realises.{RealisesStatus}
+use Rattle.status_stitch.specs.BuiltLaws.{IsBuilt}
+use Rattle.status_stitch.specs.BuiltLawsLaws.{BuiltHasStatus, BuiltStatusRealises, BuiltStatusIsAlone, IsWholeStatus}
 use Rattle.status_stitch.specs.Stitch.{CanStitchStatus, IsStitchedStatus}
 use Rattle.status_stitch.specs.Stitched.{all_cells, stitched_status}
 

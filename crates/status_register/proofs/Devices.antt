@@ -15,23 +15,23 @@ use Rattle.bsdl_device.specs.Instructions.{same_bits}
 use Rattle.bsdl_device.specs.Checks.{any_pair}
 use Rattle.bsdl_device.specs.IsDevice.{IsDeviceName}
 use Rattle.bsdl_device.specs.Runs.{is_pattern}
-use Rattle.extended_device.specs.declared.values.TestRegister.{TestRegister}
-use Rattle.extended_device.specs.IsExtended.{IsTestRegister}
-use Rattle.extended_device.specs.Rules.{names_register, names_some_instruction}
+use Rattle.bsdl_device.specs.declared.registers.values.TestRegister.{TestRegister}
+use Rattle.bsdl_device.specs.IsExtended.{IsTestRegister}
+use Rattle.bsdl_device.specs.Rules.{names_register, names_some_instruction}
 use Rattle.netlist_link.specs.Linked.{LinkedView}
 use Rattle.plan_fitting.specs.Devices.{device_of}
-use Rattle.status_stitch.specs.plan_devices.Laws.{PlansMakeDevices}
-use Rattle.status_texts.specs.declared.plan.StatusRow.{StatusRow}
-use Rattle.status_texts.specs.declared.plan.StatusPlan.{StatusPlan}
-use Rattle.status_texts.specs.Grammar.{RegisterWords, IsRegister as IsWritten, register_of as row_of}
+use Rattle.plan_fitting.specs.DevicesLaws.{PlansMakeDevices}
+use Rattle.status_fitting.specs.declared.register_texts.plan.StatusRow.{StatusRow}
+use Rattle.status_fitting.specs.declared.register_texts.plan.StatusPlan.{StatusPlan}
+use Rattle.status_fitting.specs.Grammar.{RegisterWords, IsRegister as IsWritten, register_of as row_of}
 use Rattle.status_fitting.specs.declared.fitted.FittedRegister.{FittedRegister}
 use Rattle.status_fitting.specs.First.{Stands}
 use Rattle.status_fitting.specs.Fitted.{IsRegister}
 use Rattle.status_fitting.specs.Names.{Given, given_by, all_given, is_barred}
 use Rattle.status_fitting.specs.Opcodes.{is_taken}
-use Rattle.built_status.specs.status_realised.Stands.{IsOwn}
-use Rattle.built_status.specs.status_realised.Laws.{FittedRegistersAreOwn}
-use Rattle.built_status.proofs.status_realised.Fitted.{names_stand, opcodes_stand}
+use Rattle.status_stitch.specs.Stands.{IsOwn}
+use Rattle.status_stitch.specs.RealisedLaws.{FittedRegistersAreOwn}
+use Rattle.status_stitch.proofs.Fitted.{names_stand, opcodes_stand}
 use Rattle.status_register.specs.Devices.{register_of}
 use Rattle.status_register.specs.Laws.{RegistersMakeDevices}
 use Rattle.status_register.proofs.Free.{IsFreeRow, AreFreeRows, free_rows, names_apart, instrs_apart, free_opcodes, opcodes_apart}

@@ -15,11 +15,11 @@ use Rattle.bsdl_device.specs.Instructions.{same_bits}
 use Rattle.bsdl_device.specs.Checks.{any_pair, has_other_length}
 use Rattle.bsdl_device.specs.IsDevice.{IsDeviceName}
 use Rattle.bsdl_device.proofs.Identifiers.{identifier_from}
-use Rattle.extended_device.specs.Rules.{names_register, names_some_instruction}
+use Rattle.bsdl_device.specs.Rules.{names_register, names_some_instruction}
 use Rattle.plan_texts.specs.declared.plan.Plan.{Plan}
-use Rattle.status_stitch.proofs.plan_devices.Identifiers.{is_device_name}
-use Rattle.status_stitch.proofs.plan_devices.Pairs.{any_front, any_back}
-use Rattle.status_texts.specs.declared.plan.StatusRow.{StatusRow}
+use Rattle.plan_fitting.proofs.Identifiers.{is_device_name}
+use Rattle.plan_fitting.proofs.Pairs.{any_front, any_back}
+use Rattle.status_fitting.specs.declared.register_texts.plan.StatusRow.{StatusRow}
 use Rattle.status_fitting.specs.First.{Stands}
 use Rattle.status_fitting.specs.Names.{Given, RegisterName, InstructionName, given_by, same_given, is_barred}
 use Rattle.status_fitting.specs.Opcodes.{opcodes_of, is_taken_behind, is_taken}

@@ -2,8 +2,8 @@
 -- IEEE Std 1149.1-2001: design-specific test data registers, the annex on BSDL.
 use Rattle.std.specs.Prelude.{map}
 use Rattle.bsdl_device.specs.declared.values.Device.{Device}
-use Rattle.extended_device.specs.declared.values.TestRegister.{TestRegister}
-use Rattle.extended_device.specs.declared.values.Extended.{Extended}
+use Rattle.bsdl_device.specs.declared.registers.values.TestRegister.{TestRegister}
+use Rattle.bsdl_device.specs.declared.registers.values.Extended.{Extended}
 use Rattle.status_fitting.specs.declared.fitted.FittedRegister.{FittedRegister}
 use Rattle.status_fitting.specs.declared.fitted.FittedStatus.{FittedStatus}
 

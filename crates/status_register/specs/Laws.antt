@@ -5,8 +5,8 @@ use Rattle.netlist_link.specs.Linked.{LinkedView}
 use Rattle.plan_texts.specs.declared.plan.Plan.{Plan}
 use Rattle.plan_fitting.specs.Pins.{PinSeen}
 use Rattle.plan_fitting.specs.Devices.{device_of}
-use Rattle.status_stitch.specs.plan_devices.FittingPlan.{IsFitting, HasRoom}
-use Rattle.extended_device.specs.IsExtended.{IsExtended}
+use Rattle.plan_fitting.specs.FittingPlan.{IsFitting, HasRoom}
+use Rattle.bsdl_device.specs.IsExtended.{IsExtended}
 use Rattle.status_fitting.specs.declared.fitted.FittedStatus.{FittedStatus}
 use Rattle.status_register.specs.Devices.{extended_of}
 use Rattle.status_register.specs.Stitch.{AreRegisters}

@@ -6,8 +6,8 @@ use Rattle.netlist_arena.specs.Room.{too_many}
 use Rattle.netlist_link.specs.Linked.{LinkedView}
 use Rattle.plan_texts.specs.declared.plan.Plan.{Plan}
 use Rattle.plan_fitting.specs.declared.fitted.Fitted.{Fitted}
-use Rattle.status_stitch.specs.scan_stitch.stitch_names.Prepared.{ports_of}
-use Rattle.status_texts.specs.declared.plan.StatusPlan.{StatusPlan}
+use Rattle.written_netlists.specs.Prepared.{ports_of}
+use Rattle.status_fitting.specs.declared.register_texts.plan.StatusPlan.{StatusPlan}
 use Rattle.status_fitting.specs.declared.fitted.FittedStatus.{FittedStatus}
 use Rattle.status_fitting.specs.Faults.{IsSpelled, HasNoFault}
 use Rattle.status_fitting.specs.Fitted.{IsFitted as AreFitted}

@@ -5,7 +5,7 @@ ghost use Rattle.plan_fitting.specs.Devices.{device_of_fitted};
 ghost use Rattle.status_stitch.specs.scan_stitch.Ready.{AreBitsInRange};
 ghost use Rattle.status_register.specs.Devices as devices;
 
-use extended_device::{Extended, TestRegister};
+use bsdl_device::registers::{Extended, TestRegister};
 use plan_fitting::Fitted;
 use plan_fitting::copies::text_copy;
 use status_fitting::{FittedRegister, FittedStatus};

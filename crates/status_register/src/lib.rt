@@ -1,7 +1,7 @@
 // Data registers of a design's own that capture wires of the core, each selected by an instruction of the design's own:
 // from the text that asks for them to the netlist that has them.
 // Contracts cite specs/Devices.antt for the device, status_stitch's for the netlist, the room and what is needed, and
-// surrounded_status' specs/Realises.antt for how the netlist behaves.
+// status_gates' specs/Realises.antt for how the netlist behaves.
 // IEEE Std 1149.1-2001: design-specific test data registers, instruction register; the room is own.
 //
 // - `read_status` and `fit_status` are handed on: from a text to registers, and from registers to a plan and a netlist.
@@ -13,22 +13,16 @@
 //   as the netlist before alone while a transparent instruction is in effect, where each register's counts as BYPASS
 //   (`Alone`). It takes events where it should, and its control ports are the netlist's, TCK and TRST.
 // - A law: some text spells the device with these registers (`registers_make_devices`).
+// - `written`: laws: how the netlist behaves that is written with such registers.
 // By the contract of `extended_of`, `stitch_status` and a law function.
 #![tactic(auto)]
 
 mod device;
 mod laws;
-pub mod lower_built_status;
+pub mod lower_status_room;
 mod whole;
+pub mod written;
 
 pub use device::extended_of;
-pub use extended_device::{Extended, TestRegister};
 pub use laws::registers_make_devices;
-pub use status_fitting::{FittedRegister, FittedStatus, fit_status};
-pub use status_stitch::lower_scan_stitch::lower_plan_devices;
-pub use status_stitch::lower_status_room::prepare_status;
-pub use status_stitch::{lower_status_formed, lower_status_ready};
-pub use status_texts::{
-    StatusFault, StatusPlan, StatusRow, read_status, texts_of_registers_are_spelled_or_at_fault,
-};
 pub use whole::stitch_status;

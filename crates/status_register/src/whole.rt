@@ -3,13 +3,13 @@
 ghost use Rattle.plan_fitting.specs.Devices.{device_of_fitted};
 ghost use Rattle.wrapped_chip.specs.Legal.{HasControls};
 ghost use Rattle.wrapped_chip.specs.Realises.{Alone};
-ghost use Rattle.built_status.specs.surrounded_status.Realises.{RealisesStatus};
+ghost use Rattle.status_gates.specs.Realises.{RealisesStatus};
 ghost use Rattle.status_stitch.specs.Stitch.{CanStitchStatus, IsStitchedStatus};
 
-use built_status::{built_has_status, built_status_is_alone, built_status_realises};
 use netlist_link::Linked;
 use plan_fitting::Fitted;
 use status_fitting::FittedStatus;
+use status_stitch::built::{built_has_status, built_status_is_alone, built_status_realises};
 
 /// Builds the test logic of a plan, and registers of the design's own, into the prepared netlist that both were fitted
 /// to. It takes no memory.

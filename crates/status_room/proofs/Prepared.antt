@@ -8,7 +8,7 @@ use Rattle.netlist_arena.specs.declared.room.ReserveFault.TheVariants as reserve
 use Rattle.netlist_link.specs.Drafts.{reserved}
 use Rattle.netlist_link.specs.Linked.{LinkedView}
 use Rattle.plan_fitting.specs.declared.fitted.Fitted.{Fitted}
-use Rattle.scan_stitch.specs.stitch_names.Prepared.{room_of, ports_of, prepared}
+use Rattle.scan_stitch.specs.written_netlists.Prepared.{room_of, ports_of, prepared}
 use Rattle.status_room.specs.Prepared.{prepared_with}
 use Rattle.status_room.proofs.Limits.{too_many_less}
 

@@ -1,2 +1,5 @@
-pub mod Ready
+pub use Rattle.scan_stitch.specs as scan_stitch
 pub mod Prepared
+pub mod Ready
+pub mod ReadyLaws
+pub mod ReadyLawsLaws

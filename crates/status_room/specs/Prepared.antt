@@ -4,7 +4,7 @@ use Rattle.std.specs.Prelude.{ℕ, ◌+◌, List}
 use Rattle.netlist_link.specs.Drafts.{reserved}
 use Rattle.netlist_link.specs.Linked.{LinkedView}
 use Rattle.plan_fitting.specs.declared.fitted.Fitted.{Fitted}
-use Rattle.scan_stitch.specs.stitch_names.Prepared.{room_of, ports_of, with_tap_names}
+use Rattle.scan_stitch.specs.written_netlists.Prepared.{room_of, ports_of, with_tap_names}
 use Rattle.status_fitting.specs.declared.fitted.FittedRegister.{FittedRegister}
 use Rattle.status_room.specs.Ready.{status_room}
 

@@ -3,7 +3,7 @@
 use Rattle.std.specs.Prelude.{ℕ, ◌+◌, ◌*◌, ◌^◌, ◌<◌, ◌≤◌, List, length, sum_by}
 use Rattle.netlist_arena.specs.Arena.{ArenaView}
 use Rattle.plan_fitting.specs.declared.fitted.Fitted.{Fitted}
-use Rattle.scan_stitch.specs.stitch_names.Prepared.{room_of}
+use Rattle.scan_stitch.specs.written_netlists.Prepared.{room_of}
 use Rattle.status_fitting.specs.declared.fitted.FittedRegister.{FittedRegister}
 
 -- Room.

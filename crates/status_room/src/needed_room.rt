@@ -2,7 +2,7 @@
 
 ghost use Rattle.std.specs.Prelude.{◌≡◌, ◌+◌, ◌*◌, ◌≤◌, length, All, OnOk, IsOkUnless, MatchOption};
 ghost use Rattle.netlist_arena.specs.Room.{too_many};
-ghost use Rattle.scan_stitch.specs.stitch_names.Prepared.{room_of, ports_of};
+ghost use Rattle.scan_stitch.specs.written_netlists.Prepared.{room_of, ports_of};
 ghost use Rattle.scan_stitch.specs.Ready.{IsSmall, HasTapNames};
 ghost use Rattle.status_room.specs.Ready as model;
 ghost use Rattle.status_room.specs.Prepared.{prepared_with, prepared_status};

@@ -4,24 +4,24 @@ use Rattle.netlist_model.specs.Formed.{IsLaidOut, IsWellFormed}
 use Rattle.netlist_model.specs.Lists.{NetlistView, cell_count}
 use Rattle.netlist_arena.specs.Arena.{ArenaView}
 use Rattle.cell_order.specs.Tables.{RoomView, FitsRoom}
-use Rattle.draft_laws.specs.Grown.{GrownIsFormed}
+use Rattle.netlist_link.specs.Grown.{GrownIsFormed}
 use Rattle.netlist_link.specs.Linked.{LinkedView}
 use Rattle.netlist_link.specs.WellNamed.{IsWellNamed}
 use Rattle.netlist_link.proofs.Rewrites.{few_nets}
 use Rattle.plan_fitting.specs.declared.fitted.Fitted.{Fitted}
-use Rattle.stitch_model.specs.declared.TapNames.{TapNames}
-use Rattle.stitch_model.specs.Stitched.{stitched}
-use Rattle.open_stitch.specs.stitch_names.Prepared.{room_of, ports_of, prepared, AreTapNames, HasEntered}
-use Rattle.open_stitch.specs.stitch_names.Same.{IsSameNetlist, SameIsNamed}
-use Rattle.open_stitch.specs.stitch_names.Laws.{TapNamesAreEntered, StitchedIsNamed}
-use Rattle.open_stitch.specs.stitch_ready.Laws.{FittedCanStandBehind}
-use Rattle.open_stitch.specs.stitch_formed.Laws.{StitchedIsFormed}
-use Rattle.open_stitch.specs.scan_stitch.Stitched.{CanBeStitched}
-use Rattle.open_stitch.specs.scan_stitch.Stitch.{CanStitch}
-use Rattle.open_stitch.proofs.scan_stitch.Known.{names_entered, can_of, named_of, formed_of}
+use Rattle.stitched_netlist.specs.declared.model.TapNames.{TapNames}
+use Rattle.stitched_netlist.specs.Stitched.{stitched}
+use Rattle.written_netlists.specs.Prepared.{room_of, ports_of, prepared, AreTapNames, HasEntered}
+use Rattle.written_netlists.specs.Same.{IsSameNetlist, SameIsNamed}
+use Rattle.written_netlists.specs.NamesLaws.{TapNamesAreEntered, StitchedIsNamed}
+use Rattle.written_netlists.specs.ReadyLaws.{FittedCanStandBehind}
+use Rattle.stitched_netlist.specs.FormedLaws.{StitchedIsFormed}
+use Rattle.status_room.specs.scan_stitch.Stitched.{CanBeStitched}
+use Rattle.status_room.specs.scan_stitch.Stitch.{CanStitch}
+use Rattle.status_room.proofs.scan_stitch.Known.{names_entered, can_of, named_of, formed_of}
 use Rattle.status_fitting.specs.declared.fitted.FittedRegister.{FittedRegister}
-use Rattle.status_ready.specs.Ready.{AreBuildable}
-use Rattle.status_ready.specs.Laws.{FittedCanBeBuilt}
+use Rattle.status_room.specs.ReadyLaws.{AreBuildable}
+use Rattle.status_room.specs.ReadyLawsLaws.{FittedCanBeBuilt}
 use Rattle.status_room.specs.Ready.{whole_room, HasStatusRoom}
 use Rattle.status_room.proofs.Limits.{too_many_less}
 use Rattle.status_stitch.specs.Stitch.{CanStitchStatus}

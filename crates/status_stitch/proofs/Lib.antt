@@ -1,9 +1,13 @@
-pub use Rattle.status_ready.proofs.plan_devices as plan_devices
-pub use Rattle.status_places.proofs.stitch_laws as stitch_laws
-pub use Rattle.status_built.proofs as status_built
-pub use Rattle.open_stitch.proofs.scan_stitch as scan_stitch
-pub use Rattle.open_stitch.proofs.open_runs as open_runs
+pub use Rattle.status_build.proofs as status_build
+pub use Rattle.open_stitch.proofs as open_stitch
+mod BuiltCells
+mod Bypass
+pub mod Fitted
+pub mod Free
+mod Known
 pub mod Numbers
 mod Opened
+pub mod RealisedLaws
+pub mod RealisedOpened
 mod Same
-mod Known
+mod Status

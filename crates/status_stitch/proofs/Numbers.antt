@@ -7,21 +7,21 @@ use Rattle.netlist_model.specs.Lists.{NetView, NetlistView}
 use Rattle.netlist_arena.specs.Arena.{ArenaView}
 use Rattle.gate_parts.specs.Parts.{added_nets}
 use Rattle.gate_parts.proofs.Steps.{length-added_nets}
-use Rattle.instruction_register.specs.Register.{instruction_size, opcodes_size, matched_instructions, stages_size}
+use Rattle.instruction_gates.specs.RegisterLaws.{instruction_size, opcodes_size, matched_instructions, stages_size}
 use Rattle.plan_fitting.specs.declared.fitted.Fitted.{Fitted}
-use Rattle.stitch_model.specs.declared.TapNames.{TapNames}
-use Rattle.stitch_model.specs.Sites.{sides_of}
-use Rattle.stitch_model.specs.Rows.{nets_of_rows}
-use Rattle.stitch_model.specs.Logic.{logic_size, code_size, bypass_from}
-use Rattle.stitch_model.specs.Stitched.{tap_net_views, boundary_at, first_net, test_logic_nets, stitched}
-use Rattle.open_stitch.specs.stitch_names.Same.{IsSameNetlist}
-use Rattle.open_stitch.specs.scan_stitch.Stitched.{HasStitchRoom}
+use Rattle.stitched_netlist.specs.declared.model.TapNames.{TapNames}
+use Rattle.stitched_netlist.specs.Sites.{sides_of}
+use Rattle.stitched_netlist.specs.ModelRows.{nets_of_rows}
+use Rattle.stitched_netlist.specs.ModelLogic.{logic_size, code_size, bypass_from}
+use Rattle.stitched_netlist.specs.Stitched.{tap_net_views, boundary_at, first_net, test_logic_nets, stitched}
+use Rattle.written_netlists.specs.Same.{IsSameNetlist}
+use Rattle.status_room.specs.scan_stitch.Stitched.{HasStitchRoom}
 use Rattle.open_stitch.specs.Open.{through_net, stitched_open, parts_at}
 use Rattle.status_fitting.specs.declared.fitted.FittedRegister.{FittedRegister}
-use Rattle.status_built.specs.status_parts.Registers.{registers_size}
-use Rattle.status_built.specs.Build.{IsAddable, CanAdd}
+use Rattle.status_gates.specs.Registers.{registers_size}
+use Rattle.status_build.specs.BuildLawsLaws.{IsAddable, CanAdd}
 use Rattle.status_stitch.specs.Stitched.{status_first, status_size, shared_at}
-use Rattle.status_ready.specs.Ready.{CanBeBuilt, AreBuildable}
+use Rattle.status_room.specs.ReadyLaws.{CanBeBuilt, AreBuildable}
 use Rattle.status_room.specs.Ready.{bits_of, status_room, HasStatusRoom}
 
 -- Nets.

@@ -12,22 +12,22 @@ use Rattle.netlist_model.specs.Formed.{IsLaidOut}
 use Rattle.netlist_model.specs.Contained.{IsDense}
 use Rattle.netlist_arena.specs.Looks.{feed_at}
 use Rattle.plan_fitting.specs.declared.fitted.Fitted.{Fitted}
-use Rattle.stitch_model.specs.declared.TapNames.{TapNames}
-use Rattle.stitch_model.specs.Stitched.{first_net, stitched_cells_by, stitched_cells, stitched}
-use Rattle.status_places.specs.stitch_laws.Laws.{HasBuiltIn, ExtendsStitched, ExtensionIsBuiltIn}
-use Rattle.status_places.proofs.stitch_laws.Places.{listed_at}
-use Rattle.open_stitch.specs.stitch_cells.Directions.{KeepsDirections, StitchedDirections}
-use Rattle.open_stitch.specs.stitch_names.Same.{IsSameNetlist}
-use Rattle.open_stitch.proofs.open_runs.Connected.{opened_length}
+use Rattle.stitched_netlist.specs.declared.model.TapNames.{TapNames}
+use Rattle.stitched_netlist.specs.Stitched.{first_net, stitched_cells_by, stitched_cells, stitched}
+use Rattle.stitched_netlist.specs.PlacesLaws.{HasBuiltIn, ExtendsStitched, ExtensionIsBuiltIn}
+use Rattle.stitched_netlist.proofs.PlacesLaws.{listed_at}
+use Rattle.stitched_netlist.specs.Directions.{KeepsDirections, StitchedDirections}
+use Rattle.written_netlists.specs.Same.{IsSameNetlist}
+use Rattle.open_stitch.proofs.Connected.{opened_length}
 use Rattle.open_stitch.specs.declared.Parts.{Parts}
 use Rattle.open_stitch.specs.Open.{through_number, through_net, through_cell, open_cells, stitched_open, parts_at}
 use Rattle.status_fitting.specs.declared.fitted.FittedRegister.{FittedRegister}
-use Rattle.status_built.specs.status_formed.Laws.{IsReadNet}
-use Rattle.status_built.specs.status_order.Laws.{IsProper}
-use Rattle.status_places.specs.Laws.{HasShared, SharedNetsStand, WiresStand}
-use Rattle.status_built.specs.Laws.{IsOpenTo, CanRead}
+use Rattle.status_build.specs.FormedLaws.{IsReadNet}
+use Rattle.status_build.specs.OrderLaws.{IsProper}
+use Rattle.status_build.specs.PlacesLaws.{HasShared, SharedNetsStand, WiresStand}
+use Rattle.status_build.specs.BuildLaws.{IsOpenTo, CanRead}
 use Rattle.status_stitch.specs.Stitched.{shared_at}
-use Rattle.status_ready.specs.Ready.{IsCaptured, AreBuildable}
+use Rattle.status_room.specs.ReadyLaws.{IsCaptured, AreBuildable}
 use Rattle.status_stitch.proofs.Numbers.{opened_nets, opcode_end, order_of}
 
 pub record OpenLaws : Type 0 where

@@ -7,20 +7,20 @@ use Rattle.netlist_model.specs.declared.NetId.{NetId}
 use Rattle.netlist_model.specs.declared.Feed.TheVariants.{Net}
 use Rattle.netlist_model.specs.Lists.{NetView, CellView, NetlistView, cell_at, cell_count}
 use Rattle.netlist_model.specs.Contained.{IsDense}
-use Rattle.netlist_laws.specs.Contained.{DenseNumbers}
+use Rattle.netlist_model.specs.LawsContained.{DenseNumbers}
 use Rattle.gate_parts.specs.Parts.{added_nets}
 use Rattle.plan_fitting.specs.declared.fitted.Fitted.{Fitted}
-use Rattle.stitch_model.specs.declared.TapNames.{TapNames}
-use Rattle.stitch_model.specs.Stitched.{stitched_cells_by}
-use Rattle.status_places.proofs.stitch_laws.Places.{listed_at}
-use Rattle.open_stitch.specs.stitch_names.Same.{IsSameNetlist}
-use Rattle.open_stitch.proofs.open_runs.Connected.{opened_length}
+use Rattle.stitched_netlist.specs.declared.model.TapNames.{TapNames}
+use Rattle.stitched_netlist.specs.Stitched.{stitched_cells_by}
+use Rattle.stitched_netlist.proofs.PlacesLaws.{listed_at}
+use Rattle.written_netlists.specs.Same.{IsSameNetlist}
+use Rattle.open_stitch.proofs.Connected.{opened_length}
 use Rattle.open_stitch.specs.Open.{through_number, through_net, through_cell, open_cells, stitched_open, parts_at}
 use Rattle.status_fitting.specs.declared.fitted.FittedRegister.{FittedRegister}
-use Rattle.status_built.specs.status_gates.Opcodes.{inverses_cells}
-use Rattle.status_built.specs.status_parts.Registers.{shown_of, registers_cells}
-use Rattle.status_built.specs.Laws.{added_cells, shown_at}
-use Rattle.status_built.specs.Build.{IsBuiltOn}
+use Rattle.status_gates.specs.Opcodes.{inverses_cells}
+use Rattle.status_gates.specs.Registers.{shown_of, registers_cells}
+use Rattle.status_build.specs.BuildLaws.{added_cells, shown_at}
+use Rattle.status_build.specs.BuildLawsLaws.{IsBuiltOn}
 use Rattle.status_stitch.specs.Stitched.{status_first, status_number, status_size, shared_at, status_cells, status_shown, all_cells, stitched_status}
 use Rattle.status_stitch.proofs.Numbers.{opened_nets}
 use Rattle.status_stitch.proofs.Opened.{buffer_there}

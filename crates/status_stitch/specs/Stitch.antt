@@ -7,12 +7,12 @@ use Rattle.netlist_link.specs.Linked.{LinkedView, IsLinked}
 use Rattle.plan_texts.specs.declared.plan.Plan.{Plan}
 use Rattle.plan_fitting.specs.declared.fitted.Fitted.{Fitted}
 use Rattle.plan_fitting.specs.Devices.{IsFitted}
-use Rattle.status_ready.specs.plan_devices.FittingPlan.{IsFitting}
-use Rattle.stitch_model.specs.declared.TapNames.{TapNames}
-use Rattle.open_stitch.specs.stitch_names.Prepared.{ports_of, AreTapNames}
-use Rattle.open_stitch.specs.stitch_names.Same.{IsSameNetlist}
-use Rattle.open_stitch.specs.scan_stitch.Ready.{IsSmall}
-use Rattle.status_texts.specs.declared.plan.StatusPlan.{StatusPlan}
+use Rattle.plan_fitting.specs.FittingPlan.{IsFitting}
+use Rattle.stitched_netlist.specs.declared.model.TapNames.{TapNames}
+use Rattle.written_netlists.specs.Prepared.{ports_of, AreTapNames}
+use Rattle.written_netlists.specs.Same.{IsSameNetlist}
+use Rattle.status_room.specs.scan_stitch.Ready.{IsSmall}
+use Rattle.status_fitting.specs.declared.register_texts.plan.StatusPlan.{StatusPlan}
 use Rattle.status_fitting.specs.declared.fitted.FittedRegister.{FittedRegister}
 use Rattle.status_fitting.specs.Faults.{IsSpelled, HasNoFault}
 use Rattle.status_fitting.specs.Fitted.{IsFitted as AreFitted}

@@ -6,14 +6,14 @@ use Rattle.netlist_model.specs.declared.Feed.TheVariants.{Net}
 use Rattle.netlist_model.specs.Lists.{CellView, NetlistView}
 use Rattle.gate_parts.specs.Parts.{added_nets}
 use Rattle.plan_fitting.specs.declared.fitted.Fitted.{Fitted}
-use Rattle.stitch_model.specs.declared.TapNames.{TapNames}
-use Rattle.stitch_model.specs.Stitched.{stitched_cells_by, stitched}
+use Rattle.stitched_netlist.specs.declared.model.TapNames.{TapNames}
+use Rattle.stitched_netlist.specs.Stitched.{stitched_cells_by, stitched}
 use Rattle.open_stitch.specs.declared.Parts.{Parts}
 use Rattle.open_stitch.specs.Open.{through_number, through_net, through_cell, stitched_open, parts_at}
 use Rattle.status_fitting.specs.declared.fitted.FittedRegister.{FittedRegister}
-use Rattle.status_built.specs.status_gates.Opcodes.{inverses_cells}
-use Rattle.status_built.specs.status_parts.declared.SharedNets.{SharedNets}
-use Rattle.status_built.specs.status_parts.Registers.{registers_size, shown_of, registers_cells}
+use Rattle.status_gates.specs.Opcodes.{inverses_cells}
+use Rattle.status_gates.specs.declared.parts.SharedNets.{SharedNets}
+use Rattle.status_gates.specs.Registers.{registers_size, shown_of, registers_cells}
 
 -- own: the first net and the number of the first cell of the registers: behind the buffer's
 abbrev pub status_first : NetlistView → Fitted → ℕ

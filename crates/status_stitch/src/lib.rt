@@ -4,15 +4,19 @@
 //
 // - `stitch_status` leaves a linked netlist with the ports, the nets and the live cells of `stitched_status`; names and
 //   the module's name stay. It can't refuse after `prepare_status` of status_room, and takes no memory.
+// - `built`: laws: so does the netlist with both built in, cell by cell.
+// - `realised`: laws: what was fitted may stand beside the device, and every netlist that is open to registers and
+//   has their gates realises the chip with them, and is the core alone.
 // By the contract of `status_netlist` and `stitch_status`.
 #![tactic(auto)]
 
-pub mod lower_status_ready;
+pub mod built;
+pub mod lower_scan_stitch;
+pub mod lower_status_build;
 pub mod lower_status_room;
 mod parts;
+pub mod realised;
 mod whole;
 
-pub use open_stitch::lower_scan_stitch;
 pub use parts::status_netlist;
-pub use status_built::lower_status_formed;
 pub use whole::stitch_status;

@@ -4,25 +4,25 @@ ghost use Rattle.std.specs.Prelude.{◌≡◌, ℕ, ◌+◌, ◌≤◌, List, le
 ghost use Rattle.netlist_model.specs.Lists.{cell_count};
 ghost use Rattle.netlist_model.specs.Formed.{IsWellFormed};
 ghost use Rattle.netlist_link.specs.WellNamed.{IsWellNamed};
-ghost use Rattle.stitch_model.specs.Stitched.{stitched};
-ghost use Rattle.open_stitch.specs.stitch_names.Same.{IsSameNetlist};
-ghost use Rattle.open_stitch.specs.scan_stitch.Stitched.{CanBeStitched};
-ghost use Rattle.status_ready.specs.Ready.{AreBuildable};
+ghost use Rattle.stitched_netlist.specs.Stitched.{stitched};
+ghost use Rattle.written_netlists.specs.Same.{IsSameNetlist};
+ghost use Rattle.status_room.specs.scan_stitch.Stitched.{CanBeStitched};
+ghost use Rattle.status_room.specs.ReadyLaws.{AreBuildable};
 ghost use Rattle.status_room.specs.Ready.{whole_room, HasStatusRoom};
 ghost use Rattle.status_stitch.specs.Stitched.{stitched_status};
 
 use netlist_arena::Netlist;
-use netlist_laws::numbers_of_a_dense_netlist;
 use netlist_model::NetId;
-use open_stitch::lower_stitch_cells::stitched_directions;
+use netlist_model::laws::numbers_of_a_dense_netlist;
 use open_stitch::open_netlist;
 use plan_fitting::Fitted;
-use status_built::build_registers;
-use status_built::lower_status_parts::SharedNets;
+use status_build::build::build_registers;
+use status_build::places::{shared_nets_stand, wires_stand};
 use status_fitting::FittedRegister;
-use status_places::lower_stitch_laws::extension_is_built_in;
-use status_places::{shared_nets_stand, wires_stand};
-use stitch_model::TapNames;
+use status_gates::parts::SharedNets;
+use stitched_netlist::cells::stitched_directions;
+use stitched_netlist::model::TapNames;
+use stitched_netlist::places::extension_is_built_in;
 
 /// Builds the test logic and registers into a netlist without gaps that they fit, and where there is room. It takes no
 /// memory.

@@ -3,15 +3,15 @@
 ghost use Rattle.status_stitch.specs.Stitch.{CanStitchStatus, IsStitchedStatus};
 
 use crate::parts::status_netlist;
-use draft_laws::grown_is_formed;
 use netlist_link::Linked;
-use open_stitch::lower_scan_stitch::tap_names;
-use open_stitch::lower_stitch_formed::stitched_is_formed;
-use open_stitch::lower_stitch_names::{same_is_named, stitched_is_named, tap_names_are_entered};
-use open_stitch::lower_stitch_ready::fitted_can_stand_behind;
+use netlist_link::draft_laws::grown_is_formed;
 use plan_fitting::Fitted;
 use status_fitting::{FittedRegister, FittedStatus};
-use status_ready::fitted_registers_can_be_built;
+use status_room::lower_scan_stitch::tap_names;
+use status_room::ready::fitted_registers_can_be_built;
+use stitched_netlist::formed::stitched_is_formed;
+use written_netlists::names::{same_is_named, stitched_is_named, tap_names_are_entered};
+use written_netlists::ready::fitted_can_stand_behind;
 
 // The same, by the registers.
 fn stitch_registers(linked: &mut Linked, fitted: &Fitted, registers: &[FittedRegister])

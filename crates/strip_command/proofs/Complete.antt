@@ -15,7 +15,7 @@ use Rattle.command_faults.specs.declared.fault.Fault.{Fault}
 use Rattle.command_faults.specs.declared.fault.Fault.TheVariants as fault
 use Rattle.command_faults.specs.declared.status.Status.TheVariants as status
 use Rattle.command_faults.specs.Statuses.{status_of, device_status}
-use Rattle.scan_strip.specs.Answer.{IsNotInserted}
+use Rattle.scan_strip.specs.strip_model.Answer.{IsNotInserted}
 use Rattle.strip_command.specs.Strippings.{IsOther, IsStrippable}
 use Rattle.strip_command.specs.Faults.{StandsInInputs}
 use Rattle.strip_command.specs.Tasks.{HaveFault, AreStrippable}

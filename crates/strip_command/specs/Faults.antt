@@ -12,7 +12,7 @@ use Rattle.bsdl_device.specs.declared.values.Device.{Device}
 use Rattle.bsdl_values.specs.TextFaults.{IsDeviceTextFault}
 use Rattle.command_faults.specs.declared.fault.Fault.{Fault}
 use Rattle.command_faults.specs.declared.fault.Fault.TheVariants as fault
-use Rattle.scan_strip.specs.Answer.{IsNotInserted}
+use Rattle.scan_strip.specs.strip_model.Answer.{IsNotInserted}
 use Rattle.strip_command.specs.Strippings.{IsOther}
 
 -- the fault stands in linking a tree with this library

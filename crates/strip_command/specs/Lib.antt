@@ -1,3 +1,3 @@
-pub mod Strippings
 pub mod Faults
+pub mod Strippings
 pub mod Tasks

@@ -13,7 +13,7 @@ use Rattle.bsdl_device.specs.Spelled as bsdl
 use Rattle.plan_texts.specs.declared.plan.Plan.{Plan}
 use Rattle.plan_texts.specs.Canonical.{canonical_plan}
 use Rattle.scan_strip.specs.Stripped.{IsStripped}
-use Rattle.scan_strip.specs.Answer.{IsNotInserted}
+use Rattle.scan_strip.specs.strip_model.Answer.{IsNotInserted}
 
 -- The netlist's bytes spell one tree, which can be linked with the library, and the BSDL text's bytes one device.
 pub record Tells (library : List ListedCell) (net text : List ℕ) : Type 0 where

@@ -5,8 +5,8 @@ use crate::laws::stripping_faults_stand_apart;
 use crate::stripped_texts::stripped;
 use command_edges::{Made, TextCommand, take_two};
 use command_faults::Fault;
-use edge_io::Text;
 use std::alloc::Global;
+use texts::Text;
 
 /// Takes the netlist with test logic that lies under one name and the BSDL text that lies under another, with
 /// the library that lies under a third if there is one; writes the texts of the netlist and of a plan that

@@ -13,10 +13,10 @@ use bsdl_values::read_device;
 use cell_library::Library;
 use command_edges::Made;
 use command_faults::Fault;
-use edge_io::{OutOfMemory, Text};
 use netlist_link::link;
 use scan_strip::{StripFault, strip_tree};
 use std::alloc::Global;
+use texts::{OutOfMemory, Text};
 use verilog_texts::read_module;
 use verilog_tree::Module;
 

@@ -6,11 +6,11 @@ ghost use Rattle.command_faults.specs.declared.status.Status.{Status};
 
 use command_edges::Made;
 use command_faults::Status;
-use edge_io::{OutOfMemory, Row, Text};
 use plan_texts::print_plan;
 use scan_strip::Stripped;
 use std::alloc::Global;
-use verilog_printing::print_module;
+use texts::{OutOfMemory, Row, Text};
+use verilog_texts::printing::print_module;
 
 // Two texts to be written; nothing is put.
 fn both_written(alloc: Global, net: Text, plan: Text) -> Result<Made, OutOfMemory>

@@ -7,14 +7,14 @@ use Rattle.signal_values.specs.declared.PinSig.{PinSig}
 use Rattle.signal_values.specs.declared.PinSig.TheVariants.{HighZ}
 use Rattle.netlist_model.specs.declared.NetId.{NetId}
 use Rattle.netlist_model.specs.Runs.{reading_at}
-use Rattle.wrapped_chip.specs.bsdl_device.Instructions.{selected_register}
-use Rattle.wrapped_chip.specs.bsdl_device.declared.entries.Register.{Register}
-use Rattle.wrapped_chip.specs.bsdl_device.declared.entries.Register.TheVariants as register
-use Rattle.wrapped_chip.specs.test_logic.declared.Levels.{Levels}
-use Rattle.wrapped_chip.specs.test_logic.Registers.{first_bit, tdo_after}
-use Rattle.wrapped_chip.specs.test_logic.Machine.{Machine, in_effect, bit_of}
-use Rattle.boundary_cells.specs.register_bits.Laws.{bit_after}
-use Rattle.instruction_register.specs.register_gates.Tdo.{data_bit, Presents, TdoLaws, tdo_given_by}
+use Rattle.bsdl_device.specs.Instructions.{selected_register}
+use Rattle.bsdl_device.specs.declared.entries.Register.{Register}
+use Rattle.bsdl_device.specs.declared.entries.Register.TheVariants as register
+use Rattle.test_logic.specs.declared.Levels.{Levels}
+use Rattle.test_logic.specs.Registers.{first_bit, tdo_after}
+use Rattle.test_logic.specs.Machine.{Machine, in_effect, bit_of}
+use Rattle.register_gates.specs.BitsLawsLaws.{bit_after}
+use Rattle.register_gates.specs.Tdo.{data_bit, Presents, TdoLaws, tdo_given_by}
 use Rattle.boundary_cells.specs.MachineRows.{bit_at}
 use Rattle.wrapped_chip.specs.Cells.{chip_reading}
 use Rattle.wrapped_chip.specs.ChipRuns.{ChipMoment}

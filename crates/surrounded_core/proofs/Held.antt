@@ -8,13 +8,13 @@ use Rattle.netlist_model.specs.declared.Dir.{Dir}
 use Rattle.netlist_model.specs.Lists.{PortView, direction}
 use Rattle.netlist_model.specs.Settled.{follows_pin}
 use Rattle.wrapped_chip.specs.Realises.{SameBit}
-use Rattle.wrapped_chip.specs.bsdl_device.declared.values.CellRow.{CellRow}
-use Rattle.wrapped_chip.specs.test_logic.Registers.{shifted}
-use Rattle.wrapped_chip.specs.test_logic.Machine.{in_effect}
+use Rattle.bsdl_device.specs.declared.values.CellRow.{CellRow}
+use Rattle.test_logic.specs.Registers.{shifted}
+use Rattle.test_logic.specs.Machine.{in_effect}
 use Rattle.boundary_cells.specs.Laws.{CarriesMode}
 use Rattle.boundary_cells.specs.MachineRows.{bit_at}
-use Rattle.boundary_runs.specs.Rows.{IsRowOf, IsSteered, HoldsRow}
-use Rattle.boundary_runs.proofs.ChipRows.{kinds_long}
+use Rattle.surrounded_core.specs.RowsLaws.{IsRowOf, IsSteered, HoldsRow}
+use Rattle.surrounded_core.proofs.ChipRows.{kinds_long}
 use Rattle.surrounded_core.specs.Places.{selection_nets}
 use Rattle.surrounded_core.specs.Laws.{StandsAsChip, cell_of}
 use Rattle.surrounded_core.proofs.Parts.{RunLaws, Scene, logic, levels_at, core_at, machine_at, caught_at, lists_long, next_at, settled_at, outside_now, levelled, carried, selected}

@@ -5,7 +5,7 @@ use Rattle.std.proofs.lemmas.List.{length-drop}
 use Rattle.std.specs.Prelude.{slice_get}
 use Rattle.std.specs.Option.{option_map_or}
 use Rattle.list_laws.proofs.Lists.{slice_get_there}
-use Rattle.netlist_laws.proofs.Repeats.{run_rests}
+use Rattle.netlist_model.proofs.Repeats.{run_rests}
 use Rattle.signal_values.specs.declared.Sig.{Sig}
 use Rattle.signal_values.specs.declared.Sig.TheVariants.{Zero}
 use Rattle.signal_values.specs.declared.PinSig.TheVariants.{HighZ}
@@ -15,29 +15,29 @@ use Rattle.netlist_model.specs.declared.Feed.{Feed}
 use Rattle.netlist_model.specs.Lists.{NetlistView}
 use Rattle.netlist_model.specs.Settled.{IsSettled}
 use Rattle.netlist_model.specs.Runs.{Moment, PinEvent, IsStep, FlopsStart}
-use Rattle.wrapped_chip.specs.bsdl_device.declared.values.CellRow.{CellRow}
-use Rattle.wrapped_chip.specs.bsdl_device.declared.values.Device.{Device}
-use Rattle.wrapped_chip.specs.test_logic.declared.Codes.{Codes}
-use Rattle.wrapped_chip.specs.test_logic.declared.Levels.{Levels}
-use Rattle.wrapped_chip.specs.test_logic.declared.TapState.{TapState}
-use Rattle.wrapped_chip.specs.test_logic.declared.TapState.TheVariants.{TestLogicReset}
-use Rattle.wrapped_chip.specs.test_logic.Instructions.{bits_of, pattern, reset_opcode}
-use Rattle.wrapped_chip.specs.test_logic.Registers.{latched_after}
-use Rattle.wrapped_chip.specs.test_logic.Rises.{is_rise, rises, RisesWithOnes}
-use Rattle.wrapped_chip.specs.test_logic.Machine.{Machine, TestLogic, reset, edge_of, clocked, step_under, machine_step, test_logic_of, code_bits}
+use Rattle.bsdl_device.specs.declared.values.CellRow.{CellRow}
+use Rattle.bsdl_device.specs.declared.values.Device.{Device}
+use Rattle.test_logic.specs.declared.Codes.{Codes}
+use Rattle.test_logic.specs.declared.Levels.{Levels}
+use Rattle.test_logic.specs.declared.TapState.{TapState}
+use Rattle.test_logic.specs.declared.TapState.TheVariants.{TestLogicReset}
+use Rattle.test_logic.specs.Instructions.{bits_of, pattern, reset_opcode}
+use Rattle.test_logic.specs.Registers.{latched_after}
+use Rattle.test_logic.specs.Rises.{is_rise, rises, RisesWithOnes}
+use Rattle.test_logic.specs.Machine.{Machine, TestLogic, reset, edge_of, clocked, step_under, machine_step, test_logic_of, code_bits}
 use Rattle.tap_gates.specs.Laws.{HoldsState}
 use Rattle.tap_gates.specs.Home.{IsCourse, HoldsBits, TapFindsHome}
-use Rattle.boundary_cells.specs.register_bits.Chains.{chain_values}
-use Rattle.instruction_register.specs.register_gates.Constants.{ConstantsAreBits}
-use Rattle.instruction_register.specs.register_gates.Registers.{user_size}
-use Rattle.instruction_register.specs.register_gates.Laws.{IdentFollows}
-use Rattle.instruction_register.specs.register_gates.Tdo.{TdoLetsGo}
-use Rattle.instruction_register.specs.Register.{pattern_bits, held_shift, held_opcode}
-use Rattle.instruction_register.specs.Laws.{FitTheRegister}
-use Rattle.instruction_register.specs.Steps.{HoldsStages}
+use Rattle.register_gates.specs.Chains.{chain_values}
+use Rattle.register_gates.specs.Constants.{ConstantsAreBits}
+use Rattle.register_gates.specs.Registers.{user_size}
+use Rattle.register_gates.specs.Laws.{IdentFollows}
+use Rattle.register_gates.specs.Tdo.{TdoLetsGo}
+use Rattle.instruction_gates.specs.RegisterLaws.{pattern_bits, held_shift, held_opcode}
+use Rattle.instruction_gates.specs.RegisterLawsLaws.{FitTheRegister}
+use Rattle.instruction_gates.specs.Steps.{HoldsStages}
 use Rattle.boundary_cells.specs.MachineRows.{bit_at}
-use Rattle.boundary_runs.specs.Rows.{BoundaryRow, observe_row, input_row, output_row, control_row, bidir_row, HoldsUpdate}
-use Rattle.boundary_runs.proofs.ChipRows.{kinds_long}
+use Rattle.surrounded_core.specs.RowsLaws.{BoundaryRow, observe_row, input_row, output_row, control_row, bidir_row, HoldsUpdate}
+use Rattle.surrounded_core.proofs.ChipRows.{kinds_long}
 use Rattle.wrapped_chip.specs.ChipRuns.{ChipMoment, ChipEvent}
 use Rattle.wrapped_chip.specs.Home.{IsOutside, OutsideGoesOn, IsRunFromBits, FallsHome, IsHome}
 use Rattle.wrapped_chip.specs.Realises.{SameOutside, SameEvents}

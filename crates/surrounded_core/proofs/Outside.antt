@@ -8,11 +8,11 @@ use Rattle.netlist_model.specs.declared.Dir.TheVariants.{Input}
 use Rattle.netlist_model.specs.Lists.{NetlistView, direction}
 use Rattle.netlist_model.specs.Settled.{follows_pin, pin_rule, IsSettled}
 use Rattle.netlist_model.specs.Runs.{Moment, PinEvent, pins_after}
-use Rattle.wrapped_chip.specs.bsdl_device.declared.values.Device.{Device}
+use Rattle.bsdl_device.specs.declared.values.Device.{Device}
 use Rattle.tap_gates.specs.Home.{IsCourse}
-use Rattle.wrapped_chip.specs.test_logic.declared.Levels.{Levels}
-use Rattle.wrapped_chip.specs.test_logic.declared.TapInput.{TapInput}
-use Rattle.wrapped_chip.specs.test_logic.declared.TapInput.TheVariants.{Tck, Tms, Tdi, Trst}
+use Rattle.test_logic.specs.declared.Levels.{Levels}
+use Rattle.test_logic.specs.declared.TapInput.{TapInput}
+use Rattle.test_logic.specs.declared.TapInput.TheVariants.{Tck, Tms, Tdi, Trst}
 use Rattle.wrapped_chip.specs.ChipRuns.{ChipMoment, ChipEvent, at_pin, at_tap, IsChipLegal, chip_pins_after, levels_after, level_of}
 use Rattle.wrapped_chip.specs.Home.{IsOutside}
 use Rattle.wrapped_chip.specs.Realises.{SameOutside, IsSameEvent, SameEvents}

@@ -15,33 +15,33 @@ use Rattle.netlist_model.specs.Lists.{NetlistView}
 use Rattle.netlist_model.specs.Settled.{feed_value, IsSettled}
 use Rattle.netlist_model.specs.Contained.{HasCells}
 use Rattle.netlist_model.specs.Runs.{Moment, PinEvent, FlopsStart, IsStep}
-use Rattle.netlist_laws.specs.Ports.{DirectionHasBit}
-use Rattle.netlist_images.specs.Behind.{BehindStarts, BehindSteps}
-use Rattle.wrapped_chip.specs.bsdl_device.Instructions.{all_instructions, selected_register}
-use Rattle.wrapped_chip.specs.bsdl_device.declared.entries.Register.TheVariants as register
-use Rattle.wrapped_chip.specs.bsdl_device.declared.values.CellRow.{CellRow}
-use Rattle.wrapped_chip.specs.bsdl_device.declared.values.Device.{Device}
-use Rattle.wrapped_chip.specs.test_logic.declared.Levels.{Levels}
-use Rattle.wrapped_chip.specs.test_logic.declared.TapInput.TheVariants.{Tck, Tms, Tdi, Trst}
-use Rattle.wrapped_chip.specs.test_logic.declared.TapState.{TapState}
-use Rattle.wrapped_chip.specs.test_logic.Instructions.{is_usercode, opcode_of, is_opcode, instruction_of, bits_of}
-use Rattle.wrapped_chip.specs.test_logic.Registers.{first_bit, bypass_after, ident_after}
-use Rattle.wrapped_chip.specs.test_logic.Machine.{Machine, TestLogic, machine_step, in_effect, selects, test_logic_of, code_bits, user_bits, captured_code, zeros}
+use Rattle.netlist_model.specs.Ports.{DirectionHasBit}
+use Rattle.netlist_model.specs.Behind.{BehindStarts, BehindSteps}
+use Rattle.bsdl_device.specs.Instructions.{all_instructions, selected_register}
+use Rattle.bsdl_device.specs.declared.entries.Register.TheVariants as register
+use Rattle.bsdl_device.specs.declared.values.CellRow.{CellRow}
+use Rattle.bsdl_device.specs.declared.values.Device.{Device}
+use Rattle.test_logic.specs.declared.Levels.{Levels}
+use Rattle.test_logic.specs.declared.TapInput.TheVariants.{Tck, Tms, Tdi, Trst}
+use Rattle.test_logic.specs.declared.TapState.{TapState}
+use Rattle.test_logic.specs.Instructions.{is_usercode, opcode_of, is_opcode, instruction_of, bits_of}
+use Rattle.test_logic.specs.Registers.{first_bit, bypass_after, ident_after}
+use Rattle.test_logic.specs.Machine.{Machine, TestLogic, machine_step, in_effect, selects, test_logic_of, code_bits, user_bits, captured_code, zeros}
 use Rattle.tap_gates.specs.Laws.{Carries as TapCarries, TapFollows, HoldsState, ShowsState, StepIsTheMachines}
 use Rattle.tap_gates.specs.Home.{IsCourse}
-use Rattle.boundary_cells.specs.register_bits.Laws.{Carries, bit_after}
-use Rattle.instruction_register.specs.register_gates.Laws.{captured_bits, BypassFollows, IdentFollows}
-use Rattle.instruction_register.specs.register_gates.Steps.{StepsByRegister}
-use Rattle.instruction_register.specs.register_gates.Tdo.{TdoFollows, ident_feed, tdo_given_by}
-use Rattle.instruction_register.specs.instruction_gates.Selections.{Selected}
-use Rattle.instruction_register.specs.Laws.{Follows}
-use Rattle.instruction_register.specs.Steps.{HoldsStages, IsLegible, InstructionLaws, InstructionSteps, InstructionsStayLegible}
+use Rattle.register_gates.specs.BitsLawsLaws.{Carries, bit_after}
+use Rattle.register_gates.specs.Laws.{captured_bits, BypassFollows, IdentFollows}
+use Rattle.register_gates.specs.Steps.{StepsByRegister}
+use Rattle.register_gates.specs.Tdo.{TdoFollows, ident_feed, tdo_given_by}
+use Rattle.instruction_gates.specs.Selections.{Selected}
+use Rattle.instruction_gates.specs.RegisterLawsLaws.{Follows}
+use Rattle.instruction_gates.specs.Steps.{HoldsStages, IsLegible, InstructionLaws, InstructionSteps, InstructionsStayLegible}
 use Rattle.boundary_cells.specs.MachineRows.{RowsStep}
-use Rattle.boundary_runs.specs.Laws.{RowsFollow}
-use Rattle.boundary_runs.specs.Lengths.{LengthsStay, AreLong}
-use Rattle.boundary_runs.specs.Rows.{HoldsRow}
-use Rattle.boundary_runs.specs.Selections.{SelectedSteers}
-use Rattle.boundary_runs.specs.ChipRows.{ChipRows}
+use Rattle.surrounded_core.specs.RowsLawsLaws.{RowsFollow}
+use Rattle.surrounded_core.specs.Lengths.{LengthsStay, AreLong}
+use Rattle.surrounded_core.specs.RowsLaws.{HoldsRow}
+use Rattle.surrounded_core.specs.Selections.{SelectedSteers}
+use Rattle.surrounded_core.specs.ChipRows.{ChipRows}
 use Rattle.wrapped_chip.specs.Cells.{captured}
 use Rattle.wrapped_chip.specs.ChipRuns.{ChipMoment, ChipEvent}
 use Rattle.wrapped_chip.specs.Home.{IsOutside}

@@ -9,14 +9,14 @@ use Rattle.netlist_model.specs.declared.NetId.{NetId}
 use Rattle.netlist_model.specs.Lists.{NetlistView}
 use Rattle.netlist_model.specs.Contained.{HasCells}
 use Rattle.netlist_model.specs.Runs.{Moment, IsStart, reading_at}
-use Rattle.wrapped_chip.specs.bsdl_device.declared.values.Device.{Device}
-use Rattle.wrapped_chip.specs.test_logic.declared.Levels.{Levels}
-use Rattle.wrapped_chip.specs.test_logic.declared.TapState.TheVariants.{TestLogicReset}
-use Rattle.wrapped_chip.specs.test_logic.Machine.{Machine, TestLogic, reset, test_logic_of, code_bits, zeros}
+use Rattle.bsdl_device.specs.declared.values.Device.{Device}
+use Rattle.test_logic.specs.declared.Levels.{Levels}
+use Rattle.test_logic.specs.declared.TapState.TheVariants.{TestLogicReset}
+use Rattle.test_logic.specs.Machine.{Machine, TestLogic, reset, test_logic_of, code_bits, zeros}
 use Rattle.tap_gates.specs.Laws.{HoldsState, ShowsState}
-use Rattle.boundary_cells.specs.register_bits.Laws.{Carries}
-use Rattle.instruction_register.specs.Laws.{Follows}
-use Rattle.boundary_runs.specs.Rows.{IsRowOf}
+use Rattle.register_gates.specs.BitsLawsLaws.{Carries}
+use Rattle.instruction_gates.specs.RegisterLawsLaws.{Follows}
+use Rattle.surrounded_core.specs.RowsLaws.{IsRowOf}
 use Rattle.wrapped_chip.specs.Cells.{chip_reading}
 use Rattle.wrapped_chip.specs.ChipRuns.{ChipMoment, ChipEvent, IsChipRun}
 use Rattle.wrapped_chip.specs.Laws.{ChipRunOnce, SameChipMoment}

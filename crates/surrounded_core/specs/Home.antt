@@ -2,8 +2,8 @@
 -- IEEE Std 1149.1-2001: TAP controller; the rest is own.
 use Rattle.std.specs.Prelude.{◌≡◌, ℕ, Some, None}
 use Rattle.netlist_model.specs.Lists.{CellView, NetlistView, cell_at}
-use Rattle.wrapped_chip.specs.bsdl_device.declared.values.Device.{Device}
-use Rattle.wrapped_chip.specs.test_logic.declared.TapState.{TapState}
+use Rattle.bsdl_device.specs.declared.values.Device.{Device}
+use Rattle.test_logic.specs.declared.TapState.{TapState}
 use Rattle.tap_gates.specs.Controller.{state_net}
 use Rattle.wrapped_chip.specs.Home.{FindsHome}
 use Rattle.surrounded_core.specs.Places.{Places}

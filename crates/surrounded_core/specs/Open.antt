@@ -8,17 +8,17 @@ use Rattle.signal_values.specs.Values.{bit}
 use Rattle.netlist_model.specs.declared.NetId.{NetId}
 use Rattle.netlist_model.specs.Lists.{NetlistView}
 use Rattle.netlist_model.specs.Runs.{Moment, reading_at}
-use Rattle.netlist_laws.specs.Settle.{SameFlops}
-use Rattle.wrapped_chip.specs.bsdl_device.Instructions.{selected_register}
-use Rattle.wrapped_chip.specs.bsdl_device.declared.entries.Register.{Register}
-use Rattle.wrapped_chip.specs.bsdl_device.declared.entries.Register.TheVariants as register
-use Rattle.wrapped_chip.specs.bsdl_device.declared.values.Device.{Device}
-use Rattle.wrapped_chip.specs.test_logic.declared.Levels.{Levels}
-use Rattle.wrapped_chip.specs.test_logic.Registers.{first_bit, tdo_after}
-use Rattle.wrapped_chip.specs.test_logic.Machine.{TestLogic, Machine, in_effect, test_logic_of}
+use Rattle.netlist_model.specs.Settle.{SameFlops}
+use Rattle.bsdl_device.specs.Instructions.{selected_register}
+use Rattle.bsdl_device.specs.declared.entries.Register.{Register}
+use Rattle.bsdl_device.specs.declared.entries.Register.TheVariants as register
+use Rattle.bsdl_device.specs.declared.values.Device.{Device}
+use Rattle.test_logic.specs.declared.Levels.{Levels}
+use Rattle.test_logic.specs.Registers.{first_bit, tdo_after}
+use Rattle.test_logic.specs.Machine.{TestLogic, Machine, in_effect, test_logic_of}
 use Rattle.tap_gates.specs.Laws.{ShowsState}
-use Rattle.boundary_cells.specs.register_bits.Laws.{Carries, bit_after}
-use Rattle.instruction_register.specs.Laws.{Follows}
+use Rattle.register_gates.specs.BitsLawsLaws.{Carries, bit_after}
+use Rattle.instruction_gates.specs.RegisterLawsLaws.{Follows}
 use Rattle.wrapped_chip.specs.Cells.{chip_reading}
 use Rattle.wrapped_chip.specs.ChipRuns.{ChipEvent, ChipMoment, IsChipRun}
 use Rattle.wrapped_chip.specs.Suits.{IsRead}

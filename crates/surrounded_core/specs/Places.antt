@@ -6,16 +6,16 @@ use Rattle.signal_values.specs.declared.Sig.{Sig}
 use Rattle.netlist_model.specs.declared.NetId.{NetId}
 use Rattle.netlist_model.specs.Lists.{CellView, NetlistView}
 use Rattle.netlist_model.specs.Contained.{HasCells}
-use Rattle.wrapped_chip.specs.test_logic.declared.Codes.{Codes}
-use Rattle.wrapped_chip.specs.test_logic.declared.TapInput.{TapInput}
-use Rattle.wrapped_chip.specs.test_logic.declared.TapInput.TheVariants.{Tck, Tms, Tdi, Trst}
-use Rattle.wrapped_chip.specs.test_logic.declared.TapNets.{TapNets}
-use Rattle.wrapped_chip.specs.test_logic.declared.InstrNets.{InstrNets}
+use Rattle.test_logic.specs.declared.Codes.{Codes}
+use Rattle.test_logic.specs.declared.TapInput.{TapInput}
+use Rattle.test_logic.specs.declared.TapInput.TheVariants.{Tck, Tms, Tdi, Trst}
+use Rattle.test_logic.specs.declared.TapNets.{TapNets}
+use Rattle.test_logic.specs.declared.InstrNets.{InstrNets}
 use Rattle.tap_gates.specs.Controller.{tap_cells, tap_nets}
-use Rattle.instruction_register.specs.register_gates.Registers.{bypass_cells, ident_cells, ident_values, ident_last}
-use Rattle.instruction_register.specs.register_gates.Tdo.{tdo_cells}
-use Rattle.instruction_register.specs.Register.{instruction_cells, instruction_nets}
-use Rattle.boundary_runs.specs.Rows.{BoundaryRow}
+use Rattle.register_gates.specs.Registers.{bypass_cells, ident_cells, ident_values, ident_last}
+use Rattle.register_gates.specs.Tdo.{tdo_cells}
+use Rattle.instruction_gates.specs.RegisterLaws.{instruction_cells, instruction_nets}
+use Rattle.surrounded_core.specs.RowsLaws.{BoundaryRow}
 
 -- own: the nets of the test access port; of each part its first net and the number of its first cell; the boundary
 -- register's rows by their places, with the next bit towards TDI of each, and its bit nearest TDO; and the net that a

@@ -9,20 +9,20 @@ use Rattle.netlist_model.specs.Lists.{PortView, NetlistView, direction}
 use Rattle.netlist_model.specs.Settled.{follows_pin}
 use Rattle.netlist_model.specs.Formed.{IsWellFormed}
 use Rattle.netlist_model.specs.Contained.{HasCells}
-use Rattle.netlist_images.specs.Behind.{NestedBehind}
-use Rattle.wrapped_chip.specs.bsdl_device.Instructions.{selected_register}
-use Rattle.wrapped_chip.specs.bsdl_device.declared.entries.Register.TheVariants as register
-use Rattle.wrapped_chip.specs.bsdl_device.declared.values.CellRow.{CellRow}
-use Rattle.wrapped_chip.specs.bsdl_device.declared.values.Device.{Device}
-use Rattle.wrapped_chip.specs.test_logic.declared.TapInput.{TapInput}
-use Rattle.wrapped_chip.specs.test_logic.Instructions.{opcode_of}
-use Rattle.wrapped_chip.specs.test_logic.Machine.{AreCodes, test_logic_of}
-use Rattle.instruction_register.specs.Laws.{FitTheRegister}
+use Rattle.netlist_model.specs.Behind.{NestedBehind}
+use Rattle.bsdl_device.specs.Instructions.{selected_register}
+use Rattle.bsdl_device.specs.declared.entries.Register.TheVariants as register
+use Rattle.bsdl_device.specs.declared.values.CellRow.{CellRow}
+use Rattle.bsdl_device.specs.declared.values.Device.{Device}
+use Rattle.test_logic.specs.declared.TapInput.{TapInput}
+use Rattle.test_logic.specs.Instructions.{opcode_of}
+use Rattle.test_logic.specs.Machine.{AreCodes, test_logic_of}
+use Rattle.instruction_gates.specs.RegisterLawsLaws.{FitTheRegister}
 use Rattle.wrapped_chip.specs.Cells.{net_of_row}
 use Rattle.wrapped_chip.specs.Realises.{IsTapNet, tap_place}
 use Rattle.wrapped_chip.specs.Beside.{HasPins}
 use Rattle.wrapped_chip.specs.Suits.{IsRead}
-use Rattle.boundary_runs.specs.Rows.{row_cells, row_kind}
+use Rattle.surrounded_core.specs.RowsLaws.{row_cells, row_kind}
 use Rattle.surrounded_core.specs.Places.{Places, input_net, selection_nets, HasRegistersBy, bypass_bit}
 use Rattle.surrounded_core.specs.Sites.{StandsAround, HasRowAt, IsDrivenBy, IsSeenOn}
 

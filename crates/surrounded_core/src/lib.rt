@@ -17,6 +17,8 @@
 // - Its proofs run from any moment at which the parts hold a machine: a power-up is one such moment
 //   (`surrounded_core_follows`, `surrounded_core_reads`), and the falling edge after five ones another
 //   (`surrounded_core_finds_home`).
+// - `levels`: numbers of the parts' nets, of which the order of a whole chip is made. Laws.
+// - `rows`: rows of the boundary register as gates, over whole runs. Laws.
 // By the contract of its law functions.
 #![tactic(auto)]
 
@@ -24,18 +26,20 @@ ghost use Rattle.surrounded_core.specs.Laws.{SurroundedStands, SurroundedReads, 
 ghost use Rattle.surrounded_core.specs.Home.{SurroundedFindsHome};
 ghost use Rattle.surrounded_core.specs.Open.{SurroundedFollows};
 
-pub mod lower_instruction_register;
+pub mod levels;
+pub mod lower_instruction_gates;
+pub mod rows;
 
+use crate::rows::{chip_rows, lengths_stay, rows_follow, selected_steers};
 use boundary_cells::{bidir_cells_follow, rows_step_as_bits};
-use boundary_runs::{chip_rows, lengths_stay, rows_follow, selected_steers};
-use instruction_register::lower_register_gates::{
-    bypass_follows, constants_are_bits, ident_follows, steps_by_register, tdo_follows, tdo_lets_go,
-};
-use instruction_register::{instruction_steps, instructions_stay_legible};
-use netlist_images::{
+use instruction_gates::register::{instruction_steps, instructions_stay_legible};
+use netlist_model::images::{
     nested_behind_meets, nested_behind_starts, nested_behind_steps, operands_are_given,
 };
-use netlist_laws::{bit_of_a_direction, direction_of_a_bit, found_driver_drives};
+use netlist_model::laws::{bit_of_a_direction, direction_of_a_bit, found_driver_drives};
+use register_gates::{
+    bypass_follows, constants_are_bits, ident_follows, steps_by_register, tdo_follows, tdo_lets_go,
+};
 use tap_gates::{step_is_the_machines, tap_finds_home, tap_follows};
 use wrapped_chip::{one_chip_run, outside_goes_on, some_run_beside};
 

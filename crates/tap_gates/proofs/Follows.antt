@@ -1,23 +1,23 @@
 -- The controller's cells follow the test logic.
 use Rattle.std.proofs.Common.{◌≡◌, ℕ, zero, suc, ◌+◌, ◌≤◌, Bool, true, false, List, [], ◌∷◌, length, refl, ap, ◌∙◌, arith}
 use Rattle.std.specs.Prelude.{Some, slice_get, if◌then◌else◌}
-use Rattle.test_logic.specs.signal_values.declared.Sig.{Sig}
-use Rattle.test_logic.specs.signal_values.declared.Sig.TheVariants.{Zero, One}
-use Rattle.test_logic.specs.signal_values.Values.{bit}
-use Rattle.test_logic.specs.cell_library.declared.Kind.TheVariants.{Flop}
-use Rattle.test_logic.specs.cell_library.declared.FlopKind.{FlopKind}
-use Rattle.test_logic.specs.cell_library.declared.Edge.TheVariants.{Rise}
-use Rattle.test_logic.specs.cell_library.declared.ResetTo.{ResetTo}
-use Rattle.test_logic.specs.cell_library.declared.ResetTo.TheVariants.{Zero as ToZero, One as ToOne}
-use Rattle.test_logic.specs.cell_library.Flops.{is_edge, reset_or}
-use Rattle.test_logic.specs.netlist_model.declared.NetId.{NetId}
-use Rattle.test_logic.specs.netlist_model.declared.Feed.TheVariants.{Net}
-use Rattle.test_logic.specs.netlist_model.Lists.{NetlistView}
-use Rattle.test_logic.specs.netlist_model.Settled.{IsSettled}
-use Rattle.test_logic.specs.netlist_model.Formed.{IsWellFormed}
-use Rattle.test_logic.specs.netlist_model.Contained.{HasCells}
-use Rattle.gate_parts.specs.netlist_laws.Runs.{RunHasMoments}
-use Rattle.test_logic.specs.netlist_model.Runs.{Moment, PinEvent, IsStart, IsStep, IsRun}
+use Rattle.signal_values.specs.declared.Sig.{Sig}
+use Rattle.signal_values.specs.declared.Sig.TheVariants.{Zero, One}
+use Rattle.signal_values.specs.Values.{bit}
+use Rattle.cell_library.specs.declared.Kind.TheVariants.{Flop}
+use Rattle.cell_library.specs.declared.FlopKind.{FlopKind}
+use Rattle.cell_library.specs.declared.Edge.TheVariants.{Rise}
+use Rattle.cell_library.specs.declared.ResetTo.{ResetTo}
+use Rattle.cell_library.specs.declared.ResetTo.TheVariants.{Zero as ToZero, One as ToOne}
+use Rattle.cell_library.specs.Flops.{is_edge, reset_or}
+use Rattle.netlist_model.specs.declared.NetId.{NetId}
+use Rattle.netlist_model.specs.declared.Feed.TheVariants.{Net}
+use Rattle.netlist_model.specs.Lists.{NetlistView}
+use Rattle.netlist_model.specs.Settled.{IsSettled}
+use Rattle.netlist_model.specs.Formed.{IsWellFormed}
+use Rattle.netlist_model.specs.Contained.{HasCells}
+use Rattle.netlist_model.specs.LawsRuns.{RunHasMoments}
+use Rattle.netlist_model.specs.Runs.{Moment, PinEvent, IsStart, IsStep, IsRun}
 use Rattle.gate_parts.specs.Laws.{FlopOn, FlopStarts, FlopSteps}
 use Rattle.gate_parts.specs.PartLaws.{ContainedPartMeets, ContainedPartHasFlops}
 use Rattle.gate_parts.specs.declared.Gate.{Gate}

@@ -1,17 +1,17 @@
 -- From any bits: with TMS at 1 each state that a flip-flop stands for comes nearer to Test-Logic-Reset, and no state leads there too.
 use Rattle.std.proofs.Common.{◌≡◌, ℕ, zero, suc, ◌+◌, ◌<◌, ◌≤◌, ◌⊎◌, Bool, true, false, not, ◌&&◌, ◌||◌, if◌then◌else◌, List, [], ◌∷◌, length, Some, refl, sym, ap, ◌∙◌, inl, inr, arith}
 use Rattle.std.specs.Prelude.{slice_get}
-use Rattle.test_logic.specs.signal_values.declared.Sig.{Sig}
-use Rattle.test_logic.specs.signal_values.Values.{bit}
-use Rattle.test_logic.specs.cell_library.Flops.{reset_or}
-use Rattle.test_logic.specs.cell_library.Gates.{flop_of}
-use Rattle.test_logic.specs.cell_library.Laws.{IsKnown}
-use Rattle.test_logic.specs.netlist_model.declared.NetId.{NetId}
-use Rattle.test_logic.specs.netlist_model.Lists.{NetlistView}
-use Rattle.test_logic.specs.netlist_model.Settled.{IsSettled}
-use Rattle.test_logic.specs.netlist_model.Formed.{IsWellFormed}
-use Rattle.test_logic.specs.netlist_model.Contained.{HasCells}
-use Rattle.test_logic.specs.netlist_model.Runs.{Moment, PinEvent, IsStart}
+use Rattle.signal_values.specs.declared.Sig.{Sig}
+use Rattle.signal_values.specs.Values.{bit}
+use Rattle.cell_library.specs.Flops.{reset_or}
+use Rattle.cell_library.specs.Gates.{flop_of}
+use Rattle.cell_library.specs.Laws.{IsKnown}
+use Rattle.netlist_model.specs.declared.NetId.{NetId}
+use Rattle.netlist_model.specs.Lists.{NetlistView}
+use Rattle.netlist_model.specs.Settled.{IsSettled}
+use Rattle.netlist_model.specs.Formed.{IsWellFormed}
+use Rattle.netlist_model.specs.Contained.{HasCells}
+use Rattle.netlist_model.specs.Runs.{Moment, PinEvent, IsStart}
 use Rattle.test_logic.specs.declared.TapState.{TapState}
 use Rattle.test_logic.specs.declared.TapState.TheVariants.{TestLogicReset, RunTestIdle, SelectDrScan, CaptureDr, ShiftDr, Exit1Dr, PauseDr, Exit2Dr, UpdateDr, SelectIrScan, CaptureIr, ShiftIr, Exit1Ir, PauseIr, Exit2Ir, UpdateIr}
 use Rattle.test_logic.specs.declared.Levels.{Levels}

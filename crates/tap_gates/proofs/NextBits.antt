@@ -1,10 +1,10 @@
 -- What goes to the flip-flop of each state, whatever the flip-flops hold: a bit of their bits and of TMS.
 use Rattle.std.proofs.Common.{◌≡◌, ℕ, ◌+◌, Bool, not, ◌&&◌, ◌||◌, refl, arith, List}
-use Rattle.test_logic.specs.cell_library.declared.listed.ListedCell.{ListedCell}
-use Rattle.test_logic.specs.signal_values.Values.{bit, sig_and, sig_or, sig_not}
-use Rattle.test_logic.proofs.signal_values.Laws.{not-bit}
-use Rattle.test_logic.specs.netlist_model.declared.NetId.{NetId}
-use Rattle.test_logic.specs.netlist_model.Runs.{Moment}
+use Rattle.cell_library.specs.declared.listed.ListedCell.{ListedCell}
+use Rattle.signal_values.specs.Values.{bit, sig_and, sig_or, sig_not}
+use Rattle.signal_values.proofs.Laws.{not-bit}
+use Rattle.netlist_model.specs.declared.NetId.{NetId}
+use Rattle.netlist_model.specs.Runs.{Moment}
 use Rattle.gate_parts.specs.PartLaws.{PartMeets}
 use Rattle.test_logic.specs.declared.TapState.{TapState}
 use Rattle.test_logic.specs.declared.TapState.TheVariants.{TestLogicReset, RunTestIdle, SelectDrScan, CaptureDr, ShiftDr, Exit1Dr, PauseDr, Exit2Dr, UpdateDr, SelectIrScan, CaptureIr, ShiftIr, Exit1Ir, PauseIr, Exit2Ir, UpdateIr}

@@ -2,17 +2,17 @@
 -- IEEE Std 1149.1-2001: TAP controller (five rising edges of TCK with TMS at 1); what sixteen flip-flops
 -- may hold is own.
 use Rattle.std.specs.Prelude.{◌≡◌, ℕ, suc, ◌≤◌, true, false, List, length, slice_get, Some}
-use Rattle.test_logic.specs.signal_values.declared.Sig.{Sig}
-use Rattle.test_logic.specs.signal_values.declared.Sig.TheVariants.{Zero}
-use Rattle.test_logic.specs.cell_library.declared.FlopKind.{FlopKind}
-use Rattle.test_logic.specs.cell_library.Gates.{flop_of}
-use Rattle.test_logic.specs.cell_library.Laws.{IsKnown}
-use Rattle.test_logic.specs.netlist_model.declared.NetId.{NetId}
-use Rattle.test_logic.specs.netlist_model.Lists.{CellView, NetlistView, cell_at}
-use Rattle.test_logic.specs.netlist_model.Settled.{IsSettled}
-use Rattle.test_logic.specs.netlist_model.Formed.{IsWellFormed}
-use Rattle.test_logic.specs.netlist_model.Contained.{HasCells}
-use Rattle.test_logic.specs.netlist_model.Runs.{Moment, PinEvent, IsStart, IsStep}
+use Rattle.signal_values.specs.declared.Sig.{Sig}
+use Rattle.signal_values.specs.declared.Sig.TheVariants.{Zero}
+use Rattle.cell_library.specs.declared.FlopKind.{FlopKind}
+use Rattle.cell_library.specs.Gates.{flop_of}
+use Rattle.cell_library.specs.Laws.{IsKnown}
+use Rattle.netlist_model.specs.declared.NetId.{NetId}
+use Rattle.netlist_model.specs.Lists.{CellView, NetlistView, cell_at}
+use Rattle.netlist_model.specs.Settled.{IsSettled}
+use Rattle.netlist_model.specs.Formed.{IsWellFormed}
+use Rattle.netlist_model.specs.Contained.{HasCells}
+use Rattle.netlist_model.specs.Runs.{Moment, PinEvent, IsStart, IsStep}
 use Rattle.test_logic.specs.declared.TapState.{TapState}
 use Rattle.test_logic.specs.declared.TapState.TheVariants.{TestLogicReset}
 use Rattle.test_logic.specs.declared.Levels.{Levels}

@@ -25,6 +25,29 @@ impl<T> From<Vec<T>> for Row<T> {
     }
 }
 
+impl<T> Row<T> {
+    /// The items in order.
+    pub fn as_slice(&self) -> &[T]
+        ensures { result.now ≡ self.now }
+    {
+        self.items.as_slice()
+    }
+
+    /// The count of items.
+    pub fn len(&self) -> usize
+        ensures { result ≡ length self.now }
+    {
+        self.items.len()
+    }
+
+    /// Whether there are none.
+    pub fn is_empty(&self) -> bool
+        ensures { IsTrue result ↔ (self.now ≡ []) }
+    {
+        self.items.is_empty()
+    }
+}
+
 impl<T: Drop> Row<T> {
     /// An empty list, which takes no memory.
     pub fn new(alloc: Global) -> Row<T>
@@ -53,27 +76,6 @@ impl<T: Drop> Row<T> {
         ensures { self.new ≡ self.old }
     {
         let _ = self.items.reserve(count);
-    }
-
-    /// The items in order.
-    pub fn as_slice(&self) -> &[T]
-        ensures { result.now ≡ self.now }
-    {
-        self.items.as_slice()
-    }
-
-    /// The count of items.
-    pub fn len(&self) -> usize
-        ensures { result ≡ length self.now }
-    {
-        self.items.len()
-    }
-
-    /// Whether there are none.
-    pub fn is_empty(&self) -> bool
-        ensures { IsTrue result ↔ (self.now ≡ []) }
-    {
-        self.items.is_empty()
     }
 
     /// The `Vec` behind the list.

@@ -1,4 +1,5 @@
+pub use Rattle.texts.proofs.list_laws as list_laws
+pub mod ByLetter
 pub mod Entries
 pub mod KeyWordLaws
-pub mod ByLetter
 pub mod ReadWords

@@ -1,6 +1,6 @@
-pub mod Words
-pub mod Bytes
-pub mod Keywords
 pub mod ByLetter
+pub mod Bytes
 pub mod Entries
+pub mod Keywords
 pub mod Pieces
+pub mod Words

@@ -8,7 +8,7 @@ use Rattle.verilog_lexicon.specs.Words.{front, rest, rest_if, symbol_in}
 use Rattle.verilog_tree.specs.declared.tree.Port.{Port}
 use Rattle.verilog_tree.specs.Sources.{DeclarationHead}
 use Rattle.verilog_tree.specs.Trees.{port_of}
-use Rattle.verilog_reading.specs.Reader.{Read, done, after, either, take_at, close, close_all, is_none_left, open_name_in, declared_at}
+use Rattle.verilog_tree.specs.Reader.{Read, done, after, either, take_at, close, close_all, is_none_left, open_name_in, declared_at}
 use Rattle.verilog_modules.specs.declared.fault.ParseFault.{ParseFault}
 use Rattle.verilog_modules.specs.declared.fault.ParseFault.TheVariants as fault
 use Rattle.verilog_modules.specs.declared.declarations.Declarations.{Declarations}

@@ -7,7 +7,7 @@ use Rattle.verilog_lexicon.specs.Words.{front, rest}
 use Rattle.verilog_tree.specs.declared.tree.Port.{Port}
 use Rattle.verilog_tree.specs.Sources.{ItemSource}
 use Rattle.verilog_tree.specs.Trees.{declared_by, item_wires, item_items}
-use Rattle.verilog_reading.specs.Reader.{Read, done, fault, after, item_at, items_from, is_end, is_none_left, left_after}
+use Rattle.verilog_tree.specs.Reader.{Read, done, fault, after, item_at, items_from, is_end, is_none_left, left_after}
 use Rattle.verilog_modules.specs.declared.fault.ParseFault.{ParseFault}
 use Rattle.verilog_modules.specs.declared.fault.ParseFault.TheVariants as error
 use Rattle.verilog_modules.specs.declared.items.Body.{Body}

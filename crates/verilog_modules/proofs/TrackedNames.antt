@@ -3,15 +3,14 @@ use Rattle.std.proofs.Common.{◌≡◌, ℕ, suc, Bool, true, false, ◌||◌, 
 use Rattle.std.specs.Prelude.{find}
 use Rattle.std.specs.Borrow.{Bor}
 use Rattle.std.specs.List.{list_any}
-use Rattle.std.specs.Option.{option_map}
+use Rattle.std.specs.Option.{option_map, option_or}
 use Rattle.std.specs.Str.{bytes_eq}
 use Rattle.std.proofs.lemmas.List.Folds.{find-append}
-use Rattle.std.specs.Option.{option_or}
 use Rattle.std.proofs.lemmas.Slice.Eq.{bytes_eq-Decides}
 use Rattle.verilog_tree.specs.declared.tree.Dir.TheVariants as dir
 use Rattle.verilog_tree.specs.declared.tree.Port.{Port}
 use Rattle.verilog_tree.specs.Trees.{has_name, port_of, declared_port}
-use Rattle.verilog_reading.specs.Reader.{close, is_none_left}
+use Rattle.verilog_tree.specs.Reader.{close, is_none_left}
 use Rattle.verilog_modules.specs.declared.header.WrittenHead.{WrittenHead}
 use Rattle.verilog_modules.specs.declared.declarations.Declarations.{Declarations}
 use Rattle.verilog_modules.specs.Headers.{declaration_head, texts}

@@ -1,9 +1,9 @@
-pub mod Parsed
-pub mod Headers
-pub mod Tables
-pub mod Items
-pub mod Nets
-pub mod Modules
-pub mod Texts
 pub mod Faults
+pub mod Headers
+pub mod Items
 pub mod Laws
+pub mod Modules
+pub mod Nets
+pub mod Parsed
+pub mod Tables
+pub mod Texts

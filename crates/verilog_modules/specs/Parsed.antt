@@ -3,8 +3,8 @@ use Rattle.std.specs.Prelude.{◌≡◌, List, ◌++◌, Option, Some, None, Res
 use Rattle.std.specs.Option.{option_map}
 use Rattle.verilog_lexicon.specs.declared.word.Word.{Word}
 use Rattle.verilog_lexicon.specs.Words.{reserved_in}
-use Rattle.verilog_reading.specs.Heads.{is_module, is_wire}
-use Rattle.verilog_reading.specs.Reader.{Read}
+use Rattle.verilog_tree.specs.Heads.{is_module, is_wire}
+use Rattle.verilog_tree.specs.Reader.{Read}
 use Rattle.verilog_modules.specs.declared.fault.ParseFault.{ParseFault}
 use Rattle.verilog_modules.specs.declared.fault.ParseFault.TheVariants as fault
 

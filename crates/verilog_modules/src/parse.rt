@@ -3,7 +3,7 @@ ghost use Rattle.verilog_lexicon.specs.Words.{place_in};
 ghost use Rattle.verilog_tree.specs.declared.tree.Module.{Module as ModuleTree};
 ghost use Rattle.verilog_tree.specs.Texts.{SpellsModule};
 ghost use Rattle.verilog_tree.specs.Trees.{is_port_net, tree_of};
-ghost use Rattle.verilog_reading.specs.Reader.{end_at, items_at, module_at, modules_at, source_at};
+ghost use Rattle.verilog_tree.specs.Reader.{end_at, items_at, module_at, modules_at, source_at};
 ghost use Rattle.verilog_modules.specs.Texts.{trees_of, SpellsModules, RefusesText};
 ghost use Rattle.verilog_modules.specs.Parsed.{Gives, GivesSeen};
 ghost use Rattle.verilog_modules.specs.Headers.{texts};
@@ -23,7 +23,7 @@ use texts::{OutOfMemory, Row, Text};
 use verilog_lexicon::reader::WordReader;
 use verilog_lexicon::symbol::Symbol;
 use verilog_lexicon::words::Words;
-use verilog_reading::{
+use verilog_tree::reading::{
     faults_at_fault_word, faults_at_text_fault_word, faults_spell_nothing, reads_each_text,
     reads_only_sources, reads_only_texts, spells_one_source,
 };
@@ -98,7 +98,7 @@ fn tree(alloc: Global, name: Text, header: Header, body: Body) -> Result<Module,
 }
 
 // The tree of a module's words, whatever follows them; the reader then stands behind them, or where the fault is.
-#[tactic(auto, unfolding(verilog_reading::specs::Reader::module_at))]
+#[tactic(auto, unfolding(verilog_tree::specs::Reader::module_at))]
 fn module_tree(alloc: Global, room: usize, reader: &mut WordReader) -> Result<Module, ParseFault>
     ensures gives { GivesSeen tree_of result reader.new (module_at reader.old) }
     ensures shorter { IfOk result (λ _. length reader.new < length reader.old) }

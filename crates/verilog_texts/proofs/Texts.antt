@@ -17,7 +17,7 @@ use Rattle.verilog_modules.specs.declared.fault.SyntaxFault.TheVariants as synta
 use Rattle.verilog_modules.specs.Faults.{Refuses}
 use Rattle.verilog_texts.specs.declared.fault.TextFault.{TextFault}
 use Rattle.verilog_texts.specs.declared.fault.TextFault.TheVariants.{BadWord, BadSyntax, OutOfMemory}
-use Rattle.verilog_reading.specs.Conditions.{SpelledTreesKeepConditions, SpelledModulesKeepConditions}
+use Rattle.verilog_tree.specs.Conditions.{SpelledTreesKeepConditions, SpelledModulesKeepConditions}
 use Rattle.verilog_modules.specs.Laws.{WordsSpellOneModule, WordsSpellOneList}
 use Rattle.verilog_modules.specs.Texts.{SpellsModules, RefusesText}
 use Rattle.verilog_texts.specs.Laws.{BytesSpellOneTree, BytesSpellOneList}

@@ -1,3 +1,3 @@
-pub mod TextOutcome
-pub mod TextFaults
 pub mod Laws
+pub mod TextFaults
+pub mod TextOutcome

@@ -2,18 +2,16 @@ ghost use Rattle.std.specs.Prelude.{◌≡◌};
 ghost use Rattle.verilog_texts.specs.TextFaults.{word_fault, syntax_fault, memory_fault};
 
 use texts::OutOfMemory;
-use thiserror::Error;
 use verilog_modules::SyntaxFault;
 use verilog_words::WordFault;
 
 /// Why a text is no module. Places are offsets in bytes, and words are counted from 0.
-#[derive(Clone, Copy, Debug, Drop, Error)]
+#[derive(Clone, Copy, Debug, Drop)]
 pub enum TextFault {
-    #[error("the bytes are no words, from byte {place} on")]
+    /// The bytes are no words from there on.
     BadWord { place: u64 },
-    #[error("the words are no module, from word {word} at byte {place} on")]
+    /// The words are no module from there on.
     BadSyntax { place: u64, word: u64 },
-    #[error("out of memory")]
     OutOfMemory,
 }
 

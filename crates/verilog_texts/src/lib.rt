@@ -12,12 +12,14 @@
 //   which no module goes on, and its place.
 // - Two laws: bytes spell at most one tree, and at most one list of trees.
 // - Any other refusal is want of memory. Faults of the parts become faults of the whole with the same places.
+// - `printing`: a tree to its canonical text, which spells the tree again.
 // By the contract of `read_module`, `read_modules` and its law functions.
 #![tactic(auto)]
 
 mod fault;
 mod laws;
 mod module_text;
+pub mod printing;
 
 pub use fault::TextFault;
 pub use laws::{bytes_spell_one_list_of_trees, bytes_spell_one_tree};

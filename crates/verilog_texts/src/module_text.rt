@@ -8,8 +8,10 @@ use std::alloc::Global;
 use texts::{Row, Text};
 use verilog_lexicon::Words;
 use verilog_modules::{parse_module, parse_modules};
-use verilog_reading::{spelled_modules_keep_the_conditions, spelled_trees_keep_the_conditions};
 use verilog_tree::Module;
+use verilog_tree::reading::{
+    spelled_modules_keep_the_conditions, spelled_trees_keep_the_conditions,
+};
 use verilog_words::Cutter;
 
 // The words of a text, which is let go.

@@ -1,7 +1,10 @@
-pub use Rattle.verilog_lexicon.specs as verilog_lexicon
 pub mod Canonical
+pub mod Conditions
+pub mod Heads
 pub mod IsTree
+pub mod Reader
+pub mod ReadingLaws
 pub mod Sources
-pub mod WrittenWords
 pub mod Texts
 pub mod Trees
+pub mod WrittenWords

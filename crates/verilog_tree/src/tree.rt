@@ -1,7 +1,7 @@
 use verilog_lexicon::lower_texts::{Row, Text};
 
 /// The direction of a port.
-#[derive(Clone, Copy, Debug, Drop, PartialEq, Eq)]
+#[derive(Clone, Copy, Drop, PartialEq, Eq)]
 pub enum Dir {
     Input,
     Output,
@@ -9,14 +9,14 @@ pub enum Dir {
 }
 
 /// The range of a vector, `[left:right]`, in either direction; each bound is below 10^9.
-#[derive(Clone, Copy, Debug, Drop, PartialEq, Eq)]
+#[derive(Clone, Copy, Drop, PartialEq, Eq)]
 pub struct Range {
     pub left: u32,
     pub right: u32,
 }
 
 /// A port with its direction; a scalar has no range.
-#[derive(Debug, Drop)]
+#[derive(Drop)]
 pub struct Port {
     pub name: Text,
     pub dir: Dir,

@@ -1,8 +1,8 @@
-pub mod Values
-pub mod Outcome
-pub mod Complete
-pub mod Sound
 pub mod Bytes
+pub mod Complete
 pub mod Feeds
+pub mod Outcome
 pub mod Runs
+pub mod Sound
 pub mod Taken
+pub mod Values

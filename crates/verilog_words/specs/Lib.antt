@@ -1,5 +1,5 @@
-pub mod Machine
-pub mod Kinds
-pub mod Steps
 pub mod Fed
+pub mod Kinds
 pub mod Laws
+pub mod Machine
+pub mod Steps

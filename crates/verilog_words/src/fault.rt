@@ -1,14 +1,11 @@
-use thiserror::Error;
 use word_cutter::CutFault;
 
 /// Why a text isn't cut into words.
-#[derive(Clone, Copy, Debug, Drop, Error, PartialEq, Eq)]
+#[derive(Clone, Copy, Debug, Drop, PartialEq, Eq)]
 pub enum WordFault {
     /// The bytes before `place` begin some text of the word grammar, and no more of them do.
-    #[error("BadWord {place}")]
     BadWord { place: u64 },
     /// Memory was refused, or a word begins past the first 4 GiB of the text.
-    #[error("out of memory")]
     OutOfMemory,
 }
 

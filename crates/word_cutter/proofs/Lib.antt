@@ -1,5 +1,8 @@
-pub use Rattle.list_laws.proofs as list_laws
-pub mod Runs
-pub mod Language
-pub mod KeptWords
+pub mod Ahead
 pub mod Cases
+pub mod Cut
+pub mod KeptWords
+pub mod Language
+pub mod Rows
+pub mod Runs
+pub mod Written

@@ -1,14 +1,11 @@
 use texts::OutOfMemory;
-use thiserror::Error;
 
 /// Why a text isn't cut.
-#[derive(Clone, Copy, Debug, Drop, Error, PartialEq, Eq)]
+#[derive(Clone, Copy, Drop, PartialEq, Eq)]
 pub enum CutFault {
     /// The machine takes the bytes before `place`, and not the one there; or the text ends there too early.
-    #[error("bad byte at {place}")]
     BadByte { place: u64 },
     /// Memory was refused, or a place or a word is too far.
-    #[error("out of memory")]
     OutOfMemory,
 }
 

@@ -12,6 +12,7 @@
 //   eight decimal digits with one more.
 // - Its laws say, of a machine that gives a language's words and can always come to an end, that a refusal stands
 //   at the greatest place up to which some text of the language begins so.
+// - `lines`: lines, words, skipped lines: their reader, and rows of words as they are written.
 // By the contract of `Machine`, `Cutter`, `run_len`, `with_digit`.
 #![tactic(auto)]
 
@@ -19,6 +20,8 @@ mod class;
 mod cutter;
 mod digits;
 mod fault;
+pub mod lines;
+pub mod lower_texts;
 mod machine;
 
 pub use class::{ByteClass, LineBytes, run_len};

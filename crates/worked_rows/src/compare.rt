@@ -1,9 +1,11 @@
 use crate::held::Held;
 use crate::row::{Content, Run};
-use edge_io::{MemShelf, MemSink, OutOfMemory};
-use insert_cli::{Status, WordList, run_tool};
+use command_faults::Status;
+use command_line::{WordList, run_tool};
+use edge_io::{MemShelf, MemSink};
 use std::alloc::Global;
 use std::fmt;
+use texts::OutOfMemory;
 
 /// Something that a run came to and should not.
 #[derive(Drop)]

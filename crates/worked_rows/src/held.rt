@@ -1,6 +1,7 @@
 use crate::row::NamedText;
-use edge_io::{MemShelf, OutOfMemory, Text};
+use edge_io::MemShelf;
 use std::alloc::Global;
+use texts::{OutOfMemory, Text};
 
 /// The texts that a run finds: those of its row, and what earlier runs wrote that is kept.
 #[derive(Drop)]

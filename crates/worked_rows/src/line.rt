@@ -1,5 +1,5 @@
-use edge_io::OutOfMemory;
 use std::alloc::AllocFailed;
+use texts::OutOfMemory;
 
 /// Why a line can't stand where it does.
 #[derive(Clone, Copy, Drop)]

@@ -1,5 +1,5 @@
 // Runs the rows of tables over shelves and sinks in memory, and tells what differs from what they want.
-// It stands on `run_tool` of insert_cli, whose contract says what each status means; docs/TABLES.md says how a
+// It stands on `run_tool` of command_line, whose contract says what each status means; docs/TABLES.md says how a
 // table is written.
 // Own: each argument names the file of a table. The last line counts the runs of their rows, and those that differ.
 //

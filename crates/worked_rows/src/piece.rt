@@ -1,8 +1,8 @@
 ghost use Rattle.std.specs.Prelude.{◌<◌, IfOk};
 
 use crate::line::{LineFault, Piece};
-use edge_io::{OutOfMemory, Text};
 use itoa::Buffer;
+use texts::{OutOfMemory, Text};
 
 /// Adds a piece to a text, as often as it says.
 pub(crate) fn append_piece(text: &mut Text, piece: Piece) -> Result<(), LineFault> {

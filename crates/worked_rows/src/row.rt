@@ -1,7 +1,7 @@
 use crate::line::LineFault;
-use edge_io::{OutOfMemory, Text};
-use insert_cli::WordList;
+use command_line::WordList;
 use std::alloc::Global;
+use texts::{OutOfMemory, Text};
 
 /// The room of an output, or of the sink, for which no line says another.
 const ROOM: u64 = 100_000;

@@ -1,8 +1,8 @@
 use crate::line::{Line, LineFault, Piece};
 use crate::piece::append_piece;
 use crate::row::{Content, NamedText, Row, Run};
-use edge_io::Text;
 use std::alloc::Global;
+use texts::Text;
 use thiserror::Error;
 
 /// Why a table can't be read.

@@ -4,22 +4,22 @@ use Rattle.std.specs.Option.{option_map}
 use Rattle.signal_values.specs.declared.Sig.{Sig}
 use Rattle.signal_values.specs.declared.PinSig.{PinSig}
 use Rattle.signal_values.specs.Values.{see}
-use Rattle.netlist_laws.specs.cell_library.Gates.{is_three_state, operand}
-use Rattle.netlist_laws.specs.netlist_model.declared.Dir.TheVariants.{Input}
-use Rattle.netlist_laws.specs.netlist_model.Lists.{CellView, NetlistView, Drives, direction}
-use Rattle.netlist_laws.specs.netlist_model.Settled.{driver_of, feed_values, follows_pin}
-use Rattle.netlist_laws.specs.netlist_model.Formed.{IsNumbered, IsWellFormed}
-use Rattle.netlist_laws.proofs.Search.{Found, output_or_not}
-use Rattle.netlist_laws.proofs.Once.{feeds_below_at, feed_values_same}
-use Rattle.netlist_laws.proofs.KindLaws.{three_state_gate}
-use Rattle.netlist_laws.proofs.Pins.{pin_kinds}
+use Rattle.cell_library.specs.Gates.{is_three_state, operand}
+use Rattle.netlist_model.specs.declared.Dir.TheVariants.{Input}
+use Rattle.netlist_model.specs.Lists.{CellView, NetlistView, Drives, direction}
+use Rattle.netlist_model.specs.Settled.{driver_of, feed_values, follows_pin}
+use Rattle.netlist_model.specs.Formed.{IsNumbered, IsWellFormed}
+use Rattle.netlist_model.proofs.Search.{Found, output_or_not}
+use Rattle.netlist_model.proofs.Once.{feeds_below_at, feed_values_same}
+use Rattle.netlist_model.proofs.KindLaws.{three_state_gate}
+use Rattle.netlist_model.proofs.Pins.{pin_kinds}
 use Rattle.test_logic.specs.Machine.{Machine, in_effect, test_logic_of, update_of}
 use Rattle.test_logic.specs.Instructions.{mode_of}
 use Rattle.test_logic.specs.Rows.{CellAt, ControlAt, into_core}
 use Rattle.test_logic.specs.bsdl_device.declared.values.Disable.{Disable}
 use Rattle.test_logic.specs.bsdl_device.declared.values.Device.{Device}
 use Rattle.wrapped_chip.specs.Cells.{core_datum, core_control, control_at, Numbered, into_by, row_of, chip_rule}
-use Rattle.netlist_laws.specs.Settle.{IsCausal}
+use Rattle.netlist_model.specs.Settle.{IsCausal}
 
 -- the first cell that drives the net, or none is found
 search : (places : List (Option CellView)) (net : ℕ) → Found places net ⊎ (driver_of places net ≡ None)

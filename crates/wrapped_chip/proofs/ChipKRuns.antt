@@ -4,20 +4,19 @@ use Rattle.std.specs.Prelude.{Some, None, slice_get}
 use Rattle.signal_values.specs.declared.Sig.TheVariants.{Unknown}
 use Rattle.signal_values.specs.declared.PinSig.{PinSig}
 use Rattle.signal_values.specs.declared.PinSig.TheVariants.{Zero, One, HighZ}
-use Rattle.netlist_laws.specs.cell_library.Gates.{flop_of}
-use Rattle.netlist_laws.specs.cell_library.declared.FlopKind.{FlopKind}
-use Rattle.netlist_laws.specs.cell_library.declared.codes.BoundaryKind.TheVariants.{Bc1}
-use Rattle.netlist_laws.specs.netlist_model.Lists.{CellView, cell_at}
-use Rattle.netlist_laws.specs.netlist_model.Cones.{IsControlNet}
+use Rattle.cell_library.specs.Gates.{flop_of}
+use Rattle.cell_library.specs.declared.FlopKind.{FlopKind}
+use Rattle.cell_library.specs.declared.codes.BoundaryKind.TheVariants.{Bc1}
+use Rattle.netlist_model.specs.Lists.{CellView, cell_at}
+use Rattle.netlist_model.specs.Cones.{IsControlNet}
 use Rattle.test_logic.specs.declared.Levels.{Levels}
 use Rattle.test_logic.specs.declared.TapInput.TheVariants.{Tck, Tms, Tdi, Trst}
 use Rattle.test_logic.specs.Machine.{Machine, reset, machine_step, test_logic_of}
-use Rattle.wrapped_chip.specs.Cells.{captured}
+use Rattle.wrapped_chip.specs.Cells.{captured, row_of}
 use Rattle.wrapped_chip.specs.ChipRuns.{ChipMoment, ChipEvent, at_pin, at_tap, IsChipLegal, IsChipStep, IsChipRun, chip_pins_after, levels_after}
 use Rattle.wrapped_chip.proofs.ScanCycles.{Cycle, one, idle, into, last}
 use Rattle.wrapped_chip.proofs.ExampleChips.{netlist_k, chip_k, value_k, reads_k}
 use Rattle.wrapped_chip.proofs.ChipKMeets.{and_cell, not_cell, meets_k}
-use Rattle.wrapped_chip.specs.Cells.{row_of}
 use Rattle.test_logic.specs.Instructions.{bits_of, instruction_of}
 
 abbrev moment : Levels → (ℕ → PinSig) → Machine → ChipMoment

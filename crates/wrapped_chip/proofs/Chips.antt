@@ -5,21 +5,21 @@ use Rattle.std.specs.Prelude.{Some, None, slice_get}
 use Rattle.std.proofs.lemmas.List.Elements.{All-head, All-tail}
 use Rattle.signal_values.specs.declared.Sig.{Sig}
 use Rattle.signal_values.specs.declared.PinSig.{PinSig}
-use Rattle.netlist_laws.specs.cell_library.Gates.{flop_of}
-use Rattle.netlist_laws.specs.cell_library.declared.listed.ListedCell.{ListedCell}
-use Rattle.netlist_laws.specs.cell_library.declared.FlopKind.{FlopKind}
-use Rattle.netlist_laws.specs.cell_library.Flops.{flop_next, flop_start}
-use Rattle.netlist_laws.specs.netlist_model.Lists.{CellView, NetlistView, cell_at}
-use Rattle.netlist_laws.specs.netlist_model.Settled.{feed_values, Meets}
-use Rattle.netlist_laws.specs.netlist_model.Cones.{IsControlPort}
-use Rattle.netlist_laws.specs.netlist_model.Formed.{IsWellFormed}
-use Rattle.netlist_laws.specs.netlist_model.Runs.{IsKnownPin}
-use Rattle.netlist_laws.specs.Settle.{SameFlops}
-use Rattle.netlist_laws.specs.Runs.{SameControlNets, cell_start, cell_next}
-use Rattle.netlist_laws.proofs.Once.{agree_inside}
-use Rattle.netlist_laws.proofs.Exists.{meets_exists}
-use Rattle.netlist_laws.proofs.Controls.{controls_once}
-use Rattle.netlist_laws.proofs.Flops.{clock_same, reset_same, flop_start-same, flop_next-after, flops_start_once, flops_step_once}
+use Rattle.cell_library.specs.Gates.{flop_of}
+use Rattle.cell_library.specs.declared.listed.ListedCell.{ListedCell}
+use Rattle.cell_library.specs.declared.FlopKind.{FlopKind}
+use Rattle.cell_library.specs.Flops.{flop_next, flop_start}
+use Rattle.netlist_model.specs.Lists.{CellView, NetlistView, cell_at}
+use Rattle.netlist_model.specs.Settled.{feed_values, Meets}
+use Rattle.netlist_model.specs.Cones.{IsControlPort}
+use Rattle.netlist_model.specs.Formed.{IsWellFormed}
+use Rattle.netlist_model.specs.Runs.{IsKnownPin}
+use Rattle.netlist_model.specs.Settle.{SameFlops}
+use Rattle.netlist_model.specs.LawsRuns.{SameControlNets, cell_start, cell_next}
+use Rattle.netlist_model.proofs.Once.{agree_inside}
+use Rattle.netlist_model.proofs.Exists.{meets_exists}
+use Rattle.netlist_model.proofs.Controls.{controls_once}
+use Rattle.netlist_model.proofs.Flops.{clock_same, reset_same, flop_start-same, flop_next-after, flops_start_once, flops_step_once}
 use Rattle.test_logic.specs.declared.Levels.{Levels}
 use Rattle.test_logic.specs.Machine.{Machine, reset, machine_step, test_logic_of}
 use Rattle.test_logic.specs.bsdl_device.declared.values.Device.{Device}

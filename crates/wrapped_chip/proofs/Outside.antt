@@ -1,8 +1,8 @@
 -- What is outside the chip from any moment on.
 use Rattle.std.proofs.Common.{◌≡◌, ◌≤◌, ◌+◌, ℕ, zero, suc, List, length, sym, ◌∙◌, ap, subst, arith}
-use Rattle.netlist_laws.specs.netlist_model.Lists.{NetlistView}
-use Rattle.netlist_laws.specs.netlist_model.Cones.{IsControlPort}
-use Rattle.netlist_laws.specs.netlist_model.Runs.{IsKnownPin}
+use Rattle.netlist_model.specs.Lists.{NetlistView}
+use Rattle.netlist_model.specs.Cones.{IsControlPort}
+use Rattle.netlist_model.specs.Runs.{IsKnownPin}
 use Rattle.wrapped_chip.specs.ChipRuns.{ChipMoment, ChipEvent}
 use Rattle.wrapped_chip.specs.Home.{IsOutside, OutsideGoesOn}
 use Rattle.wrapped_chip.proofs.Chips.{event_at}

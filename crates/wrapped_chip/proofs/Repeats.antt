@@ -1,16 +1,16 @@
 -- In a run of the wrapped chip an event that repeats what is there changes nothing.
 use Rattle.std.proofs.Common.{◌≡◌, ℕ, zero, suc, ◌≤◌, ◌<◌, Bool, true, false, List, length, refl, ap, sym, ◌∙◌, inl, inr, arith}
 use Rattle.std.specs.Prelude.{Some}
-use Rattle.netlist_laws.proofs.Repeats.{rest_of}
+use Rattle.netlist_model.proofs.Repeats.{rest_of}
 use Rattle.signal_values.specs.declared.Sig.{Sig}
-use Rattle.netlist_laws.specs.cell_library.Gates.{flop_of}
-use Rattle.netlist_laws.specs.cell_library.declared.FlopKind.{FlopKind}
-use Rattle.netlist_laws.specs.cell_library.Flops.{flop_start}
-use Rattle.netlist_laws.specs.netlist_model.Lists.{CellView, NetlistView, cell_at}
-use Rattle.netlist_laws.specs.netlist_model.Settled.{feed_values}
-use Rattle.netlist_laws.specs.netlist_model.Formed.{IsWellFormed}
-use Rattle.netlist_laws.proofs.Flops.{clock_same, reset_same, flop_next-same}
-use Rattle.netlist_laws.proofs.Moments.{pins_after-cases}
+use Rattle.cell_library.specs.Gates.{flop_of}
+use Rattle.cell_library.specs.declared.FlopKind.{FlopKind}
+use Rattle.cell_library.specs.Flops.{flop_start}
+use Rattle.netlist_model.specs.Lists.{CellView, NetlistView, cell_at}
+use Rattle.netlist_model.specs.Settled.{feed_values}
+use Rattle.netlist_model.specs.Formed.{IsWellFormed}
+use Rattle.netlist_model.proofs.Flops.{clock_same, reset_same, flop_next-same}
+use Rattle.netlist_model.proofs.Moments.{pins_after-cases}
 use Rattle.test_logic.specs.bsdl_device.declared.values.Device.{Device}
 use Rattle.test_logic.specs.declared.Levels.{Levels}
 use Rattle.test_logic.specs.declared.TapInput.TheVariants.{Tck, Tms, Tdi, Trst}

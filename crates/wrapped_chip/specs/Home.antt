@@ -4,14 +4,14 @@
 use Rattle.std.specs.Prelude.{◌≡◌, ◌≤◌, ℕ, suc, ◌+◌, true, List, length, drop, slice_get, Some, None}
 use Rattle.signal_values.specs.declared.Sig.{Sig}
 use Rattle.signal_values.specs.declared.PinSig.TheVariants.{HighZ}
-use Rattle.netlist_laws.specs.cell_library.declared.Edge.TheVariants.{Fall}
-use Rattle.netlist_laws.specs.cell_library.declared.FlopKind.{FlopKind}
-use Rattle.netlist_laws.specs.cell_library.Gates.{flop_of}
-use Rattle.netlist_laws.specs.cell_library.Laws.{IsKnown}
-use Rattle.netlist_laws.specs.netlist_model.Lists.{CellView, NetlistView, cell_at}
-use Rattle.netlist_laws.specs.netlist_model.Cones.{IsControlPort}
-use Rattle.netlist_laws.specs.netlist_model.Formed.{IsWellFormed}
-use Rattle.netlist_laws.specs.netlist_model.Runs.{IsKnownPin, FlopsStart, Moment, PinEvent, IsRun, reading_at}
+use Rattle.cell_library.specs.declared.Edge.TheVariants.{Fall}
+use Rattle.cell_library.specs.declared.FlopKind.{FlopKind}
+use Rattle.cell_library.specs.Gates.{flop_of}
+use Rattle.cell_library.specs.Laws.{IsKnown}
+use Rattle.netlist_model.specs.Lists.{CellView, NetlistView, cell_at}
+use Rattle.netlist_model.specs.Cones.{IsControlPort}
+use Rattle.netlist_model.specs.Formed.{IsWellFormed}
+use Rattle.netlist_model.specs.Runs.{IsKnownPin, FlopsStart, Moment, PinEvent, IsRun, reading_at}
 use Rattle.test_logic.specs.declared.Levels.{Levels}
 use Rattle.test_logic.specs.declared.TapState.TheVariants.{TestLogicReset}
 use Rattle.test_logic.specs.Instructions.{is_transparent, reset_opcode}

@@ -5,15 +5,15 @@ use Rattle.std.specs.Prelude.{◌≡◌, ◌≤◌, ℕ, ◌+◌, true, List, []
 use Rattle.signal_values.specs.declared.Sig.{Sig}
 use Rattle.signal_values.specs.declared.PinSig.{PinSig}
 use Rattle.signal_values.specs.Values.{bit, pin_of}
-use Rattle.netlist_laws.specs.cell_library.declared.Kind.{Kind}
-use Rattle.netlist_laws.specs.netlist_model.declared.Name.{Name}
-use Rattle.netlist_laws.specs.netlist_model.declared.Range.{Range}
-use Rattle.netlist_laws.specs.netlist_model.declared.Dir.{Dir}
-use Rattle.netlist_laws.specs.netlist_model.declared.Dir.TheVariants.{Input, Output}
-use Rattle.netlist_laws.specs.netlist_model.Lists.{CellView, NetlistView, PortView, cell_at, bit_net, direction}
-use Rattle.netlist_laws.specs.netlist_model.Settled.{follows_pin}
-use Rattle.netlist_laws.specs.netlist_model.Runs.{Moment, PinEvent, IsRun, reading_at}
-use Rattle.netlist_laws.specs.Settle.{SameFlops}
+use Rattle.cell_library.specs.declared.Kind.{Kind}
+use Rattle.netlist_model.specs.declared.Name.{Name}
+use Rattle.netlist_model.specs.declared.Range.{Range}
+use Rattle.netlist_model.specs.declared.Dir.{Dir}
+use Rattle.netlist_model.specs.declared.Dir.TheVariants.{Input, Output}
+use Rattle.netlist_model.specs.Lists.{CellView, NetlistView, PortView, cell_at, bit_net, direction}
+use Rattle.netlist_model.specs.Settled.{follows_pin}
+use Rattle.netlist_model.specs.Runs.{Moment, PinEvent, IsRun, reading_at}
+use Rattle.netlist_model.specs.Settle.{SameFlops}
 use Rattle.test_logic.specs.declared.TapInput.{TapInput}
 use Rattle.test_logic.specs.declared.TapInput.TheVariants.{Tck, Tms, Tdi, Trst}
 use Rattle.test_logic.specs.Instructions.{is_transparent}

@@ -1,7 +1,7 @@
 use Rattle.std.proofs.Common.{ℕ, [], ◌∷◌, length, arith}
-use Rattle.register_bits.specs.netlist_model.Lists.{CellView, cell_count}
-use Rattle.register_bits.specs.gate_parts.Appended.{Appended}
-use Rattle.register_bits.proofs.gate_parts.Steps.{length-cells_from}
+use Rattle.netlist_model.specs.Lists.{CellView, cell_count}
+use Rattle.gate_parts.specs.Appended.{Appended}
+use Rattle.gate_parts.proofs.Steps.{length-cells_from}
 use Rattle.boundary_cells.specs.Cells.{choice_cell}
 use Rattle.boundary_cells.proofs.AddedTables.{joined}
 use Rattle.boundary_cells.proofs.add_cell_onto.Goals as goal

@@ -1,7 +1,7 @@
 use Rattle.std.specs.Prelude.{slice_index_or}
 use Rattle.std.proofs.lemmas.Option.{slice_get-get_or}
-use Rattle.netlist_laws.specs.netlist_model.declared.CellId.{CellId}
-use Rattle.netlist_laws.specs.netlist_model.Orders.{StandsAt}
+use Rattle.netlist_model.specs.declared.CellId.{CellId}
+use Rattle.netlist_model.specs.Orders.{StandsAt}
 use Rattle.cell_order.proofs.Carried.{carried_start, carried_more, carried_iff}
 use Rattle.cell_order.proofs.derived.mark_derived.Goals as goal
 

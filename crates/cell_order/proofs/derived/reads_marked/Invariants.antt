@@ -1,6 +1,6 @@
 use Rattle.std.proofs.Common.{◌<◌, ℕ}
 use Rattle.cell_order.specs.Marks.{IsMarked}
-use Rattle.netlist_laws.specs.netlist_model.Lists.{CellView, Reads}
+use Rattle.netlist_model.specs.Lists.{CellView, Reads}
 use Rattle.cell_order.proofs.derived.reads_marked.Given as goal
 
 abbrev pub invariant-loop-place : goal.invariant-loop-place

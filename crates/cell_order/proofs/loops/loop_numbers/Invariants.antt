@@ -1,5 +1,5 @@
 use Rattle.std.proofs.Common.{◌≡◌, ◌-◌, ◌<◌, ℕ, length, slice_index}
-use Rattle.netlist_laws.specs.netlist_model.Orders.{StandsAt}
+use Rattle.netlist_model.specs.Orders.{StandsAt}
 use Rattle.cell_order.proofs.loops.loop_numbers.Given as goal
 
 abbrev pub invariant-loop-passed : goal.invariant-loop-passed

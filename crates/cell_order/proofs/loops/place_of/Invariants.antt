@@ -1,5 +1,5 @@
 use Rattle.std.proofs.Common.{◌<◌, ℕ}
-use Rattle.netlist_laws.specs.netlist_model.Orders.{StandsAt}
+use Rattle.netlist_model.specs.Orders.{StandsAt}
 use Rattle.cell_order.proofs.loops.place_of.Given as goal
 
 abbrev pub invariant-loop-place : goal.invariant-loop-place

@@ -1,8 +1,8 @@
 use Rattle.std.proofs.Common.{◌≡◌, ◌<◌, ◌∙◌, sym, ap, length}
 use Rattle.std.proofs.lemmas.List.{length-map}
 use Rattle.std.proofs.lemmas.Option.{slice_get-get_or}
-use Rattle.netlist_laws.proofs.list_laws.Lists.{front_of}
-use Rattle.netlist_laws.specs.netlist_model.Orders.{IsCellOrder, StandsAt}
+use Rattle.list_laws.proofs.Lists.{front_of}
+use Rattle.netlist_model.specs.Orders.{IsCellOrder, StandsAt}
 use Rattle.cell_order.specs.Packed.{AreLiveCells, cell_under, packed}
 use Rattle.cell_order.specs.Walk.{IsClosed}
 use Rattle.cell_order.proofs.PackedNetlist.{order_inside, packed_closed, packed_dense, packed_order, path_inside}

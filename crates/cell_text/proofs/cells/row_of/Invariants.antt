@@ -1,5 +1,5 @@
 use Rattle.std.proofs.Common.{◌≡◌, take}
-use Rattle.first_faults.specs.Repeated.{texts}
+use Rattle.texts.specs.Repeated.{texts}
 use Rattle.cell_text.proofs.cells.row_of.Given as goal
 
 abbrev pub invariant-loop-word : goal.invariant-loop-word

@@ -1,5 +1,5 @@
 use Rattle.std.proofs.Common.{ℕ, sym, ◌∙◌}
-use Rattle.first_faults.specs.Repeated.{texts}
+use Rattle.texts.specs.Repeated.{texts}
 use Rattle.cell_text.proofs.Borrowed.{word_at}
 use Rattle.cell_text.proofs.Bodies.{no_step, step_taken}
 use Rattle.cell_text.proofs.cells.steps_of.Goals as goal

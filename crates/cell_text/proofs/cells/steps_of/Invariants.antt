@@ -1,5 +1,5 @@
 use Rattle.std.proofs.Common.{◌≡◌, drop}
-use Rattle.first_faults.specs.Repeated.{texts}
+use Rattle.texts.specs.Repeated.{texts}
 use Rattle.cell_text.specs.Cells.{steps_of}
 use Rattle.cell_text.specs.Reader.{behind_those}
 use Rattle.cell_text.proofs.cells.steps_of.Given as goal

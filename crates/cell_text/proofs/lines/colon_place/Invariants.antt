@@ -1,5 +1,5 @@
 use Rattle.std.proofs.Common.{◌≡◌, [], take, drop}
-use Rattle.first_faults.specs.Repeated.{texts}
+use Rattle.texts.specs.Repeated.{texts}
 use Rattle.cell_text.specs.Lines.{parted}
 use Rattle.cell_text.proofs.lines.colon_place.Given as goal
 

@@ -1,5 +1,5 @@
 use Rattle.std.proofs.Common.{◌≤◌, ◌<◌, ℕ, List, Bor, [], arith, sym, ◌∙◌}
-use Rattle.first_faults.specs.Repeated.{texts}
+use Rattle.texts.specs.Repeated.{texts}
 use Rattle.cell_text.specs.Reader.{fit_count}
 use Rattle.cell_text.proofs.Barred.{fit_more, fit_until, fit_all}
 use Rattle.cell_text.proofs.names.fit_count.Goals as goal

@@ -1,5 +1,5 @@
 use Rattle.std.proofs.Common.{◌≡◌, map, take}
-use Rattle.first_faults.specs.Repeated.{texts}
+use Rattle.texts.specs.Repeated.{texts}
 use Rattle.cell_text.specs.Rules.{name_in}
 use Rattle.cell_text.specs.Reader.{rows_of}
 use Rattle.cell_text.proofs.names.gather_names.Given as goal

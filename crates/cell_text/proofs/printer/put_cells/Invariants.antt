@@ -1,5 +1,5 @@
 use Rattle.std.proofs.Common.{◌≡◌, ◌++◌, map, take}
-use Rattle.line_texts.specs.Rows.{rows_text}
+use Rattle.word_cutter.specs.Rows.{rows_text}
 use Rattle.cell_text.specs.Grammar.{cell_words}
 use Rattle.cell_text.proofs.printer.put_cells.Given as goal
 

@@ -1,5 +1,5 @@
 use Rattle.std.proofs.Common.{◌≡◌, ◌++◌, map, take, flat_map}
-use Rattle.line_texts.specs.Rows.{behind_blank}
+use Rattle.word_cutter.specs.Rows.{behind_blank}
 use Rattle.cell_text.specs.Words.{step_word}
 use Rattle.cell_text.proofs.printer.put_steps.Given as goal
 

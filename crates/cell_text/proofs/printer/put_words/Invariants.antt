@@ -1,5 +1,5 @@
 use Rattle.std.proofs.Common.{◌≡◌, ◌++◌, take, flat_map}
-use Rattle.line_texts.specs.Rows.{behind_blank}
+use Rattle.word_cutter.specs.Rows.{behind_blank}
 use Rattle.cell_text.proofs.printer.put_words.Given as goal
 
 abbrev pub invariant-loop-word : goal.invariant-loop-word

@@ -1,5 +1,5 @@
 use Rattle.std.proofs.Common.{ℕ, List, Bor, sym, ap, ◌∙◌}
-use Rattle.first_faults.specs.Repeated.{texts}
+use Rattle.texts.specs.Repeated.{texts}
 use Rattle.cell_text.specs.Cells.{cell_in}
 use Rattle.cell_text.proofs.Borrowed.{item_at}
 use Rattle.cell_text.proofs.Loop.{next_can, next_is, body_is}

@@ -1,6 +1,6 @@
 use Rattle.std.proofs.Common.{ℕ, List, Some, sym, ap, subst, ◌∙◌}
-use Rattle.line_texts.specs.Words.{words_of}
-use Rattle.line_texts.specs.Ahead.{first_number, rest_of}
+use Rattle.word_cutter.specs.LinesWords.{words_of}
+use Rattle.word_cutter.specs.Ahead.{first_number, rest_of}
 use Rattle.cell_text.specs.Words.{Words}
 use Rattle.cell_text.specs.Reader.{Going}
 use Rattle.cell_text.proofs.Gathered.{goes_on, bad_line}

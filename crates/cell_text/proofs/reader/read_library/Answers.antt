@@ -1,5 +1,5 @@
 use Rattle.std.proofs.Common.{ℕ, List, [], map, Some, Bor, sym, ap, ◌∙◌, arith}
-use Rattle.first_faults.specs.Repeated.{bytes_of}
+use Rattle.texts.specs.Repeated.{bytes_of}
 use Rattle.cell_text.specs.Rules.{barred_after, name_in}
 use Rattle.cell_text.specs.Reader.{rows_of}
 use Rattle.cell_text.proofs.ReadBack.{name_told}

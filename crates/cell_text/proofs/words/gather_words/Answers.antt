@@ -1,6 +1,6 @@
 use Rattle.std.proofs.Common.{ℕ, List, [], ◌∷◌, ◌++◌, ◌≡◌, ◌≤◌, length, arith, ap, Bor, length-append}
-use Rattle.line_texts.specs.Words.{words_of}
-use Rattle.first_faults.specs.Repeated.{texts}
+use Rattle.word_cutter.specs.LinesWords.{words_of}
+use Rattle.texts.specs.Repeated.{texts}
 use Rattle.cell_text.proofs.Gathered.{is_word, is_none, gathered, gathered_all, gathered_most}
 use Rattle.cell_text.proofs.words.gather_words.Goals as goal
 

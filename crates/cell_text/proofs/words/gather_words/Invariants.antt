@@ -1,6 +1,6 @@
 use Rattle.std.proofs.Common.{◌≡◌, ◌≤◌, ◌++◌, ◌-◌, length}
-use Rattle.line_texts.specs.Words.{words_of}
-use Rattle.first_faults.specs.Repeated.{texts}
+use Rattle.word_cutter.specs.LinesWords.{words_of}
+use Rattle.texts.specs.Repeated.{texts}
 use Rattle.cell_text.proofs.words.gather_words.Given as goal
 
 abbrev pub invariant-loop-line : goal.invariant-loop-line

@@ -4,7 +4,7 @@ use Rattle.std.proofs.lemmas.Option.{slice_get-get_or}
 use Rattle.signal_values.specs.declared.PinSig.TheVariants.{Zero}
 use Rattle.netlist_model.specs.Runs.{Moment}
 use Rattle.scan_vectors.specs.declared.lines.Act.TheVariants.{Start}
-use Rattle.event_scripts.specs.declared.script.ScriptLine.{ScriptLine}
+use Rattle.scan_vectors.specs.declared.scripts.script.ScriptLine.{ScriptLine}
 use Rattle.netlist_meaning.specs.Sims.{moment_of}
 use Rattle.sim_runs.proofs.Starts.{can_play}
 use Rattle.sim_runs.proofs.Texts.{sets_more}

@@ -1,5 +1,5 @@
 use Rattle.std.proofs.Common.{◌≡◌, take}
-use Rattle.hier_walk.specs.Names.{texts}
+use Rattle.hier_model.specs.WalkNames.{texts}
 use Rattle.hier_counts.specs.Cells.{cell_names}
 use Rattle.hier_counts.proofs.cell_names.names_of.Given as goal
 

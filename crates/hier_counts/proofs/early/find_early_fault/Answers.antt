@@ -1,7 +1,7 @@
 use Rattle.std.proofs.Common.{◌≡◌, ◌∙◌, [], Some, None, ap, sym}
 use Rattle.std.specs.Prelude.{slice_get}
 use Rattle.std.specs.Option.{option_map}
-use Rattle.first_faults.specs.Repeated.{bytes_of}
+use Rattle.texts.specs.Repeated.{bytes_of}
 use Rattle.hier_model.specs.declared.fault.HierFault.{HierFault}
 use Rattle.hier_model.specs.Faults.{twice_name}
 use Rattle.hier_counts.specs.Early.{reached_fault, early_fault}

@@ -1,5 +1,5 @@
 use Rattle.std.proofs.Common.{◌∙◌, ℕ, Bool, List, Some, ap, sym}
-use Rattle.first_faults.specs.Repeated.{bytes_of}
+use Rattle.texts.specs.Repeated.{bytes_of}
 use Rattle.hier_model.specs.declared.fault.HierFault.{HierFault}
 use Rattle.hier_model.specs.declared.fault.HierFault.TheVariants as fault
 use Rattle.hier_counts.specs.Marked.{first_marked}

@@ -1,7 +1,7 @@
 use Rattle.std.proofs.Common.{◌≡◌, ◌∙◌, ℕ, ◌<◌, true, false, List, length, Option, Some, None, refl, ap, sym, subst, arith}
 use Rattle.std.specs.Prelude.{slice_get}
 use Rattle.std.proofs.lemmas.Option.{slice_get_read}
-use Rattle.first_faults.specs.First.{first_in}
+use Rattle.texts.specs.First.{first_in}
 use Rattle.list_laws.proofs.Lists.{slice_get_there}
 use Rattle.verilog_tree.specs.declared.tree.Module.{Module}
 use Rattle.hier_model.specs.Faults.{missing_cell}

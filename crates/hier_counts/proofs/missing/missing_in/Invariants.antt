@@ -1,5 +1,5 @@
 use Rattle.std.proofs.Common.{◌≡◌, drop}
-use Rattle.first_faults.specs.First.{first_in}
+use Rattle.texts.specs.First.{first_in}
 use Rattle.hier_model.specs.Faults.{missing_cell}
 use Rattle.hier_counts.proofs.missing.missing_in.Given as goal
 

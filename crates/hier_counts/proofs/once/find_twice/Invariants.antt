@@ -1,5 +1,5 @@
 use Rattle.std.proofs.Common.{◌≡◌, [], drop}
-use Rattle.first_faults.specs.Repeated.{seen}
+use Rattle.texts.specs.Repeated.{seen}
 use Rattle.hier_model.specs.Faults.{twice_name}
 use Rattle.hier_counts.proofs.once.find_twice.Given as goal
 

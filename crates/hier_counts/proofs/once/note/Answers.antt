@@ -1,7 +1,6 @@
 use Rattle.std.proofs.Common.{◌≡◌, ℕ, [], ◌∷◌, ◌++◌, not, if◌then◌else◌, Bool, true, false, List, refl, sym, ap, ◌∙◌}
-use Rattle.first_faults.specs.Repeated.{has_name}
-use Rattle.first_faults.specs.Repeated.{seen, texts}
-use Rattle.first_faults.proofs.Tables.{list_any-texts, texts-insert_key}
+use Rattle.texts.specs.Repeated.{has_name, seen, texts}
+use Rattle.texts.proofs.Tables.{list_any-texts, texts-insert_key}
 use Rattle.hier_counts.proofs.once.note.Goals as goal
 
 flipped : (b : Bool) (xs ys : List (List ℕ)) → (if b then xs else ys) ≡ (if not b then ys else xs)

@@ -1,6 +1,6 @@
 use Rattle.std.proofs.Common.{◌∙◌, [], List, ap, sym}
 use Rattle.verilog_tree.specs.declared.tree.Link.{Link}
-use Rattle.hier_walk.specs.Names.{module_place}
+use Rattle.hier_model.specs.WalkNames.{module_place}
 use Rattle.hier_model.specs.Faults.{cell_limit}
 use Rattle.hier_counts.specs.Widths.{capped, joined_bits}
 use Rattle.hier_counts.specs.Levels.{held_by}

@@ -1,8 +1,8 @@
 use Rattle.std.proofs.Common.{◌++◌, List, [], ap, ◌∙◌, subst}
 use Rattle.std.specs.List.{flat_map}
 use Rattle.verilog_tree.specs.declared.tree.Item.{Item}
-use Rattle.hier_walk.specs.Visits.{visits}
-use Rattle.hier_walk.specs.Walks.{Goes}
+use Rattle.hier_model.specs.Visits.{visits}
+use Rattle.hier_model.specs.Walks.{Goes}
 use Rattle.hier_model.specs.Entries.{level_limit, visit_entries, entry_item}
 use Rattle.hier_flatten.proofs.Walks.{makes_more, makes_all, step_listed, walk_falls}
 use Rattle.hier_flatten.proofs.FlatLaws.{visit_items, makes_first, path_in_slice, mapped_flat, items_step}

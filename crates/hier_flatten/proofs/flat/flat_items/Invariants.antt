@@ -1,6 +1,6 @@
 use Rattle.std.proofs.Common.{length, map}
-use Rattle.hier_walk.specs.Visits.{Visit}
-use Rattle.hier_walk.specs.Walks.{left_in}
+use Rattle.hier_model.specs.Visits.{Visit}
+use Rattle.hier_model.specs.Walks.{left_in}
 use Rattle.hier_model.specs.Entries.{level_limit, visit_entries, entry_item, entries}
 use Rattle.hier_flatten.proofs.Walks.{Makes}
 use Rattle.hier_flatten.proofs.flat.flat_items.Given as goal

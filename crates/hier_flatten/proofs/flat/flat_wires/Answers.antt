@@ -1,8 +1,8 @@
 use Rattle.std.proofs.Common.{◌++◌, List, [], ap, ◌∙◌, subst}
 use Rattle.std.specs.List.{flat_map}
 use Rattle.verilog_tree.specs.declared.tree.Wire.{Wire}
-use Rattle.hier_walk.specs.Visits.{Visit, visits}
-use Rattle.hier_walk.specs.Walks.{Goes}
+use Rattle.hier_model.specs.Visits.{Visit, visits}
+use Rattle.hier_model.specs.Walks.{Goes}
 use Rattle.hier_model.specs.Entries.{level_limit, turn_places}
 use Rattle.hier_model.specs.Flat.{place_wires}
 use Rattle.hier_flatten.proofs.Walks.{makes_more, makes_all, walk_falls}

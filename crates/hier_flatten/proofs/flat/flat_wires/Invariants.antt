@@ -1,6 +1,6 @@
 use Rattle.std.proofs.Common.{◌++◌, length}
 use Rattle.std.specs.List.{flat_map}
-use Rattle.hier_walk.specs.Walks.{left_in}
+use Rattle.hier_model.specs.Walks.{left_in}
 use Rattle.hier_model.specs.Entries.{level_limit, opened_places}
 use Rattle.hier_model.specs.Flat.{place_wires}
 use Rattle.hier_flatten.proofs.Walks.{Makes}

@@ -1,6 +1,6 @@
 use Rattle.std.proofs.Common.{◌≡◌, ◌++◌, map, take}
 use Rattle.verilog_tree.specs.declared.tree.Port.{Port}
-use Rattle.hier_walk.specs.Walks.{texts}
+use Rattle.hier_model.specs.Walks.{texts}
 use Rattle.hier_model.specs.Names.{flat_name}
 use Rattle.hier_flatten.proofs.flat.push_ports.Given as goal
 

@@ -1,7 +1,7 @@
 use Rattle.std.proofs.Common.{◌≡◌, ℕ, List, Bor, sym, ap, ◌∙◌}
 use Rattle.std.proofs.lemmas.List.{take-map}
 use Rattle.std.proofs.lemmas.Result.{IfOk-weaker}
-use Rattle.hier_walk.specs.Walks.{texts, turn_of}
+use Rattle.hier_model.specs.Walks.{texts, turn_of}
 use Rattle.hier_flatten.proofs.FlatLaws.{opens_added}
 use Rattle.hier_flatten.proofs.flat.push_step.Goals as goal
 

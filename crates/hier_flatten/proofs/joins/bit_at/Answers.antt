@@ -1,4 +1,4 @@
-use Rattle.hier_walk.specs.Walks.{texts}
+use Rattle.hier_model.specs.Walks.{texts}
 use Rattle.hier_flatten.proofs.Joined.{bit_made}
 use Rattle.hier_flatten.proofs.joins.bit_at.Goals as goal
 

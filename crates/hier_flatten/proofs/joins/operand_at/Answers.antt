@@ -2,7 +2,7 @@ use Rattle.std.proofs.Common.{◌≡◌, ◌∙◌, ℕ, List, Some, map, ap, sy
 use Rattle.std.specs.Prelude.{slice_get}
 use Rattle.std.proofs.lemmas.Result.{IfOk-weaker}
 use Rattle.verilog_tree.specs.declared.tree.Operand.{Operand}
-use Rattle.hier_walk.specs.Walks.{texts}
+use Rattle.hier_model.specs.Walks.{texts}
 use Rattle.hier_model.specs.Names.{flat_bit, flat_operand}
 use Rattle.hier_model.specs.Entries.{bits_of, spread}
 use Rattle.hier_flatten.specs.Joins.{whole_range}

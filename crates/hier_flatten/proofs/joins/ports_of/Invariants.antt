@@ -1,6 +1,6 @@
 use Rattle.std.proofs.Common.{◌≡◌, map, take}
 use Rattle.verilog_tree.specs.declared.tree.Link.{Link}
-use Rattle.hier_walk.specs.Names.{texts}
+use Rattle.hier_model.specs.WalkNames.{texts}
 use Rattle.hier_flatten.proofs.joins.ports_of.Given as goal
 
 abbrev pub invariant-loop-link : goal.invariant-loop-link

@@ -1,5 +1,5 @@
 use Rattle.std.proofs.Common.{◌≡◌, ◌++◌, drop, map}
-use Rattle.hier_walk.specs.Names.{texts}
+use Rattle.hier_model.specs.WalkNames.{texts}
 use Rattle.hier_model.specs.Entries.{place, inwards, links_in, is_in, entry_item}
 use Rattle.hier_flatten.specs.Joins.{input_items}
 use Rattle.hier_flatten.proofs.joins.push_inputs.Given as goal

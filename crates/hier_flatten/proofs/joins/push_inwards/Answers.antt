@@ -1,6 +1,6 @@
 use Rattle.std.proofs.Common.{◌∙◌, ◌++◌, ℕ, List, map, ap, sym, arith}
 use Rattle.std.specs.Prelude.{slice_get}
-use Rattle.hier_walk.specs.Walks.{texts}
+use Rattle.hier_model.specs.Walks.{texts}
 use Rattle.hier_model.specs.Names.{flat_bit}
 use Rattle.hier_model.specs.Entries.{Place, place, bits_of, spread}
 use Rattle.hier_flatten.specs.Joins.{inward_items}

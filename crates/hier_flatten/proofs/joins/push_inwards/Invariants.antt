@@ -1,5 +1,5 @@
 use Rattle.std.proofs.Common.{◌≡◌, ◌++◌, drop, map}
-use Rattle.hier_walk.specs.Names.{texts}
+use Rattle.hier_model.specs.WalkNames.{texts}
 use Rattle.hier_model.specs.Entries.{place, bits_of, spread, inwards, entry_item}
 use Rattle.hier_flatten.specs.Joins.{inward_items}
 use Rattle.hier_flatten.proofs.joins.push_inwards.Given as goal

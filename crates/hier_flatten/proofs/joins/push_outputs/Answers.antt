@@ -5,7 +5,7 @@ use Rattle.verilog_tree.specs.declared.tree.Link.{Link}
 use Rattle.verilog_tree.specs.declared.tree.Port.{Port}
 use Rattle.verilog_tree.specs.declared.tree.Item.{Item}
 use Rattle.link_model.specs.Cells.{linked_operand}
-use Rattle.hier_walk.specs.Walks.{texts}
+use Rattle.hier_model.specs.Walks.{texts}
 use Rattle.hier_model.specs.Entries.{Place, place, outwards, is_out}
 use Rattle.hier_flatten.specs.Joins.{output_items}
 use Rattle.hier_flatten.proofs.Joined.{links_next, port_skipped, port_empty, port_linked}

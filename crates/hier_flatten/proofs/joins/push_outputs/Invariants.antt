@@ -1,5 +1,5 @@
 use Rattle.std.proofs.Common.{◌≡◌, ◌++◌, drop, map}
-use Rattle.hier_walk.specs.Names.{texts}
+use Rattle.hier_model.specs.WalkNames.{texts}
 use Rattle.hier_model.specs.Entries.{place, outwards, links_in, is_out, entry_item}
 use Rattle.hier_flatten.specs.Joins.{output_items}
 use Rattle.hier_flatten.proofs.joins.push_outputs.Given as goal

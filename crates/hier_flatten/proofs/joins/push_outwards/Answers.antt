@@ -1,7 +1,7 @@
 use Rattle.std.proofs.Common.{◌∙◌, ◌++◌, ℕ, List, map, ap, sym, arith, append-nil}
 use Rattle.std.specs.Prelude.{slice_get}
 use Rattle.verilog_tree.specs.declared.tree.Operand.{Operand}
-use Rattle.hier_walk.specs.Walks.{texts}
+use Rattle.hier_model.specs.Walks.{texts}
 use Rattle.hier_model.specs.Names.{flat_bit}
 use Rattle.hier_model.specs.Entries.{Place, place, bits_of, spread}
 use Rattle.hier_flatten.specs.Joins.{outward_items}

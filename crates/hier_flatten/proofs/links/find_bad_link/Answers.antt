@@ -1,7 +1,7 @@
 use Rattle.std.proofs.Common.{◌≤◌, ℕ, List, Option, Some, length, take, Bor, length-take-le, ap, sym, subst, ◌∙◌}
-use Rattle.hier_walk.specs.declared.walk.Step.{Step}
-use Rattle.hier_walk.specs.Visits.{Visit}
-use Rattle.hier_walk.specs.Walks.{turn_of, Goes}
+use Rattle.hier_model.specs.declared.walk.walk.Step.{Step}
+use Rattle.hier_model.specs.Visits.{Visit}
+use Rattle.hier_model.specs.Walks.{turn_of, Goes}
 use Rattle.hier_model.specs.Entries.{level_limit}
 use Rattle.hier_model.specs.Faults.{turn_link, bad_link_in}
 use Rattle.hier_flatten.proofs.Walks.{look_found, looks_on}

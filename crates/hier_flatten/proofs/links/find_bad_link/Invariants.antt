@@ -1,6 +1,6 @@
 use Rattle.std.proofs.Common.{length}
-use Rattle.hier_walk.specs.Visits.{Visit}
-use Rattle.hier_walk.specs.Walks.{left_in}
+use Rattle.hier_model.specs.Visits.{Visit}
+use Rattle.hier_model.specs.Walks.{left_in}
 use Rattle.hier_model.specs.Entries.{level_limit}
 use Rattle.hier_model.specs.Faults.{turn_link, bad_link_in}
 use Rattle.hier_flatten.proofs.Walks.{Looks}

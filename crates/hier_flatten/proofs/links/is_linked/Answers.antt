@@ -1,5 +1,5 @@
 use Rattle.std.proofs.Common.{◌∙◌}
-use Rattle.first_faults.proofs.Tables.{list_any-texts}
+use Rattle.texts.proofs.Tables.{list_any-texts}
 use Rattle.hier_flatten.proofs.links.is_linked.Goals as goal
 
 pub returns : goal.returns

@@ -1,6 +1,6 @@
 use Rattle.std.proofs.Common.{◌≡◌, ◌+◌, ◌||◌, ℕ, List, true, false, drop, is_some, ◌∙◌, ap, sym}
 use Rattle.std.specs.Str.{bytes_eq}
-use Rattle.first_faults.specs.Repeated.{has_name, seen}
+use Rattle.texts.specs.Repeated.{has_name, seen}
 use Rattle.hier_flatten.proofs.LinkChecks.{left_next, noted, linked_more, linked_same}
 use Rattle.hier_flatten.proofs.links.linked_names.Goals as goal
 use Rattle.hier_flatten.proofs.links.linked_names.Goals.{then-is_some+in_ok-note, else-is_some}

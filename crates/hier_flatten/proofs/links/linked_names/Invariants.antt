@@ -1,5 +1,5 @@
 use Rattle.std.proofs.Common.{◌≡◌, ◌||◌, ℕ, List, drop}
-use Rattle.first_faults.specs.Repeated.{has_name, seen}
+use Rattle.texts.specs.Repeated.{has_name, seen}
 use Rattle.hier_model.specs.Faults.{is_linked}
 use Rattle.hier_flatten.proofs.links.linked_names.Given as goal
 

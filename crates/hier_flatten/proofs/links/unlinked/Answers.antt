@@ -1,5 +1,5 @@
 use Rattle.std.proofs.Common.{◌+◌, drop, ◌∙◌, sym}
-use Rattle.first_faults.specs.Repeated.{seen}
+use Rattle.texts.specs.Repeated.{seen}
 use Rattle.hier_flatten.proofs.LinkChecks.{left_next, open_found, open_next}
 use Rattle.hier_flatten.proofs.links.unlinked.Goals as goal
 

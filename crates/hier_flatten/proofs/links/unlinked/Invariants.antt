@@ -1,5 +1,5 @@
 use Rattle.std.proofs.Common.{◌≡◌, drop}
-use Rattle.first_faults.specs.Repeated.{seen}
+use Rattle.texts.specs.Repeated.{seen}
 use Rattle.hier_flatten.specs.Nets.{first_open}
 use Rattle.hier_flatten.proofs.links.unlinked.Given as goal
 

@@ -2,7 +2,7 @@ use Rattle.std.proofs.Common.{ℕ, List, [], ◌∷◌, Some, None, take, sym, a
 use Rattle.std.specs.List.{flat_map}
 use Rattle.std.specs.Option.{option_map_or}
 use Rattle.link_model.specs.Faults.{operand_bits}
-use Rattle.hier_walk.specs.Walks.{texts}
+use Rattle.hier_model.specs.Walks.{texts}
 use Rattle.hier_model.specs.Names.{flat_name}
 use Rattle.hier_model.specs.Faults.{enters}
 use Rattle.hier_flatten.specs.NameChecks.{net_checks}

@@ -1,7 +1,7 @@
 use Rattle.std.proofs.Common.{[], ◌∷◌, Some, None, take, ap}
 use Rattle.std.specs.List.{flat_map}
 use Rattle.link_model.specs.Faults.{link_bits}
-use Rattle.hier_walk.specs.Walks.{texts}
+use Rattle.hier_model.specs.Walks.{texts}
 use Rattle.hier_model.specs.Names.{flat_name}
 use Rattle.hier_model.specs.Faults.{enters}
 use Rattle.hier_flatten.specs.NameChecks.{net_checks}

@@ -1,5 +1,5 @@
 use Rattle.std.proofs.Common.{ℕ, List, length}
-use Rattle.hier_walk.specs.Walks.{left_in}
+use Rattle.hier_model.specs.Walks.{left_in}
 use Rattle.hier_model.specs.Entries.{level_limit}
 use Rattle.hier_flatten.proofs.EnterLaws.{Checking, visit_nets, all_nets}
 use Rattle.hier_flatten.proofs.name_checks.check_nets.Given as goal

@@ -1,5 +1,5 @@
 use Rattle.std.proofs.Common.{take, refl, ap}
-use Rattle.hier_walk.specs.Walks.{texts, turn_of}
+use Rattle.hier_model.specs.Walks.{texts, turn_of}
 use Rattle.hier_model.specs.Faults.{turn_checks}
 use Rattle.hier_flatten.proofs.EnterLaws.{of_declared}
 use Rattle.hier_flatten.proofs.StepChecks.{opens_checks}

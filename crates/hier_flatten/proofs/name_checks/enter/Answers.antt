@@ -1,4 +1,4 @@
-use Rattle.hier_walk.specs.Walks.{texts}
+use Rattle.hier_model.specs.Walks.{texts}
 use Rattle.hier_model.specs.Names.{flat_name}
 use Rattle.hier_flatten.proofs.EnterLaws.{enter_bad, enter_good}
 use Rattle.hier_flatten.proofs.name_checks.enter.Goals as goal

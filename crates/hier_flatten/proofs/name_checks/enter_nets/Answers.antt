@@ -1,5 +1,5 @@
 use Rattle.std.proofs.Common.{Some, None, ap}
-use Rattle.hier_walk.specs.Walks.{texts}
+use Rattle.hier_model.specs.Walks.{texts}
 use Rattle.hier_flatten.specs.NameChecks.{port_checks, wire_checks}
 use Rattle.hier_flatten.proofs.NameLaws.{stops}
 use Rattle.hier_flatten.proofs.EnterLaws.{ports_as, then_rest, of_equal}

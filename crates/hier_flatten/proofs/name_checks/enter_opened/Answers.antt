@@ -1,6 +1,6 @@
 use Rattle.std.proofs.Common.{take, ap}
 use Rattle.std.specs.List.{flat_map}
-use Rattle.hier_walk.specs.Walks.{texts, turn_of}
+use Rattle.hier_model.specs.Walks.{texts, turn_of}
 use Rattle.hier_model.specs.Entries.{turn_places}
 use Rattle.hier_flatten.specs.NameChecks.{place_checks, checks_at}
 use Rattle.hier_flatten.proofs.EnterLaws.{of_equal}

@@ -1,6 +1,6 @@
 use Rattle.std.proofs.Common.{ℕ, List, [], ◌∷◌}
 use Rattle.std.specs.Option.{option_map_or}
-use Rattle.hier_walk.specs.Walks.{texts}
+use Rattle.hier_model.specs.Walks.{texts}
 use Rattle.hier_model.specs.Names.{flat_name}
 use Rattle.hier_model.specs.Faults.{enters}
 use Rattle.hier_flatten.proofs.EnterLaws.{of_equal, own_name}

@@ -1,5 +1,5 @@
 use Rattle.std.proofs.Common.{ℕ, List, None, take}
-use Rattle.hier_walk.specs.Walks.{texts}
+use Rattle.hier_model.specs.Walks.{texts}
 use Rattle.hier_flatten.specs.NameChecks.{Checks, port_checks}
 use Rattle.hier_flatten.proofs.name_checks.enter_ports.Given as goal
 

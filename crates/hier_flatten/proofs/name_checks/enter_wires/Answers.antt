@@ -1,6 +1,6 @@
 use Rattle.std.proofs.Common.{List, Some, None, subst, arith}
 use Rattle.verilog_tree.specs.declared.tree.Wire.{Wire}
-use Rattle.hier_walk.specs.Walks.{texts}
+use Rattle.hier_model.specs.Walks.{texts}
 use Rattle.hier_model.specs.Names.{flat_name}
 use Rattle.hier_model.specs.Faults.{enters}
 use Rattle.std.proofs.lemmas.List.{take_all}

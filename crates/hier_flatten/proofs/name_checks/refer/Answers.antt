@@ -1,5 +1,5 @@
 use Rattle.std.proofs.Common.{take, sym, ◌∙◌}
-use Rattle.hier_walk.specs.Walks.{texts}
+use Rattle.hier_model.specs.Walks.{texts}
 use Rattle.hier_flatten.proofs.ReferLaws.{refer_known, refer_bad, refer_good}
 use Rattle.hier_flatten.proofs.name_checks.refer.Goals as goal
 

@@ -3,7 +3,7 @@ use Rattle.std.specs.List.{flat_map}
 use Rattle.std.proofs.lemmas.List.{take_all}
 use Rattle.verilog_tree.specs.declared.tree.Operand.{Operand}
 use Rattle.link_model.specs.Faults.{operand_bits}
-use Rattle.hier_walk.specs.Walks.{texts}
+use Rattle.hier_model.specs.Walks.{texts}
 use Rattle.hier_model.specs.Faults.{bad_name_after}
 use Rattle.hier_flatten.specs.NameChecks.{net_checks}
 use Rattle.hier_flatten.proofs.EnterLaws.{nets_more, nets_stop}

@@ -1,7 +1,7 @@
 use Rattle.std.proofs.Common.{◌≡◌, None, take}
 use Rattle.std.specs.List.{flat_map}
 use Rattle.link_model.specs.Faults.{operand_bits}
-use Rattle.hier_walk.specs.Walks.{texts}
+use Rattle.hier_model.specs.Walks.{texts}
 use Rattle.hier_model.specs.Faults.{bad_name_after}
 use Rattle.hier_flatten.specs.NameChecks.{net_checks}
 use Rattle.hier_flatten.proofs.name_checks.refer_operands.Given as goal

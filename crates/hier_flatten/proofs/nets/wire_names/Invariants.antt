@@ -1,6 +1,6 @@
 use Rattle.std.proofs.Common.{◌≡◌, map, take}
 use Rattle.verilog_tree.specs.declared.tree.Wire.{Wire}
-use Rattle.hier_walk.specs.Names.{texts}
+use Rattle.hier_model.specs.WalkNames.{texts}
 use Rattle.hier_flatten.proofs.nets.wire_names.Given as goal
 
 abbrev pub invariant-loop-wire : goal.invariant-loop-wire

@@ -1,6 +1,6 @@
 use Rattle.std.proofs.Common.{◌-◌, ◌<◌, ◌≤◌, Some, None, refl, subst, arith}
 use Rattle.std.proofs.lemmas.Bool.{false≢true}
-use Rattle.hier_walk.specs.Walks.{turn_of, Goes}
+use Rattle.hier_model.specs.Walks.{turn_of, Goes}
 use Rattle.hier_model.specs.Entries.{level_limit}
 use Rattle.hier_flatten.specs.Operands.{turn_operands, operand_count, operand_limit}
 use Rattle.hier_flatten.proofs.Walks.{walk_falls}

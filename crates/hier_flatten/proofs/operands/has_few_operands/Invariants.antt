@@ -1,5 +1,5 @@
 use Rattle.std.proofs.Common.{length}
-use Rattle.hier_walk.specs.Walks.{left_in}
+use Rattle.hier_model.specs.Walks.{left_in}
 use Rattle.hier_model.specs.Entries.{level_limit}
 use Rattle.hier_flatten.specs.Operands.{operand_count}
 use Rattle.hier_flatten.proofs.OperandWalks.{Counts}

@@ -1,7 +1,7 @@
 use Rattle.std.proofs.Common.{◌∙◌, ap, ℕ, length, arith}
 use Rattle.instruction_gates.proofs.StagesAdded.{one_left, rest_left, stages_added}
 use Rattle.instruction_gates.specs.Stages.{ir_steering}
-use Rattle.register_gates.specs.register_bits.Chains.{chain_last}
+use Rattle.register_gates.specs.Chains.{chain_last}
 use Rattle.instruction_gates.proofs.stages.add_stages.Goals as goal
 
 pub add_shift_chain-last-requires-clause-nets : goal.add_shift_chain-last-requires-clause-nets

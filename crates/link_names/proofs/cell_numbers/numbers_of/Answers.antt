@@ -1,5 +1,5 @@
 use Rattle.std.proofs.Common.{◌∙◌, ap, arith}
-use Rattle.first_faults.proofs.list_laws.Lists.{front_all}
+use Rattle.list_laws.proofs.Lists.{front_all}
 use Rattle.link_names.specs.CellNumbers.{numbers_in, numbered_from}
 use Rattle.link_names.proofs.CellNumbers.{next_is_new, numbered_more}
 use Rattle.link_names.proofs.cell_numbers.numbers_of.Goals as goal

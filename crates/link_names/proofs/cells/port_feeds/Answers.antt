@@ -1,6 +1,6 @@
 use Rattle.std.proofs.Common.{◌++◌, ◌∷◌, [], ap, ◌∙◌}
-use Rattle.link_model.specs.cell_library.Library.{operand_ports}
-use Rattle.link_model.specs.netlist_model.declared.Feed.{Feed}
+use Rattle.cell_library.specs.Library.{operand_ports}
+use Rattle.netlist_model.specs.declared.Feed.{Feed}
 use Rattle.link_model.specs.Cells.{port_feed}
 use Rattle.link_names.specs.Views.{entries_of}
 use Rattle.link_names.proofs.PortPlaces.{fed_more}

@@ -1,5 +1,5 @@
 use Rattle.std.proofs.Common.{ℕ, List, Some, sym, ap, ◌∙◌}
-use Rattle.link_model.specs.cell_library.Library.{operand_ports}
+use Rattle.cell_library.specs.Library.{operand_ports}
 use Rattle.link_model.specs.declared.fault.LinkFault.TheVariants.{PortMissing}
 use Rattle.link_names.proofs.PortPlaces.{missing_next, missing_here}
 use Rattle.link_names.proofs.instances.find_port_missing.Goals as goal

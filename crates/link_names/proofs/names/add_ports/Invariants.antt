@@ -1,6 +1,6 @@
 use Rattle.std.proofs.Common.{◌≡◌, ◌++◌, map, take}
-use Rattle.first_faults.specs.Repeated.{texts}
-use Rattle.link_model.specs.verilog_tree.declared.tree.Port.{Port}
+use Rattle.texts.specs.Repeated.{texts}
+use Rattle.verilog_tree.specs.declared.tree.Port.{Port}
 use Rattle.link_names.proofs.names.add_ports.Given as goal
 
 abbrev pub invariant-loop-port : goal.invariant-loop-port

@@ -1,6 +1,6 @@
 use Rattle.std.proofs.Common.{◌≡◌, ◌++◌, map, take}
-use Rattle.first_faults.specs.Repeated.{texts}
-use Rattle.link_model.specs.verilog_tree.declared.tree.Wire.{Wire}
+use Rattle.texts.specs.Repeated.{texts}
+use Rattle.verilog_tree.specs.declared.tree.Wire.{Wire}
 use Rattle.link_names.proofs.names.add_wires.Given as goal
 
 abbrev pub invariant-loop-wire : goal.invariant-loop-wire

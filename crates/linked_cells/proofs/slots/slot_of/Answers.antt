@@ -1,5 +1,5 @@
 use Rattle.std.proofs.Common.{◌≡◌, sym, ◌∙◌, Some}
-use Rattle.numbered_places.specs.Places.{place_at}
+use Rattle.linked_cells.specs.PlacesLaws.{place_at}
 use Rattle.linked_cells.proofs.Writes.{slot_in, place_within, none_there}
 use Rattle.linked_cells.proofs.slots.slot_of.Goals as goal
 

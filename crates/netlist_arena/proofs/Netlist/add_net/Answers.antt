@@ -1,6 +1,6 @@
 use Rattle.std.proofs.Common.{◌∙◌, sym, ap, ℕ, length, refl, arith, length-append, ◌∷◌, ◌++◌, [], Some, None, subst, count_by}
 use Rattle.std.specs.Option.{is_some}
-use Rattle.linked_cells.specs.numbered_places.Places.{Puts}
+use Rattle.linked_cells.specs.PlacesLaws.{Puts}
 use Rattle.linked_cells.specs.declared.Net.{Net}
 use Rattle.linked_cells.specs.netlist_model.declared.NetId.{NetId}
 use Rattle.linked_cells.specs.netlist_model.Lists.{NetlistView}

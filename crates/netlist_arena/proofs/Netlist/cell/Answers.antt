@@ -1,5 +1,5 @@
 use Rattle.std.proofs.Common.{◌≡◌, sym, Some}
-use Rattle.linked_cells.specs.numbered_places.Places.{place_at}
+use Rattle.linked_cells.specs.PlacesLaws.{place_at}
 use Rattle.linked_cells.specs.Cells.{cell_view, cells_of}
 use Rattle.netlist_arena.proofs.Growth.{place_at as found_below, count_at}
 use Rattle.netlist_arena.proofs.CellPlaces.{place_view}

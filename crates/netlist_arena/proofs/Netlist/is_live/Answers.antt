@@ -1,5 +1,5 @@
 use Rattle.std.proofs.Common.{◌≡◌, sym, Some, refl}
-use Rattle.linked_cells.specs.numbered_places.Places.{place_at}
+use Rattle.linked_cells.specs.PlacesLaws.{place_at}
 use Rattle.netlist_arena.proofs.CellPlaces.{place_view}
 use Rattle.netlist_arena.proofs.Looks.{no_cell}
 use Rattle.netlist_arena.proofs.Netlist.is_live.Goals as goal

@@ -1,5 +1,5 @@
 use Rattle.std.proofs.Common.{◌≡◌, sym, refl, Some}
-use Rattle.linked_cells.specs.numbered_places.Places.{place_at}
+use Rattle.linked_cells.specs.PlacesLaws.{place_at}
 use Rattle.netlist_arena.proofs.Lists.{net_there}
 use Rattle.netlist_arena.proofs.Looks.{no_net, net_found}
 use Rattle.netlist_arena.proofs.Netlist.net_name.Goals as goal

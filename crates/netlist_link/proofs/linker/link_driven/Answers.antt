@@ -1,6 +1,6 @@
 use Rattle.std.proofs.Common.{List, subst, sym}
 use Rattle.std.specs.Prelude.{IfErr}
-use Rattle.link_names.specs.cell_library.declared.listed.ListedCell.{ListedCell}
+use Rattle.cell_library.specs.declared.listed.ListedCell.{ListedCell}
 use Rattle.netlist_link.specs.Links.{IsLinkFault}
 use Rattle.netlist_link.specs.Links.IsLinkFault.{memory}
 use Rattle.netlist_link.specs.Steps.{AreNetsAndCells}

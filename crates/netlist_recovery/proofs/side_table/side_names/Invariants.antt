@@ -1,5 +1,5 @@
 use Rattle.std.proofs.Common.{◌≡◌, map, take}
-use Rattle.first_faults.specs.Repeated.{texts}
+use Rattle.texts.specs.Repeated.{texts}
 use Rattle.strip_model.specs.declared.Side.{Side}
 use Rattle.netlist_recovery.proofs.side_table.side_names.Given as goal
 

@@ -2,7 +2,7 @@ use Rattle.std.proofs.Common.{◌≡◌, ◌<◌, ◌∙◌, ap, subst, arith, t
 use Rattle.std.specs.Prelude.{IsSome}
 use Rattle.std.proofs.lemmas.Bool.{cases_lt}
 use Rattle.netlist_model.specs.Lists.{CellView, cell_count}
-use Rattle.netlist_link.specs.netlist_arena.Arena.{ArenaView}
+use Rattle.netlist_arena.specs.Arena.{ArenaView}
 use Rattle.netlist_unlink.specs.Trees.{naming_of}
 use Rattle.netlist_unlink.proofs.ItemLaws.{items_all, items_more, items_same, past_all}
 use Rattle.netlist_unlink.proofs.Facts.{not_live}

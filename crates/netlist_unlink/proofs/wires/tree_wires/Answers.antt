@@ -3,7 +3,7 @@ use Rattle.std.specs.Prelude.{All}
 use Rattle.netlist_unlink.specs.declared.rows.NetRow.{NetRow}
 use Rattle.netlist_unlink.specs.Rows.{rows}
 use Rattle.netlist_model.specs.Formed.{IsLaidOut}
-use Rattle.netlist_link.specs.netlist_arena.Arena.{ArenaView}
+use Rattle.netlist_arena.specs.Arena.{ArenaView}
 use Rattle.netlist_unlink.proofs.AllRows.{all_rows}
 use Rattle.netlist_unlink.proofs.RowFacts.{rows_known}
 use Rattle.netlist_unlink.proofs.wires.tree_wires.Goals as goal

@@ -1,10 +1,10 @@
 use Rattle.std.proofs.Common.{◌≡◌, ℕ, ◌+◌, ◌<◌, length, ◌∙◌, ap, arith}
 use Rattle.netlist_model.specs.Lists.{NetlistView, cell_count}
 use Rattle.netlist_arena.specs.Arena.{SpareView}
-use Rattle.open_runs.specs.stitch_model.declared.Logic.{Logic}
-use Rattle.open_runs.specs.stitch_model.declared.TapPort.{TapPort}
-use Rattle.open_runs.specs.stitch_model.Logic.{logic_at}
-use Rattle.open_runs.specs.stitch_model.Stitched.{tap_port, first_net}
+use Rattle.stitched_netlist.specs.declared.model.Logic.{Logic}
+use Rattle.stitched_netlist.specs.declared.model.TapPort.{TapPort}
+use Rattle.stitched_netlist.specs.ModelLogic.{logic_at}
+use Rattle.stitched_netlist.specs.Stitched.{tap_port, first_net}
 use Rattle.open_stitch.specs.declared.Parts.{Parts}
 use Rattle.open_stitch.proofs.Places.{opened_count, buffer_count, opened_dense, steps_of, bypass_low, operand_there}
 use Rattle.open_stitch.proofs.Formed.{opened_formed}

@@ -4,9 +4,9 @@ use Rattle.netlist_model.specs.Lists.{cell_count}
 use Rattle.netlist_arena.specs.Arena.{ArenaView}
 use Rattle.netlist_link.specs.WellNamed.{IsWellNamed}
 use Rattle.plan_fitting.specs.Devices.{device_of_fitted}
-use Rattle.open_runs.specs.stitch_model.Stitched.{stitched}
-use Rattle.scan_stitch.specs.stitch_names.Prepared.{room_of}
-use Rattle.scan_stitch.specs.stitch_names.Same.{IsSameNetlist}
+use Rattle.stitched_netlist.specs.Stitched.{stitched}
+use Rattle.written_netlists.specs.Prepared.{room_of}
+use Rattle.written_netlists.specs.Same.{IsSameNetlist}
 use Rattle.scan_stitch.specs.Stitched.{CanBeStitched, HasStitchRoom}
 use Rattle.scan_stitch.proofs.Known.{names_entered, can_of, room_made, fits_room_at}
 use Rattle.open_stitch.specs.Open.{stitched_open, parts_at}

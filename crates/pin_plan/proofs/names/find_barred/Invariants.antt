@@ -1,5 +1,5 @@
 use Rattle.std.proofs.Common.{◌≡◌, ◌++◌, take, drop}
-use Rattle.first_faults.specs.Repeated.{texts}
+use Rattle.texts.specs.Repeated.{texts}
 use Rattle.bsdl_lexicon.specs.NameKeys.{names_in}
 use Rattle.plan_fitting.specs.Fits.{barred_after}
 use Rattle.pin_plan.proofs.names.find_barred.Given as goal

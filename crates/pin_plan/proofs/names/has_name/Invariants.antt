@@ -1,5 +1,5 @@
 use Rattle.std.proofs.Common.{◌≡◌, drop}
-use Rattle.first_faults.specs.Repeated.{has_name, texts}
+use Rattle.texts.specs.Repeated.{has_name, texts}
 use Rattle.pin_plan.proofs.names.has_name.Given as goal
 
 abbrev pub invariant-loop-other : goal.invariant-loop-other

@@ -1,5 +1,5 @@
 use Rattle.std.proofs.Common.{◌≡◌, take}
-use Rattle.first_faults.specs.Repeated.{texts}
+use Rattle.texts.specs.Repeated.{texts}
 use Rattle.plan_fitting.specs.Fits.{names_of}
 use Rattle.pin_plan.proofs.names.line_names.Given as goal
 

@@ -1,5 +1,5 @@
 use Rattle.std.proofs.Common.{◌∙◌, ◌++◌, List, ℕ, ap, sym, arith}
-use Rattle.first_faults.specs.Repeated.{texts, bytes_of}
+use Rattle.texts.specs.Repeated.{texts, bytes_of}
 use Rattle.plan_fitting.specs.Names.{name_of_cell}
 use Rattle.pin_plan.proofs.Collected.{name_collected, cell_there, dead_behind}
 use Rattle.pin_plan.proofs.netlist_names.add_cell_names.Goals as goal

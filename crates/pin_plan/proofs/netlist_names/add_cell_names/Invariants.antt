@@ -1,6 +1,6 @@
 use Rattle.std.proofs.Common.{◌≡◌, ◌++◌, take}
 use Rattle.std.specs.List.{filter_map}
-use Rattle.first_faults.specs.Repeated.{texts}
+use Rattle.texts.specs.Repeated.{texts}
 use Rattle.plan_fitting.specs.Names.{name_of_cell}
 use Rattle.pin_plan.proofs.netlist_names.add_cell_names.Given as goal
 

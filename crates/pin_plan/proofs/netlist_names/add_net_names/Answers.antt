@@ -3,7 +3,7 @@ use Rattle.std.specs.Prelude.{slice_get}
 use Rattle.std.specs.Option.{option_map}
 use Rattle.netlist_model.specs.Lists.{NetView}
 use Rattle.link_model.specs.Denoted.{name_bytes}
-use Rattle.first_faults.specs.Repeated.{texts, bytes_of}
+use Rattle.texts.specs.Repeated.{texts, bytes_of}
 use Rattle.pin_plan.proofs.Collected.{name_collected, net_text}
 use Rattle.pin_plan.proofs.netlist_names.add_net_names.Goals as goal
 

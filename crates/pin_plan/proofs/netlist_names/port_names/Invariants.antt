@@ -2,7 +2,7 @@ use Rattle.std.proofs.Common.{◌≡◌, [], ◌++◌, take}
 use Rattle.std.specs.List.{filter_map}
 use Rattle.netlist_model.specs.Lists.{PortView}
 use Rattle.link_model.specs.Denoted.{name_bytes}
-use Rattle.first_faults.specs.Repeated.{texts}
+use Rattle.texts.specs.Repeated.{texts}
 use Rattle.pin_plan.proofs.netlist_names.port_names.Given as goal
 
 abbrev pub invariant-loop-number : goal.invariant-loop-number

@@ -1,6 +1,6 @@
 use Rattle.std.proofs.Common.{◌≡◌, drop}
-use Rattle.first_faults.specs.First.{first_in}
-use Rattle.first_faults.specs.Repeated.{texts}
+use Rattle.texts.specs.First.{first_in}
+use Rattle.texts.specs.Repeated.{texts}
 use Rattle.plan_fitting.specs.Fits.{begun_fault}
 use Rattle.pin_plan.proofs.prefix.find_begun.Given as goal
 

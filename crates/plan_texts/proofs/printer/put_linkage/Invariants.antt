@@ -1,5 +1,5 @@
 use Rattle.std.proofs.Common.{◌≡◌, ◌++◌, codes, map, take}
-use Rattle.line_texts.specs.Rows.{rows_text}
+use Rattle.word_cutter.specs.Rows.{rows_text}
 use Rattle.plan_texts.specs.Grammar.{tap_words}
 use Rattle.plan_texts.proofs.printer.put_linkage.Given as goal
 

@@ -1,5 +1,5 @@
 use Rattle.std.proofs.Common.{◌≡◌, ◌++◌, map, take}
-use Rattle.line_texts.specs.Rows.{rows_text}
+use Rattle.word_cutter.specs.Rows.{rows_text}
 use Rattle.plan_texts.specs.Canonical.{opcode_row}
 use Rattle.plan_texts.proofs.printer.put_opcodes.Given as goal
 

@@ -1,5 +1,5 @@
 use Rattle.std.proofs.Common.{ℕ, sym, ap, ◌∙◌}
-use Rattle.line_texts.specs.Ahead.{first_number}
+use Rattle.word_cutter.specs.Ahead.{first_number}
 use Rattle.plan_texts.specs.Reader.{written_at}
 use Rattle.plan_texts.proofs.Exact.{given_at_line, line_at_fault}
 use Rattle.plan_texts.proofs.reader.read_lines.Goals as goal

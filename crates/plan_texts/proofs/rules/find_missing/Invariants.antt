@@ -1,5 +1,5 @@
 use Rattle.std.proofs.Common.{◌≡◌, drop}
-use Rattle.first_faults.specs.First.{first_in}
+use Rattle.texts.specs.First.{first_in}
 use Rattle.plan_texts.specs.Rules.{missing}
 use Rattle.plan_texts.proofs.rules.find_missing.Given as goal
 

@@ -1,6 +1,6 @@
 use Rattle.std.proofs.Common.{◌≡◌, Option, length, ℕ, sym, subst, arith}
-use Rattle.register_bits.specs.netlist_model.Lists.{cell_count}
-use Rattle.register_bits.specs.gate_parts.Appended.{Appended}
+use Rattle.netlist_model.specs.Lists.{cell_count}
+use Rattle.gate_parts.specs.Appended.{Appended}
 use Rattle.register_gates.specs.Registers.{ident_size, ident_cells}
 use Rattle.register_gates.proofs.Added.{constants_below, choices_below, ident_with}
 use Rattle.register_gates.proofs.ident.add_ident.Goals as goal

@@ -1,5 +1,5 @@
 use Rattle.std.proofs.Common.{arith, length}
-use Rattle.register_bits.specs.netlist_model.Lists.{cell_count}
+use Rattle.netlist_model.specs.Lists.{cell_count}
 use Rattle.register_gates.specs.declared.tdo.TheConstants.{TDO}
 use Rattle.register_gates.proofs.TdoAdded.{handed, ident_below, handed_below, driver_below, one_left, tdo_added}
 use Rattle.register_gates.proofs.tdo.add_tdo.Goals as goal

@@ -2,11 +2,11 @@ use Rattle.std.proofs.Common.{◌≡◌, ℕ, ◌+◌, List, length, refl, sym, 
 use Rattle.netlist_model.specs.Lists.{PortView, NetlistView, cell_count}
 use Rattle.netlist_arena.specs.Arena.{SpareView}
 use Rattle.gate_parts.specs.Appended.{Appended}
-use Rattle.scan_parts.specs.stitch_model.declared.TapPort.{TapPort}
-use Rattle.scan_parts.specs.stitch_model.Sites.{Boundary, boundary_of, sides_of}
-use Rattle.scan_parts.specs.stitch_model.Stitched.{tap_port, tap_ports, test_logic_nets, test_logic_cells}
-use Rattle.scan_parts.specs.scan_sides.Pins.{between}
-use Rattle.scan_parts.specs.Ports.{with_ports}
+use Rattle.stitched_netlist.specs.declared.model.TapPort.{TapPort}
+use Rattle.stitched_netlist.specs.Sites.{Boundary, boundary_of, sides_of}
+use Rattle.stitched_netlist.specs.Stitched.{tap_port, tap_ports, test_logic_nets, test_logic_cells}
+use Rattle.written_netlists.specs.core_sides.Pins.{between}
+use Rattle.test_logic_parts.specs.Ports.{with_ports}
 use Rattle.scan_stitch.proofs.Joined.{same_netlist}
 use Rattle.scan_stitch.proofs.StitchSteps.{same_boundary, logic_can, LogicThere, ports_can, few_nets, few_cells, net_sum, cell_sum, logic_built, built_dense, built_count}
 use Rattle.scan_stitch.proofs.parts.stitch_netlist.Goals as goal

@@ -2,9 +2,9 @@ use Rattle.std.proofs.Common.{◌≡◌, ℕ, ◌+◌, ◌-◌, List, length, sy
 use Rattle.netlist_model.specs.Lists.{PortView, NetlistView}
 use Rattle.netlist_arena.specs.Arena.{SpareView}
 use Rattle.plan_fitting.specs.declared.fitted.FitRow.{FitRow}
-use Rattle.scan_parts.specs.stitch_model.Sites.{sides_of}
-use Rattle.scan_parts.specs.stitch_model.Stitched.{with_nets}
-use Rattle.scan_parts.specs.scan_sides.Pins.{ArePinsThere, AreFew}
+use Rattle.stitched_netlist.specs.Sites.{sides_of}
+use Rattle.stitched_netlist.specs.Stitched.{with_nets}
+use Rattle.written_netlists.specs.core_sides.Pins.{ArePinsThere, AreFew}
 use Rattle.scan_stitch.specs.Stitched.{nets_around}
 use Rattle.scan_stitch.proofs.Joined.{nets_joined, first_is, can_stand, surrounded_is}
 use Rattle.scan_stitch.proofs.parts.surround.Goals as goal

@@ -4,8 +4,8 @@ use Rattle.wrapped_chip.specs.Home.{FindsHome}
 use Rattle.wrapped_chip.specs.Realises.{Realises, Alone}
 use Rattle.plan_fitting.specs.Devices.{device_of_fitted}
 use Rattle.netlist_arena.specs.Arena.{ArenaView}
-use Rattle.scan_parts.specs.stitch_model.Stitched.{stitched}
-use Rattle.stitch_names.specs.Same.{IsSameNetlist}
+use Rattle.stitched_netlist.specs.Stitched.{stitched}
+use Rattle.written_netlists.specs.Same.{IsSameNetlist}
 use Rattle.scan_stitch.specs.Stitched.{CanBeStitched, HasStitchRoom}
 use Rattle.scan_stitch.proofs.Known.{names_entered, can_of, room_made, fits_room_at, named_of, formed_of}
 use Rattle.scan_stitch.proofs.Runs.{realises_of, alone_of, home_of, alone_home_of}

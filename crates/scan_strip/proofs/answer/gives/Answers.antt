@@ -1,6 +1,6 @@
 use Rattle.std.proofs.Common.{◌≡◌}
 use Rattle.list_laws.proofs.Options.{err_is}
-use Rattle.strip_law.specs.Answer.{IsNotInserted}
+use Rattle.strip_model.specs.Answer.{IsNotInserted}
 use Rattle.scan_strip.specs.declared.fault.StripFault.TheVariants.{NotInserted}
 use Rattle.scan_strip.specs.Stripped.{GivesBy}
 use Rattle.scan_strip.proofs.Whole.{is_found, link_told, give_told, given_by, told_by}

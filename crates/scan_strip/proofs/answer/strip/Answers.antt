@@ -2,7 +2,7 @@ use Rattle.std.proofs.Common.{◌≡◌, List, ap, ◌∙◌, subst}
 use Rattle.list_laws.proofs.Options.{err_is}
 use Rattle.cell_library.specs.declared.listed.ListedCell.{ListedCell}
 use Rattle.netlist_arena.specs.Arena.{ArenaView}
-use Rattle.strip_law.specs.Answer.{IsNotInserted}
+use Rattle.strip_model.specs.Answer.{IsNotInserted}
 use Rattle.scan_strip.specs.declared.fault.StripFault.TheVariants.{NotInserted}
 use Rattle.scan_strip.specs.Stripped.{IsStripped}
 use Rattle.scan_strip.proofs.Whole.{stripped, tree_links}

@@ -1,5 +1,5 @@
 use Rattle.std.proofs.Common.{◌≤◌, ◌+◌, length}
-use Rattle.line_texts.specs.Words.{lines_of}
+use Rattle.word_cutter.specs.LinesWords.{lines_of}
 use Rattle.scan_vectors.specs.Reader.{IsReading}
 use Rattle.scan_vectors.proofs.event_text.read_events.Given as goal
 

@@ -1,5 +1,5 @@
 use Rattle.std.proofs.Common.{◌≡◌, ◌++◌, map, take}
-use Rattle.line_texts.specs.Rows.{rows_text}
+use Rattle.word_cutter.specs.Rows.{rows_text}
 use Rattle.scan_vectors.specs.Canonical.{canonical_words}
 use Rattle.scan_vectors.proofs.printed_events.put_lines.Given as goal
 

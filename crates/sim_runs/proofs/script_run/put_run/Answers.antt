@@ -3,7 +3,7 @@ use Rattle.std.specs.Prelude.{slice_index_or}
 use Rattle.std.proofs.lemmas.Option.{slice_get-get_or, slice_get_read}
 use Rattle.signal_values.specs.declared.PinSig.TheVariants.{Zero}
 use Rattle.scan_vectors.specs.declared.lines.Act.TheVariants.{Start}
-use Rattle.event_scripts.specs.declared.script.ScriptLine.{ScriptLine}
+use Rattle.scan_vectors.specs.declared.scripts.script.ScriptLine.{ScriptLine}
 use Rattle.sim_runs.specs.Outputs.{sets_with}
 use Rattle.sim_runs.proofs.Starts.{can_play}
 use Rattle.netlist_model.specs.Runs.{Moment}

@@ -1,6 +1,6 @@
 use Rattle.std.proofs.Common.{◌≡◌, ◌≤◌, ℕ, true}
 use Rattle.netlist_model.specs.Runs.{Moment}
-use Rattle.netlist_laws.specs.Runs.{SameMoment}
+use Rattle.netlist_model.specs.LawsRuns.{SameMoment}
 use Rattle.netlist_meaning.specs.Sims.{moment_of}
 use Rattle.sim_runs.specs.Bits.{told_at, told_of}
 use Rattle.sim_runs.specs.Runs.{IsRunOf}

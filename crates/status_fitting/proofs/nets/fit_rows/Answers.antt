@@ -2,7 +2,7 @@ use Rattle.std.proofs.Common.{◌≡◌, ◌∙◌, ap, sym, Some}
 use Rattle.std.specs.Prelude.{slice_get}
 use Rattle.std.proofs.lemmas.Option.{slice_get-get_or}
 use Rattle.list_laws.proofs.Lists.{all_at}
-use Rattle.status_texts.specs.declared.plan.StatusRow.{StatusRow}
+use Rattle.status_fitting.specs.declared.register_texts.plan.StatusRow.{StatusRow}
 use Rattle.status_fitting.specs.Fitted.{IsRegister}
 use Rattle.status_fitting.specs.Steps.{HasFewWords}
 use Rattle.status_fitting.proofs.Rows.{all_more, rows_unnamed}

@@ -1,8 +1,8 @@
 use Rattle.std.proofs.Common.{◌≡◌, true, false, ◌∙◌, ap, sym, Some, arith}
 use Rattle.std.specs.Prelude.{slice_get}
 use Rattle.std.proofs.lemmas.Option.{slice_get-get_or}
-use Rattle.status_texts.specs.declared.fault.StatusFault.{StatusFault}
-use Rattle.status_texts.specs.declared.plan.StatusRow.{StatusRow}
+use Rattle.status_fitting.specs.declared.register_texts.fault.StatusFault.{StatusFault}
+use Rattle.status_fitting.specs.declared.register_texts.plan.StatusRow.{StatusRow}
 use Rattle.status_fitting.specs.Keys.{patterns_in}
 use Rattle.status_fitting.specs.Opcodes.{is_taken}
 use Rattle.status_fitting.specs.Steps.{opcode_fault}

@@ -1,6 +1,6 @@
 use Rattle.list_laws.proofs.Options.{err_is}
 use Rattle.status_inputs.specs.Faults.{StandsInStatusTexts}
-use Rattle.status_insertions.specs.StatusInsertFault.TheVariants as fault
+use Rattle.status_inputs.specs.declared.fault.StatusInsertFault.TheVariants as fault
 use Rattle.status_insertions.proofs.Stand.{netlist_stands}
 use Rattle.status_insertions.proofs.insertion.insert_status.Goals as goal
 

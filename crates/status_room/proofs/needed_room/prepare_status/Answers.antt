@@ -1,7 +1,7 @@
 use Rattle.std.proofs.Common.{◌≡◌, ℕ, ◌+◌, List, ap, subst, ◌∙◌}
 use Rattle.std.specs.Prelude.{OnOk}
 use Rattle.netlist_arena.specs.Room.{too_many}
-use Rattle.scan_stitch.specs.stitch_names.Prepared.{room_of, ports_of}
+use Rattle.scan_stitch.specs.written_netlists.Prepared.{room_of, ports_of}
 use Rattle.status_fitting.specs.declared.fitted.FittedRegister.{FittedRegister}
 use Rattle.status_room.specs.Ready.{status_room}
 use Rattle.status_room.specs.Prepared.{prepared_with}

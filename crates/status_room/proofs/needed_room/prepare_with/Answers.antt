@@ -1,6 +1,6 @@
 use Rattle.std.proofs.Common.{ℕ, ◌+◌, ap, ◌∙◌, arith}
 use Rattle.netlist_link.specs.Linked.{LinkedView}
-use Rattle.scan_stitch.specs.stitch_names.Prepared.{room_of, ports_of}
+use Rattle.scan_stitch.specs.written_netlists.Prepared.{room_of, ports_of}
 use Rattle.status_room.proofs.Prepared.{prepared_is, answer_is, ok_is}
 use Rattle.status_room.proofs.needed_room.prepare_with.Goals as goal
 

@@ -2,10 +2,10 @@ use Rattle.std.proofs.Common.{◌≡◌, ℕ, List, sym, ◌∙◌, subst}
 use Rattle.netlist_model.specs.Formed.{IsLaidOut, IsWellFormed}
 use Rattle.netlist_arena.specs.Arena.{ArenaView}
 use Rattle.netlist_link.specs.WellNamed.{IsWellNamed}
-use Rattle.stitch_model.specs.Stitched.{stitched}
-use Rattle.open_stitch.specs.stitch_names.Same.{IsSameNetlist}
-use Rattle.open_stitch.specs.scan_stitch.Stitched.{CanBeStitched}
-use Rattle.status_ready.specs.Ready.{AreBuildable}
+use Rattle.stitched_netlist.specs.Stitched.{stitched}
+use Rattle.written_netlists.specs.Same.{IsSameNetlist}
+use Rattle.status_room.specs.scan_stitch.Stitched.{CanBeStitched}
+use Rattle.status_room.specs.ReadyLaws.{AreBuildable}
 use Rattle.status_room.specs.Ready.{HasStatusRoom}
 use Rattle.status_stitch.specs.Stitched.{stitched_status}
 use Rattle.status_stitch.proofs.Known.{status_names_entered, status_can, status_buildable, base_formed, base_named, status_room_made, status_fits}

@@ -1,5 +1,5 @@
 use Rattle.std.proofs.Common.{arith}
-use Rattle.list_laws.proofs.Numbers.{few_digits}
+use Rattle.texts.proofs.list_laws.Numbers.{few_digits}
 use Rattle.word_cutter.proofs.digits.with_digit.Goals as goal
 
 pub overflow_mul-result : goal.overflow_mul-result

@@ -1,5 +1,5 @@
 use Rattle.std.proofs.Common.{◌≡◌, ◌+◌, ◌≤◌, [], drop}
-use Rattle.first_faults.specs.Repeated.{seen}
+use Rattle.texts.specs.Repeated.{seen}
 use Rattle.hier_model.specs.Faults.{cell_limit}
 use Rattle.hier_counts.specs.Widths.{capped, joined_bits}
 use Rattle.hier_counts.proofs.widths.PortWidths.joined.Given as goal

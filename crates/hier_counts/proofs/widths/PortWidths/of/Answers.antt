@@ -4,7 +4,7 @@ use Rattle.std.specs.Map.{lookup}
 use Rattle.std.specs.Str.{bytes_eq}
 use Rattle.std.proofs.lemmas.Option.{slice_get-get_or}
 use Rattle.verilog_tree.specs.declared.tree.Port.{Port}
-use Rattle.hier_walk.proofs.Tables.{lent}
+use Rattle.hier_model.proofs.Tables.{lent}
 use Rattle.hier_model.specs.Faults.{cell_limit}
 use Rattle.hier_counts.specs.Widths.{capped, port_bits, width_under}
 use Rattle.hier_counts.proofs.Joins.{turned}

@@ -2,7 +2,7 @@ use Rattle.std.proofs.Common.{◌≡◌, position, find, ◌∙◌, ap, sym}
 use Rattle.std.specs.Str.{bytes_eq}
 use Rattle.verilog_tree.specs.declared.tree.Wire.{Wire}
 use Rattle.verilog_tree.specs.declared.tree.Module.{Module}
-use Rattle.hier_walk.proofs.Tables.{stands_first, stands_nowhere}
+use Rattle.hier_model.proofs.Tables.{stands_first, stands_nowhere}
 use Rattle.hier_flatten.proofs.nets.NetTable.wire.Goals as goal
 
 pub returns-in-None : goal.returns-in-None

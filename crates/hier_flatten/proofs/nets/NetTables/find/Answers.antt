@@ -1,9 +1,9 @@
 use Rattle.std.proofs.Common.{◌≡◌, List, Some, position, get_or, ◌∙◌, ap}
 use Rattle.std.specs.Str.{bytes_eq}
 use Rattle.verilog_tree.specs.declared.tree.Module.{Module}
-use Rattle.hier_walk.specs.Names.{module_place}
-use Rattle.hier_walk.specs.Visits.{module_named}
-use Rattle.hier_walk.proofs.Tables.{stands_first, stands_nowhere}
+use Rattle.hier_model.specs.WalkNames.{module_place}
+use Rattle.hier_model.specs.Visits.{module_named}
+use Rattle.hier_model.proofs.Tables.{stands_first, stands_nowhere}
 use Rattle.hier_flatten.proofs.nets.NetTables.find.Goals as goal
 
 pub returns-in-None : goal.returns-in-None

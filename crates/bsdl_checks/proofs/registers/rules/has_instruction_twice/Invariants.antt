@@ -1,0 +1,7 @@
+use Rattle.std.proofs.Common.{◌≡◌, drop}
+use Rattle.bsdl_device.specs.Checks.{any_pair}
+use Rattle.bsdl_checks.specs.Pairs.{same_instructions}
+use Rattle.bsdl_checks.proofs.registers.rules.has_instruction_twice.Given as goal
+
+abbrev pub invariant-loop-i : goal.invariant-loop-i
+invariant-loop-i l = any_pair same_instructions (drop l.i l.entries) ≡ any_pair same_instructions l.entries

@@ -1,0 +1,7 @@
+use Rattle.std.proofs.Common.{◌≡◌, drop}
+use Rattle.bsdl_device.specs.Checks.{any_pair}
+use Rattle.bsdl_checks.specs.Pairs.{same_patterns}
+use Rattle.bsdl_checks.proofs.registers.rules.has_pattern_twice.Given as goal
+
+abbrev pub invariant-loop-i : goal.invariant-loop-i
+invariant-loop-i l = any_pair same_patterns (drop l.i l.own) ≡ any_pair same_patterns l.own

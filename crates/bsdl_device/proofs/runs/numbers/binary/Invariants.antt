@@ -1,0 +1,9 @@
+use Rattle.std.proofs.Common.{◌≡◌, ◌^◌, ◌<◌, take}
+use Rattle.bsdl_device.specs.Runs.{value_after}
+use Rattle.bsdl_device.proofs.runs.numbers.binary.Given as goal
+
+abbrev pub invariant-loop-i : goal.invariant-loop-i
+invariant-loop-i l = record {
+  value : l.value ≡ value_after 2 0 (take l.i l.bits);
+  fits : l.value < 2 ^ l.i;
+}

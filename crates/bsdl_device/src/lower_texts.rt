@@ -1,0 +1,2 @@
+// What crates above name of texts.
+pub use word_cutter::lower_texts::Row;

@@ -1,3 +1,0 @@
-pub mod DigitValues
-pub mod Underscores
-pub mod Bits

@@ -1,2 +1,0 @@
-// What crates above name of bsdl_device.
-pub use bsdl_device::{INSTRUCTIONS, OpcodeEntry, REQUIRED_INSTRUCTIONS, instruction_word};

@@ -1,0 +1,2 @@
+// What crates above name of texts.
+pub use verilog_lexicon::lower_texts::OutOfMemory;

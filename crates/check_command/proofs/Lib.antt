@@ -1,3 +1,0 @@
-mod DeviceKinds
-mod Made
-mod Complete

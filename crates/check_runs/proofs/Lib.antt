@@ -1,4 +1,0 @@
-mod Numbers
-mod Taps
-mod Earliest
-mod Merged

@@ -1,5 +1,0 @@
-use Rattle.check_runs.proofs.Merged.{IsMerged}
-use Rattle.check_runs.proofs.check_text.put_misses.Given as goal
-
-abbrev pub invariant-loop-place : goal.invariant-loop-place
-invariant-loop-place l = IsMerged l.lines l.fn.text l.misses l.place l.text l.rest

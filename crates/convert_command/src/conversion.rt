@@ -1,8 +1,0 @@
-/// Reads a text of one format, and writes its canonical text.
-#[derive(Clone, Copy, Debug, PartialEq, Eq)]
-pub enum Conversion {
-    /// Netlists, by the command `canon`.
-    Canon,
-    /// BSDL texts, by the command `showbsdl`.
-    ShowBsdl,
-}

@@ -1,4 +1,0 @@
-pub use Rattle.scan_sides.specs.stitch_model as stitch_model
-pub use Rattle.scan_sides.specs as scan_sides
-pub mod Ready
-pub mod Steps

@@ -1,2 +1,0 @@
-mod Insertable
-mod Made

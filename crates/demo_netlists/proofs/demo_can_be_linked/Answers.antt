@@ -1,5 +1,0 @@
-use Rattle.demo_netlists.proofs.Linked.{demo_can_be_linked}
-use Rattle.demo_netlists.proofs.demo_can_be_linked.Goals as goal
-
-pub returns : goal.returns
-returns c = demo_can_be_linked

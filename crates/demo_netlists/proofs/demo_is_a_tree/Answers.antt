@@ -1,5 +1,0 @@
-use Rattle.demo_netlists.proofs.Tree.{demo_is_a_tree}
-use Rattle.demo_netlists.proofs.demo_is_a_tree.Goals as goal
-
-pub returns : goal.returns
-returns c = demo_is_a_tree

@@ -1,5 +1,0 @@
-use Rattle.demo_plans.proofs.Short.{chips_are_short, plan_is_short}
-use Rattle.demo_plans.proofs.laws.demo_texts_are_short.Goals as goal
-
-pub returns : goal.returns
-returns c = record { netlists = chips_are_short; plan = plan_is_short }

@@ -1,2 +1,0 @@
-pub mod KindNumbers
-pub mod Lists

@@ -1,0 +1,3 @@
+pub mod QueuesBits
+pub mod Tables
+pub mod Walks

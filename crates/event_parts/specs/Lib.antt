@@ -1,0 +1,3 @@
+pub mod KeysLaws
+pub mod Pairs
+pub mod QueuesLaws

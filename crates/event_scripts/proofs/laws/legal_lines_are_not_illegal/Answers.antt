@@ -1,5 +1,0 @@
-use Rattle.event_scripts.proofs.Verdicts as verdicts
-use Rattle.event_scripts.proofs.laws.legal_lines_are_not_illegal.Goals as goal
-
-pub returns : goal.returns
-returns c = record { legal = verdicts.legal_is_not_illegal; once = verdicts.illegal_at_one_line }

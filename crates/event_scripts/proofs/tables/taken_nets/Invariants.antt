@@ -1,5 +1,0 @@
-use Rattle.event_scripts.specs.Starts.{AreMarked, IsPortBefore}
-use Rattle.event_scripts.proofs.tables.taken_nets.Given as goal
-
-abbrev pub invariant-loop-number : goal.invariant-loop-number
-invariant-loop-number l = AreMarked l.linked.arena.lists (IsPortBefore l.number) l.flags.items

@@ -1,7 +1,0 @@
-ghost use Rattle.event_scripts.specs.Laws.{IllegalAtOneLine, LegalIsNotIllegal};
-
-/// A law: lines are legal, or illegal at one line, and not both; so `resolve` has one answer but for want of memory.
-pub fn legal_lines_are_not_illegal()
-    ensures legal { LegalIsNotIllegal }
-    ensures once { IllegalAtOneLine }
-{}

@@ -1,8 +1,0 @@
-use Rattle.std.proofs.Common.{◌∙◌, ap, is_some}
-use Rattle.bsdl_lexicon.specs.Names.{is_same_name}
-use Rattle.extended_device.specs.declared.values.RegisterEntry.{RegisterEntry}
-use Rattle.extended_rules.proofs.Tables.{place_is_any}
-use Rattle.extended_rules.proofs.opcodes.OwnTable.has.Goals as goal
-
-pub returns : goal.returns
-returns c = c.is_some.ensures ∙ ap is_some c.position.ensures ∙ place_is_any (λ (e : RegisterEntry). is_same_name c.args.name.now e.instruction) c.args.self.now

@@ -1,6 +1,0 @@
-use Rattle.std.proofs.Common.{◌≡◌, take}
-use Rattle.extended_device.specs.Rules as rule
-use Rattle.extended_rules.proofs.opcodes.own_opcodes.Given as goal
-
-abbrev pub invariant-loop-opcode : goal.invariant-loop-opcode
-invariant-loop-opcode l = l.made ≡ rule.own_opcodes l.table (take l.opcode-index l.opcodes)

@@ -1,7 +1,0 @@
-use Rattle.std.proofs.Common.{◌≡◌, take}
-use Rattle.std.specs.List.{filter_map}
-use Rattle.extended_device.specs.Spelled.{register_of}
-use Rattle.extended_rules.proofs.registers.registers_of.Given as goal
-
-abbrev pub invariant-loop-entry : goal.invariant-loop-entry
-invariant-loop-entry l = l.made ≡ filter_map (register_of l.opcodes) (take l.entry-index l.entries)

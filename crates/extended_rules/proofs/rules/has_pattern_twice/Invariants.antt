@@ -1,7 +1,0 @@
-use Rattle.std.proofs.Common.{◌≡◌, drop}
-use Rattle.bsdl_device.specs.Checks.{any_pair}
-use Rattle.extended_rules.specs.Pairs.{same_patterns}
-use Rattle.extended_rules.proofs.rules.has_pattern_twice.Given as goal
-
-abbrev pub invariant-loop-i : goal.invariant-loop-i
-invariant-loop-i l = any_pair same_patterns (drop l.i l.own) ≡ any_pair same_patterns l.own

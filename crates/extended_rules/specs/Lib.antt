@@ -1,2 +1,0 @@
-pub mod OwnNames
-pub mod Pairs

@@ -1,3 +1,0 @@
-pub mod Parted
-pub mod Once
-pub mod Texts

@@ -1,4 +1,0 @@
-pub mod FaultKinds
-pub mod Laws
-pub mod TextOutcome
-pub mod TextFaults

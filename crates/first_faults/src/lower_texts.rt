@@ -1,2 +1,0 @@
-// What crates above name of texts.
-pub use texts::{OutOfMemory, Row, Text};

@@ -1,2 +1,0 @@
-pub mod FlatTexts
-pub mod Tasks

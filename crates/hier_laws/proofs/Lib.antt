@@ -1,0 +1,15 @@
+pub mod Apart
+pub mod Blocks
+pub mod EntryTrees
+pub mod FlatLinks
+pub mod FlatNames
+pub mod FlatTrees
+pub mod MetEquations
+pub mod Outputs
+pub mod OwnBits
+pub mod OwnLinks
+pub mod ReadingLaws
+pub mod Settled
+pub mod SolutionsCells
+pub mod SolutionsLaws
+pub mod SolutionsPlaces

@@ -1,5 +1,0 @@
-use Rattle.hier_solutions.proofs.MetEquations.{solved_cells_meet}
-use Rattle.hier_solutions.proofs.laws.solved_cells_meet.Goals as goal
-
-pub returns : goal.returns
-returns c = solved_cells_meet

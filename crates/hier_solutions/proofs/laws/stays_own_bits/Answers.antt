@@ -1,5 +1,0 @@
-use Rattle.hier_solutions.proofs.OwnBits.{stays_own_bits}
-use Rattle.hier_solutions.proofs.laws.stays_own_bits.Goals as goal
-
-pub returns : goal.returns
-returns c = stays_own_bits

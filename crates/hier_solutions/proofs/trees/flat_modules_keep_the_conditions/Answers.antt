@@ -1,5 +1,0 @@
-use Rattle.hier_solutions.proofs.FlatTrees.{flat_modules_keep_the_conditions}
-use Rattle.hier_solutions.proofs.trees.flat_modules_keep_the_conditions.Goals as goal
-
-pub returns : goal.returns
-returns c = flat_modules_keep_the_conditions

@@ -1,4 +1,0 @@
-pub mod Solves
-pub mod Laws
-pub mod Readings
-pub mod Trees

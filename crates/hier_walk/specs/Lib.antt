@@ -1,4 +1,0 @@
-pub mod Names
-pub mod Visits
-pub mod Found
-pub mod Walks

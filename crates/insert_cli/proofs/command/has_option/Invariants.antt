@@ -1,7 +1,0 @@
-use Rattle.std.proofs.Common.{◌≡◌, drop, map, string_bytes, Global}
-use Rattle.std.specs.List.{list_any}
-use Rattle.insert_cli.specs.Forms as forms
-use Rattle.insert_cli.proofs.command.has_option.Given as goal
-
-abbrev pub invariant-loop-word : goal.invariant-loop-word
-invariant-loop-word l = list_any forms.begins_with_dash (map (string_bytes {Z = Global}) (drop l.word-index l.words)) ≡ list_any forms.begins_with_dash (map (string_bytes {Z = Global}) l.words)

@@ -1,3 +1,0 @@
-// A linked netlist with its test logic, as a function of both: specs/Inserted.antt. No code.
-// IEEE Std 1149.1-2001: test logic architecture; that the module's name stays is own.
-#![tactic(auto)]

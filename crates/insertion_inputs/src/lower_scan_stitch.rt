@@ -1,0 +1,2 @@
+// What crates above name of scan_stitch.
+pub use scan_stitch::stitch;

@@ -1,0 +1,2 @@
+// What crates above name of insertion_inputs.
+pub use insertion_inputs::{InsertFault, link_text};

@@ -1,4 +1,0 @@
-pub mod Cut
-pub mod Rows
-pub mod Written
-pub mod Ahead

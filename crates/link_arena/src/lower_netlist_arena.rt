@@ -1,2 +1,0 @@
-// What crates above name of netlist_arena.
-pub use netlist_arena::{Netlist, ReserveFault};

@@ -1,2 +1,0 @@
-// What crates above name of link_model.
-pub use link_model::{ItemCell, LinkFault, NetBit, is_inout};

@@ -1,6 +1,0 @@
-use Rattle.std.proofs.Common.{◌≡◌, map, take}
-use Rattle.link_order.specs.Cones.{is_inout_net}
-use Rattle.link_order.proofs.derived.inout_nets.Given as goal
-
-abbrev pub invariant-loop-net : goal.invariant-loop-net
-invariant-loop-net l = l.marks.items ≡ map is_inout_net (take l.net-index l.nets)

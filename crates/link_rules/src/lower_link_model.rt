@@ -1,0 +1,2 @@
+// What crates above name of link_model.
+pub use link_model::{ItemCell, NetBit};

@@ -1,2 +1,0 @@
-// What crates above name of numbered_places.
-pub use numbered_places::Places;

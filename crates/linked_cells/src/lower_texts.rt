@@ -1,0 +1,2 @@
+// What crates above name of texts.
+pub use netlist_model::lower_texts::OutOfMemory;

@@ -1,2 +1,0 @@
-pub use Rattle.list_laws.proofs as list_laws
-pub mod Numbers

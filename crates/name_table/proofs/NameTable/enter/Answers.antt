@@ -1,6 +1,0 @@
-use Rattle.std.proofs.Common.{sym}
-use Rattle.name_table.proofs.Numbers.{with_name-known}
-use Rattle.name_table.proofs.NameTable.enter.Goals as goal
-
-pub returns-in-Some-clause-names : goal.returns-in-Some-clause-names
-returns-in-Some-clause-names c = sym (with_name-known c.args.name.now c.args.self.now c.in-Some.number (sym c.in-Some.ensures.number))

@@ -1,8 +1,0 @@
-use Rattle.std.proofs.Common.{arith}
-use Rattle.name_table.proofs.Numbers.{number_of-at}
-use Rattle.name_table.proofs.NameTable.find.Goals as goal
-
-pub returns-clause-stands : goal.returns-clause-stands
-returns-clause-stands c =
-    let view = c.self.view_is in
-    number_of-at c.args.name.now c.args.self.now c.in_ok-number.number (grind (arith, view, c.get_index_of.ensures.index, c.in_ok-number.ensures.index))

@@ -1,5 +1,0 @@
-use Rattle.name_table.proofs.Numbers.{once-distinct}
-use Rattle.name_table.proofs.NameTable.len.Goals as goal
-
-pub returns-clause-once : goal.returns-clause-once
-returns-clause-once c = rw (← c.self.view_is) (once-distinct c.self.inside.names.keys c.len.ensures.unique)

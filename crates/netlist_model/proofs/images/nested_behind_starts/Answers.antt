@@ -1,0 +1,5 @@
+use Rattle.netlist_model.proofs.Behind.{behind_starts as lemma}
+use Rattle.netlist_model.proofs.images.nested_behind_starts.Goals as goal
+
+pub returns : goal.returns
+returns c = lemma c.found_driver_drives.ensures

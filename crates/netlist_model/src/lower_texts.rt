@@ -1,0 +1,2 @@
+// What crates above name of texts.
+pub use cell_library::lower_texts::OutOfMemory;

@@ -1,2 +1,0 @@
-// What crates above name of scan_stitch.
-pub use scan_stitch::{device_of_fit, lower_plan_devices, tap_names};

@@ -1,5 +1,0 @@
-use Rattle.plan_devices.proofs.CoreSides.{controls_follow_their_rows}
-use Rattle.plan_devices.proofs.laws.controls_follow_their_rows.Goals as goal
-
-pub returns : goal.returns
-returns c = controls_follow_their_rows c.direction_of_a_bit.ensures c.driver_is_found.ensures

@@ -1,0 +1,5 @@
+use Rattle.plan_fitting.proofs.CoreSides.{controls_take_the_core}
+use Rattle.plan_fitting.proofs.devices.laws.controls_take_the_core.Goals as goal
+
+pub returns : goal.returns
+returns c = controls_take_the_core c.direction_of_a_bit.ensures c.driver_is_found.ensures

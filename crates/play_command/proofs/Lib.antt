@@ -1,0 +1,7 @@
+mod CheckComplete
+mod CheckMade
+mod DeviceKinds
+pub mod SimComplete
+pub mod Simulated
+pub mod VectorsComplete
+pub mod VectorsMade

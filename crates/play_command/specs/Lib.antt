@@ -1,0 +1,9 @@
+pub mod CheckFaults
+pub mod CheckTasks
+pub mod Checks
+pub mod Played
+pub mod Programs
+pub mod SimFaults
+pub mod SimTasks
+pub mod Simulations
+pub mod VectorsTasks

@@ -1,5 +1,0 @@
-use Rattle.program_checks.proofs.Chips.{netlists_have_chips as lemma}
-use Rattle.program_checks.proofs.netlists_have_chips.Goals as goal
-
-pub returns : goal.returns
-returns c = lemma c.link_view_is_named.ensures c.link_view_is_formed.ensures c.plans_suit_netlists.ensures c.devices_have_ports.ensures c.plans_stand_around.ensures c.same_realises.ensures

@@ -1,5 +1,0 @@
-use Rattle.program_checks.proofs.Chips.{texts_miss_nothing as lemma}
-use Rattle.program_checks.proofs.texts_miss_nothing.Goals as goal
-
-pub returns : goal.returns
-returns c = lemma c.texts_have_chips.ensures c.scripts_are_met.ensures

@@ -1,5 +1,0 @@
-use Rattle.program_scripts.proofs.Legal.{programs_are_legal}
-use Rattle.program_scripts.proofs.programs_are_legal.Goals as goal
-
-pub returns : goal.returns
-returns c = programs_are_legal c.words_name_bits.ensures c.direction_of_a_bit.ensures

@@ -1,5 +1,0 @@
-use Rattle.program_scripts.proofs.Whole.{scripts_run_there}
-use Rattle.program_scripts.proofs.scripts_run_there.Goals as goal
-
-pub returns : goal.returns
-returns c = scripts_run_there c.words_name_bits.ensures c.program_names_pins.ensures c.direction_of_a_bit.ensures

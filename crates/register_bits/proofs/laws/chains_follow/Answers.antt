@@ -1,5 +1,0 @@
-use Rattle.register_bits.proofs.ChainBits.{chains as lemma}
-use Rattle.register_bits.proofs.laws.chains_follow.Goals as goal
-
-pub returns : goal.returns
-returns c = lemma c.shift_bits_follow.ensures

@@ -1,2 +1,0 @@
-// What crates above name of netlist_arena.
-pub use gate_parts::lower_netlist_arena::Netlist;

@@ -1,4 +1,0 @@
-// What crates above name of netlist_laws.
-pub use gate_parts::lower_netlist_laws::{
-    contained_parts, driven_net_follows_no_pin, driver_is_found, moments_of_a_run,
-};

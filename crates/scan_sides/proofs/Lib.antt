@@ -1,1 +1,0 @@
-pub use Rattle.stitch_model.proofs as stitch_model

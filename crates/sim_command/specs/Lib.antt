@@ -1,4 +1,0 @@
-pub mod Simulations
-pub mod Faults
-pub mod Tasks
-pub mod Played

@@ -1,0 +1,17 @@
+pub mod Added
+pub mod BuildFormed
+pub mod Built
+pub mod CellsLaws
+pub mod Connected
+pub mod FormedCells
+pub mod FormedNames
+pub mod Grown
+pub mod Handed
+pub mod Held
+pub mod Named
+pub mod OrderLow
+pub mod ReconnectedLaws
+pub mod ReconnectedLow
+pub mod Same
+pub mod Shared
+pub mod Shown

@@ -1,0 +1,9 @@
+pub mod BuildLaws
+pub mod BuildLawsLaws
+pub mod CellsLaws
+pub mod ControlPortsLaws
+pub mod FormedLaws
+pub mod Handed
+pub mod OrderLaws
+pub mod PlacesLaws
+pub mod ReconnectedLaws

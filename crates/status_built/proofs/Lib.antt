@@ -1,4 +1,0 @@
-pub mod Connected
-pub mod Formed
-pub mod Named
-pub mod Built

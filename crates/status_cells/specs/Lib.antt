@@ -1,5 +1,0 @@
-pub use Rattle.status_parts.specs.status_fitting as status_fitting
-pub use Rattle.status_parts.specs.surrounded_core as surrounded_core
-pub use Rattle.status_parts.specs as status_parts
-pub use Rattle.status_parts.specs.status_gates as status_gates
-pub mod Laws

@@ -1,2 +1,0 @@
-// What crates above name of status_parts.
-pub use status_parts::{SharedNets, add_registers};

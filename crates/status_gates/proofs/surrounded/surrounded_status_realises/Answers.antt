@@ -1,0 +1,13 @@
+use Rattle.status_gates.proofs.Realises.{realises_status}
+use Rattle.status_gates.proofs.surrounded.surrounded_status_realises.Goals as goal
+
+pub returns : goal.returns
+returns c = realises_status
+    (record {
+      follows = c.surrounded_core_follows.ensures;
+      tdo = c.extended_tdo_follows.ensures;
+      stand = record { inverses = c.inverses_tell.ensures; registers = c.registers_tell.ensures };
+      steps = c.steps_by_register.ensures;
+      moments = c.moments_of_a_run.ensures;
+      exists = c.some_run_beside.ensures;
+    })

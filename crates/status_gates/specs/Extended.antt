@@ -1,0 +1,64 @@
+-- The test logic of a device with read-only data registers of the design's own: besides the base device's test logic a
+-- list for each register, and TDO. In a list place 0 is nearest TDO.
+-- IEEE Std 1149.1-2001: test data registers (design-specific), TAP controller; that the opcodes name nothing in the
+-- base device is own.
+use Rattle.std.specs.Prelude.{ℕ, zero, suc, Bool, List, [], ◌∷◌, map, Option, Some, None, if◌then◌else◌}
+use Rattle.signal_values.specs.declared.Sig.{Sig}
+use Rattle.signal_values.specs.declared.PinSig.{PinSig}
+use Rattle.signal_values.specs.declared.PinSig.TheVariants.{HighZ}
+use Rattle.signal_values.specs.Values.{bit}
+use Rattle.cell_library.specs.declared.codes.Bits.{Bits}
+use Rattle.netlist_model.specs.declared.NetId.{NetId}
+use Rattle.bsdl_device.specs.Instructions.{selected_register}
+use Rattle.bsdl_device.specs.declared.values.Device.{Device}
+use Rattle.test_logic.specs.declared.Levels.{Levels}
+use Rattle.test_logic.specs.Instructions.{pattern, is_pattern}
+use Rattle.test_logic.specs.Registers.{first_bit, ident_after, tdo_after}
+use Rattle.test_logic.specs.Machine.{TestLogic, Machine, zeros, in_effect, bit_of, test_logic_of}
+use Rattle.register_gates.specs.BitsLawsLaws.{bit_after}
+use Rattle.wrapped_chip.specs.ChipRuns.{ChipMoment}
+
+-- a register: the opcode that selects it, and the nets of the core's wires that it captures, the one nearest TDO first
+pub record StatusRegister : Type 0 where
+  pub opcode : Bits
+  pub wires : List NetId
+
+-- its opcode is latched
+abbrev pub is_latched : StatusRegister → Machine → Bool
+is_latched r m = is_pattern m.latched (pattern r.opcode)
+
+-- the core's values of its wires
+abbrev pub wire_values : StatusRegister → (ℕ → Sig) → List Sig
+wire_values r value = map (λ (net : NetId). value net.0) r.wires
+
+-- its list after an event, by the test logic and the core's values from before the event: while its opcode is latched
+-- it captures and shifts as other data registers do; TRST at 0 clears it
+abbrev pub list_after : StatusRegister → Levels → Levels → (ℕ → Sig) → Machine → List Sig → List Sig
+list_after r before after value m kept =
+    bit_after before after (zeros r.wires) (ident_after (is_latched r m) (wire_values r value) m.state (bit before.tdi) kept) kept kept
+
+-- its list at each moment of a run of the chip
+unfoldable pub list_at : StatusRegister → (ℕ → ChipMoment) → ℕ → List Sig
+list_at r chip zero = zeros r.wires
+list_at r chip (suc t) = list_after r (chip t).levels (chip (suc t)).levels (chip t).value (chip t).machine (list_at r chip t)
+
+-- the first of the registers whose opcode is latched, by the bit of its list nearest TDO
+abbrev pub nearest_of : List StatusRegister → (StatusRegister → List Sig) → Machine → Option Sig
+nearest_of [] lists m = None
+nearest_of (r ∷ rs) lists m = if is_latched r m then Some (first_bit (lists r)) else nearest_of rs lists m
+
+-- the bit that a falling edge gives TDO in Shift-DR: that of the register whose opcode is latched, else that of the
+-- base device
+abbrev pub data_of : Option Sig → TestLogic → Machine → Sig
+data_of (Some near) L m = near
+data_of None L m = bit_of (selected_register (in_effect L m)) m
+
+-- TDO after an event
+abbrev pub tdo_with : TestLogic → Levels → Levels → Machine → Option Sig → PinSig → PinSig
+tdo_with L before after m near tdo = bit_after before after HighZ tdo (tdo_after m.state (data_of near L m) (first_bit m.shift)) tdo
+
+-- TDO at each moment of a run of the chip
+unfoldable pub tdo_at : List StatusRegister → Device → (ℕ → ChipMoment) → ℕ → PinSig
+tdo_at rs B chip zero = HighZ
+tdo_at rs B chip (suc t) =
+    tdo_with (test_logic_of B) (chip t).levels (chip (suc t)).levels (chip t).machine (nearest_of rs (λ r. list_at r chip t) (chip t).machine) (tdo_at rs B chip t)

@@ -1,5 +1,0 @@
-use Rattle.status_runs.proofs.Lists.{registers_follow}
-use Rattle.status_runs.proofs.registers_follow.Goals as goal
-
-pub returns : goal.returns
-returns c = registers_follow (record { follows = c.surrounded_core_follows.ensures; wires = c.wires_carry.ensures; gates = c.data_registers_follow.ensures; moments = c.moments_of_a_run.ensures })

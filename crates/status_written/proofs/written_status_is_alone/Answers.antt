@@ -1,9 +1,0 @@
-use Rattle.status_written.proofs.Whole.{is_alone}
-use Rattle.status_written.proofs.written_status_is_alone.Goals as goal
-
-pub returns : goal.returns
-returns c = is_alone (record {
-  fitting = c.fitted_is_fitting.ensures;
-  renumbered = c.written_is_renumbered.ensures;
-  places = c.dense_keeps_places.ensures;
-}) c.built_status_is_alone.ensures c.renumbered_is_alone.ensures

@@ -1,3 +1,0 @@
-pub use Rattle.status_register.specs as status_register
-pub use Rattle.stitch_texts.specs.Written
-pub mod Laws

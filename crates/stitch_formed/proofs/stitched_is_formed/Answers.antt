@@ -1,5 +1,0 @@
-use Rattle.stitch_formed.proofs.Formed.{formed as lemma}
-use Rattle.stitch_formed.proofs.stitched_is_formed.Goals as goal
-
-pub returns : goal.returns
-returns c = lemma c.stitched_has_drivers.ensures c.stitched_is_ordered.ensures c.stitched_has_cones.ensures

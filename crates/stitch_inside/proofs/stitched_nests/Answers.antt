@@ -1,5 +1,0 @@
-use Rattle.stitch_inside.proofs.Nests.{stitched_nests as lemma}
-use Rattle.stitch_inside.proofs.stitched_nests.Goals as goal
-
-pub returns : goal.returns
-returns c = lemma c.built_in_nests.ensures c.stitched_is_built_in.ensures

@@ -1,2 +1,0 @@
-// What crates above name of plan_devices.
-pub use plan_devices::{fitted_is_fitting, plans_suit_netlists};

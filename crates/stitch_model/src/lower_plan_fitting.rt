@@ -1,2 +1,0 @@
-// What crates above name of plan_fitting.
-pub use plan_fitting::FitRow;

@@ -1,5 +1,0 @@
-use Rattle.stitch_ranks.proofs.Pins.{has_pins as lemma}
-use Rattle.stitch_ranks.proofs.stitched_has_pins.Goals as goal
-
-pub returns : goal.returns
-returns c = lemma c.bit_of_a_direction.ensures

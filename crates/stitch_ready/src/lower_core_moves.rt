@@ -1,2 +1,0 @@
-// What crates above name of core_moves.
-pub use core_moves::stand_behind;

@@ -1,5 +1,0 @@
-use Rattle.stitch_texts.proofs.Whole.{can_be_written}
-use Rattle.stitch_texts.proofs.stitched_can_be_written.Goals as goal
-
-pub returns : goal.returns
-returns c = can_be_written c.fitted_is_fitting.ensures c.stitched_has_free_prefix.ensures

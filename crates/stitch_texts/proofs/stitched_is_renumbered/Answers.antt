@@ -1,5 +1,0 @@
-use Rattle.stitch_texts.proofs.Numbers.{is_renumbered}
-use Rattle.stitch_texts.proofs.stitched_is_renumbered.Goals as goal
-
-pub returns : goal.returns
-returns c = is_renumbered c.stitched_has_counts.ensures c.written_is_renumbered.ensures c.dense_keeps_places.ensures

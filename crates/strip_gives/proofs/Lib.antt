@@ -1,4 +1,0 @@
-pub mod Fits
-pub mod Same
-pub mod Views
-pub mod Laid

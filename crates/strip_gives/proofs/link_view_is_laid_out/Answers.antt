@@ -1,5 +1,0 @@
-use Rattle.strip_gives.proofs.link_view_is_laid_out.Goals as goal
-use Rattle.strip_gives.proofs.Laid.{laid_out}
-
-pub returns : goal.returns
-returns c = laid_out

@@ -1,4 +1,0 @@
-pub mod Others
-pub mod Told
-pub mod Again
-pub mod Spell

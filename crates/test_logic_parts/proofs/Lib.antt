@@ -1,0 +1,11 @@
+pub mod IntoNets
+pub mod Lists
+pub mod LogicAdded
+pub mod Outputs
+pub mod PortsAdded
+pub mod Ready
+pub mod RowSizes
+pub mod RowSteps
+pub mod RowsAdded
+pub mod Sizes
+pub mod WholeAdded

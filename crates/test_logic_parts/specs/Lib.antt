@@ -1,0 +1,4 @@
+pub mod Logic
+pub mod Ports
+pub mod Rows
+pub mod Whole

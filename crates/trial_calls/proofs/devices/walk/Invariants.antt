@@ -1,5 +1,0 @@
-use Rattle.std.proofs.Common.{◌≡◌}
-use Rattle.trial_calls.proofs.devices.walk.Given as goal
-
-abbrev pub invariant-loop-tms : goal.invariant-loop-tms
-invariant-loop-tms l = l.machine.logic ≡ l.fn.machine.logic

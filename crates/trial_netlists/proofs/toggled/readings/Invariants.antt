@@ -1,8 +1,0 @@
-use Rattle.std.proofs.Common.{◌≡◌, true}
-use Rattle.trial_netlists.proofs.toggled.readings.Given as goal
-
-abbrev pub invariant-loop-number : goal.invariant-loop-number
-invariant-loop-number l = record {
-  linked : l.sim.linked ≡ l.fn.linked;
-  started : l.sim.started ≡ true;
-}

@@ -1,0 +1,145 @@
+// A flip-flop that toggles, in a run in which each event works out all cells.
+ghost use Rattle.std.specs.Prelude.{◌≡◌, ◌<◌, ℕ, true, IfOk, IfSome, IsSome};
+ghost use Rattle.netlist_model.specs.Cones.{IsControlPort};
+ghost use Rattle.netlist_model.specs.Runs.{IsKnownPin};
+ghost use Rattle.netlist_meaning.specs.Pins.{ArePinsOf, net_of, outside};
+ghost use Rattle.netlist_meaning.specs.States.{IsStateOf};
+
+use crate::netlists::linking::linked_of;
+use cell_library::Library;
+use netlist_link::Linked;
+use netlist_meaning::{Event, Pins, Sim, State};
+use netlist_model::{PinBit, width_of};
+use signal_values::PinSig;
+use std::alloc::Global;
+use std::process::Abort;
+use std::test::Fail;
+use texts::OutOfMemory;
+
+const TOGGLE: &[u8] = b"module t(input ck, input rn, output q); wire d; not(d,q); \
+DFFR f(.D(d),.CK(ck),.RN(rn),.Q(q)); endmodule";
+
+/// The flip-flop, with CK, RN and Q as ports.
+pub(crate) fn toggle(alloc: Global) -> Result<Linked, Fail> {
+    linked_of(alloc, TOGGLE, Library::new(alloc))
+}
+
+// CK and RN are 0 at the start, so q is.
+const EVENTS: [(&[u8], PinSig); 8] = [
+    (b"ck", PinSig::One),
+    (b"ck", PinSig::Zero),
+    (b"rn", PinSig::One),
+    (b"ck", PinSig::One),
+    (b"ck", PinSig::Zero),
+    (b"ck", PinSig::One),
+    (b"ck", PinSig::Zero),
+    (b"ck", PinSig::One),
+];
+
+/// What q reads at the start and after each event.
+pub(crate) const READINGS: [PinSig; 9] = [
+    PinSig::Zero,
+    PinSig::Zero,
+    PinSig::Zero,
+    PinSig::Zero,
+    PinSig::One,
+    PinSig::One,
+    PinSig::Zero,
+    PinSig::Zero,
+    PinSig::One,
+];
+
+/// The bit with this name.
+pub(crate) fn bit(linked: &Linked, word: &[u8]) -> Option<PinBit>
+    ensures { IfSome result (λ pin. IsSome (net_of linked.now.arena.lists.ports pin)) }
+{
+    let netlist = linked.netlist();
+    netlist.is_laid_out();
+    let pin = linked.find_pin(word)?;
+    if pin.port.0 >= netlist.port_count() {
+        return None;
+    }
+    if u64::from(pin.bit) >= width_of(netlist.port_range(pin.port)) {
+        return None;
+    }
+    let _net = netlist.pin_net(pin);
+    Some(pin)
+}
+
+/// The event of this number.
+pub(crate) fn event(linked: &Linked, number: usize) -> Option<Event>
+    requires { number < 8 }
+{
+    let (word, value) = EVENTS[number];
+    let pin = bit(linked, word)?;
+    Some(Event { pin, value })
+}
+
+// Steps by the event of this number, if it is legal.
+fn step(linked: &Linked, sim: &mut Sim, number: usize) -> Option<()>
+    requires number { number < 8 }
+    requires started { sim.old.started ≡ true }
+    ensures linked { sim.new.linked ≡ sim.old.linked }
+    ensures started { sim.new.started ≡ true }
+{
+    let event = event(linked, number)?;
+    if !sim.is_legal(event) {
+        return None;
+    }
+    sim.apply(event);
+    Some(())
+}
+
+// What q reads in a run, if each event is legal.
+fn readings(linked: &Linked, sim: &mut Sim) -> Option<[PinSig; 9]>
+    requires linked { sim.old.linked ≡ linked.now }
+    requires started { sim.old.started ≡ true }
+{
+    let q = bit(linked, b"q")?;
+    let mut readings = [sim.reading(q); 9];
+    for number in 0..8 {
+        step(linked, sim, number)?;
+        readings[number + 1] = sim.reading(q);
+    }
+    Some(readings)
+}
+
+/// The pins at first, where CK and RN are 0.
+pub(crate) fn pins_at_first(alloc: Global, linked: &Linked) -> Result<Pins, OutOfMemory>
+    ensures pins { IfOk result (ArePinsOf linked.now.arena.lists) }
+    ensures known { IfOk result (λ pins. (net : ℕ) → IsControlPort linked.now.arena.lists net
+        → IsKnownPin (outside pins net)) }
+{
+    Pins::new(alloc, linked)
+}
+
+// Plays the events from these pins and contents.
+fn look_at_readings(
+    rt: &impl Abort,
+    alloc: Global,
+    linked: &Linked,
+    pins: &Pins,
+    state: &State,
+) -> Result<(), Fail>
+    requires pins { ArePinsOf linked.now.arena.lists pins.now }
+    requires known { (net : ℕ) → IsControlPort linked.now.arena.lists net
+        → IsKnownPin (outside pins.now net) }
+    requires state { IsStateOf linked.now state.now }
+{
+    let mut sim = Sim::new(alloc, linked)?;
+    sim.start(pins, state);
+    assert!(rt; readings(linked, &mut sim) == Some(READINGS));
+    Ok(())
+}
+
+fn look_at_run(rt: &impl Abort, alloc: Global, linked: &Linked) -> Result<(), Fail> {
+    let pins = pins_at_first(alloc, linked)?;
+    let state = State::new(alloc, linked)?;
+    look_at_readings(rt, alloc, linked, &pins, &state)
+}
+
+#[test]
+fn a_toggle_reads_as_worked_out(rt: HostRuntime) -> Result<(), Fail> {
+    let linked = toggle(rt.alloc())?;
+    look_at_run(&rt, rt.alloc(), &linked)
+}

@@ -1,5 +1,0 @@
-pub mod Cuts
-pub mod Atoms
-pub mod Parts
-pub mod Written
-pub mod Lines

@@ -1,7 +1,0 @@
-use Rattle.std.proofs.Common.{◌≡◌, ◌++◌, take}
-use Rattle.std.specs.List.{flat_map}
-use Rattle.verilog_tree.specs.Canonical.{wire_text}
-use Rattle.verilog_printing.proofs.ports.put_wires.Given as goal
-
-abbrev pub invariant-loop-wire : goal.invariant-loop-wire
-invariant-loop-wire l = l.text ≡ l.fn.text ++ flat_map wire_text (take l.wire-index l.wires)

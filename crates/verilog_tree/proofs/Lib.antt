@@ -1,0 +1,11 @@
+pub mod Complete
+pub mod CompleteItems
+pub mod Declared
+pub mod Items
+pub mod Parts
+pub mod Readers
+pub mod ReadingLists
+pub mod ReadingWhole
+pub mod Several
+pub mod SpelledTrees
+pub mod SpelledWords

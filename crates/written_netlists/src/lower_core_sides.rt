@@ -1,0 +1,3 @@
+// What crates above name of core_sides.
+pub use core_sides::moves::stand_behind;
+pub use core_sides::sides::sides_of;

@@ -1,5 +1,0 @@
-use Rattle.written_runs.proofs.Written as written
-use Rattle.written_runs.proofs.written_has_controls.Goals as goal
-
-pub returns : goal.returns
-returns c = written.written_has_controls c.fitted_is_fitting.ensures c.stitched_is_renumbered.ensures c.fitting_plans_have_controls.ensures c.renumbered_has_controls.ensures
