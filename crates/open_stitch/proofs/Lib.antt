@@ -1,6 +1,5 @@
 pub mod Connected
 mod Formed
-mod Known
 mod Named
 mod Open
 mod Places

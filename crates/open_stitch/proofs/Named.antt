@@ -18,7 +18,7 @@ use Rattle.plan_fitting.specs.declared.fitted.Fitted.{Fitted}
 use Rattle.stitched_netlist.specs.declared.model.TapNames.{TapNames}
 use Rattle.stitched_netlist.specs.ModelLogic.{bypass_at}
 use Rattle.stitched_netlist.specs.Stitched.{first_net, stitched}
-use Rattle.written_netlists.specs.Same.{SameIsNamed}
+use Rattle.scan_stitch.specs.written_netlists.Same.{SameIsNamed}
 use Rattle.open_stitch.proofs.Connected.{choice_at}
 use Rattle.open_stitch.specs.declared.TheConstants.{THROUGH}
 use Rattle.open_stitch.proofs.Places.{Steps, choice_there, other_at, shown_at}

@@ -23,7 +23,7 @@ use Rattle.stitched_netlist.specs.ModelRows.{nets_of_rows}
 use Rattle.stitched_netlist.specs.ModelLogic.{logic_size, code_size, bypass_from, bypass_at, logic_at}
 use Rattle.stitched_netlist.specs.Stitched.{tap_port, tap_net_views, boundary_at, first_net, test_logic_nets, stitched_cells, stitched}
 use Rattle.stitched_netlist.proofs.PlacesLaws.{listed_at, counts_live, counts_empty}
-use Rattle.written_netlists.specs.Same.{IsSameNetlist}
+use Rattle.scan_stitch.specs.written_netlists.Same.{IsSameNetlist}
 use Rattle.open_stitch.specs.Connected.{shows}
 use Rattle.open_stitch.proofs.Connected.{choice_at, choice_stands}
 use Rattle.open_stitch.specs.declared.TheConstants.{THROUGH}

@@ -14,7 +14,7 @@ use Rattle.stitched_netlist.specs.declared.model.TapNames.{TapNames}
 use Rattle.stitched_netlist.specs.ModelLogic.{bypass_at}
 use Rattle.stitched_netlist.specs.Stitched.{first_net, stitched_cells_by, stitched_cells, stitched}
 use Rattle.stitched_netlist.proofs.PlacesLaws.{listed_at}
-use Rattle.written_netlists.specs.Same.{IsSameNetlist}
+use Rattle.scan_stitch.specs.written_netlists.Same.{IsSameNetlist}
 use Rattle.open_stitch.specs.Connected.{shows, Connects, ConnectedExtends}
 use Rattle.open_stitch.proofs.Connected.{choice_at, choice_stands, opened_length}
 use Rattle.open_stitch.specs.Open.{through_net, through_cell, open_cells, stitched_open}

@@ -3,4 +3,3 @@ pub mod Laws
 pub mod Open
 pub mod Runs
 pub mod RunsLaws
-pub mod Stitch

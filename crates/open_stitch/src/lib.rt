@@ -3,22 +3,21 @@
 // Contracts cite specs/Open.antt for the netlist, and specs/Runs.antt for how every netlist behaves that extends it.
 // IEEE Std 1149.1-2001: test logic architecture, test data registers; the buffer is own.
 //
-// - `stitch_open` leaves a linked netlist with the ports, the nets and the live cells of `stitched_open`, and answers
-//   what further registers are to be built on. It takes no memory, no more than the room of `prepare`, and can't
-//   refuse after it.
+// - `open_netlist` leaves a netlist with the ports, the nets and the live cells of `stitched_open`, and answers what
+//   further registers are to be built on. It takes no memory, no more than the room of `prepare`, and can't refuse
+//   after it.
 // - Every well-formed netlist with these ports and cells, whatever the buffer reads and whatever further cells it
 //   has, reads as the original wrapped in the device's test logic at every pin but TDO; TDO moves as there with the
 //   value of the buffer's operand in the place of the bypass bit; the core's flip-flops and its wires hold the
 //   core's values, and the nets that are answered carry the test logic (`fitting_plans_are_open`).
 // - `runs`: laws: how netlists behave that have the stitched one's cells, with any net for the bypass bit at TDO.
-// By the contract of `stitch_open`, `open_netlist` and a law function.
+// By the contract of `open_netlist` and a law function.
 #![tactic(auto)]
 
 ghost use Rattle.open_stitch.specs.Laws.{FittingPlansAreOpen};
 
 mod netlists;
 pub mod runs;
-mod whole;
 
 use crate::runs::{driven_wires_stay, open_netlists_follow, pins_are_by_ports};
 use cell_library::Kind;
@@ -30,7 +29,6 @@ use stitched_netlist::cells::stitched_directions;
 use stitched_netlist::ranks::stitched_has_pins;
 use stitched_netlist::rows::{nets_have_rows, rows_stand_once, rows_stand_somewhere};
 use test_logic::{InstrNets, TapNets};
-pub use whole::stitch_open;
 
 /// The buffer before TDO. Handed in is what goes there.
 pub const THROUGH: [Gate; 1] = [

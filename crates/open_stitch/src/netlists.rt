@@ -9,8 +9,8 @@ ghost use Rattle.netlist_link.specs.WellNamed.{IsWellNamed};
 ghost use Rattle.gate_parts.specs.Appended.{Appended};
 ghost use Rattle.gate_parts.specs.Parts.{part_cells};
 ghost use Rattle.stitched_netlist.specs.Stitched.{stitched};
-ghost use Rattle.written_netlists.specs.Prepared.{room_of};
-ghost use Rattle.written_netlists.specs.Same.{IsSameNetlist};
+ghost use Rattle.scan_stitch.specs.written_netlists.Prepared.{room_of};
+ghost use Rattle.scan_stitch.specs.written_netlists.Same.{IsSameNetlist};
 ghost use Rattle.scan_stitch.specs.Stitched.{CanBeStitched, HasStitchRoom};
 ghost use Rattle.open_stitch.specs.declared.TheConstants.{THROUGH};
 ghost use Rattle.open_stitch.specs.Open.{stitched_open, parts_at};
@@ -25,11 +25,11 @@ use netlist_link::draft_laws::{
 use netlist_model::laws::contained_parts;
 use netlist_model::{CellId, Feed, NetId};
 use plan_fitting::Fitted;
+use scan_stitch::lower_written_netlists::same_is_named;
 use scan_stitch::stitch_netlist;
 use status_build::reconnected::reconnected_to_low;
 use stitched_netlist::model::TapNames;
 use stitched_netlist::places::stitched_holds_its_parts;
-use written_netlists::names::same_is_named;
 
 // Adds the buffer, and answers its net.
 fn add_through(netlist: &mut Netlist, bypass: NetId) -> NetId

@@ -21,6 +21,7 @@
 
 mod device;
 mod laws;
+pub mod lower_written_netlists;
 mod names;
 mod needed_room;
 mod parts;
