@@ -19,7 +19,7 @@ use Rattle.bsdl_device.specs.Instructions.{instruction_word, names_instruction}
 use Rattle.bsdl_device.specs.Checks.{is_repeated, has_instruction, lacks_instruction, instructions_of, is_without_opcode, selects_other}
 use Rattle.bsdl_device.specs.Canonical.{has_opcode}
 use Rattle.bsdl_device.proofs.Rebuilt.{opcode_entry, present, device_id_entries, access_entries}
-use Rattle.bsdl_device.proofs.Instructions.{has_by_opcode}
+use Rattle.bsdl_device.proofs.OpcodeFacts.{has_by_opcode}
 
 -- the instructions that each device has
 pub record HasAll (opcodes : List Opcode) : Type 0 where

@@ -18,7 +18,7 @@ use Rattle.bsdl_device.specs.RowRules.{row_misfits, bit_not_in_one_row, system_b
 use Rattle.bsdl_device.specs.Spelled.{SpellsText}
 use Rattle.bsdl_device.specs.IsDevice.{AreDevicePorts, names_of, IsDeviceTap, IsInstructionRegister, IsDeviceCode, IsUsercode, own_bits, is_at, AreDeviceRows, IsDevice}
 use Rattle.bsdl_device.proofs.RoundTripNames.{all_to}
-use Rattle.bsdl_device.proofs.Instructions.{has_by_opcode}
+use Rattle.bsdl_device.proofs.OpcodeFacts.{has_by_opcode}
 use Rattle.bsdl_device.proofs.Rebuilt.{as_declared, entry_of, opcode_entry, tap_of, row_entries, rebuilt_file, rebuilt_contents, rebuilt_ports}
 use Rattle.bsdl_device.proofs.Good.{GoodBits}
 use Rattle.bsdl_device.proofs.RoundTripHeld.{IsCode}

@@ -33,7 +33,7 @@ use Rattle.bsdl_device.specs.Spelled.{SpellsText}
 use Rattle.bsdl_device.specs.IsDevice.{IsBits, IsDeviceRange, IsDevicePort, names_of, tap_places, is_scalar_at, IsDeviceTap, IsDeviceCode, IsUsercode, is_control_at, is_disabled, IsDeviceRow, own_bits, is_at, IsDevice}
 use Rattle.bsdl_device.proofs.RoundTripNames.{same_self, all_to}
 use Rattle.bsdl_device.proofs.RoundTripIdentifiers.{name_test}
-use Rattle.bsdl_device.proofs.Instructions.{named_again, has_by_opcode, opcodes_again}
+use Rattle.bsdl_device.proofs.OpcodeFacts.{named_again, has_by_opcode, opcodes_again}
 use Rattle.bsdl_device.proofs.Access.{has_all, registers_keep}
 use Rattle.bsdl_device.proofs.Numbered.{InOrder, counted_again, ordered_again}
 use Rattle.bsdl_device.proofs.Rebuilt.{as_declared, entry_of, opcode_entry, tap_of, port_bit, row_entries, rebuilt_file, rebuilt_contents, rebuilt_ports}

@@ -31,7 +31,7 @@ use Rattle.bsdl_device.proofs.Lookups.{place_of_same}
 use Rattle.bsdl_device.proofs.Rebuilt.{code_strings, user_strings, of_entity, rebuilt_file, rebuilt_contents, as_declared, rebuilt_ports, entry_of, opcode_entry, tap_of}
 use Rattle.bsdl_device.proofs.PinMaps.{MapsPorts, maps_again, ports_again, entry_again}
 use Rattle.bsdl_device.proofs.Taps.{SameTap, spelled_tap, tap_again, same_turn, tap_repeats_same, tap_misfits_same, system_bits_same}
-use Rattle.bsdl_device.proofs.Instructions as opcodes
+use Rattle.bsdl_device.proofs.OpcodeFacts as opcodes
 use Rattle.bsdl_device.proofs.Access.{HasAll, has_all, registers_keep}
 use Rattle.bsdl_device.proofs.Numbered.{CountedRows, InOrder, ordered_shuffled, ordered_in_order, ordered_again, counted_again}
 use Rattle.bsdl_device.proofs.Rows.{respelled_row, is_known, known_from, rows_respelled, numbered_respelled, cells_respelled, rows_same, bits_same, agree_again, outputs_same}

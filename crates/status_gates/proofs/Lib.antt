@@ -9,4 +9,4 @@ pub mod RunsLists
 pub mod Stands
 pub mod Tdo
 pub mod Told
-pub mod Wires
+pub mod CoreWires

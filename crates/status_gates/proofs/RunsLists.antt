@@ -19,7 +19,7 @@ use Rattle.register_gates.specs.Registers.{data_values}
 use Rattle.status_gates.specs.Wires.{net_feeds}
 use Rattle.status_gates.specs.Extended.{StatusRegister, is_latched, wire_values, list_after, list_at}
 use Rattle.status_gates.specs.RunsLaws.{WiresCarry, RegistersFollow}
-use Rattle.status_gates.proofs.Wires.{fed}
+use Rattle.status_gates.proofs.CoreWires.{fed}
 
 pub record ListLaws : Type 0 where
   pub follows : SurroundedFollows

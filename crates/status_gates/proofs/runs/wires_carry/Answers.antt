@@ -1,4 +1,4 @@
-use Rattle.status_gates.proofs.Wires.{wires_carry}
+use Rattle.status_gates.proofs.CoreWires.{wires_carry}
 use Rattle.status_gates.proofs.runs.wires_carry.Goals as goal
 
 pub returns : goal.returns
