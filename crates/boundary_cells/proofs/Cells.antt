@@ -22,8 +22,8 @@ use Rattle.gate_parts.specs.PartLaws.{ContainedPartMeets}
 use Rattle.test_logic.specs.declared.ScanNets.{ScanNets}
 use Rattle.test_logic.specs.Instructions.{mode_of, is_extest}
 use Rattle.test_logic.specs.Rows.{CellAt, datum, input_into, row_captured}
-use Rattle.register_gates.specs.BitsLaws.{shift_bit_cells, held_bit_cells}
-use Rattle.register_gates.specs.BitsLawsLaws.{ShiftBitsFollow, HeldBitsFollow}
+use Rattle.register_gates.specs.Bits.{shift_bit_cells, held_bit_cells}
+use Rattle.register_gates.specs.BitsLaws.{ShiftBitsFollow, HeldBitsFollow}
 use Rattle.boundary_cells.specs.declared.tables.Choice.{Choice}
 use Rattle.boundary_cells.specs.declared.tables.TheConstants.{BC_1, BC_2, UPDATES}
 use Rattle.boundary_cells.specs.Cells.{steering_of, holding_of, choice_cell, cells_onto, stage_table, cell_given, observe_cells, input_cells, output_cells}

@@ -17,7 +17,7 @@ use Rattle.test_logic.specs.declared.TapState.TheVariants.{TestLogicReset, RunTe
 use Rattle.test_logic.specs.Controller.{dr_action, act}
 use Rattle.test_logic.specs.Registers.{shifted, update_bit, updated, updated_after, boundary_after}
 use Rattle.test_logic.specs.Machine.{TestLogic, Machine, selects, zeros, edge_of, clocked, step_under}
-use Rattle.register_gates.specs.BitsLawsLaws.{on_edge}
+use Rattle.register_gates.specs.BitsLaws.{on_edge}
 use Rattle.boundary_cells.specs.MachineRows.{bit_at, boundary_action, is_update, boundary_updates, RowShifts, RowsStep}
 
 zeros_at : (kinds : List BoundaryKind) (place : ℕ) (cell : BoundaryKind) → slice_get kinds place ≡ Some cell → bit_at (zeros kinds) place ≡ Zero

@@ -19,8 +19,8 @@ use Rattle.gate_parts.specs.Parts.{feed_of}
 use Rattle.test_logic.specs.declared.ScanNets.{ScanNets}
 use Rattle.test_logic.specs.Controller.{act}
 use Rattle.test_logic.specs.Rows.{CellAt}
-use Rattle.register_gates.specs.BitsLaws.{shift_bit_cells, held_bit_cells}
-use Rattle.register_gates.specs.BitsLawsLaws.{bit_after, ShiftBitsFollow, HeldBitsFollow}
+use Rattle.register_gates.specs.Bits.{shift_bit_cells, held_bit_cells}
+use Rattle.register_gates.specs.BitsLaws.{bit_after, ShiftBitsFollow, HeldBitsFollow}
 use Rattle.boundary_cells.specs.declared.tables.Choice.{Choice}
 use Rattle.boundary_cells.specs.Cells.{steering_of, holding_of, choice_cell}
 use Rattle.boundary_cells.specs.Laws.{CarriesMode, ShiftLaws, UpdateLaws}

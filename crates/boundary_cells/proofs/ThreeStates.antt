@@ -22,8 +22,8 @@ use Rattle.gate_parts.specs.PartLaws.{ContainedPartMeets}
 use Rattle.test_logic.specs.declared.ScanNets.{ScanNets}
 use Rattle.test_logic.specs.Instructions.{mode_of, is_extest}
 use Rattle.test_logic.specs.Rows.{ControlAt, CellAt, datum, level, enable_of, row_reading, row_captured, bidir_sampled}
-use Rattle.register_gates.specs.BitsLaws.{shift_bit_cells, held_bit_cells}
-use Rattle.register_gates.specs.BitsLawsLaws.{ShiftBitsFollow, HeldBitsFollow}
+use Rattle.register_gates.specs.Bits.{shift_bit_cells, held_bit_cells}
+use Rattle.register_gates.specs.BitsLaws.{ShiftBitsFollow, HeldBitsFollow}
 use Rattle.boundary_cells.specs.declared.tables.TheConstants.{BC_1_CONTROL, BC_2_CONTROL, BC_7_HIGH, BC_7_LOW, UPDATES}
 use Rattle.boundary_cells.specs.Cells.{steering_of, holding_of}
 use Rattle.boundary_cells.specs.Laws.{CarriesMode, StandsAtOutput}

@@ -14,7 +14,7 @@ use Rattle.gate_parts.specs.Parts.{feed_of, part_cells, is_sound_pin}
 use Rattle.test_logic.specs.declared.ScanNets.{ScanNets}
 use Rattle.register_gates.specs.declared.bits.Steering.{Steering}
 use Rattle.register_gates.specs.declared.bits.Holding.{Holding}
-use Rattle.register_gates.specs.BitsLaws.{AreNetsBelow, shift_bit_cells}
+use Rattle.register_gates.specs.Bits.{AreNetsBelow, shift_bit_cells}
 use Rattle.boundary_cells.specs.declared.tables.Choice.{Choice}
 use Rattle.boundary_cells.specs.declared.tables.TheConstants.{BC_1, BC_2, UPDATES}
 

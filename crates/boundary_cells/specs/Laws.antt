@@ -22,7 +22,7 @@ use Rattle.test_logic.specs.declared.ScanNets.{ScanNets}
 use Rattle.test_logic.specs.Controller.{act}
 use Rattle.test_logic.specs.Instructions.{mode_of, is_extest}
 use Rattle.test_logic.specs.Rows.{CellAt, datum, input_into, row_captured}
-use Rattle.register_gates.specs.BitsLawsLaws.{Carries, Steers, bit_after}
+use Rattle.register_gates.specs.BitsLaws.{Carries, Steers, bit_after}
 use Rattle.boundary_cells.specs.Cells.{steering_of, observe_cells, input_cells, output_cells}
 
 -- own: the nets of the modes say what the instruction in effect makes of the cells

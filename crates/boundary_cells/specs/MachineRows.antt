@@ -14,7 +14,7 @@ use Rattle.test_logic.specs.declared.TapState.TheVariants.{UpdateDr}
 use Rattle.test_logic.specs.Controller.{dr_action, act}
 use Rattle.test_logic.specs.Registers.{shifted, update_bit}
 use Rattle.test_logic.specs.Machine.{TestLogic, Machine, selects, reset, machine_step}
-use Rattle.register_gates.specs.BitsLawsLaws.{bit_after}
+use Rattle.register_gates.specs.BitsLaws.{bit_after}
 
 -- own: the bit in a place, unknown past the end
 abbrev pub bit_at : List Sig → ℕ → Sig

@@ -12,7 +12,7 @@
 // - The rules stand in two crates below: those on ports, pins, instructions and registers in bsdl_port_rules, those on
 //   the boundary register in bsdl_row_rules. Tables here find the first entry of a port, in any case of letters, and
 //   the first row of a number.
-// - `registers`: the rules on these registers, and the registers of their entries and opcodes.
+// - `registers`: the rules on data registers of a design's own, and the registers of their entries and opcodes.
 // By the contract of `first_fault`, `device`, the calls of `sections`, and `strings_stand_within`.
 #![tactic(auto)]
 

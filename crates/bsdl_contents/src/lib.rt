@@ -8,7 +8,7 @@
 // - A refusal, but for want of memory, names the first section in the order of the file whose strings hold what
 //   they can't; at its first string word the fault is told.
 // - A law: the strings of a file hold one list of contents at most.
-// - `entries`: the entries of these registers in REGISTER_ACCESS, and the file without them.
+// - `entries`: the entries of data registers of a design's own in REGISTER_ACCESS, and the file without them.
 // By the contract of `read_contents` and its law function.
 #![tactic(auto)]
 

@@ -7,7 +7,7 @@
 //   by some text.
 // - Its parts stand open to a text that has more between them: the head, the instructions, the identification
 //   register, register access and the boundary register, each of which adds exactly the part of that name.
-// - `registers`: such a device to its canonical text.
+// - `registers`: a device with data registers of a design's own to its canonical text.
 // By the contract of `print_device` and of its parts.
 #![tactic(auto)]
 

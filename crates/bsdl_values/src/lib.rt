@@ -14,8 +14,8 @@
 // - `read_device`: the same from the bytes of a text, besides `BsdlWord` with the place where the bytes can't go
 //   on. On success the bytes spell the device and no other, so do those of its canonical text, and the device
 //   keeps `IsDevice`.
-// - `register_texts`: bytes to the one device that they describe, with these registers.
-// - `registers`: words to the one device that they describe, with these registers.
+// - `register_texts`: bytes to the one device that they describe, with data registers of a design's own.
+// - `registers`: words to the one device that they describe, with such registers.
 // By the contract of `parse_device`, `read_device` and its law functions.
 #![tactic(auto)]
 

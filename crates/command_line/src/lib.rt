@@ -6,9 +6,8 @@
 //
 // Proved, of `run_tool`:
 // - **Done.** With status 0, or 6, the words are a command of a table, no word begins with `-`, no output has the
-//   name of another file, and the command did what its own crate says: `text_command`, `text_command`,
-//   `text_command`, `play_command`, `insert_command`, `insert_command`, `strip_command`, `play_command`,
-//   `play_command`, `insert_command`. Conversions, `statusbsdl`, `flatten`, `strip` and `vectors` put nothing. Only
+//   name of another file, and the command did what its own crate says: `text_command`, `play_command`,
+//   `insert_command` or `strip_command`. Conversions, `statusbsdl`, `flatten`, `strip` and `vectors` put nothing. Only
 //   `sim` and `check` end with 6, exactly where an expectation isn't met.
 // - **Refused.** With any other status some fault stands that has this status: the words are no command, or an
 //   output has the name of another file (the first that has is told), or the fault stands in the command as its

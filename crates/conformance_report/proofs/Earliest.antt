@@ -8,7 +8,7 @@ use Rattle.bsdl_device.specs.declared.values.Device.{Device}
 use Rattle.scan_vectors.specs.declared.lines.Lines.{Lines}
 use Rattle.scan_vectors.specs.Rules.{AreLegal, AreIllegalAt, IsFirstBroken}
 use Rattle.scan_vectors.specs.Rules.AreIllegalAt.{broken, unstarted}
-use Rattle.scan_vectors.specs.ScriptsLaws.{IsSpelled}
+use Rattle.scan_vectors.specs.Scripts.{IsSpelled}
 use Rattle.conformance_report.specs.Rules.{KeepsTapRule, IsWrong, IsFirstWrong, IsIllegalAt}
 use Rattle.conformance_report.specs.Firsts.{IsFirstTapBroken, lesser}
 use Rattle.conformance_report.proofs.Numbers.{AreNumbered, ascend_at, ascend_apart, spelled_numbered}

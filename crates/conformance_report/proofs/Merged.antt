@@ -17,7 +17,7 @@ use Rattle.scan_vectors.specs.declared.lines.Lines.{Lines}
 use Rattle.scan_vectors.specs.Grammar.{pin_of}
 use Rattle.netlist_link.specs.Linked.{LinkedView}
 use Rattle.scan_vectors.specs.declared.scripts.script.ScriptLine.{ScriptLine}
-use Rattle.scan_vectors.specs.ScriptsLaws.{IsResolved, IsSpelled}
+use Rattle.scan_vectors.specs.Scripts.{IsResolved, IsSpelled}
 use Rattle.sim_runs.specs.Runs.{net_number}
 use Rattle.sim_runs.specs.Outputs.{missed_line, sets_with}
 use Rattle.conformance_report.specs.declared.verdict.Missed.{Missed}

@@ -8,7 +8,7 @@ use Rattle.word_cutter.proofs.Written.{kept_from-kept}
 use Rattle.word_cutter.proofs.Ahead.{kept_from-skipped}
 use Rattle.scan_vectors.specs.declared.lines.Lines.{Lines}
 use Rattle.scan_vectors.specs.Grammar.{Written, written_words, SpellsLines}
-use Rattle.scan_vectors.specs.ScriptsLaws.{IsSpelled}
+use Rattle.scan_vectors.specs.Scripts.{IsSpelled}
 
 -- What ascends.
 

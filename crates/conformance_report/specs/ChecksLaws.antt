@@ -7,7 +7,7 @@ use Rattle.scan_vectors.specs.declared.lines.Line.{Line}
 use Rattle.scan_vectors.specs.declared.lines.Lines.{Lines}
 use Rattle.scan_vectors.specs.Grammar.{pin_of}
 use Rattle.scan_vectors.specs.declared.scripts.script.ScriptLine.{ScriptLine}
-use Rattle.scan_vectors.specs.ScriptsLaws.{IsResolved}
+use Rattle.scan_vectors.specs.Scripts.{IsResolved}
 use Rattle.sim_runs.specs.Outputs.{missed_line, done_line}
 use Rattle.conformance_report.specs.declared.verdict.Missed.{Missed}
 use Rattle.conformance_report.specs.declared.verdict.Verdict.{Verdict}

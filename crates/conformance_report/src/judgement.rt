@@ -1,6 +1,6 @@
 // Plays a script and judges its expectations.
 ghost use Rattle.std.specs.Prelude.{◌≡◌, ◌+◌, ◌<◌, ◌^◌, ◌∷◌, [], true, IfOk, OnOk};
-ghost use Rattle.scan_vectors.specs.ScriptsLaws.{IsPlayable};
+ghost use Rattle.scan_vectors.specs.Scripts.{IsPlayable};
 ghost use Rattle.netlist_meaning.specs.Sims.{moment_of};
 ghost use Rattle.sim_runs.specs.Outputs.{sets_with};
 ghost use Rattle.sim_runs.specs.PlayedScript.{CanPlay, IsFirst, Moves};

@@ -3,7 +3,7 @@ use Rattle.std.proofs.Common.{refl, sym, subst, ◌∙◌}
 use Rattle.cell_library.specs.Sound.{IsLibrary}
 use Rattle.verilog_tree.specs.Conditions.{SpelledTreesKeepConditions}
 use Rattle.plan_fitting.specs.Devices.{device_of}
-use Rattle.strip_model.specs.LawLaws.{OneNetlistGives}
+use Rattle.strip_model.specs.RecoveryLaw.{OneNetlistGives}
 use Rattle.strip_model.specs.Answer.{RecoveredGives}
 use Rattle.insertion_laws.specs.Laws.{InsertionGives, InsertionIsStripped, InsertionComesBack}
 

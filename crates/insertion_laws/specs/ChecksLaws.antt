@@ -15,7 +15,7 @@ use Rattle.scan_vectors.specs.declared.lines.Lines.{Lines}
 use Rattle.scan_vectors.specs.Grammar.{SpellsLines}
 use Rattle.scan_vectors.specs.declared.scripts.script.ScriptLine.{ScriptLine}
 use Rattle.scan_vectors.specs.Rules.{AreLegal}
-use Rattle.scan_vectors.specs.ScriptsLaws.{IsResolved}
+use Rattle.scan_vectors.specs.Scripts.{IsResolved}
 use Rattle.scan_programs.specs.Program.{program_of}
 use Rattle.conformance_report.specs.declared.verdict.Verdict.{Verdict}
 use Rattle.conformance_report.specs.Agreement.{PortsAgree}

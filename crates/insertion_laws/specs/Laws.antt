@@ -8,7 +8,7 @@ use Rattle.netlist_link.specs.Linked.{LinkedView}
 use Rattle.plan_texts.specs.declared.plan.Plan.{Plan}
 use Rattle.plan_fitting.specs.Devices.{device_of}
 use Rattle.insertions.specs.Insertions.{IsInsertion, IsInsertionText}
-use Rattle.strip_model.specs.GivesLaws.{Gives}
+use Rattle.strip_model.specs.Gives.{Gives}
 use Rattle.strip_model.specs.Answer.{IsAnswer}
 use Rattle.insertion_laws.specs.ChecksTexts.{BelongTogether}
 

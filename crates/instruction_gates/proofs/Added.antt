@@ -18,7 +18,7 @@ use Rattle.instruction_gates.specs.declared.selections.Matched.{Matched}
 use Rattle.instruction_gates.specs.Copies.{copies_cells}
 use Rattle.instruction_gates.specs.Selections.{selections_cells}
 use Rattle.instruction_gates.specs.Stages.{stages_cells}
-use Rattle.instruction_gates.specs.RegisterLaws.{pattern_bits, stages_size, latches_from, opcode_size, opcode_cells, matched_instructions, opcodes_size, opcodes_cells, opcodes_told, instruction_size, instruction_cells}
+use Rattle.instruction_gates.specs.Register.{pattern_bits, stages_size, latches_from, opcode_size, opcode_cells, matched_instructions, opcodes_size, opcodes_cells, opcodes_told, instruction_size, instruction_cells}
 use Rattle.instruction_gates.proofs.Sizes.{stages_length, opcode_length, opcodes_length}
 
 -- the first bits of a number's constants

@@ -32,8 +32,8 @@ use Rattle.instruction_gates.specs.Latches.{latch_values}
 use Rattle.instruction_gates.specs.Matches.{match_before, AreKnown, MatchesTell}
 use Rattle.instruction_gates.specs.Selections.{selections_cells, Selected, Tells, SelectionsTell}
 use Rattle.instruction_gates.specs.Stages.{stages_cells, Feeds, StagesFollow, StagesStep}
-use Rattle.instruction_gates.specs.RegisterLaws.{pattern_bits, latches_from, opcodes_from, selections_from, copies_from, cells_with, told_with, opcode_size, opcode_cells, opcode_told, matched_instructions, opcodes_cells, opcodes_told, instruction_cells, instruction_nets, held_opcode}
-use Rattle.instruction_gates.specs.RegisterLawsLaws.{FitTheRegister, IsFed, Follows, InstructionFollows}
+use Rattle.instruction_gates.specs.Register.{pattern_bits, latches_from, opcodes_from, selections_from, copies_from, cells_with, told_with, opcode_size, opcode_cells, opcode_told, matched_instructions, opcodes_cells, opcodes_told, instruction_cells, instruction_nets, held_opcode}
+use Rattle.instruction_gates.specs.RegisterLaws.{FitTheRegister, IsFed, Follows, InstructionFollows}
 use Rattle.instruction_gates.specs.Steps.{HoldsStages, InstructionSteps}
 use Rattle.instruction_gates.proofs.Patterns.{bits_in_pattern, pattern_valued, latched_as, last_of}
 use Rattle.instruction_gates.proofs.Known.{known_bits, known_stages}

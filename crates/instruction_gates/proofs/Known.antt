@@ -14,7 +14,7 @@ use Rattle.test_logic.specs.Controller.{ir_action, act}
 use Rattle.test_logic.specs.Instructions.{bits_of, reset_opcode}
 use Rattle.test_logic.specs.Registers.{shifted, shifted_after, latched_after}
 use Rattle.test_logic.specs.Machine.{TestLogic, Machine, IsHistory, zeros, edge_of}
-use Rattle.register_gates.specs.BitsLawsLaws.{on_edge, bit_after}
+use Rattle.register_gates.specs.BitsLaws.{on_edge, bit_after}
 use Rattle.register_gates.specs.Steps.{StepsByRegister}
 use Rattle.instruction_gates.specs.Matches.{IsKnown, AreKnown}
 

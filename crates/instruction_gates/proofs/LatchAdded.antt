@@ -7,7 +7,7 @@ use Rattle.netlist_model.specs.Lists.{CellView, cell_count}
 use Rattle.netlist_arena.specs.Arena.{ArenaView}
 use Rattle.gate_parts.specs.Appended.{Appended}
 use Rattle.gate_parts.specs.Parts.{part_cells}
-use Rattle.register_gates.specs.BitsLaws.{held_bit_cells}
+use Rattle.register_gates.specs.Bits.{held_bit_cells}
 use Rattle.register_gates.proofs.Lengths.{held_length}
 use Rattle.register_gates.specs.Steps.{AddedInTurn}
 use Rattle.instruction_gates.specs.declared.latches.Latching.{Latching}

@@ -21,9 +21,9 @@ use Rattle.test_logic.specs.declared.TapState.{TapState}
 use Rattle.test_logic.specs.declared.TapState.TheVariants.{TestLogicReset, RunTestIdle, SelectDrScan, CaptureDr, ShiftDr, Exit1Dr, PauseDr, Exit2Dr, UpdateDr, SelectIrScan, CaptureIr, ShiftIr, Exit1Ir, PauseIr, Exit2Ir, UpdateIr}
 use Rattle.test_logic.specs.Machine.{edge_of}
 use Rattle.test_logic.specs.Registers.{latched_after}
-use Rattle.register_gates.specs.BitsLaws.{held_bit_cells}
+use Rattle.register_gates.specs.Bits.{held_bit_cells}
 use Rattle.register_gates.specs.Chains.{chain_values}
-use Rattle.register_gates.specs.BitsLawsLaws.{Carries, on_edge, bit_after, HeldBitsFollow}
+use Rattle.register_gates.specs.BitsLaws.{Carries, on_edge, bit_after, HeldBitsFollow}
 use Rattle.instruction_gates.specs.declared.latches.Latching.{Latching}
 use Rattle.instruction_gates.specs.declared.latches.TheConstants.{LOADED}
 use Rattle.instruction_gates.specs.Rows.{is_one, bits_in}

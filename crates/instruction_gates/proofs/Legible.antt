@@ -11,7 +11,7 @@ use Rattle.test_logic.specs.Instructions.{reset_opcode}
 use Rattle.test_logic.specs.Registers.{shifted, shifted_after, latched_after}
 use Rattle.test_logic.specs.Machine.{TestLogic, Machine, AreCodes, zeros, edge_of, machine_step}
 use Rattle.register_gates.specs.tap_gates.Laws.{StepIsTheMachines}
-use Rattle.register_gates.specs.BitsLawsLaws.{on_edge}
+use Rattle.register_gates.specs.BitsLaws.{on_edge}
 use Rattle.register_gates.specs.Steps.{StepsByRegister}
 use Rattle.instruction_gates.specs.Matches.{AreKnown}
 use Rattle.instruction_gates.specs.Steps.{is_captured, IsLegible, InstructionsStayLegible}

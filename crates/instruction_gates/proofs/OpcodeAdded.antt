@@ -11,7 +11,7 @@ use Rattle.gate_parts.specs.Appended.{Appended}
 use Rattle.gate_parts.specs.Laws.{AppendedNone, AppendedCount}
 use Rattle.test_logic.specs.declared.Codes.{Codes}
 use Rattle.instruction_gates.specs.Matches.{match_before, matches_cells}
-use Rattle.instruction_gates.specs.RegisterLaws.{size_with, cells_with}
+use Rattle.instruction_gates.specs.Register.{size_with, cells_with}
 use Rattle.instruction_gates.proofs.Sizes.{matches_length}
 
 -- the room that is left

@@ -13,7 +13,7 @@ use Rattle.register_gates.specs.Chains.{chain_last, chain_values}
 use Rattle.register_gates.specs.Constants.{constant_bits, ConstantsAreBits}
 use Rattle.instruction_gates.specs.Rows.{bits_in}
 use Rattle.instruction_gates.specs.Latches.{latch_values}
-use Rattle.instruction_gates.specs.RegisterLaws.{pattern_bits, latches_from, held_opcode}
+use Rattle.instruction_gates.specs.Register.{pattern_bits, latches_from, held_opcode}
 
 bits_in_constants : (count value : ℕ) → bits_in (constant_bits count value) ≡ bits_of count value
 unfolding constant_bits bits_of

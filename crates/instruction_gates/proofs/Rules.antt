@@ -20,7 +20,7 @@ use Rattle.test_logic.specs.Instructions.{bits_of, pattern, opcode_of}
 use Rattle.test_logic.specs.Registers.{first_bit}
 use Rattle.test_logic.proofs.Lengths.{length_bits_of, right_length}
 use Rattle.instruction_gates.specs.Selections.{is_sampling, may_share}
-use Rattle.instruction_gates.specs.RegisterLawsLaws.{RegistersFit}
+use Rattle.instruction_gates.specs.RegisterLaws.{RegistersFit}
 
 -- Patterns of one length are of one number.
 

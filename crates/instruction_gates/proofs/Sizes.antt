@@ -17,7 +17,7 @@ use Rattle.instruction_gates.specs.Latches.{holding_of, latch_cells, latches_cel
 use Rattle.instruction_gates.specs.Matches.{match_before, match_cells, matches_cells}
 use Rattle.instruction_gates.specs.Stages.{ir_steering, ir_latching, shift_stage_cells, stages_cells}
 use Rattle.instruction_gates.proofs.RowSteps.{row_length}
-use Rattle.instruction_gates.specs.RegisterLaws.{pattern_bits, size_with, cells_with, opcode_size, opcode_cells, opcodes_size, opcodes_cells}
+use Rattle.instruction_gates.specs.Register.{pattern_bits, size_with, cells_with, opcode_size, opcode_cells, opcodes_size, opcodes_cells}
 
 pub matches_length : (first number latches : ℕ) (wanted : List Feed) → length (matches_cells first number latches wanted) ≡ 2 * length wanted
 matches_length first number latches wanted =

@@ -24,7 +24,7 @@ use Rattle.test_logic.specs.Registers.{shifted, latched_after}
 use Rattle.test_logic.specs.Machine.{TestLogic, Machine, IsHistory, zeros}
 use Rattle.register_gates.specs.tap_gates.Controller.{same_state}
 use Rattle.register_gates.specs.Chains.{chain_cells, chain_values, cleared, ChainsFollow}
-use Rattle.register_gates.specs.BitsLawsLaws.{Steers, is_capture, is_shift, bit_after}
+use Rattle.register_gates.specs.BitsLaws.{Steers, is_capture, is_shift, bit_after}
 use Rattle.register_gates.specs.Steps.{StepsByRegister}
 use Rattle.register_gates.proofs.DataRegisters.{cleared_is}
 use Rattle.instruction_gates.specs.declared.stages.TheConstants.{LOADS}

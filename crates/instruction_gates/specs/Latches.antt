@@ -16,9 +16,9 @@ use Rattle.test_logic.specs.declared.TapState.{TapState}
 use Rattle.test_logic.specs.declared.TapState.TheVariants.{TestLogicReset, UpdateIr}
 use Rattle.test_logic.specs.Registers.{latched_after}
 use Rattle.register_gates.specs.declared.bits.Holding.{Holding}
-use Rattle.register_gates.specs.BitsLaws.{held_bit_cells}
+use Rattle.register_gates.specs.Bits.{held_bit_cells}
 use Rattle.register_gates.specs.Chains.{chain_values}
-use Rattle.register_gates.specs.BitsLawsLaws.{Carries, bit_after}
+use Rattle.register_gates.specs.BitsLaws.{Carries, bit_after}
 use Rattle.instruction_gates.specs.declared.latches.Latching.{Latching}
 use Rattle.instruction_gates.specs.declared.latches.TheConstants.{LOADED}
 use Rattle.instruction_gates.specs.Rows.{is_one, bits_in, row_cells, placed}

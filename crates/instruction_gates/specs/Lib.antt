@@ -1,8 +1,8 @@
 pub mod Copies
 pub mod Latches
 pub mod Matches
+pub mod Register
 pub mod RegisterLaws
-pub mod RegisterLawsLaws
 pub mod Rows
 pub mod Selections
 pub mod Stages

@@ -19,7 +19,7 @@ use Rattle.test_logic.specs.Machine.{TestLogic, Machine, IsHistory, machine_step
 use Rattle.register_gates.specs.tap_gates.Laws.{ShowsState}
 use Rattle.register_gates.specs.declared.bits.Steering.{Steering}
 use Rattle.register_gates.specs.Chains.{chain_cells, chain_values}
-use Rattle.register_gates.specs.BitsLawsLaws.{Carries}
+use Rattle.register_gates.specs.BitsLaws.{Carries}
 use Rattle.instruction_gates.specs.declared.latches.Latching.{Latching}
 use Rattle.instruction_gates.specs.declared.stages.TheConstants.{LOADS}
 use Rattle.instruction_gates.specs.Rows.{bits_in}

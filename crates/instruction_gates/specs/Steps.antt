@@ -16,10 +16,10 @@ use Rattle.test_logic.specs.declared.Levels.{Levels}
 use Rattle.test_logic.specs.Instructions.{reset_opcode}
 use Rattle.test_logic.specs.Machine.{TestLogic, Machine, AreCodes, reset, machine_step}
 use Rattle.register_gates.specs.tap_gates.Laws.{ShowsState}
-use Rattle.register_gates.specs.BitsLawsLaws.{Carries}
+use Rattle.register_gates.specs.BitsLaws.{Carries}
 use Rattle.instruction_gates.specs.Matches.{AreKnown}
-use Rattle.instruction_gates.specs.RegisterLaws.{instruction_cells, held_shift, held_opcode}
-use Rattle.instruction_gates.specs.RegisterLawsLaws.{FitTheRegister, IsFed, Follows}
+use Rattle.instruction_gates.specs.Register.{instruction_cells, held_shift, held_opcode}
+use Rattle.instruction_gates.specs.RegisterLaws.{FitTheRegister, IsFed, Follows}
 
 -- own: its two stages hold what the test logic holds
 pub record HoldsStages (first : ℕ) (codes : Codes) (machine : Machine) (m : Moment) : Type 0 where

@@ -4,7 +4,7 @@ ghost use Rattle.std.specs.Prelude.{◌≡◌, ◌+◌, ◌*◌, ◌<◌, ◌≤
 ghost use Rattle.netlist_model.specs.Lists.{cell_count};
 ghost use Rattle.netlist_model.specs.Contained.{IsDense};
 ghost use Rattle.gate_parts.specs.Appended.{Appended};
-ghost use Rattle.register_gates.specs.BitsLaws.{AreNetsBelow};
+ghost use Rattle.register_gates.specs.Bits.{AreNetsBelow};
 ghost use Rattle.instruction_gates.specs.Latches.{latch_cells, latches_cells};
 
 use crate::is_one;

@@ -1,6 +1,6 @@
 // The instruction register as one call: its stages, what tells each opcode that is latched, and what the instruction
 // in effect selects.
-// Contracts cite specs/RegisterLaws.antt for the cells and the nets, and specs/RegisterLawsLaws.antt for what they do in every netlist
+// Contracts cite specs/Register.antt for the cells and the nets, and specs/RegisterLaws.antt for what they do in every netlist
 // that contains them.
 // IEEE Std 1149.1-2001: instruction register, instructions.
 //
@@ -34,8 +34,8 @@ ghost use Rattle.std.specs.Prelude.{◌≡◌, ◌+◌, ◌*◌, ◌<◌, ◌≤
 ghost use Rattle.netlist_model.specs.Lists.{cell_count};
 ghost use Rattle.netlist_model.specs.Contained.{IsDense};
 ghost use Rattle.gate_parts.specs.Appended.{Appended};
-ghost use Rattle.register_gates.specs.BitsLaws.{AreNetsBelow};
-ghost use Rattle.instruction_gates.specs.RegisterLaws.{instruction_size, instruction_cells, instruction_nets};
+ghost use Rattle.register_gates.specs.Bits.{AreNetsBelow};
+ghost use Rattle.instruction_gates.specs.Register.{instruction_size, instruction_cells, instruction_nets};
 
 mod laws;
 mod opcodes;

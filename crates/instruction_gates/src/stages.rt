@@ -5,7 +5,7 @@ ghost use Rattle.netlist_model.specs.Lists.{cell_count};
 ghost use Rattle.netlist_model.specs.Contained.{IsDense};
 ghost use Rattle.netlist_model.specs.Below.{AreFeedsBelow};
 ghost use Rattle.gate_parts.specs.Appended.{Appended};
-ghost use Rattle.register_gates.specs.BitsLaws.{AreNetsBelow};
+ghost use Rattle.register_gates.specs.Bits.{AreNetsBelow};
 ghost use Rattle.register_gates.specs.Chains.{chain_last};
 ghost use Rattle.instruction_gates.specs.Stages.{stages_cells};
 

@@ -14,7 +14,7 @@ use Rattle.stitched_netlist.specs.Sides.{core_cell}
 use Rattle.stitched_netlist.specs.ModelRows.{nets_of_rows, behind}
 use Rattle.stitched_netlist.specs.ModelLogic.{logic_size, instruction_at, bypass_at, logic_cells}
 use Rattle.stitched_netlist.specs.Stitched.{live_cells, boundary_at, first_net, rows_part, boundary_last, tdo_part_by, tdo_part, stitched_cells_by, stitched_cells}
-use Rattle.stitched_netlist.specs.PlacesLawsLaws.{port_of}
+use Rattle.stitched_netlist.specs.PlacesLaws.{port_of}
 use Rattle.open_stitch.specs.Connected.{shows, ConnectedExtends}
 
 same_or_not : (a b : ℕ) → (a ≡ b) ⊎ (a ≢ b)

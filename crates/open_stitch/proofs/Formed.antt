@@ -25,7 +25,7 @@ use Rattle.netlist_link.specs.Grown.{GrownIsFormed}
 use Rattle.netlist_link.specs.Readable.{CanBeRead}
 use Rattle.netlist_link.specs.DraftLawsTables.{IsPartTable, IsControl, CanBeGiven, PartIsFormed, PartIsReadable}
 use Rattle.register_gates.specs.declared.bits.TheConstants.{SHIFT_BIT}
-use Rattle.register_gates.specs.BitsLaws.{shift_bit_given, shift_bit_cells}
+use Rattle.register_gates.specs.Bits.{shift_bit_given, shift_bit_cells}
 use Rattle.register_gates.specs.Registers.{selected_cells, selected_steering}
 use Rattle.plan_fitting.specs.declared.fitted.Fitted.{Fitted}
 use Rattle.status_build.specs.ReconnectedLaws.{Reconnects, ReadsFlop, HasLowNets, ReconnectedToLow}
@@ -33,8 +33,8 @@ use Rattle.stitched_netlist.specs.declared.model.TapNames.{TapNames}
 use Rattle.stitched_netlist.specs.ModelRows.{nets_of_rows}
 use Rattle.stitched_netlist.specs.ModelLogic.{bypass_from, logic_size, code_size, tap_at, instruction_at, bypass_at}
 use Rattle.stitched_netlist.specs.Stitched.{boundary_at, first_net, test_logic_nets, stitched_cells, stitched}
-use Rattle.stitched_netlist.specs.PlacesLawsLaws.{port_of, bypass_number}
-use Rattle.stitched_netlist.specs.PlacesLaws.{StitchedHoldsParts}
+use Rattle.stitched_netlist.specs.PlacesLaws.{port_of, bypass_number}
+use Rattle.stitched_netlist.specs.Places.{StitchedHoldsParts}
 use Rattle.scan_stitch.proofs.Known.{same_is_formed}
 use Rattle.open_stitch.proofs.Connected.{choice_at}
 use Rattle.open_stitch.specs.declared.TheConstants.{THROUGH}

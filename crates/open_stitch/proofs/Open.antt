@@ -39,7 +39,7 @@ use Rattle.status_gates.specs.Placed.{IsCoreWire}
 use Rattle.stitched_netlist.specs.declared.model.TapNames.{TapNames}
 use Rattle.stitched_netlist.specs.ModelLogic.{bypass_at}
 use Rattle.stitched_netlist.specs.Stitched.{first_net, stitched_cells_by, stitched_cells, stitched}
-use Rattle.stitched_netlist.specs.PlacesLaws.{ExtendsStitched}
+use Rattle.stitched_netlist.specs.Places.{ExtendsStitched}
 use Rattle.stitched_netlist.proofs.PlacesLaws.{listed_at}
 use Rattle.stitched_netlist.specs.InsidePlaces.{places_in}
 use Rattle.stitched_netlist.specs.RanksLaws.{StitchedHasPins}

@@ -14,7 +14,7 @@ use Rattle.surrounded_core.specs.Open.{SurroundedFollows}
 use Rattle.stitched_netlist.specs.Sites.{Boundary, pin_net, row_net, site_of, row_sides}
 use Rattle.stitched_netlist.specs.Sides.{is_moved, moves, side_from}
 use Rattle.stitched_netlist.specs.Stitched.{boundary_at}
-use Rattle.stitched_netlist.specs.PlacesLaws.{ExtensionIsBuiltIn}
+use Rattle.stitched_netlist.specs.Places.{ExtensionIsBuiltIn}
 use Rattle.stitched_netlist.specs.InsidePlaces.{places_in}
 use Rattle.stitched_netlist.specs.InsideLaws.{BuiltInSurrounds}
 use Rattle.stitched_netlist.proofs.Nests.{inner_given, given_by_driver}

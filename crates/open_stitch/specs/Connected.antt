@@ -7,8 +7,8 @@ use Rattle.netlist_model.specs.Lists.{CellView, NetlistView, cell_at}
 use Rattle.plan_fitting.specs.declared.fitted.Fitted.{Fitted}
 use Rattle.stitched_netlist.specs.declared.model.TapNames.{TapNames}
 use Rattle.stitched_netlist.specs.Stitched.{tap_ports, stitched_cells}
-use Rattle.stitched_netlist.specs.PlacesLawsLaws.{port_of}
-use Rattle.stitched_netlist.specs.PlacesLaws.{ExtendsStitched}
+use Rattle.stitched_netlist.specs.PlacesLaws.{port_of}
+use Rattle.stitched_netlist.specs.Places.{ExtendsStitched}
 
 -- own: the gate that chooses between the boundary register's bit and the bypass register's, with this net for the
 -- latter

@@ -12,7 +12,7 @@ use Rattle.plan_fitting.specs.declared.fitted.Fitted.{Fitted}
 use Rattle.stitched_netlist.specs.declared.model.TapNames.{TapNames}
 use Rattle.stitched_netlist.specs.ModelLogic.{tap_at, instruction_at, bypass_at}
 use Rattle.stitched_netlist.specs.Stitched.{boundary_at, first_net, test_logic_nets, stitched_cells_by, stitched_cells, stitched}
-use Rattle.stitched_netlist.specs.PlacesLawsLaws.{port_of}
+use Rattle.stitched_netlist.specs.PlacesLaws.{port_of}
 use Rattle.open_stitch.specs.declared.Parts.{Parts}
 
 -- own: the number of the buffer, and its net: behind all others

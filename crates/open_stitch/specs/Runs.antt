@@ -17,7 +17,7 @@ use Rattle.bsdl_device.specs.declared.values.Device.{Device}
 use Rattle.test_logic.specs.Registers.{first_bit}
 use Rattle.test_logic.specs.Machine.{in_effect, test_logic_of}
 use Rattle.tap_gates.specs.Laws.{ShowsState}
-use Rattle.register_gates.specs.BitsLawsLaws.{Carries}
+use Rattle.register_gates.specs.BitsLaws.{Carries}
 use Rattle.instruction_gates.specs.Copies.{row_values}
 use Rattle.instruction_gates.specs.Selections.{Selected}
 use Rattle.wrapped_chip.specs.Cells.{chip_reading}

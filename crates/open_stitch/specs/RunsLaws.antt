@@ -20,7 +20,7 @@ use Rattle.plan_fitting.specs.Pins.{PinSeen}
 use Rattle.plan_fitting.specs.Devices.{fitted_of, device_of}
 use Rattle.plan_fitting.specs.FittingPlan.{IsFitting}
 use Rattle.stitched_netlist.specs.declared.model.TapNames.{TapNames}
-use Rattle.stitched_netlist.specs.PlacesLaws.{ExtendsStitched}
+use Rattle.stitched_netlist.specs.Places.{ExtendsStitched}
 use Rattle.stitched_netlist.specs.InsidePlaces.{places_in}
 
 -- in every run beside a run of the chip: every pin but TDO reads as the chip's, the nets that the controller and the

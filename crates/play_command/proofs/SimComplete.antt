@@ -15,7 +15,7 @@ use Rattle.scan_vectors.specs.Exactly.{SpelledOnce, SpelledIsFaultless}
 use Rattle.scan_vectors.specs.declared.scripts.fault.ScriptFault.{ScriptFault}
 use Rattle.scan_vectors.specs.declared.scripts.fault.ScriptFault.TheVariants as script
 use Rattle.scan_vectors.specs.Rules.{AreLegal}
-use Rattle.scan_vectors.specs.ScriptsLawsLaws.{LegalIsNotIllegal}
+use Rattle.scan_vectors.specs.ScriptsLaws.{LegalIsNotIllegal}
 use Rattle.command_faults.specs.declared.fault.Fault.{Fault}
 use Rattle.command_faults.specs.declared.fault.Fault.TheVariants as fault
 use Rattle.command_faults.specs.declared.status.Status.TheVariants as status

@@ -9,7 +9,7 @@ use Rattle.scan_vectors.specs.declared.lines.Lines.{Lines}
 use Rattle.scan_vectors.specs.Grammar.{SpellsLines}
 use Rattle.scan_vectors.specs.Faults.{IsFault}
 use Rattle.scan_vectors.specs.declared.scripts.script.ScriptLine.{ScriptLine}
-use Rattle.scan_vectors.specs.ScriptsLaws.{IsResolved, IsScriptFault}
+use Rattle.scan_vectors.specs.Scripts.{IsResolved, IsScriptFault}
 use Rattle.sim_runs.specs.Outputs.{IsOutput}
 use Rattle.command_edges.specs.Ends.{run_status}
 use Rattle.command_edges.specs.Seen.{SinkSeen}

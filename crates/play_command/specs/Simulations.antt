@@ -12,7 +12,7 @@ use Rattle.scan_vectors.specs.Grammar.{SpellsLines}
 use Rattle.scan_vectors.specs.declared.scripts.script.ScriptLine.{ScriptLine}
 use Rattle.scan_vectors.specs.declared.scripts.fault.ScriptFault.{ScriptFault}
 use Rattle.scan_vectors.specs.Rules.{AreLegal}
-use Rattle.scan_vectors.specs.ScriptsLaws.{IsResolved, IsScriptFault}
+use Rattle.scan_vectors.specs.Scripts.{IsResolved, IsScriptFault}
 use Rattle.sim_runs.specs.Outputs.{IsOutput}
 
 -- The netlist's bytes spell one tree, which is linked with the library to this netlist; the events' bytes spell lines

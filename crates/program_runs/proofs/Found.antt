@@ -10,7 +10,7 @@ use Rattle.scan_vectors.specs.declared.lines.Lines.{Lines}
 use Rattle.scan_vectors.specs.Grammar.{act_of, pin_of, value_of}
 use Rattle.scan_vectors.specs.declared.scripts.script.ScriptLine.{ScriptLine}
 use Rattle.scan_vectors.specs.Pins.{Names}
-use Rattle.scan_vectors.specs.ScriptsLaws.{IsSpelled, IsFound, IsScriptOf}
+use Rattle.scan_vectors.specs.Scripts.{IsSpelled, IsFound, IsScriptOf}
 use Rattle.scan_vectors.proofs.Verdicts.{spelled_lengths}
 use Rattle.program_runs.specs.Lines.{IsStartOf, NamePins}
 

@@ -12,7 +12,7 @@ use Rattle.wrapped_chip.specs.Realises.{Realises}
 use Rattle.scan_vectors.specs.declared.lines.Lines.{Lines}
 use Rattle.scan_vectors.specs.declared.scripts.script.ScriptLine.{ScriptLine}
 use Rattle.scan_vectors.specs.Rules.{AreLegal}
-use Rattle.scan_vectors.specs.ScriptsLaws.{IsSpelled, IsResolved}
+use Rattle.scan_vectors.specs.Scripts.{IsSpelled, IsResolved}
 use Rattle.scan_programs.specs.Program.{program_of}
 use Rattle.program_runs.specs.Around.{StandsAround}
 use Rattle.program_runs.specs.There.{IsProgramRunThere}

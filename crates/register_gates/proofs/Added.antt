@@ -10,7 +10,7 @@ use Rattle.gate_parts.specs.Appended.{Appended}
 use Rattle.gate_parts.specs.Laws.{AppendedCount, AppendedMore}
 use Rattle.tap_gates.specs.test_logic.declared.TapNets.{TapNets}
 use Rattle.register_gates.specs.declared.bits.Steering.{Steering}
-use Rattle.register_gates.specs.BitsLaws.{AreNetsBelow, shift_bit_cells}
+use Rattle.register_gates.specs.Bits.{AreNetsBelow, shift_bit_cells}
 use Rattle.register_gates.specs.Chains.{chain_cells, chain_last}
 use Rattle.register_gates.specs.Constants.{constant_bits}
 use Rattle.register_gates.specs.Choices.{choice_bits}

@@ -20,8 +20,8 @@ use Rattle.tap_gates.specs.test_logic.declared.Levels.{Levels}
 use Rattle.tap_gates.specs.test_logic.Controller.{act}
 use Rattle.tap_gates.specs.test_logic.Registers.{bypass_after}
 use Rattle.tap_gates.specs.test_logic.Machine.{TestLogic, Machine, IsHistory, selects}
-use Rattle.register_gates.specs.BitsLaws.{shift_bit_cells}
-use Rattle.register_gates.specs.BitsLawsLaws.{Carries, bit_after, ShiftBitsFollow}
+use Rattle.register_gates.specs.Bits.{shift_bit_cells}
+use Rattle.register_gates.specs.BitsLaws.{Carries, bit_after, ShiftBitsFollow}
 use Rattle.register_gates.specs.Registers.{selected_cells, selected_steering, bypass_cells}
 use Rattle.register_gates.specs.Laws.{Directs, DirectsRun, BypassFollows}
 use Rattle.register_gates.proofs.Steps.{by_register, all_along}

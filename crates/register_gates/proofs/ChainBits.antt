@@ -19,8 +19,8 @@ use Rattle.tap_gates.specs.test_logic.Controller.{act}
 use Rattle.tap_gates.specs.test_logic.Machine.{edge_of}
 use Rattle.tap_gates.specs.test_logic.Registers.{shifted}
 use Rattle.register_gates.specs.declared.bits.Steering.{Steering}
-use Rattle.register_gates.specs.BitsLaws.{shift_bit_cells}
-use Rattle.register_gates.specs.BitsLawsLaws.{Carries, Steers, on_edge, bit_after, ShiftBitsFollow}
+use Rattle.register_gates.specs.Bits.{shift_bit_cells}
+use Rattle.register_gates.specs.BitsLaws.{Carries, Steers, on_edge, bit_after, ShiftBitsFollow}
 use Rattle.register_gates.specs.Chains.{chain_last, chain_cells, chain_values, cleared, ChainsFollow}
 
 -- what is contained joined is contained apart

@@ -12,7 +12,7 @@ use Rattle.netlist_arena.specs.Arena.{ArenaView}
 use Rattle.gate_parts.specs.Appended.{Appended}
 use Rattle.gate_parts.specs.Laws.{AppendedNone, AppendedCount, AppendedMore}
 use Rattle.register_gates.specs.declared.bits.Steering.{Steering}
-use Rattle.register_gates.specs.BitsLaws.{shift_bit_cells}
+use Rattle.register_gates.specs.Bits.{shift_bit_cells}
 use Rattle.register_gates.specs.Chains.{chain_last, chain_cells}
 use Rattle.register_gates.proofs.Lengths.{chain_length}
 

@@ -19,7 +19,7 @@ use Rattle.tap_gates.specs.test_logic.Controller.{act}
 use Rattle.tap_gates.specs.test_logic.Registers.{first_bit, shifted, ident_after}
 use Rattle.tap_gates.specs.test_logic.Machine.{zeros}
 use Rattle.register_gates.specs.Chains.{chain_cells, chain_last, chain_values, cleared, ChainsFollow}
-use Rattle.register_gates.specs.BitsLawsLaws.{Carries, bit_after}
+use Rattle.register_gates.specs.BitsLaws.{Carries, bit_after}
 use Rattle.register_gates.specs.Registers.{selected_cells, selected_steering, data_cells, data_values}
 use Rattle.register_gates.specs.Laws.{Directs, DataFollows}
 use Rattle.register_gates.proofs.Selection.{selected_action, acted, steered}

@@ -20,8 +20,8 @@ use Rattle.tap_gates.specs.test_logic.declared.Levels.{Levels}
 use Rattle.tap_gates.specs.test_logic.Machine.{edge_of}
 use Rattle.register_gates.specs.declared.bits.Holding.{Holding}
 use Rattle.register_gates.specs.declared.bits.TheConstants.{CLEARED_BIT, PRESET_BIT}
-use Rattle.register_gates.specs.BitsLaws.{held_bit_given, held_bit_cells}
-use Rattle.register_gates.specs.BitsLawsLaws.{Carries, on_edge, bit_after, HeldBitsFollow}
+use Rattle.register_gates.specs.Bits.{held_bit_given, held_bit_cells}
+use Rattle.register_gates.specs.BitsLaws.{Carries, on_edge, bit_after, HeldBitsFollow}
 
 -- what TRST at 0 makes of the bit
 abbrev reset_of : Bool → ResetTo

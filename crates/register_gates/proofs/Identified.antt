@@ -22,7 +22,7 @@ use Rattle.tap_gates.specs.test_logic.declared.Levels.{Levels}
 use Rattle.tap_gates.specs.test_logic.Instructions.{is_usercode, bits_of}
 use Rattle.tap_gates.specs.test_logic.Registers.{ident_after}
 use Rattle.tap_gates.specs.test_logic.Machine.{TestLogic, Machine, IsHistory, in_effect, selects, captured_code, zeros}
-use Rattle.register_gates.specs.BitsLawsLaws.{Carries, bit_after}
+use Rattle.register_gates.specs.BitsLaws.{Carries, bit_after}
 use Rattle.register_gates.specs.declared.ident.TheConstants.{INVERSE}
 use Rattle.register_gates.specs.Registers.{data_cells, user_size, inverse_cells, captured_feeds, ident_cells, ident_values}
 use Rattle.register_gates.specs.Laws.{Directs, DirectsRun, DataLaws, DataFollows, captured_bits, TellsUsercode, IdentFollows}

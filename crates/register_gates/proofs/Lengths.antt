@@ -4,7 +4,7 @@ use Rattle.netlist_model.specs.declared.NetId.{NetId}
 use Rattle.netlist_model.specs.declared.Feed.{Feed}
 use Rattle.register_gates.specs.declared.bits.Holding.{Holding}
 use Rattle.register_gates.specs.declared.bits.Steering.{Steering}
-use Rattle.register_gates.specs.BitsLaws.{shift_bit_cells, held_bit_cells}
+use Rattle.register_gates.specs.Bits.{shift_bit_cells, held_bit_cells}
 use Rattle.register_gates.specs.Chains.{chain_last, chain_cells}
 
 pub chain_length : (first number : ℕ) (by : Steering) (tdi : NetId) (captured : List Feed) → length (chain_cells first number by tdi captured) ≡ 3 * length captured

@@ -17,7 +17,7 @@ use Rattle.tap_gates.specs.test_logic.declared.Action.TheVariants.{Keeps}
 use Rattle.tap_gates.specs.test_logic.Controller.{dr_action, act}
 use Rattle.tap_gates.specs.Controller.{same_state}
 use Rattle.tap_gates.specs.Laws.{ShowsState}
-use Rattle.register_gates.specs.BitsLawsLaws.{Steers, is_capture, is_shift}
+use Rattle.register_gates.specs.BitsLaws.{Steers, is_capture, is_shift}
 use Rattle.register_gates.specs.declared.TheConstants.{SELECTED}
 use Rattle.register_gates.specs.Registers.{selected_given, selected_cells, selected_steering}
 

@@ -24,8 +24,8 @@ use Rattle.tap_gates.specs.test_logic.Controller.{act}
 use Rattle.tap_gates.specs.test_logic.Machine.{edge_of}
 use Rattle.register_gates.specs.declared.bits.Steering.{Steering}
 use Rattle.register_gates.specs.declared.bits.TheConstants.{SHIFT_BIT}
-use Rattle.register_gates.specs.BitsLaws.{shift_bit_given, shift_bit_cells}
-use Rattle.register_gates.specs.BitsLawsLaws.{Carries, Steers, is_capture, is_shift, on_edge, bit_after, ShiftBitsFollow}
+use Rattle.register_gates.specs.Bits.{shift_bit_given, shift_bit_cells}
+use Rattle.register_gates.specs.BitsLaws.{Carries, Steers, is_capture, is_shift, on_edge, bit_after, ShiftBitsFollow}
 
 -- the two multiplexers before the bit
 acted : (action : Action) (captured next kept : Sig)

@@ -11,7 +11,7 @@ use Rattle.netlist_model.specs.Runs.{Moment, PinEvent, IsStep, IsRun}
 use Rattle.netlist_model.specs.LawsRuns.{RunHasMoments}
 use Rattle.tap_gates.specs.test_logic.declared.Levels.{Levels}
 use Rattle.tap_gates.specs.test_logic.Machine.{TestLogic, Machine, reset, rise, fall, edge_of, clocked, step_under, machine_step}
-use Rattle.register_gates.specs.BitsLawsLaws.{on_edge, bit_after}
+use Rattle.register_gates.specs.BitsLaws.{on_edge, bit_after}
 use Rattle.register_gates.specs.Steps.{StepsByRegister}
 
 clocked_is : (L : TestLogic) (edge : Option Edge) (tms : Bool) (tdi : Sig) (captured : List Sig) (m : Machine)

@@ -13,7 +13,7 @@ use Rattle.gate_parts.specs.Laws.{AppendedCount, AppendedMore}
 use Rattle.gate_parts.specs.Parts.{part_cells}
 use Rattle.tap_gates.specs.test_logic.declared.InstrNets.{InstrNets}
 use Rattle.tap_gates.specs.test_logic.declared.TapNets.{TapNets}
-use Rattle.register_gates.specs.BitsLaws.{AreNetsBelow}
+use Rattle.register_gates.specs.Bits.{AreNetsBelow}
 use Rattle.register_gates.specs.declared.tdo.TheConstants.{TDO}
 use Rattle.register_gates.specs.Tdo.{AreIdentBelow, ident_feed, tdo_given, tdo_driver, tdo_cells}
 use Rattle.register_gates.proofs.Added.{in_turn}

@@ -36,7 +36,7 @@ use Rattle.tap_gates.specs.test_logic.declared.Levels.{Levels}
 use Rattle.tap_gates.specs.test_logic.Registers.{first_bit, tdo_after}
 use Rattle.tap_gates.specs.test_logic.Machine.{TestLogic, Machine, IsHistory, in_effect, bit_of, edge_of}
 use Rattle.tap_gates.specs.Controller.{same_state}
-use Rattle.register_gates.specs.BitsLawsLaws.{Carries, on_edge, bit_after}
+use Rattle.register_gates.specs.BitsLaws.{Carries, on_edge, bit_after}
 use Rattle.register_gates.specs.declared.tdo.TheConstants.{TDO}
 use Rattle.register_gates.specs.Tdo.{ident_feed, tdo_given, tdo_driver, tdo_cells, tdo_given_by, data_bit, Presents, TdoFollows, TdoLetsGo}
 use Rattle.register_gates.proofs.Steps.{by_register, all_along}

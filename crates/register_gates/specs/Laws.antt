@@ -20,7 +20,7 @@ use Rattle.tap_gates.specs.test_logic.Instructions.{is_usercode, bits_of}
 use Rattle.tap_gates.specs.test_logic.Registers.{first_bit, bypass_after, ident_after}
 use Rattle.tap_gates.specs.test_logic.Machine.{TestLogic, Machine, IsHistory, in_effect, selects, zeros}
 use Rattle.tap_gates.specs.Laws.{ShowsState}
-use Rattle.register_gates.specs.BitsLawsLaws.{Carries, bit_after}
+use Rattle.register_gates.specs.BitsLaws.{Carries, bit_after}
 use Rattle.register_gates.specs.Registers.{bypass_cells, data_cells, data_values, data_last, captured_feeds, ident_cells, ident_values, ident_last}
 
 -- own: the nets that are handed to a test data register carry the controller's state, whether it is

@@ -1,6 +1,6 @@
 pub use Rattle.tap_gates.specs as tap_gates
+pub mod Bits
 pub mod BitsLaws
-pub mod BitsLawsLaws
 pub mod Chains
 pub mod Choices
 pub mod Constants

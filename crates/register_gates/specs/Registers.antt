@@ -9,7 +9,7 @@ use Rattle.netlist_model.specs.Lists.{CellView}
 use Rattle.gate_parts.specs.Parts.{part_cells}
 use Rattle.tap_gates.specs.test_logic.declared.TapNets.{TapNets}
 use Rattle.register_gates.specs.declared.bits.Steering.{Steering}
-use Rattle.register_gates.specs.BitsLaws.{shift_bit_cells}
+use Rattle.register_gates.specs.Bits.{shift_bit_cells}
 use Rattle.register_gates.specs.Chains.{chain_cells, chain_last, chain_values}
 use Rattle.register_gates.specs.declared.TheConstants.{SELECTED}
 use Rattle.register_gates.specs.declared.ident.TheConstants.{INVERSE}

@@ -14,7 +14,7 @@ use Rattle.tap_gates.specs.test_logic.declared.Levels.{Levels}
 use Rattle.tap_gates.specs.test_logic.Instructions.{reset_opcode}
 use Rattle.tap_gates.specs.test_logic.Registers.{first_bit, shifted_after, bypass_after, ident_after, latched_after, tdo_after}
 use Rattle.tap_gates.specs.test_logic.Machine.{TestLogic, Machine, zeros, in_effect, selects, bit_of, captured_code, machine_step}
-use Rattle.register_gates.specs.BitsLawsLaws.{bit_after}
+use Rattle.register_gates.specs.BitsLaws.{bit_after}
 
 pub record RegistersStep (L : TestLogic) (before after : Levels) (captured : List Sig) (m : Machine) : Type 0 where
   pub shift : (machine_step L before after captured m).shift

@@ -29,7 +29,7 @@ use Rattle.tap_gates.specs.test_logic.declared.Levels.{Levels}
 use Rattle.tap_gates.specs.test_logic.Registers.{first_bit, tdo_after}
 use Rattle.tap_gates.specs.test_logic.Machine.{TestLogic, Machine, IsHistory, in_effect, bit_of, edge_of}
 use Rattle.tap_gates.specs.Laws.{ShowsState}
-use Rattle.register_gates.specs.BitsLawsLaws.{Carries, bit_after}
+use Rattle.register_gates.specs.BitsLaws.{Carries, bit_after}
 use Rattle.register_gates.specs.declared.tdo.TheConstants.{TDO}
 
 abbrev pub AreIdentBelow : ℕ → Option NetId → Type 0

@@ -1,5 +1,5 @@
 // One bit of a register as gates: a bit of a shift stage, and one that is held behind it.
-// Contracts cite specs/BitsLaws.antt for the cells and specs/BitsLawsLaws.antt for what they do in every netlist
+// Contracts cite specs/Bits.antt for the cells and specs/BitsLaws.antt for what they do in every netlist
 // that contains them.
 // IEEE Std 1149.1-2001: instruction register, test data registers.
 //
@@ -15,7 +15,7 @@ ghost use Rattle.netlist_model.specs.Lists.{cell_count};
 ghost use Rattle.netlist_model.specs.Contained.{IsDense};
 ghost use Rattle.netlist_model.specs.Below.{IsFeedBelow};
 ghost use Rattle.gate_parts.specs.Appended.{Appended};
-ghost use Rattle.register_gates.specs.BitsLaws.{shift_bit_cells, held_bit_cells, AreNetsBelow};
+ghost use Rattle.register_gates.specs.Bits.{shift_bit_cells, held_bit_cells, AreNetsBelow};
 
 mod chain;
 mod laws;

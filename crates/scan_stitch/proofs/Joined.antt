@@ -17,7 +17,7 @@ use Rattle.stitched_netlist.specs.declared.model.TapNames.{TapNames}
 use Rattle.stitched_netlist.specs.Sites.{Boundary, sides_of}
 use Rattle.stitched_netlist.specs.Sides.{core_cell}
 use Rattle.stitched_netlist.specs.Stitched.{tap_port, tap_ports, tap_net_views, live_cells, boundary_at, first_net, test_logic_nets, test_logic_cells, stitched, with_nets}
-use Rattle.stitched_netlist.specs.PlacesLaws.{StitchedHoldsTheCore}
+use Rattle.stitched_netlist.specs.Places.{StitchedHoldsTheCore}
 use Rattle.stitched_netlist.proofs.PlacesLaws.{listed_at}
 use Rattle.stitched_netlist.proofs.CellsLaws.{live_length}
 use Rattle.written_netlists.specs.core_sides.Pins.{between}

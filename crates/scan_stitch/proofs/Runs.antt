@@ -12,7 +12,7 @@ use Rattle.plan_fitting.specs.Devices.{fitted_of, device_of, device_of_fitted}
 use Rattle.plan_fitting.specs.DevicesLaws.{PlansSuitNetlists}
 use Rattle.stitched_netlist.specs.declared.model.TapNames.{TapNames}
 use Rattle.stitched_netlist.specs.Stitched.{stitched}
-use Rattle.stitched_netlist.specs.PlacesLaws.{StitchedKeeps}
+use Rattle.stitched_netlist.specs.Places.{StitchedKeeps}
 use Rattle.written_netlists.specs.Same.{IsSameNetlist}
 use Rattle.stitched_netlist.specs.FormedLaws.{StitchedIsFormed}
 use Rattle.stitched_netlist.specs.RunsLaws.{FittingPlansRealise, FittingPlansAreAlone, FittingPlansFindHome}

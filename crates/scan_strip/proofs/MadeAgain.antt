@@ -25,9 +25,9 @@ use Rattle.insertion_inputs.specs.Inputs.{IsFittingAs, IsLinkedTree}
 use Rattle.insertion_inputs.specs.scan_stitch.Stitch.{CanStitch, IsStitched}
 use Rattle.written_netlists.specs.Written.{IsStitchedOf}
 use Rattle.written_netlists.specs.ModulesLaws.{IsStitching, StitchedCanBeWritten}
-use Rattle.strip_model.specs.GivesLaws.{GivesAt, Gives}
+use Rattle.strip_model.specs.Gives.{GivesAt, Gives}
 use Rattle.strip_model.specs.Laid.{LinkViewIsLaidOut}
-use Rattle.strip_model.specs.LawLaws.{LawOfStripping, Recovers}
+use Rattle.strip_model.specs.RecoveryLaw.{LawOfStripping, Recovers}
 use Rattle.strip_model.specs.Once.{PinsAreSeenOnce}
 use Rattle.scan_strip.specs.Stripped.{GivesBy, IsFound, IsMadeAgain}
 use Rattle.scan_strip.proofs.Trees.{tree_is}

@@ -11,9 +11,9 @@ use Rattle.netlist_link.specs.Links.{IsLinkOf}
 use Rattle.netlist_link.specs.ViewLaws.{IsSameView, LinkViewsAgree}
 use Rattle.plan_texts.specs.declared.plan.Plan.{Plan}
 use Rattle.strip_model.specs.Recovered.{recovered}
-use Rattle.strip_model.specs.GivesLaws.{Gives, GivesByTheView}
+use Rattle.strip_model.specs.Gives.{Gives, GivesByTheView}
 use Rattle.strip_model.specs.Answer.{IsNotInserted, RefusedByAll}
-use Rattle.strip_model.specs.LawLaws.{RecoveredIsTheNetlist}
+use Rattle.strip_model.specs.RecoveryLaw.{RecoveredIsTheNetlist}
 use Rattle.netlist_recovery.specs.declared.recovery.Recovered.{Recovered}
 use Rattle.netlist_recovery.specs.Pairs.{pair_of}
 use Rattle.strip_model.specs.Tree.{CoreIsTree}

@@ -15,7 +15,7 @@ use Rattle.written_netlists.specs.InsertedLaws.{with_test_logic}
 use Rattle.written_netlists.specs.Prepared.{with_tap_names, AreTapNames}
 use Rattle.insertion_inputs.specs.Inputs.{IsFittingAs, IsLinkedTree}
 use Rattle.strip_model.specs.Recovered.{recovered}
-use Rattle.strip_model.specs.GivesLaws.{GivesAt, Gives}
+use Rattle.strip_model.specs.Gives.{GivesAt, Gives}
 
 -- The module and the plan that are recovered give the module with test logic and the device; this is the plan, and the
 -- netlist that the module denotes with this library.

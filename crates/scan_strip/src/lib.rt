@@ -1,6 +1,6 @@
 // Back from a netlist with test logic to the netlist and a plan that it was made from.
 // The contracts of `strip_tree` and `strip` cite specs/Stripped.antt, which stands on strip_model's
-// specs/Recovered.antt and strip_model' specs/Gives.antt.
+// specs/Recovered.antt and strip_model's specs/Gives.antt.
 // IEEE Std 1149.1-2001: boundary-scan register, the annex on BSDL; that there is one netlist is own.
 //
 // - `strip_tree` works out what is recovered, inserts it again, and compares. It answers exactly where the module and

@@ -16,7 +16,7 @@ use Rattle.scan_vectors.specs.Pins.{Names, HasStart}
 use Rattle.scan_vectors.specs.Rules.{BreaksRule, IsBroken, IsUnbroken, IsFirstBroken, AreIllegalAt, AreLegal}
 use Rattle.scan_vectors.specs.Rules.BreaksRule.{output, input, again, late}
 use Rattle.scan_vectors.specs.Rules.AreIllegalAt.{broken, unstarted}
-use Rattle.scan_vectors.specs.ScriptsLaws.{IsFound, IsScriptOf, IsStartAt, IsPlayable, IsResolved, IsSpelled}
+use Rattle.scan_vectors.specs.Scripts.{IsFound, IsScriptOf, IsStartAt, IsPlayable, IsResolved, IsSpelled}
 use Rattle.scan_vectors.specs.Starts.{IsAfter, IsWaiting, IsComplete, IsTaken, TakesLine}
 use Rattle.scan_vectors.proofs.Flags.{get_push, take_push}
 use Rattle.scan_vectors.proofs.ScriptsSteps.{all_started, start_lacks}

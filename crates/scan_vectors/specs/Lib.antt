@@ -6,6 +6,6 @@ pub mod Grammar
 pub mod Pins
 pub mod Reader
 pub mod Rules
+pub mod Scripts
 pub mod ScriptsLaws
-pub mod ScriptsLawsLaws
 pub mod Starts

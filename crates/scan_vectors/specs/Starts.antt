@@ -18,7 +18,7 @@ use Rattle.scan_vectors.specs.declared.scripts.bits.Bit.{Bit}
 use Rattle.scan_vectors.specs.declared.scripts.script.ScriptLine.{ScriptLine}
 use Rattle.scan_vectors.specs.Pins.{Names, side_of, net_of, TakesValue, HasStart}
 use Rattle.scan_vectors.specs.Rules.{HasEvent, BreaksRule}
-use Rattle.scan_vectors.specs.ScriptsLaws.{IsFound}
+use Rattle.scan_vectors.specs.Scripts.{IsFound}
 
 -- What a line does with a bit.
 

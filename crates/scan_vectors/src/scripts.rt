@@ -1,5 +1,5 @@
 // Scripts of events: the lines of an event text with their pins found in a linked netlist, where the lines are legal.
-// Contracts cite specs/Rules.antt (the rules, and the first line that breaks one) and specs/ScriptsLaws.antt.
+// Contracts cite specs/Rules.antt (the rules, and the first line that breaks one) and specs/Scripts.antt.
 // Own: no chapter of a standard speaks of it.
 //
 // - `resolve` answers a script only where no line breaks a rule and each input and inout bit has its start. The

@@ -23,7 +23,7 @@ use Rattle.netlist_model.proofs.LawsRuns.{run_exists, start_same}
 use Rattle.scan_vectors.specs.declared.lines.Act.{Act}
 use Rattle.scan_vectors.specs.declared.lines.Act.TheVariants.{Start, Set, Expect}
 use Rattle.scan_vectors.specs.declared.scripts.script.ScriptLine.{ScriptLine}
-use Rattle.scan_vectors.specs.ScriptsLaws.{IsPlayable, IsStartAt}
+use Rattle.scan_vectors.specs.Scripts.{IsPlayable, IsStartAt}
 use Rattle.netlist_meaning.specs.Pins.{PinsView, ArePinsOf, AreFirstPins, SetsPin, net_of, outside}
 use Rattle.sim_runs.specs.Runs.{net_number, event_of, events_at, events_of, IsRunOf}
 use Rattle.sim_runs.specs.PlayedScript.{AreKnown, CanPlay, CanStart, IsFirst, TakesStart}

@@ -2,7 +2,7 @@
 
 ghost use Rattle.std.specs.Prelude.{◌≡◌, true, length, IfOk};
 ghost use Rattle.netlist_model.specs.Formed.{IsWellFormed};
-ghost use Rattle.scan_vectors.specs.ScriptsLaws.{IsPlayable};
+ghost use Rattle.scan_vectors.specs.Scripts.{IsPlayable};
 ghost use Rattle.netlist_meaning.specs.Pins.{ArePinsOf, outside};
 ghost use Rattle.netlist_meaning.specs.Sims.{moment_of};
 ghost use Rattle.sim_runs.specs.PlayedScript.{AreKnown, CanStart, HaveStarts, IsFirst, TakesStart};

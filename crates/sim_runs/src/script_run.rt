@@ -7,7 +7,7 @@ ghost use Rattle.netlist_model.specs.Formed.{IsWellFormed};
 ghost use Rattle.netlist_model.specs.Runs.{Moment, reading_at};
 ghost use Rattle.netlist_model.specs.LawsRuns.{SameMoment};
 ghost use Rattle.scan_vectors.specs.Grammar.{pin_of};
-ghost use Rattle.scan_vectors.specs.ScriptsLaws.{IsPlayable, IsResolved};
+ghost use Rattle.scan_vectors.specs.Scripts.{IsPlayable, IsResolved};
 ghost use Rattle.netlist_meaning.specs.Events.{IsLegalEvent, IsEventStep};
 ghost use Rattle.netlist_meaning.specs.Pins.{net_of};
 ghost use Rattle.netlist_meaning.specs.Sims.{moment_of};

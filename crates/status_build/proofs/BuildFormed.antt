@@ -23,7 +23,7 @@ use Rattle.status_gates.specs.declared.parts.SharedNets.{SharedNets}
 use Rattle.status_gates.specs.Registers.{registers_size, shown_of}
 use Rattle.status_build.specs.FormedLaws.{IsReadNet, CanShare, CanCapture, RegistersAreFormed}
 use Rattle.status_build.specs.OrderLaws.{IsHeld, IsCopy, IsProper, ShownIsFormed}
-use Rattle.status_build.specs.BuildLaws.{IsInputNet, IsInnerFlop, IsInnerCopy, IsOpenTo, added_cells, shown_at, CanRead, StatusIsFormed}
+use Rattle.status_build.specs.Build.{IsInputNet, IsInnerFlop, IsInnerCopy, IsOpenTo, added_cells, shown_at, CanRead, StatusIsFormed}
 use Rattle.status_build.proofs.Connected.{connected_other, connected_at}
 
 pub record BuiltLaws : Type 0 where

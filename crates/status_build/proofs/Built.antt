@@ -18,8 +18,8 @@ use Rattle.status_gates.specs.Opcodes.{inverses_cells}
 use Rattle.status_gates.specs.declared.parts.SharedNets.{SharedNets}
 use Rattle.status_gates.specs.Registers.{registers_size, registers_cells, CanStand}
 use Rattle.status_gates.proofs.PartsAdded.{registers_length}
-use Rattle.status_build.specs.BuildLaws.{added_cells, shown_at}
-use Rattle.status_build.specs.BuildLawsLaws.{IsAddable, CanAdd, IsBuiltOn}
+use Rattle.status_build.specs.Build.{added_cells, shown_at}
+use Rattle.status_build.specs.BuildLaws.{IsAddable, CanAdd, IsBuiltOn}
 use Rattle.status_build.proofs.Connected.{connected_other, connected_at, connected_count}
 
 pub inverses_length : (first number opcode count : ℕ) → length (inverses_cells first number opcode count) ≡ count

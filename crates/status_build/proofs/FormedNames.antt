@@ -9,7 +9,7 @@ use Rattle.gate_parts.specs.Parts.{part_cells}
 use Rattle.test_logic.specs.declared.TapNets.{TapNets}
 use Rattle.register_gates.specs.declared.bits.Steering.{Steering}
 use Rattle.register_gates.specs.declared.bits.TheConstants.{SHIFT_BIT}
-use Rattle.register_gates.specs.BitsLaws.{shift_bit_given, shift_bit_cells}
+use Rattle.register_gates.specs.Bits.{shift_bit_given, shift_bit_cells}
 use Rattle.register_gates.specs.Chains.{chain_last, chain_cells}
 use Rattle.register_gates.specs.declared.TheConstants.{SELECTED}
 use Rattle.register_gates.specs.Registers.{selected_given, selected_cells, selected_steering, data_cells}

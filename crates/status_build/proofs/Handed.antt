@@ -17,7 +17,7 @@ use Rattle.gate_parts.specs.Appended.{Appended}
 use Rattle.test_logic.specs.declared.TapNets.{TapNets}
 use Rattle.register_gates.specs.declared.bits.Steering.{Steering}
 use Rattle.register_gates.specs.declared.bits.TheConstants.{SHIFT_BIT}
-use Rattle.register_gates.specs.BitsLaws.{shift_bit_given}
+use Rattle.register_gates.specs.Bits.{shift_bit_given}
 use Rattle.register_gates.specs.Chains.{chain_last}
 use Rattle.register_gates.specs.declared.TheConstants.{SELECTED}
 use Rattle.register_gates.specs.Constants.{ConstantsAreBits}

@@ -10,7 +10,7 @@ use Rattle.netlist_model.specs.Lists.{CellView, NetlistView}
 use Rattle.netlist_model.specs.Contained.{Has, HasCells}
 use Rattle.netlist_model.specs.LawsContained.{ContainedParts}
 use Rattle.register_gates.specs.declared.bits.Holding.{Holding}
-use Rattle.register_gates.specs.BitsLaws.{held_bit_cells}
+use Rattle.register_gates.specs.Bits.{held_bit_cells}
 use Rattle.instruction_gates.specs.declared.latches.Latching.{Latching}
 use Rattle.instruction_gates.specs.Rows.{is_one}
 use Rattle.instruction_gates.specs.Latches.{holding_of, latch_cells, latches_cells}

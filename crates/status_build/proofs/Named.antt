@@ -15,7 +15,7 @@ use Rattle.gate_parts.specs.Laws.{AppendedGrows}
 use Rattle.netlist_link.specs.DraftLawsNames.{AppendedIsNamed}
 use Rattle.status_gates.specs.Registers.{registers_size}
 use Rattle.status_build.specs.FormedLaws.{RegistersAreNamed}
-use Rattle.status_build.specs.BuildLaws.{added_cells, shown_at, StatusIsNamed}
+use Rattle.status_build.specs.Build.{added_cells, shown_at, StatusIsNamed}
 use Rattle.status_build.proofs.Connected.{connected_other, connected_at}
 
 -- A cell that differs in its operands alone.

@@ -14,11 +14,11 @@ use Rattle.instruction_gates.specs.Copies.{copies_cells}
 use Rattle.instruction_gates.specs.Latches.{latches_cells}
 use Rattle.instruction_gates.specs.Selections.{selections_cells}
 use Rattle.instruction_gates.specs.Stages.{ir_latching, shift_stage_cells, stages_cells}
-use Rattle.instruction_gates.specs.RegisterLaws.{pattern_bits, latches_from, opcodes_cells, opcodes_told, matched_instructions, opcodes_from, selections_from, copies_from, instruction_cells}
+use Rattle.instruction_gates.specs.Register.{pattern_bits, latches_from, opcodes_cells, opcodes_told, matched_instructions, opcodes_from, selections_from, copies_from, instruction_cells}
 use Rattle.stitched_netlist.specs.Sides.{core_side, core_cell}
 use Rattle.stitched_netlist.specs.ModelLogic.{instruction_from, bypass_from, tap_at}
 use Rattle.stitched_netlist.specs.Stitched.{boundary_at, first_net}
-use Rattle.stitched_netlist.specs.PlacesLawsLaws.{port_of, instruction_number}
+use Rattle.stitched_netlist.specs.PlacesLaws.{port_of, instruction_number}
 use Rattle.status_build.specs.OrderLaws.{IsHeld, IsCopy}
 use Rattle.status_build.specs.PlacesLaws.{SharedNetsStand, WiresStand}
 use Rattle.status_build.proofs.Held.{held_of, latches_there, copies_there}

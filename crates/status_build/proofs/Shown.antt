@@ -13,7 +13,7 @@ use Rattle.netlist_model.specs.LawsContained.{ContainedParts}
 use Rattle.gate_parts.specs.Parts.{part_cells}
 use Rattle.test_logic.specs.declared.TapNets.{TapNets}
 use Rattle.register_gates.specs.declared.bits.Steering.{Steering}
-use Rattle.register_gates.specs.BitsLaws.{shift_bit_cells}
+use Rattle.register_gates.specs.Bits.{shift_bit_cells}
 use Rattle.register_gates.specs.Chains.{chain_cells, chain_last}
 use Rattle.register_gates.specs.Constants.{ConstantsAreBits}
 use Rattle.register_gates.specs.Registers.{selected_cells, selected_steering, data_cells, data_last}

@@ -8,7 +8,7 @@ use Rattle.netlist_model.specs.declared.Feed.TheVariants.{Net}
 use Rattle.test_logic.specs.declared.TapNets.{TapNets}
 use Rattle.register_gates.specs.declared.bits.Steering.{Steering}
 use Rattle.register_gates.specs.declared.bits.TheConstants.{SHIFT_BIT}
-use Rattle.register_gates.specs.BitsLaws.{shift_bit_given}
+use Rattle.register_gates.specs.Bits.{shift_bit_given}
 use Rattle.register_gates.specs.Chains.{chain_last}
 use Rattle.register_gates.specs.declared.TheConstants.{SELECTED}
 use Rattle.register_gates.specs.Registers.{selected_given, selected_steering}

@@ -1,5 +1,5 @@
+pub mod Build
 pub mod BuildLaws
-pub mod BuildLawsLaws
 pub mod CellsLaws
 pub mod ControlPortsLaws
 pub mod FormedLaws

@@ -9,8 +9,8 @@ use Rattle.stitched_netlist.specs.declared.model.TapNames.{TapNames}
 use Rattle.stitched_netlist.specs.Sides.{core_side}
 use Rattle.stitched_netlist.specs.ModelLogic.{tap_at, instruction_at, bypass_at}
 use Rattle.stitched_netlist.specs.Stitched.{boundary_at, first_net}
-use Rattle.stitched_netlist.specs.PlacesLawsLaws.{port_of}
-use Rattle.stitched_netlist.specs.PlacesLaws.{HoldsPartsBy, HasBuiltIn}
+use Rattle.stitched_netlist.specs.PlacesLaws.{port_of}
+use Rattle.stitched_netlist.specs.Places.{HoldsPartsBy, HasBuiltIn}
 use Rattle.status_build.specs.OrderLaws.{IsHeld, IsCopy}
 
 -- own: flip-flops drive the nets of Capture-DR and Shift-DR and that of the bypass bit, and copies of flip-flops those

@@ -1,6 +1,6 @@
 // A netlist that is open to data registers of a design's own, into which they are built: the gates of all registers are
-// appended, and a gate before TDO reads what they show in the place of the bypass bit. specs/BuildLaws.antt has when a
-// netlist is open to them, specs/BuildLawsLaws.antt what is left.
+// appended, and a gate before TDO reads what they show in the place of the bypass bit. specs/Build.antt has when a
+// netlist is open to them, specs/BuildLaws.antt what is left.
 // Own.
 //
 // - `build_registers` leaves exactly the netlist's own cells, but that the one gate reads what the registers show, and
@@ -8,7 +8,7 @@
 // - Where the netlist is open to them, it stays well formed (`status_is_formed`) and well named (`status_is_named`).
 // By the contract of `build_registers` and two law functions.
 
-ghost use Rattle.status_build.specs.BuildLaws.{StatusIsFormed, StatusIsNamed};
+ghost use Rattle.status_build.specs.Build.{StatusIsFormed, StatusIsNamed};
 
 mod build;
 

@@ -10,7 +10,7 @@ use Rattle.netlist_model.specs.LawsRuns.{RunHasMoments}
 use Rattle.test_logic.specs.declared.Levels.{Levels}
 use Rattle.test_logic.specs.Registers.{ident_after}
 use Rattle.test_logic.specs.Machine.{zeros}
-use Rattle.register_gates.specs.BitsLawsLaws.{bit_after}
+use Rattle.register_gates.specs.BitsLaws.{bit_after}
 use Rattle.wrapped_chip.specs.ChipRuns.{ChipMoment}
 use Rattle.surrounded_core.specs.Places.{controller_nets}
 use Rattle.surrounded_core.specs.Open.{HoldsAsChip, SurroundedFollows}

@@ -16,7 +16,7 @@ use Rattle.bsdl_device.specs.declared.entries.Register.TheVariants as register
 use Rattle.bsdl_device.specs.declared.values.Device.{Device}
 use Rattle.test_logic.specs.Registers.{first_bit, tdo_after}
 use Rattle.test_logic.specs.Machine.{TestLogic, Machine, in_effect, bit_of, test_logic_of}
-use Rattle.register_gates.specs.BitsLawsLaws.{bit_after}
+use Rattle.register_gates.specs.BitsLaws.{bit_after}
 use Rattle.wrapped_chip.specs.ChipRuns.{ChipMoment}
 use Rattle.surrounded_core.specs.Places.{Places, controller_nets, bypass_bit}
 use Rattle.surrounded_core.specs.Open.{shown_bit, tdo_step, FollowsChip, SurroundedFollows}

@@ -15,7 +15,7 @@ use Rattle.test_logic.specs.declared.Levels.{Levels}
 use Rattle.test_logic.specs.Instructions.{pattern, is_pattern}
 use Rattle.test_logic.specs.Registers.{first_bit, ident_after, tdo_after}
 use Rattle.test_logic.specs.Machine.{TestLogic, Machine, zeros, in_effect, bit_of, test_logic_of}
-use Rattle.register_gates.specs.BitsLawsLaws.{bit_after}
+use Rattle.register_gates.specs.BitsLaws.{bit_after}
 use Rattle.wrapped_chip.specs.ChipRuns.{ChipMoment}
 
 -- a register: the opcode that selects it, and the nets of the core's wires that it captures, the one nearest TDO first

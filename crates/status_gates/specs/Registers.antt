@@ -10,7 +10,7 @@ use Rattle.netlist_model.specs.declared.Feed.TheVariants.{Net, Const}
 use Rattle.netlist_model.specs.Lists.{CellView}
 use Rattle.netlist_model.specs.Below.{IsNetBelow}
 use Rattle.gate_parts.specs.Parts.{part_cells}
-use Rattle.register_gates.specs.BitsLaws.{AreNetsBelow}
+use Rattle.register_gates.specs.Bits.{AreNetsBelow}
 use Rattle.register_gates.specs.Constants.{constant_bits}
 use Rattle.register_gates.specs.Registers.{data_cells, data_last}
 use Rattle.status_fitting.specs.declared.fitted.FittedRegister.{FittedRegister}

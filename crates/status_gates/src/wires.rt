@@ -5,7 +5,7 @@ ghost use Rattle.netlist_model.specs.Lists.{cell_count};
 ghost use Rattle.netlist_model.specs.Contained.{IsDense};
 ghost use Rattle.netlist_model.specs.Below.{IsNetBelow};
 ghost use Rattle.gate_parts.specs.Appended.{Appended};
-ghost use Rattle.register_gates.specs.BitsLaws.{AreNetsBelow};
+ghost use Rattle.register_gates.specs.Bits.{AreNetsBelow};
 ghost use Rattle.register_gates.specs.Registers.{data_cells, data_last};
 ghost use Rattle.status_gates.specs.Wires.{net_feeds};
 

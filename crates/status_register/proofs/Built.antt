@@ -12,8 +12,8 @@ use Rattle.stitched_netlist.proofs.PlacesLaws.{listed_at}
 use Rattle.written_netlists.specs.Same.{IsSameNetlist}
 use Rattle.status_fitting.specs.declared.fitted.FittedRegister.{FittedRegister}
 use Rattle.status_gates.specs.Realises.{RealisesStatus}
-use Rattle.status_stitch.specs.BuiltLaws.{IsBuilt}
-use Rattle.status_stitch.specs.BuiltLawsLaws.{BuiltHasStatus, BuiltStatusRealises, BuiltStatusIsAlone, IsWholeStatus}
+use Rattle.status_stitch.specs.Built.{IsBuilt}
+use Rattle.status_stitch.specs.BuiltLaws.{BuiltHasStatus, BuiltStatusRealises, BuiltStatusIsAlone, IsWholeStatus}
 use Rattle.status_stitch.specs.Stitch.{CanStitchStatus, IsStitchedStatus}
 use Rattle.status_stitch.specs.Stitched.{all_cells, stitched_status}
 

@@ -27,7 +27,7 @@ use Rattle.status_gates.specs.Opcodes.{inverses_cells}
 use Rattle.status_gates.specs.Registers.{registers_size, registers_cells}
 use Rattle.status_gates.proofs.PartsAdded.{registers_length}
 use Rattle.status_stitch.proofs.status_build.Built.{inverses_length}
-use Rattle.status_stitch.specs.status_room.ReadyLaws.{CanBeBuilt}
+use Rattle.status_stitch.specs.status_room.Needed.{CanBeBuilt}
 use Rattle.status_stitch.specs.status_room.Ready.{bits_of, status_room, whole_room}
 use Rattle.status_stitch.specs.Stitched.{status_first, status_number, status_size, shared_at, status_cells, status_shown, all_cells, stitched_status}
 use Rattle.status_stitch.proofs.Numbers.{registers_few}

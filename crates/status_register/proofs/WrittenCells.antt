@@ -18,7 +18,7 @@ use Rattle.stitched_netlist.specs.declared.model.TapPort.{TapPort}
 use Rattle.stitched_netlist.specs.Sites.{Boundary}
 use Rattle.stitched_netlist.specs.Sides.{core_cell}
 use Rattle.stitched_netlist.specs.Stitched.{live_cells, boundary_at, first_net, tdo_part_by, tdo_part, stitched_cells_by, stitched_cells, stitched}
-use Rattle.stitched_netlist.specs.PlacesLawsLaws.{port_of}
+use Rattle.stitched_netlist.specs.PlacesLaws.{port_of}
 use Rattle.stitched_netlist.proofs.PlacesLaws.{counts_live, listed_at, core_there}
 use Rattle.written_netlists.specs.Same.{IsSameNetlist}
 use Rattle.written_netlists.proofs.ModulesLists.{same_count}

@@ -48,11 +48,11 @@ use Rattle.written_netlists.proofs.ModulesWhole.{told_name, named_by}
 use Rattle.written_netlists.proofs.ModulesLimits.{none_passed}
 use Rattle.status_fitting.specs.declared.fitted.FittedStatus.{FittedStatus}
 use Rattle.status_stitch.specs.status_build.FormedLaws.{RegistersAreNamed}
-use Rattle.status_stitch.specs.status_room.ReadyLaws.{AreBuildable}
-use Rattle.status_stitch.specs.status_room.ReadyLawsLaws.{FittedCanBeBuilt}
+use Rattle.status_stitch.specs.status_room.Needed.{AreBuildable}
+use Rattle.status_stitch.specs.status_room.ReadyLaws.{FittedCanBeBuilt}
 use Rattle.status_gates.specs.Realises.{status_tdo}
-use Rattle.status_stitch.specs.BuiltLaws.{IsBuilt}
-use Rattle.status_stitch.specs.BuiltLawsLaws.{BuiltHasStatus, BuiltStatusRealises, BuiltStatusIsAlone, IsWholeStatus}
+use Rattle.status_stitch.specs.Built.{IsBuilt}
+use Rattle.status_stitch.specs.BuiltLaws.{BuiltHasStatus, BuiltStatusRealises, BuiltStatusIsAlone, IsWholeStatus}
 use Rattle.status_stitch.specs.Stitched.{stitched_status}
 use Rattle.status_register.specs.Stitch.{HasRoomFor}
 use Rattle.status_register.proofs.Built.{built_of}

@@ -34,8 +34,8 @@ use Rattle.status_fitting.specs.Faults.{words_of, in_name, in_opcode, HasNoFault
 use Rattle.status_fitting.specs.Fitted.{IsNetOf, IsRegister}
 use Rattle.status_fitting.proofs.Firsts.{no_fault_stands, first_fault}
 use Rattle.status_fitting.proofs.Rows.{split_at, rows_named}
-use Rattle.status_room.specs.ReadyLaws.{IsCaptured, CanBeBuilt}
-use Rattle.status_room.specs.ReadyLawsLaws.{FittedCanBeBuilt}
+use Rattle.status_room.specs.Needed.{IsCaptured, CanBeBuilt}
+use Rattle.status_room.specs.ReadyLaws.{FittedCanBeBuilt}
 use Rattle.status_room.proofs.Wires.{captured}
 
 -- No opcode is of another length.

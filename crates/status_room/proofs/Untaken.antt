@@ -21,8 +21,8 @@ use Rattle.status_fitting.specs.First.{Stands}
 use Rattle.status_fitting.specs.Opcodes.{opcodes_of, is_taken}
 use Rattle.status_fitting.specs.Fitted.{IsRegister}
 use Rattle.status_fitting.proofs.Rows.{split_at, rows_named}
-use Rattle.status_room.specs.ReadyLaws.{IsUntaken}
-use Rattle.status_room.specs.ReadyLawsLaws.{FittedAreUntaken}
+use Rattle.status_room.specs.Needed.{IsUntaken}
+use Rattle.status_room.specs.ReadyLaws.{FittedAreUntaken}
 use Rattle.status_room.proofs.Registers.{opcodes_stand}
 
 second_false : (a b c : Bool) → (a || b || c) ≡ false → b ≡ false

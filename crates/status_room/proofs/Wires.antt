@@ -16,7 +16,7 @@ use Rattle.stitched_netlist.specs.Sites.{Boundary, pin_net, row_net, site_of, ro
 use Rattle.stitched_netlist.specs.Sides.{is_moved, moves, side_from, core_side}
 use Rattle.stitched_netlist.specs.Stitched.{boundary_at}
 use Rattle.status_fitting.specs.Wires.{IsWireAt, NamesWire, scalar, vector, NamesDriven}
-use Rattle.status_room.specs.ReadyLaws.{IsCaptured}
+use Rattle.status_room.specs.Needed.{IsCaptured}
 
 -- A net that is no port's stays.
 

@@ -1,4 +1,4 @@
-// Data registers of a design's own that were fitted can be built in. Laws only; specs/ReadyLawsLaws.antt has the statements,
+// Data registers of a design's own that were fitted can be built in. Laws only; specs/ReadyLaws.antt has the statements,
 // specs/ReadyLaws.antt what building in needs.
 // IEEE Std 1149.1-2001: test data registers; what is needed is own.
 //
@@ -8,7 +8,7 @@
 // - Their opcodes are none of the plan's (`fitted_registers_are_untaken`).
 // By the contract of its law functions.
 
-ghost use Rattle.status_room.specs.ReadyLawsLaws.{FittedAreUntaken, FittedCanBeBuilt};
+ghost use Rattle.status_room.specs.ReadyLaws.{FittedAreUntaken, FittedCanBeBuilt};
 
 use netlist_model::laws::direction_of_a_bit;
 

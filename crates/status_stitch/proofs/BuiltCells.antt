@@ -14,12 +14,12 @@ use Rattle.stitched_netlist.specs.declared.model.TapPort.{TapPort}
 use Rattle.stitched_netlist.specs.Sites.{Boundary, sides_of}
 use Rattle.stitched_netlist.specs.Sides.{core_cell}
 use Rattle.stitched_netlist.specs.Stitched.{live_cells, tap_net_views, boundary_at, first_net, test_logic_nets, tdo_part_by, tdo_part, stitched_cells_by, stitched_cells, stitched}
-use Rattle.stitched_netlist.specs.PlacesLawsLaws.{port_of}
+use Rattle.stitched_netlist.specs.PlacesLaws.{port_of}
 use Rattle.status_fitting.specs.declared.fitted.FittedRegister.{FittedRegister}
 use Rattle.open_stitch.specs.Connected.{shows}
 use Rattle.open_stitch.proofs.Connected.{choice_cell, middle_cells, choice_at, opened_length}
 use Rattle.open_stitch.specs.Open.{through_number, through_net, through_cell, stitched_open}
-use Rattle.status_stitch.specs.BuiltLaws.{first_behind, number_behind, cells_behind, shown_behind, IsBuilt}
+use Rattle.status_stitch.specs.Built.{first_behind, number_behind, cells_behind, shown_behind, IsBuilt}
 
 -- a place of two lists
 pub split_at : {X : Type 0} (xs ys : List X) (k : ℕ) (x : X) → slice_get (xs ++ ys) k ≡ Some x

@@ -11,15 +11,15 @@ use Rattle.netlist_model.specs.LawsContained.{ContainedParts}
 use Rattle.gate_parts.specs.Laws.{FlopOn}
 use Rattle.gate_parts.specs.PartLaws.{ContainedPartHasFlops}
 use Rattle.register_gates.specs.declared.bits.TheConstants.{SHIFT_BIT}
-use Rattle.register_gates.specs.BitsLaws.{shift_bit_given, shift_bit_cells}
+use Rattle.register_gates.specs.Bits.{shift_bit_given, shift_bit_cells}
 use Rattle.register_gates.specs.Registers.{selected_cells, selected_steering}
 use Rattle.status_build.specs.ReconnectedLaws.{ReadsFlop}
 use Rattle.plan_fitting.specs.declared.fitted.Fitted.{Fitted}
 use Rattle.stitched_netlist.specs.declared.model.TapNames.{TapNames}
 use Rattle.stitched_netlist.specs.ModelLogic.{bypass_from, tap_at, instruction_at, bypass_at}
 use Rattle.stitched_netlist.specs.Stitched.{first_net, stitched}
-use Rattle.stitched_netlist.specs.PlacesLawsLaws.{port_of, bypass_number}
-use Rattle.stitched_netlist.specs.PlacesLaws.{StitchedHoldsParts}
+use Rattle.stitched_netlist.specs.PlacesLaws.{port_of, bypass_number}
+use Rattle.stitched_netlist.specs.Places.{StitchedHoldsParts}
 use Rattle.open_stitch.proofs.Connected.{choice_at}
 
 -- a flip-flop that drives the net

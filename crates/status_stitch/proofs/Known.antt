@@ -20,8 +20,8 @@ use Rattle.status_room.specs.scan_stitch.Stitched.{CanBeStitched}
 use Rattle.status_room.specs.scan_stitch.Stitch.{CanStitch}
 use Rattle.status_room.proofs.scan_stitch.Known.{names_entered, can_of, named_of, formed_of}
 use Rattle.status_fitting.specs.declared.fitted.FittedRegister.{FittedRegister}
-use Rattle.status_room.specs.ReadyLaws.{AreBuildable}
-use Rattle.status_room.specs.ReadyLawsLaws.{FittedCanBeBuilt}
+use Rattle.status_room.specs.Needed.{AreBuildable}
+use Rattle.status_room.specs.ReadyLaws.{FittedCanBeBuilt}
 use Rattle.status_room.specs.Ready.{whole_room, HasStatusRoom}
 use Rattle.status_room.proofs.Limits.{too_many_less}
 use Rattle.status_stitch.specs.Stitch.{CanStitchStatus}

@@ -7,7 +7,7 @@ use Rattle.netlist_model.specs.Lists.{NetView, NetlistView}
 use Rattle.netlist_arena.specs.Arena.{ArenaView}
 use Rattle.gate_parts.specs.Parts.{added_nets}
 use Rattle.gate_parts.proofs.Steps.{length-added_nets}
-use Rattle.instruction_gates.specs.RegisterLaws.{instruction_size, opcodes_size, matched_instructions, stages_size}
+use Rattle.instruction_gates.specs.Register.{instruction_size, opcodes_size, matched_instructions, stages_size}
 use Rattle.plan_fitting.specs.declared.fitted.Fitted.{Fitted}
 use Rattle.stitched_netlist.specs.declared.model.TapNames.{TapNames}
 use Rattle.stitched_netlist.specs.Sites.{sides_of}
@@ -19,9 +19,9 @@ use Rattle.status_room.specs.scan_stitch.Stitched.{HasStitchRoom}
 use Rattle.open_stitch.specs.Open.{through_net, stitched_open, parts_at}
 use Rattle.status_fitting.specs.declared.fitted.FittedRegister.{FittedRegister}
 use Rattle.status_gates.specs.Registers.{registers_size}
-use Rattle.status_build.specs.BuildLawsLaws.{IsAddable, CanAdd}
+use Rattle.status_build.specs.BuildLaws.{IsAddable, CanAdd}
 use Rattle.status_stitch.specs.Stitched.{status_first, status_size, shared_at}
-use Rattle.status_room.specs.ReadyLaws.{CanBeBuilt, AreBuildable}
+use Rattle.status_room.specs.Needed.{CanBeBuilt, AreBuildable}
 use Rattle.status_room.specs.Ready.{bits_of, status_room, HasStatusRoom}
 
 -- Nets.

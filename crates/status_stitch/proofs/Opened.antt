@@ -14,7 +14,7 @@ use Rattle.netlist_arena.specs.Looks.{feed_at}
 use Rattle.plan_fitting.specs.declared.fitted.Fitted.{Fitted}
 use Rattle.stitched_netlist.specs.declared.model.TapNames.{TapNames}
 use Rattle.stitched_netlist.specs.Stitched.{first_net, stitched_cells_by, stitched_cells, stitched}
-use Rattle.stitched_netlist.specs.PlacesLaws.{HasBuiltIn, ExtendsStitched, ExtensionIsBuiltIn}
+use Rattle.stitched_netlist.specs.Places.{HasBuiltIn, ExtendsStitched, ExtensionIsBuiltIn}
 use Rattle.stitched_netlist.proofs.PlacesLaws.{listed_at}
 use Rattle.stitched_netlist.specs.Directions.{KeepsDirections, StitchedDirections}
 use Rattle.written_netlists.specs.Same.{IsSameNetlist}
@@ -25,9 +25,9 @@ use Rattle.status_fitting.specs.declared.fitted.FittedRegister.{FittedRegister}
 use Rattle.status_build.specs.FormedLaws.{IsReadNet}
 use Rattle.status_build.specs.OrderLaws.{IsProper}
 use Rattle.status_build.specs.PlacesLaws.{HasShared, SharedNetsStand, WiresStand}
-use Rattle.status_build.specs.BuildLaws.{IsOpenTo, CanRead}
+use Rattle.status_build.specs.Build.{IsOpenTo, CanRead}
 use Rattle.status_stitch.specs.Stitched.{shared_at}
-use Rattle.status_room.specs.ReadyLaws.{IsCaptured, AreBuildable}
+use Rattle.status_room.specs.Needed.{IsCaptured, AreBuildable}
 use Rattle.status_stitch.proofs.Numbers.{opened_nets, opcode_end, order_of}
 
 pub record OpenLaws : Type 0 where

@@ -25,7 +25,7 @@ use Rattle.plan_fitting.proofs.PlanBits.{plans_have_bits}
 use Rattle.stitched_netlist.specs.declared.model.TapNames.{TapNames}
 use Rattle.stitched_netlist.specs.ModelLogic.{bypass_at}
 use Rattle.stitched_netlist.specs.Stitched.{first_net, stitched_cells_by, stitched_cells, stitched}
-use Rattle.stitched_netlist.specs.PlacesLaws.{ExtendsStitched, ExtensionIsBuiltIn}
+use Rattle.stitched_netlist.specs.Places.{ExtendsStitched, ExtensionIsBuiltIn}
 use Rattle.stitched_netlist.proofs.PlacesLaws.{listed_at}
 use Rattle.stitched_netlist.specs.InsidePlaces.{places_in}
 use Rattle.stitched_netlist.specs.InsideLaws.{BuiltInSurrounds}

@@ -19,8 +19,8 @@ use Rattle.open_stitch.specs.Open.{through_number, through_net, through_cell, op
 use Rattle.status_fitting.specs.declared.fitted.FittedRegister.{FittedRegister}
 use Rattle.status_gates.specs.Opcodes.{inverses_cells}
 use Rattle.status_gates.specs.Registers.{shown_of, registers_cells}
-use Rattle.status_build.specs.BuildLaws.{added_cells, shown_at}
-use Rattle.status_build.specs.BuildLawsLaws.{IsBuiltOn}
+use Rattle.status_build.specs.Build.{added_cells, shown_at}
+use Rattle.status_build.specs.BuildLaws.{IsBuiltOn}
 use Rattle.status_stitch.specs.Stitched.{status_first, status_number, status_size, shared_at, status_cells, status_shown, all_cells, stitched_status}
 use Rattle.status_stitch.proofs.Numbers.{opened_nets}
 use Rattle.status_stitch.proofs.Opened.{buffer_there}

@@ -25,7 +25,7 @@ use Rattle.plan_fitting.specs.FittingPlan.{IsFitting}
 use Rattle.stitched_netlist.specs.declared.model.TapNames.{TapNames}
 use Rattle.stitched_netlist.specs.ModelLogic.{bypass_at}
 use Rattle.stitched_netlist.specs.Stitched.{first_net, stitched_cells_by, stitched_cells, stitched}
-use Rattle.stitched_netlist.specs.PlacesLaws.{StitchedHoldsParts}
+use Rattle.stitched_netlist.specs.Places.{StitchedHoldsParts}
 use Rattle.stitched_netlist.proofs.PlacesLaws.{listed_at}
 use Rattle.stitched_netlist.specs.InsidePlaces.{places_in}
 use Rattle.stitched_netlist.specs.RanksLaws.{StitchedHasControls}
@@ -43,8 +43,8 @@ use Rattle.open_stitch.specs.Open.{through_number, through_net, through_cell, op
 use Rattle.open_stitch.specs.Runs.{Extends}
 use Rattle.status_stitch.specs.Stands.{shared_of, HoldsStatus}
 use Rattle.status_stitch.proofs.RealisedOpened.{BuiltLaws, surrounds}
-use Rattle.status_stitch.specs.BuiltLaws.{first_behind, number_behind, cells_behind, shown_behind, IsBuilt}
-use Rattle.status_stitch.specs.BuiltLawsLaws.{BuiltHasStatus}
+use Rattle.status_stitch.specs.Built.{first_behind, number_behind, cells_behind, shown_behind, IsBuilt}
+use Rattle.status_stitch.specs.BuiltLaws.{BuiltHasStatus}
 use Rattle.status_stitch.proofs.BuiltCells.{split_at, IsChosen, opened_at, open_nets, front_length, built_buffer, at_front, at_buffer, at_behind, IsBuffer, IsBehind, stands}
 use Rattle.status_stitch.proofs.Bypass.{choice_reads_flop}
 

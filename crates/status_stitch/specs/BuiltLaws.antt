@@ -1,41 +1,46 @@
--- A netlist with the test logic of a plan and data registers of a design's own built in, cell by cell.
--- IEEE Std 1149.1-2001: test logic architecture, test data registers (design-specific); the order is own.
-use Rattle.std.specs.Prelude.{◌≡◌, ℕ, ◌+◌, List, ◌∷◌, ◌++◌, slice_get}
-use Rattle.netlist_model.specs.declared.NetId.{NetId}
-use Rattle.netlist_model.specs.declared.Feed.TheVariants.{Net}
-use Rattle.netlist_model.specs.Lists.{CellView, NetlistView, cell_at}
-use Rattle.netlist_model.specs.Formed.{IsWellFormed}
-use Rattle.plan_fitting.specs.declared.fitted.Fitted.{Fitted}
+-- Such a netlist behaves as the original wrapped in the plan's device with the registers, and as the original alone.
+-- Own. For IEEE Std 1149.1-2001 (design-specific test data registers) see status_gates.
+use Rattle.std.specs.Prelude.{List}
+use Rattle.netlist_model.specs.Lists.{NetlistView}
+use Rattle.netlist_model.specs.Formed.{IsLaidOut}
+use Rattle.netlist_model.specs.Contained.{IsDense}
+use Rattle.netlist_link.specs.Linked.{LinkedView}
+use Rattle.wrapped_chip.specs.Realises.{Alone}
+use Rattle.plan_texts.specs.declared.plan.Plan.{Plan}
+use Rattle.plan_fitting.specs.Pins.{PinSeen}
+use Rattle.plan_fitting.specs.Devices.{fitted_of, device_of}
+use Rattle.plan_fitting.specs.FittingPlan.{IsFitting}
 use Rattle.stitched_netlist.specs.declared.model.TapNames.{TapNames}
-use Rattle.stitched_netlist.specs.Stitched.{stitched_cells_by, stitched}
+use Rattle.status_fitting.specs.declared.register_texts.plan.StatusPlan.{StatusPlan}
 use Rattle.status_fitting.specs.declared.fitted.FittedRegister.{FittedRegister}
-use Rattle.status_build.specs.CellsLaws.{added_cells}
-use Rattle.open_stitch.specs.Open.{through_number, through_net, through_cell, parts_at}
-use Rattle.status_stitch.specs.Stands.{shared_of, status_shown}
+use Rattle.status_fitting.specs.declared.fitted.FittedStatus.{FittedStatus}
+use Rattle.status_fitting.specs.Faults.{HasNoFault, IsSpelled}
+use Rattle.status_fitting.specs.Fitted.{IsFitted}
+use Rattle.status_gates.specs.Realises.{RealisesStatus}
+use Rattle.status_stitch.specs.Stands.{HasStatus}
+use Rattle.status_stitch.specs.Built.{IsBuilt}
 
--- own: the first net and the number of the first cell of the registers' gates: behind the buffer's
-abbrev pub first_behind : NetlistView → Fitted → ℕ
-first_behind N f = (through_net N f).0 + 1
+-- own: it has all that the law of such netlists asks for
+abbrev pub BuiltHasStatus : Type 0
+BuiltHasStatus = (L : LinkedView) (p : Plan) (seen : List PinSeen) (names : TapNames) (M : NetlistView) (registers : List FittedRegister) → IsFitting L p seen → IsLaidOut L.arena.lists
+    → IsDense L.arena.lists → IsBuilt M L.arena.lists names (fitted_of L p seen) registers → HasStatus L p seen names M registers
 
-abbrev pub number_behind : NetlistView → Fitted → ℕ
-number_behind N f = through_number N f + 1
+-- own: a plan and registers that fit a netlist without gaps, and the netlist with both built in
+pub record IsWholeStatus (L : LinkedView) (p : Plan) (seen : List PinSeen) (names : TapNames) (plan : StatusPlan) (fitted : FittedStatus) (M : NetlistView) : Type 0 where
+  pub fits : IsFitting L p seen
+  pub laid_out : IsLaidOut L.arena.lists
+  pub dense : IsDense L.arena.lists
+  pub spelled : IsSpelled plan
+  pub fitted_is : IsFitted L plan fitted
+  pub faultless : HasNoFault L p plan
+  pub built : IsBuilt M L.arena.lists names (fitted_of L p seen) fitted.registers
 
--- own: these gates
-abbrev pub cells_behind : NetlistView → Fitted → List FittedRegister → List CellView
-cells_behind N f registers =
-    added_cells (first_behind N f) (number_behind N f) (shared_of (parts_at N f) (first_behind N f)) (parts_at N f).bypass f.codes.length registers
+-- with no other premise it realises the chip with the registers
+abbrev pub BuiltStatusRealises : Type 0
+BuiltStatusRealises = (L : LinkedView) (p : Plan) (seen : List PinSeen) (names : TapNames) (plan : StatusPlan) (fitted : FittedStatus) (M : NetlistView)
+    → IsWholeStatus L p seen names plan fitted M → RealisesStatus M (device_of L p seen) L.arena.lists fitted.registers
 
--- own: what they show in the place of the bypass bit
-abbrev pub shown_behind : NetlistView → Fitted → List FittedRegister → NetId
-shown_behind N f registers = status_shown (parts_at N f) f.codes.length (first_behind N f) registers
-
--- the cells with the test logic, the buffer, which has what the registers show, and their gates
-abbrev pub built_cells : NetlistView → Fitted → List FittedRegister → List CellView
-built_cells N f registers = stitched_cells_by (through_net N f) N f ++ through_cell N f (Net (shown_behind N f registers)) ∷ cells_behind N f registers
-
--- M is well formed and has these cells, and N's ports and the test access port
-pub record IsBuilt (M N : NetlistView) (names : TapNames) (f : Fitted) (registers : List FittedRegister) : Type 0 where
-  pub formed : IsWellFormed M
-  pub library : M.library ≡ N.library
-  pub ports : M.ports ≡ (stitched N names f).ports
-  pub cells : (k : ℕ) → cell_at M k ≡ slice_get (built_cells N f registers) k
+-- and is the netlist alone while the instruction in effect is transparent, where a register's own counts as BYPASS
+abbrev pub BuiltStatusIsAlone : Type 0
+BuiltStatusIsAlone = (L : LinkedView) (p : Plan) (seen : List PinSeen) (names : TapNames) (plan : StatusPlan) (fitted : FittedStatus) (M : NetlistView)
+    → IsWholeStatus L p seen names plan fitted M → Alone M (device_of L p seen) L.arena.lists

@@ -1,5 +1,5 @@
-// The netlist with a plan's test logic and data registers of the design's own built in, cell by cell: specs/BuiltLaws.antt;
-// that it behaves as the original wrapped in the plan's device with the registers: specs/BuiltLawsLaws.antt. Laws only.
+// The netlist with a plan's test logic and data registers of the design's own built in, cell by cell: specs/Built.antt;
+// that it behaves as the original wrapped in the plan's device with the registers: specs/BuiltLaws.antt. Laws only.
 // IEEE Std 1149.1-2001: test logic architecture, test data registers (design-specific); the laws are own.
 //
 // - It extends the netlist that is open to registers, has their gates, and its control ports are the original's, TCK and
@@ -9,7 +9,7 @@
 //   formed (`built_status_realises`, `built_status_is_alone`).
 // By the contract of its law functions.
 
-ghost use Rattle.status_stitch.specs.BuiltLawsLaws.{BuiltHasStatus, BuiltStatusRealises, BuiltStatusIsAlone};
+ghost use Rattle.status_stitch.specs.BuiltLaws.{BuiltHasStatus, BuiltStatusRealises, BuiltStatusIsAlone};
 
 use crate::realised::{fitted_registers_are_own, status_is_alone, status_realises};
 use gate_parts::contained_part_has_flops;

@@ -7,7 +7,7 @@ ghost use Rattle.netlist_link.specs.WellNamed.{IsWellNamed};
 ghost use Rattle.stitched_netlist.specs.Stitched.{stitched};
 ghost use Rattle.written_netlists.specs.Same.{IsSameNetlist};
 ghost use Rattle.status_room.specs.scan_stitch.Stitched.{CanBeStitched};
-ghost use Rattle.status_room.specs.ReadyLaws.{AreBuildable};
+ghost use Rattle.status_room.specs.Needed.{AreBuildable};
 ghost use Rattle.status_room.specs.Ready.{whole_room, HasStatusRoom};
 ghost use Rattle.status_stitch.specs.Stitched.{stitched_status};
 

@@ -11,7 +11,7 @@ use Rattle.stitched_netlist.specs.Sites.{sides_of}
 use Rattle.stitched_netlist.specs.ModelRows.{nets_of_rows}
 use Rattle.stitched_netlist.specs.ModelLogic.{logic_size}
 use Rattle.stitched_netlist.specs.Stitched.{first_net}
-use Rattle.stitched_netlist.specs.PlacesLawsLaws.{register_net}
+use Rattle.stitched_netlist.specs.PlacesLaws.{register_net}
 use Rattle.stitched_netlist.specs.RowsLaws.{RowsStandSomewhere, RowsStandOnce, NetsHaveRows}
 use Rattle.stitched_netlist.specs.FormedLaws.{StitchedLogicIsAdded}
 use Rattle.stitched_netlist.proofs.FormedContext.{FitsWell, fits_well}

@@ -9,7 +9,7 @@ use Rattle.netlist_model.specs.declared.Dir.TheVariants as dir
 use Rattle.netlist_model.specs.declared.PinBit.{PinBit}
 use Rattle.netlist_model.specs.Settled.{feed_value}
 use Rattle.plan_fitting.specs.netlist_link.Linked.{LinkedView}
-use Rattle.surrounded_core.specs.RowsLaws.{BoundaryRow, observe_row, input_row, bidir_row, row_kind}
+use Rattle.surrounded_core.specs.Rows.{BoundaryRow, observe_row, input_row, bidir_row, row_kind}
 use Rattle.wrapped_chip.specs.Cells.{net_of_bit}
 use Rattle.wrapped_chip.specs.Suits.{is_input, is_output}
 use Rattle.surrounded_core.specs.Sites.{StandsAround}
@@ -25,7 +25,7 @@ use Rattle.stitched_netlist.specs.Sites.{Boundary, row_net, site_of}
 use Rattle.stitched_netlist.specs.Sides.{is_moved, core_feed}
 use Rattle.stitched_netlist.specs.ModelRows.{net_at, control_row as row_control, enable_of, is_active_high}
 use Rattle.stitched_netlist.specs.Stitched.{boundary_at}
-use Rattle.stitched_netlist.specs.PlacesLawsLaws.{row_side, handed_at}
+use Rattle.stitched_netlist.specs.PlacesLaws.{row_side, handed_at}
 use Rattle.stitched_netlist.specs.InsidePlaces.{gates_of, places_in}
 use Rattle.stitched_netlist.proofs.InsideCases.{AtBit, Names, RowCase, observed_case, input_case, plain_case, added_case, driver_case, inout_case, control_case, cases_of}
 use Rattle.stitched_netlist.proofs.Cores.{FitLaws, datum_given, own_given, control_is, level_given, shared_given}

@@ -15,7 +15,7 @@ use Rattle.stitched_netlist.specs.Sites.{row_net, site_of, sides_of}
 use Rattle.stitched_netlist.specs.Sides.{is_moved, core_side, core_cell}
 use Rattle.stitched_netlist.specs.ModelRows.{net_at}
 use Rattle.stitched_netlist.specs.Stitched.{boundary_at, first_net, stitched}
-use Rattle.stitched_netlist.specs.PlacesLawsLaws.{port_of}
+use Rattle.stitched_netlist.specs.PlacesLaws.{port_of}
 use Rattle.stitched_netlist.specs.RowsLaws.{StandsAt, at_observed, at_input, at_output, at_added, at_driver, at_inout, at_control}
 use Rattle.stitched_netlist.specs.Directions.{KeepsDirections}
 use Rattle.stitched_netlist.proofs.Directions.{directions}

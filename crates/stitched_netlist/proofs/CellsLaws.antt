@@ -13,7 +13,7 @@ use Rattle.stitched_netlist.specs.Sides.{core_cell}
 use Rattle.stitched_netlist.specs.ModelRows.{behind}
 use Rattle.stitched_netlist.specs.ModelLogic.{controller_part, instruction_part, bypass_part, ident_part}
 use Rattle.stitched_netlist.specs.Stitched.{same_place, boundary_at, first_net, live_cells, rows_part, tdo_part, test_logic_cells, stitched}
-use Rattle.stitched_netlist.specs.PlacesLawsLaws.{port_of, bypass_number, ident_number, register_number, tdo_number}
+use Rattle.stitched_netlist.specs.PlacesLaws.{port_of, bypass_number, ident_number, register_number, tdo_number}
 use Rattle.stitched_netlist.proofs.PlacesLaws.{listed_at, mapped_at, counts_live, counts_empty, live_at}
 use Rattle.stitched_netlist.proofs.PlacesParts.{length_behind}
 use Rattle.stitched_netlist.specs.CellsLaws.{IsAt, CellOf, of_core, of_controller, of_instruction, of_bypass, of_ident, of_row, of_driver, of_tdo}

@@ -10,14 +10,14 @@ use Rattle.test_logic.specs.declared.TapNets.{TapNets}
 use Rattle.tap_gates.specs.declared.table.TheConstants.{CONTROLLER}
 use Rattle.tap_gates.specs.Controller.{tap_given}
 use Rattle.surrounded_core.specs.register_gates.declared.bits.TheConstants.{SHIFT_BIT}
-use Rattle.surrounded_core.specs.register_gates.BitsLaws.{shift_bit_given, shift_bit_cells}
+use Rattle.surrounded_core.specs.register_gates.Bits.{shift_bit_given, shift_bit_cells}
 use Rattle.surrounded_core.specs.register_gates.Chains.{chain_cells}
 use Rattle.surrounded_core.specs.register_gates.declared.TheConstants.{SELECTED}
 use Rattle.surrounded_core.specs.register_gates.declared.ident.TheConstants.{INVERSE}
 use Rattle.surrounded_core.specs.register_gates.declared.tdo.TheConstants.{TDO}
 use Rattle.surrounded_core.specs.register_gates.Registers.{selected_given, selected_cells, selected_steering, bypass_cells, data_cells, user_size, inverse_cells, captured_feeds, ident_size, ident_cells}
 use Rattle.surrounded_core.specs.register_gates.Tdo.{tdo_given}
-use Rattle.surrounded_core.specs.instruction_gates.RegisterLaws.{stages_size, opcodes_size, matched_instructions, instruction_size}
+use Rattle.surrounded_core.specs.instruction_gates.Register.{stages_size, opcodes_size, matched_instructions, instruction_size}
 use Rattle.plan_fitting.specs.declared.fitted.Fitted.{Fitted}
 use Rattle.stitched_netlist.specs.declared.model.TapPort.{TapPort}
 use Rattle.stitched_netlist.specs.ModelLogic.{instruction_from, bypass_from, ident_from, code_size, tap_at, instruction_at, ident_part}

@@ -10,7 +10,7 @@ use Rattle.stitched_netlist.specs.Sites.{Boundary, site_of, row_sides, sides_of}
 use Rattle.stitched_netlist.specs.ModelRows.{rows_cells}
 use Rattle.stitched_netlist.specs.Stitched.{boundary_at, first_net, rows_part}
 use Rattle.stitched_netlist.proofs.ModelMoves.{sides_cons}
-use Rattle.stitched_netlist.specs.PlacesLawsLaws.{port_of, scan_of, register_number, register_net, row_first, row_side, row_number, row_next}
+use Rattle.stitched_netlist.specs.PlacesLaws.{port_of, scan_of, register_number, register_net, row_first, row_side, row_number, row_next}
 use Rattle.stitched_netlist.proofs.PlacesParts.{by_kind, cells_there}
 use Rattle.stitched_netlist.specs.CellsLaws.{IsAt, gates_of_row, driver_number, drivers_of_row}
 use Rattle.stitched_netlist.proofs.Split.{split, front, back, same_list}

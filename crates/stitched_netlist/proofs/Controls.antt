@@ -31,7 +31,7 @@ use Rattle.stitched_netlist.specs.Sites.{Boundary, row_net, site_of}
 use Rattle.stitched_netlist.specs.Sides.{is_moved, core_side, is_driven, core_cell}
 use Rattle.stitched_netlist.specs.ModelRows.{net_at}
 use Rattle.stitched_netlist.specs.Stitched.{tap_port, test_logic_cells, boundary_at, first_net, stitched_cells, stitched}
-use Rattle.stitched_netlist.specs.PlacesLaws.{IsInside, StitchedHoldsParts, StitchedHoldsTheCore}
+use Rattle.stitched_netlist.specs.Places.{IsInside, StitchedHoldsParts, StitchedHoldsTheCore}
 use Rattle.stitched_netlist.proofs.PlacesLaws.{listed_at}
 use Rattle.stitched_netlist.specs.Directions.{KeepsDirections, StitchedDirections}
 use Rattle.stitched_netlist.specs.RanksLaws.{StitchedHasCones, StitchedHasControls}

@@ -13,7 +13,7 @@ use Rattle.stitched_netlist.specs.Sites.{Boundary, row_net, row_sides}
 use Rattle.stitched_netlist.specs.Sides.{moves, side_from, core_side, feeds_behind, core_cell}
 use Rattle.stitched_netlist.specs.Stitched.{boundary_at, stitched}
 use Rattle.stitched_netlist.proofs.ModelMoves.{moves_some, moved_here, moved_on, side_stays}
-use Rattle.stitched_netlist.specs.PlacesLaws.{IsInside, StitchedHoldsTheCore}
+use Rattle.stitched_netlist.specs.Places.{IsInside, StitchedHoldsTheCore}
 use Rattle.stitched_netlist.proofs.PlacesLaws.{core_stands}
 
 -- and moves one net only

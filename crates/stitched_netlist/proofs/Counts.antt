@@ -12,7 +12,7 @@ use Rattle.stitched_netlist.specs.declared.model.TapNames.{TapNames}
 use Rattle.stitched_netlist.specs.Sites.{sides_of}
 use Rattle.stitched_netlist.specs.Sides.{core_cell}
 use Rattle.stitched_netlist.specs.Stitched.{boundary_at, first_net, live_cells, tap_net_views, test_logic_nets, test_logic_cells, stitched_cells, stitched}
-use Rattle.stitched_netlist.specs.PlacesLawsLaws.{port_of}
+use Rattle.stitched_netlist.specs.PlacesLaws.{port_of}
 use Rattle.stitched_netlist.proofs.PlacesLaws.{listed_at, counts_live}
 use Rattle.stitched_netlist.proofs.PlacesParts.{length_behind}
 use Rattle.stitched_netlist.specs.Sizes.{added_cells, added_net_count, StitchedHasCounts}

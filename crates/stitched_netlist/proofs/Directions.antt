@@ -11,7 +11,7 @@ use Rattle.gate_parts.proofs.Ports.{dir_stays, dir_of_more, no_port_past}
 use Rattle.stitched_netlist.specs.declared.model.TapNames.{TapNames}
 use Rattle.stitched_netlist.specs.declared.model.TapPort.{TapPort}
 use Rattle.stitched_netlist.specs.Stitched.{scalar, tap_ports, tap_port}
-use Rattle.stitched_netlist.specs.PlacesLawsLaws.{port_of}
+use Rattle.stitched_netlist.specs.PlacesLaws.{port_of}
 use Rattle.stitched_netlist.specs.Directions.{StitchedDirections}
 
 -- Ports behind others.

@@ -12,7 +12,7 @@ use Rattle.netlist_model.specs.Nested.{renamed_net}
 use Rattle.gate_parts.specs.Parts.{part_cells}
 use Rattle.surrounded_core.specs.register_gates.declared.tdo.TheConstants.{TDO}
 use Rattle.surrounded_core.specs.register_gates.Tdo.{tdo_given, tdo_driver}
-use Rattle.surrounded_core.specs.instruction_gates.RegisterLaws.{instruction_size}
+use Rattle.surrounded_core.specs.instruction_gates.Register.{instruction_size}
 use Rattle.plan_fitting.specs.declared.fitted.FitRow.{FitRow}
 use Rattle.plan_fitting.specs.declared.fitted.Fitted.{Fitted}
 use Rattle.stitched_netlist.specs.declared.model.TapNames.{TapNames}
@@ -23,7 +23,7 @@ use Rattle.stitched_netlist.specs.Sides.{is_moved, core_side, core_cell}
 use Rattle.stitched_netlist.specs.ModelRows.{row_nets, net_at}
 use Rattle.stitched_netlist.specs.ModelLogic.{instruction_from, bypass_from, ident_from, code_size, logic_size, tap_at, instruction_at, bypass_at, ident_at, controller_part, instruction_part, bypass_part, ident_part}
 use Rattle.stitched_netlist.specs.Stitched.{boundary_at, first_net, boundary_last, tdo_part, stitched}
-use Rattle.stitched_netlist.specs.PlacesLawsLaws.{port_of, instruction_number, bypass_number, ident_number, tdo_number, register_net, row_first, row_side, row_number}
+use Rattle.stitched_netlist.specs.PlacesLaws.{port_of, instruction_number, bypass_number, ident_number, tdo_number, register_net, row_first, row_side, row_number}
 use Rattle.stitched_netlist.specs.RowsLaws.{StandsAt, at_observed, at_input, at_output, at_added, at_driver, at_inout, at_control}
 use Rattle.stitched_netlist.specs.CellsLaws.{gates_of_row, driver_number, drivers_of_row, CellOf, of_core, of_controller, of_instruction, of_bypass, of_ident, of_row, of_driver, of_tdo}
 use Rattle.stitched_netlist.specs.Sizes.{choice_count, driver_count}

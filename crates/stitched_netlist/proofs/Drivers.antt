@@ -21,7 +21,7 @@ use Rattle.gate_parts.specs.Parts.{part_cells}
 use Rattle.plan_fitting.specs.netlist_link.Linked.{LinkedView}
 use Rattle.surrounded_core.specs.boundary_cells.Cells.{stage_table, cell_given, choice_cell}
 use Rattle.surrounded_core.specs.boundary_cells.declared.tables.TheConstants.{UPDATES}
-use Rattle.surrounded_core.specs.RowsLaws.{BoundaryRow, row_cells}
+use Rattle.surrounded_core.specs.Rows.{BoundaryRow, row_cells}
 use Rattle.wrapped_chip.specs.Cells.{net_of_bit, net_of_row, row_of}
 use Rattle.wrapped_chip.specs.Suits.{IsRead, inactive_level, Suits}
 use Rattle.surrounded_core.specs.Sites.{IsSeenOn, IsDataNet, IsPlain, IsControlled, IsDrivenBy}
@@ -38,8 +38,8 @@ use Rattle.stitched_netlist.specs.Sites.{Boundary, pin_net, row_net, site_of, si
 use Rattle.stitched_netlist.specs.Sides.{core_side, is_moved, is_driven, level_net, driver_feeds, feeds_behind, core_cell, core_feed}
 use Rattle.stitched_netlist.specs.ModelRows.{net_at, added_driver}
 use Rattle.stitched_netlist.specs.Stitched.{boundary_at}
-use Rattle.stitched_netlist.specs.PlacesLawsLaws.{scan_of, row_first, row_side, row_number, row_next, handed_at, boundary_row, drivers_at}
-use Rattle.stitched_netlist.specs.PlacesLaws.{HoldsPartsBy, IsInside}
+use Rattle.stitched_netlist.specs.PlacesLaws.{scan_of, row_first, row_side, row_number, row_next, handed_at, boundary_row, drivers_at}
+use Rattle.stitched_netlist.specs.Places.{HoldsPartsBy, IsInside}
 use Rattle.stitched_netlist.specs.InsidePlaces.{places_in}
 use Rattle.stitched_netlist.proofs.InsideCases.{AtBit, DrivenAs, Names, RowCase, observed_case, input_case, plain_case, added_case, driver_case, inout_case, control_case, cases_of}
 use Rattle.stitched_netlist.proofs.InsideMoves.{moved_to, stays_at, feeds_at}

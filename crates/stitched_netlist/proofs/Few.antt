@@ -8,7 +8,7 @@ use Rattle.surrounded_core.specs.register_gates.Registers.{user_size, inverse_ce
 use Rattle.surrounded_core.proofs.register_gates.ConstantBits.{counted}
 use Rattle.surrounded_core.proofs.register_gates.ChoiceBits.{counted_choices}
 use Rattle.test_logic.specs.declared.Codes.{Codes}
-use Rattle.surrounded_core.specs.instruction_gates.RegisterLaws.{size_with}
+use Rattle.surrounded_core.specs.instruction_gates.Register.{size_with}
 use Rattle.stitched_netlist.specs.declared.model.Site.{Site}
 use Rattle.stitched_netlist.specs.declared.model.Site.TheVariants as site
 use Rattle.stitched_netlist.specs.ModelRows.{nets_by}

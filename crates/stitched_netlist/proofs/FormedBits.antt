@@ -9,7 +9,7 @@ use Rattle.netlist_model.specs.Lists.{PortView, NetlistView, bit_net}
 use Rattle.plan_fitting.specs.declared.fitted.Fitted.{Fitted}
 use Rattle.stitched_netlist.specs.declared.model.TapNames.{TapNames}
 use Rattle.stitched_netlist.specs.Stitched.{scalar, tap_ports, tap_port, stitched}
-use Rattle.stitched_netlist.specs.PlacesLawsLaws.{port_of}
+use Rattle.stitched_netlist.specs.PlacesLaws.{port_of}
 use Rattle.stitched_netlist.proofs.FormedContext.{FitsWell}
 use Rattle.std.proofs.lemmas.Option.{slice_get_within}
 

@@ -22,7 +22,7 @@ use Rattle.stitched_netlist.specs.Sites.{row_net, site_of}
 use Rattle.stitched_netlist.specs.Sides.{is_moved, moves, core_side}
 use Rattle.stitched_netlist.specs.Stitched.{boundary_at}
 use Rattle.stitched_netlist.proofs.ModelMoves.{output_is}
-use Rattle.stitched_netlist.specs.PlacesLawsLaws.{row_side}
+use Rattle.stitched_netlist.specs.PlacesLaws.{row_side}
 use Rattle.stitched_netlist.specs.RowsLaws.{StandsAt, HasRowAt, RowsStandSomewhere, RowsStandOnce, NetsHaveRows}
 use Rattle.stitched_netlist.proofs.Moved.{moved_or_stays}
 

@@ -14,7 +14,7 @@ use Rattle.stitched_netlist.specs.ModelRows.{row_nets, net_at}
 use Rattle.stitched_netlist.specs.ModelLogic.{logic_size}
 use Rattle.stitched_netlist.specs.Stitched.{boundary_at, first_net}
 use Rattle.stitched_netlist.proofs.ModelMoves.{moved_counts}
-use Rattle.stitched_netlist.specs.PlacesLawsLaws.{tdo_number, row_first, row_side, row_number}
+use Rattle.stitched_netlist.specs.PlacesLaws.{tdo_number, row_first, row_side, row_number}
 use Rattle.stitched_netlist.specs.RowsLaws.{StandsAt, at_observed, at_input, at_output, at_added, at_driver, at_inout, at_control}
 use Rattle.stitched_netlist.specs.CellsLaws.{driver_number}
 use Rattle.stitched_netlist.specs.Sizes.{choice_count, driver_count}

@@ -11,7 +11,7 @@ use Rattle.plan_fitting.specs.declared.fitted.Fitted.{Fitted}
 use Rattle.plan_fitting.specs.Pins.{PinSeen}
 use Rattle.plan_fitting.specs.Devices.{fitted_of}
 use Rattle.plan_fitting.specs.FittingPlan.{IsFitting}
-use Rattle.surrounded_core.specs.instruction_gates.RegisterLaws.{instruction_size}
+use Rattle.surrounded_core.specs.instruction_gates.Register.{instruction_size}
 use Rattle.stitched_netlist.specs.declared.model.TapNames.{TapNames}
 use Rattle.stitched_netlist.specs.ModelLogic.{logic_size, code_size}
 use Rattle.stitched_netlist.specs.Stitched.{stitched}

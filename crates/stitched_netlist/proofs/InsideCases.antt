@@ -28,7 +28,7 @@ use Rattle.netlist_model.specs.Drivers.{DriverIsFound}
 use Rattle.plan_fitting.specs.netlist_link.Linked.{LinkedView}
 use Rattle.wrapped_chip.specs.Cells.{net_of_row}
 use Rattle.wrapped_chip.specs.Suits.{is_input}
-use Rattle.surrounded_core.specs.RowsLaws.{output_kind}
+use Rattle.surrounded_core.specs.Rows.{output_kind}
 use Rattle.texts.specs.First.{or_else}
 use Rattle.plan_texts.specs.declared.plan.Plan.{Plan}
 use Rattle.plan_fitting.specs.declared.fitted.FitRow.{FitRow}

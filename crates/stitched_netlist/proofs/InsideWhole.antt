@@ -29,8 +29,8 @@ use Rattle.bsdl_device.specs.IsDevice.{opcode_entries, IsInstructionRegister}
 use Rattle.test_logic.specs.declared.TapInput.{TapInput}
 use Rattle.test_logic.specs.declared.TapInput.TheVariants.{Tck, Tms, Tdi, Trst}
 use Rattle.test_logic.specs.Instructions.{opcode_of}
-use Rattle.surrounded_core.specs.instruction_gates.RegisterLawsLaws.{RegistersFit}
-use Rattle.surrounded_core.specs.RowsLaws.{BoundaryRow, row_cells}
+use Rattle.surrounded_core.specs.instruction_gates.RegisterLaws.{RegistersFit}
+use Rattle.surrounded_core.specs.Rows.{BoundaryRow, row_cells}
 use Rattle.wrapped_chip.specs.Cells.{net_of_row, row_of}
 use Rattle.wrapped_chip.specs.Realises.{IsTapNet, tap_place}
 use Rattle.surrounded_core.proofs.instruction_gates.Rules.{last_there}
@@ -57,8 +57,8 @@ use Rattle.stitched_netlist.specs.Sites.{pin_net, row_net}
 use Rattle.stitched_netlist.specs.ModelRows.{nets_of_rows, last_bit}
 use Rattle.stitched_netlist.specs.Stitched.{scalar, tap_ports, boundary_at, first_net, stitched}
 use Rattle.stitched_netlist.specs.ModelLogic.{bypass_at}
-use Rattle.stitched_netlist.specs.PlacesLawsLaws.{port_of, scan_of, register_net, row_first, row_side, row_number, row_next}
-use Rattle.stitched_netlist.specs.PlacesLaws.{StitchedIsBuiltIn}
+use Rattle.stitched_netlist.specs.PlacesLaws.{port_of, scan_of, register_net, row_first, row_side, row_number, row_next}
+use Rattle.stitched_netlist.specs.Places.{StitchedIsBuiltIn}
 use Rattle.stitched_netlist.specs.InsidePlaces.{gates_of, places_in}
 use Rattle.stitched_netlist.specs.InsideLaws.{BuiltInNests, BuiltInSurrounds, StitchedSurrounds}
 use Rattle.stitched_netlist.proofs.InsideCases.{RowCase, observed_case, input_case, plain_case, added_case, driver_case, inout_case, control_case, cases_of}

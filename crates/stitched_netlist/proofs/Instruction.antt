@@ -11,7 +11,7 @@ use Rattle.test_logic.specs.declared.TapNets.{TapNets}
 use Rattle.test_logic.specs.declared.InstrNets.{InstrNets}
 use Rattle.test_logic.specs.declared.ScanNets.{ScanNets}
 use Rattle.test_logic.specs.Instructions.{opcode_of}
-use Rattle.surrounded_core.specs.register_gates.BitsLaws.{held_bit}
+use Rattle.surrounded_core.specs.register_gates.Bits.{held_bit}
 use Rattle.surrounded_core.specs.register_gates.Chains.{chain_last}
 use Rattle.surrounded_core.proofs.register_gates.ConstantBits.{counted}
 use Rattle.surrounded_core.specs.instruction_gates.declared.latches.TheConstants.{LOADED}
@@ -23,7 +23,7 @@ use Rattle.surrounded_core.specs.instruction_gates.Matches.{match_before}
 use Rattle.surrounded_core.specs.instruction_gates.Copies.{copies_cells}
 use Rattle.surrounded_core.specs.instruction_gates.Selections.{selections_given, selections_cells, selection_nets}
 use Rattle.surrounded_core.specs.instruction_gates.Stages.{stages_cells}
-use Rattle.surrounded_core.specs.instruction_gates.RegisterLaws.{pattern_bits, stages_size, latches_from, size_with, cells_with, told_with, opcode_size, opcode_cells, matched_instructions, opcodes_size, opcodes_cells, opcodes_told, opcodes_from, selections_from, copies_from, instruction_size, instruction_cells, instruction_nets}
+use Rattle.surrounded_core.specs.instruction_gates.Register.{pattern_bits, stages_size, latches_from, size_with, cells_with, told_with, opcode_size, opcode_cells, matched_instructions, opcodes_size, opcodes_cells, opcodes_told, opcodes_from, selections_from, copies_from, instruction_size, instruction_cells, instruction_nets}
 use Rattle.surrounded_core.specs.Above.{AreAbove, AreRanked, PartsStandAbove}
 use Rattle.surrounded_core.specs.Registers.{selections_levels, SelectionsStandAbove, AreBitsRanked}
 use Rattle.surrounded_core.specs.Instructions.{one_level, held_levels, equal_levels, AreLatchesRanked, StagesStandAbove, MatchesStandAbove, AreCopiesRanked, CopiesStandAbove}

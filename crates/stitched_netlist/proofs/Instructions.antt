@@ -20,7 +20,7 @@ use Rattle.surrounded_core.specs.instruction_gates.Latches.{latches_cells}
 use Rattle.surrounded_core.specs.instruction_gates.Copies.{copies_cells}
 use Rattle.surrounded_core.specs.instruction_gates.Selections.{selections_given, selections_cells}
 use Rattle.surrounded_core.specs.instruction_gates.Stages.{loads_given, ir_steering, ir_latching, stages_cells}
-use Rattle.surrounded_core.specs.instruction_gates.RegisterLaws.{pattern_bits, stages_size, latches_from, size_with, cells_with, told_with, opcode_size, opcode_cells, opcode_told, matched_instructions, opcodes_size, opcodes_cells, opcodes_told, opcodes_from, selections_from, copies_from, instruction_size, instruction_cells}
+use Rattle.surrounded_core.specs.instruction_gates.Register.{pattern_bits, stages_size, latches_from, size_with, cells_with, told_with, opcode_size, opcode_cells, opcode_told, matched_instructions, opcodes_size, opcodes_cells, opcodes_told, opcodes_from, selections_from, copies_from, instruction_size, instruction_cells}
 use Rattle.surrounded_core.proofs.instruction_gates.Added.{stages_counted}
 use Rattle.surrounded_core.proofs.instruction_gates.Sizes.{opcode_length, opcodes_length}
 use Rattle.stitched_netlist.specs.Gates.{EachCell, DriveInTurn, FeedsAre, IsLogicCell}

@@ -19,7 +19,7 @@ use Rattle.surrounded_core.specs.register_gates.declared.tdo.TheConstants.{TDO}
 use Rattle.surrounded_core.specs.register_gates.Registers.{user_size, captured_feeds}
 use Rattle.surrounded_core.specs.register_gates.Tdo.{ident_feed, tdo_given, tdo_driver}
 use Rattle.surrounded_core.proofs.register_gates.ConstantBits.{counted}
-use Rattle.surrounded_core.specs.instruction_gates.RegisterLaws.{pattern_bits, stages_size, opcodes_size, matched_instructions}
+use Rattle.surrounded_core.specs.instruction_gates.Register.{pattern_bits, stages_size, opcodes_size, matched_instructions}
 use Rattle.surrounded_core.specs.boundary_cells.Cells.{stage_table, cell_given}
 use Rattle.surrounded_core.specs.boundary_cells.ThreeState.{bidir_table}
 use Rattle.surrounded_core.specs.LevelsRows.{row_table, row_given}
@@ -33,7 +33,7 @@ use Rattle.stitched_netlist.specs.ModelRows.{row_nets, nets_by, net_at, control_
 use Rattle.stitched_netlist.proofs.Few.{captured_counted}
 use Rattle.stitched_netlist.specs.ModelLogic.{instruction_from, bypass_from, ident_from, code_size, tap_at, instruction_at, bypass_at, ident_at, controller_part, instruction_part, bypass_part, ident_part}
 use Rattle.stitched_netlist.specs.Stitched.{boundary_at, first_net, boundary_last, tdo_part}
-use Rattle.stitched_netlist.specs.PlacesLawsLaws.{port_of, scan_of, instruction_number, bypass_number, ident_number, tdo_number, register_net, rows_before, row_first, row_side, row_number, row_next, handed_at, boundary_row, drivers_at}
+use Rattle.stitched_netlist.specs.PlacesLaws.{port_of, scan_of, instruction_number, bypass_number, ident_number, tdo_number, register_net, rows_before, row_first, row_side, row_number, row_next, handed_at, boundary_row, drivers_at}
 use Rattle.stitched_netlist.specs.RowsLaws.{HasGate, HasControl, IsOperand, StandsAt, at_observed, at_input, at_output, at_added, at_driver, at_inout, at_control}
 use Rattle.stitched_netlist.specs.CellsLaws.{IsAt, gates_of_row, driver_number, drivers_of_row, CellOf, of_core, of_controller, of_instruction, of_bypass, of_ident, of_row, of_driver, of_tdo}
 use Rattle.stitched_netlist.specs.Gates.{EachCell, FeedsAre, IsLogicCell}

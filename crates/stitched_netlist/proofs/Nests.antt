@@ -31,7 +31,7 @@ use Rattle.stitched_netlist.specs.Sites.{Boundary, row_net, site_of}
 use Rattle.stitched_netlist.specs.Sides.{side_from, core_side, is_driven, feeds_behind}
 use Rattle.stitched_netlist.specs.ModelLogic.{bypass_at}
 use Rattle.stitched_netlist.specs.Stitched.{tap_port, tap_ports, boundary_at, first_net, stitched}
-use Rattle.stitched_netlist.specs.PlacesLaws.{StitchedIsBuiltIn}
+use Rattle.stitched_netlist.specs.Places.{StitchedIsBuiltIn}
 use Rattle.stitched_netlist.proofs.Core.{side_past}
 use Rattle.stitched_netlist.specs.Inner.{past_nets, is_given, inner_net}
 use Rattle.stitched_netlist.specs.InsideLaws.{BuiltInNests, StitchedNests}

@@ -14,7 +14,7 @@ use Rattle.stitched_netlist.specs.Sides.{is_moved}
 use Rattle.stitched_netlist.specs.ModelRows.{row_nets, nets_of_rows}
 use Rattle.stitched_netlist.specs.ModelLogic.{logic_size}
 use Rattle.stitched_netlist.specs.Stitched.{first_net}
-use Rattle.stitched_netlist.specs.PlacesLawsLaws.{register_net, row_first, row_side, row_number}
+use Rattle.stitched_netlist.specs.PlacesLaws.{register_net, row_first, row_side, row_number}
 use Rattle.stitched_netlist.specs.RowsLaws.{StandsAt, at_observed, at_input, at_output, at_added, at_driver, at_inout, at_control}
 use Rattle.stitched_netlist.specs.CellsLaws.{driver_number}
 use Rattle.stitched_netlist.proofs.FormedContext.{FitsWell, net_number}

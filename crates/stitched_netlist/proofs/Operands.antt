@@ -18,7 +18,7 @@ use Rattle.stitched_netlist.specs.Sites.{Boundary, row_net, site_of, side_count,
 use Rattle.stitched_netlist.specs.Sides.{core_side, is_driven, drives, level_net, driver_feeds, feeds_from, feeds_behind, core_cell}
 use Rattle.stitched_netlist.specs.Stitched.{boundary_at}
 use Rattle.stitched_netlist.proofs.ModelMoves.{output_is}
-use Rattle.stitched_netlist.specs.PlacesLawsLaws.{port_of, row_side}
+use Rattle.stitched_netlist.specs.PlacesLaws.{port_of, row_side}
 use Rattle.stitched_netlist.specs.RowsLaws.{HasControl, IsOperand, is_constant, is_read, StandsAt, at_observed, at_input, at_output, at_added, at_driver, at_inout, at_control}
 use Rattle.stitched_netlist.specs.Gates.{FeedsAre}
 use Rattle.stitched_netlist.specs.Sizes.{added_net_count}

@@ -20,7 +20,7 @@ use Rattle.stitched_netlist.specs.Sides.{core_side, core_cell}
 use Rattle.stitched_netlist.specs.ModelRows.{row_nets, net_at}
 use Rattle.stitched_netlist.specs.ModelLogic.{instruction_from, bypass_from, ident_from, logic_size, tap_at, instruction_at, bypass_at, ident_at, controller_part, instruction_part, bypass_part, ident_part}
 use Rattle.stitched_netlist.specs.Stitched.{boundary_at, first_net, boundary_last, tdo_part}
-use Rattle.stitched_netlist.specs.PlacesLawsLaws.{port_of, instruction_number, bypass_number, ident_number, tdo_number, row_first, row_side, row_number}
+use Rattle.stitched_netlist.specs.PlacesLaws.{port_of, instruction_number, bypass_number, ident_number, tdo_number, row_first, row_side, row_number}
 use Rattle.stitched_netlist.specs.CellsLaws.{IsAt, gates_of_row, driver_number, drivers_of_row, CellOf, of_core, of_controller, of_instruction, of_bypass, of_ident, of_row, of_driver, of_tdo}
 use Rattle.stitched_netlist.specs.Sizes.{choice_count, driver_count}
 use Rattle.stitched_netlist.specs.CellsLogic.{into_at}

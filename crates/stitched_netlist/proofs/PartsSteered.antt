@@ -25,13 +25,13 @@ use Rattle.surrounded_core.specs.register_gates.declared.ident.TheConstants.{INV
 use Rattle.surrounded_core.specs.register_gates.declared.tdo.TheConstants.{TDO}
 use Rattle.surrounded_core.specs.register_gates.Registers.{selected_given, selected_cells, selected_steering, bypass_cells, data_cells, user_size, inverse_cells, captured_feeds, ident_cells}
 use Rattle.surrounded_core.specs.register_gates.Tdo.{tdo_given, tdo_driver, tdo_cells}
-use Rattle.surrounded_core.specs.register_gates.BitsLaws.{shift_bit_cells}
+use Rattle.surrounded_core.specs.register_gates.Bits.{shift_bit_cells}
 use Rattle.surrounded_core.specs.register_gates.Chains.{chain_cells}
 use Rattle.surrounded_core.specs.instruction_gates.declared.stages.TheConstants.{LOADS}
 use Rattle.surrounded_core.specs.instruction_gates.declared.selections.TheConstants.{SELECTIONS}
 use Rattle.surrounded_core.specs.instruction_gates.Selections.{selections_given, selections_cells}
 use Rattle.surrounded_core.specs.instruction_gates.Stages.{loads_given, ir_steering, ir_latching, shift_stage_cells, stages_cells}
-use Rattle.surrounded_core.specs.instruction_gates.RegisterLaws.{pattern_bits, latches_from, cells_with, opcode_size, opcode_cells, matched_instructions, opcodes_cells, opcodes_told, opcodes_from, selections_from, copies_from, instruction_cells}
+use Rattle.surrounded_core.specs.instruction_gates.Register.{pattern_bits, latches_from, cells_with, opcode_size, opcode_cells, matched_instructions, opcodes_cells, opcodes_told, opcodes_from, selections_from, copies_from, instruction_cells}
 use Rattle.surrounded_core.specs.boundary_cells.declared.tables.TheConstants.{BC_1, UPDATES}
 use Rattle.surrounded_core.specs.boundary_cells.Cells.{steering_of, stage_table, cell_given, output_cells}
 use Rattle.surrounded_core.specs.boundary_cells.ThreeState.{control_table, control_choice, control_given, bidir_table, bidir_given}

@@ -9,7 +9,7 @@ use Rattle.plan_fitting.specs.declared.fitted.Fitted.{Fitted}
 use Rattle.stitched_netlist.specs.declared.model.TapNames.{TapNames}
 use Rattle.stitched_netlist.specs.Sides.{core_cell}
 use Rattle.stitched_netlist.specs.Stitched.{same_place, live_cells, boundary_at, first_net, tap_port, test_logic_cells_by, test_logic_cells, stitched_cells_by, stitched}
-use Rattle.stitched_netlist.specs.PlacesLaws.{StitchedKeeps}
+use Rattle.stitched_netlist.specs.Places.{StitchedKeeps}
 
 -- A list of cells without gaps.
 

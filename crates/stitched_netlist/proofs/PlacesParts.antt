@@ -8,7 +8,7 @@ use Rattle.netlist_model.specs.Contained.{HasCells}
 use Rattle.netlist_model.specs.LawsContained.{ContainedParts}
 use Rattle.gate_parts.proofs.LawProofs.{has_from}
 use Rattle.test_logic.specs.declared.ScanNets.{ScanNets}
-use Rattle.surrounded_core.specs.RowsLaws.{row_cells}
+use Rattle.surrounded_core.specs.Rows.{row_cells}
 use Rattle.plan_fitting.specs.declared.fitted.FitRow.{FitRow}
 use Rattle.plan_fitting.specs.declared.fitted.Fitted.{Fitted}
 use Rattle.stitched_netlist.specs.declared.model.Site.{Site}
@@ -20,8 +20,8 @@ use Rattle.stitched_netlist.specs.ModelRows.{behind, nets_of_rows, site_cells, r
 use Rattle.stitched_netlist.specs.ModelLogic.{bypass_at, controller_part, instruction_part, bypass_part, ident_part}
 use Rattle.stitched_netlist.specs.Stitched.{boundary_at, first_net, rows_part, tdo_part_by, test_logic_cells, live_cells, stitched_cells_by, stitched}
 use Rattle.stitched_netlist.proofs.ModelMoves.{sides_cons}
-use Rattle.stitched_netlist.specs.PlacesLawsLaws.{port_of, scan_of, bypass_number, ident_number, register_number, tdo_number, register_net, row_first, row_side, row_number, row_next, handed_at, boundary_row, drivers_at, added_drivers}
-use Rattle.stitched_netlist.specs.PlacesLaws.{HoldsRow, HoldsPartsBy, StitchedHoldsParts, StitchedHoldsTheCore, ExtensionIsBuiltIn, StitchedExtends, StitchedIsBuiltIn}
+use Rattle.stitched_netlist.specs.PlacesLaws.{port_of, scan_of, bypass_number, ident_number, register_number, tdo_number, register_net, row_first, row_side, row_number, row_next, handed_at, boundary_row, drivers_at, added_drivers}
+use Rattle.stitched_netlist.specs.Places.{HoldsRow, HoldsPartsBy, StitchedHoldsParts, StitchedHoldsTheCore, ExtensionIsBuiltIn, StitchedExtends, StitchedIsBuiltIn}
 use Rattle.stitched_netlist.proofs.PlacesLaws.{listed_at, core_there}
 use Rattle.stitched_netlist.proofs.Core.{is_inside}
 

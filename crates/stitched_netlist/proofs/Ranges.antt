@@ -7,7 +7,7 @@ use Rattle.plan_fitting.specs.declared.fitted.Fitted.{Fitted}
 use Rattle.stitched_netlist.specs.Sites.{row_sides, sides_of}
 use Rattle.stitched_netlist.specs.ModelRows.{row_nets, nets_of_rows}
 use Rattle.stitched_netlist.specs.Stitched.{first_net}
-use Rattle.stitched_netlist.specs.PlacesLawsLaws.{register_net, row_first, row_side}
+use Rattle.stitched_netlist.specs.PlacesLaws.{register_net, row_first, row_side}
 use Rattle.stitched_netlist.specs.Sizes.{added_net_count}
 use Rattle.stitched_netlist.proofs.Sums.{same_take, share_take, in_take, same_drop, share_drop, in_drop}
 

@@ -14,7 +14,7 @@ use Rattle.netlist_model.specs.Lists.{NetlistView, direction}
 use Rattle.test_logic.specs.declared.Codes.{Codes}
 use Rattle.test_logic.specs.Instructions.{opcode_of}
 use Rattle.tap_gates.specs.Laws.{tap_levels}
-use Rattle.surrounded_core.specs.instruction_gates.RegisterLaws.{matched_instructions}
+use Rattle.surrounded_core.specs.instruction_gates.Register.{matched_instructions}
 use Rattle.surrounded_core.specs.Registers.{shift_levels, selected_levels, inverse_levels, selections_levels, tdo_levels}
 use Rattle.surrounded_core.specs.Instructions.{one_level, held_levels, equal_levels}
 use Rattle.surrounded_core.specs.LevelsRows.{bc_1_levels, stage_levels, control_levels}

@@ -6,7 +6,7 @@ use Rattle.netlist_model.specs.declared.Feed.TheVariants.{Net, Const}
 use Rattle.gate_parts.specs.Parts.{part_cells}
 use Rattle.surrounded_core.specs.register_gates.declared.bits.Steering.{Steering}
 use Rattle.surrounded_core.specs.register_gates.declared.bits.TheConstants.{SHIFT_BIT}
-use Rattle.surrounded_core.specs.register_gates.BitsLaws.{shift_bit_given, shift_bit_cells, held_bit, held_bit_given, held_bit_cells}
+use Rattle.surrounded_core.specs.register_gates.Bits.{shift_bit_given, shift_bit_cells, held_bit, held_bit_given, held_bit_cells}
 use Rattle.surrounded_core.specs.register_gates.Chains.{chain_last, chain_cells}
 use Rattle.surrounded_core.proofs.register_gates.Lengths.{chain_length}
 use Rattle.surrounded_core.specs.register_gates.Constants.{constant_bits}

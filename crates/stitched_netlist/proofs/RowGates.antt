@@ -12,12 +12,12 @@ use Rattle.gate_parts.specs.Parts.{feed_of, part_cells}
 use Rattle.gate_parts.proofs.Steps.{length-cells_from}
 use Rattle.test_logic.specs.declared.ScanNets.{ScanNets}
 use Rattle.surrounded_core.specs.register_gates.declared.bits.TheConstants.{SHIFT_BIT}
-use Rattle.surrounded_core.specs.register_gates.BitsLaws.{shift_bit_given}
+use Rattle.surrounded_core.specs.register_gates.Bits.{shift_bit_given}
 use Rattle.surrounded_core.specs.boundary_cells.declared.tables.Choice.{Choice}
 use Rattle.surrounded_core.specs.boundary_cells.declared.tables.TheConstants.{BC_1, UPDATES}
 use Rattle.surrounded_core.specs.boundary_cells.Cells.{steering_of, is_sound_choice, choice_cell, cells_onto, stage_table, cell_given}
 use Rattle.surrounded_core.specs.boundary_cells.ThreeState.{control_table, control_choice, control_given, bidir_table, bidir_given}
-use Rattle.surrounded_core.specs.RowsLaws.{BoundaryRow, observe_row, input_row, output_row, control_row, bidir_row, row_cells}
+use Rattle.surrounded_core.specs.Rows.{BoundaryRow, observe_row, input_row, output_row, control_row, bidir_row, row_cells}
 use Rattle.surrounded_core.specs.LevelsRows.{row_table, row_given}
 use Rattle.plan_fitting.specs.declared.fitted.FitRow.{FitRow}
 use Rattle.stitched_netlist.specs.declared.model.Site.{Site}
@@ -26,7 +26,7 @@ use Rattle.stitched_netlist.specs.Sites.{Boundary, site_of}
 use Rattle.stitched_netlist.specs.ModelRows.{nets_by, net_at, enable_of, is_active_high}
 use Rattle.stitched_netlist.specs.Sides.{core_feed}
 use Rattle.stitched_netlist.specs.Stitched.{boundary_at}
-use Rattle.stitched_netlist.specs.PlacesLawsLaws.{scan_of, row_first, row_side, row_number, row_next, handed_at, drivers_at}
+use Rattle.stitched_netlist.specs.PlacesLaws.{scan_of, row_first, row_side, row_number, row_next, handed_at, drivers_at}
 use Rattle.stitched_netlist.specs.CellsLaws.{driver_number}
 use Rattle.stitched_netlist.specs.Gates.{EachCell, FeedsAre, IsLogicCell, is_logic_table}
 use Rattle.stitched_netlist.specs.CellsLogic.{into_at, RowDrives}

@@ -19,14 +19,14 @@ use Rattle.surrounded_core.specs.instruction_gates.Copies.{copies_cells}
 use Rattle.surrounded_core.specs.instruction_gates.Selections.{selections_cells}
 use Rattle.surrounded_core.proofs.instruction_gates.Copied.{copies_length}
 use Rattle.surrounded_core.specs.instruction_gates.Stages.{stages_cells}
-use Rattle.surrounded_core.specs.instruction_gates.RegisterLaws.{pattern_bits, stages_size, latches_from, matched_instructions, opcodes_size, opcodes_cells, opcodes_from, selections_from, copies_from, opcodes_told, instruction_size, instruction_cells}
+use Rattle.surrounded_core.specs.instruction_gates.Register.{pattern_bits, stages_size, latches_from, matched_instructions, opcodes_size, opcodes_cells, opcodes_from, selections_from, copies_from, opcodes_told, instruction_size, instruction_cells}
 use Rattle.surrounded_core.proofs.instruction_gates.Sizes.{opcodes_length}
 use Rattle.surrounded_core.proofs.instruction_gates.Added.{stages_counted}
 use Rattle.surrounded_core.specs.boundary_cells.declared.tables.Choice.{Choice}
 use Rattle.surrounded_core.specs.boundary_cells.declared.tables.TheConstants.{UPDATES}
 use Rattle.surrounded_core.specs.boundary_cells.Cells.{choice_cell, cells_onto, stage_table, cell_given}
 use Rattle.surrounded_core.specs.boundary_cells.ThreeState.{control_table, control_choice, control_given, bidir_table, bidir_given}
-use Rattle.surrounded_core.specs.RowsLaws.{row_cells}
+use Rattle.surrounded_core.specs.Rows.{row_cells}
 use Rattle.plan_fitting.specs.declared.fitted.FitRow.{FitRow}
 use Rattle.plan_fitting.specs.declared.fitted.Fitted.{Fitted}
 use Rattle.stitched_netlist.specs.declared.model.TapPort.{TapPort}
@@ -38,7 +38,7 @@ use Rattle.stitched_netlist.specs.ModelRows.{nets_of_rows, nets_by, net_at, enab
 use Rattle.stitched_netlist.specs.ModelLogic.{instruction_from, bypass_from, ident_from, code_size, logic_size, tap_at, instruction_at, ident_part}
 use Rattle.stitched_netlist.specs.Stitched.{boundary_at, first_net}
 use Rattle.stitched_netlist.proofs.Few.{inverse_counted, captured_counted}
-use Rattle.stitched_netlist.specs.PlacesLawsLaws.{port_of, scan_of, instruction_number, bypass_number, ident_number, register_number, register_net, rows_before, row_first, row_side, row_number, row_next, handed_at, drivers_at}
+use Rattle.stitched_netlist.specs.PlacesLaws.{port_of, scan_of, instruction_number, bypass_number, ident_number, register_number, register_net, rows_before, row_first, row_side, row_number, row_next, handed_at, drivers_at}
 use Rattle.stitched_netlist.specs.Sizes.{choice_count, driver_count, row_size, cells_of_rows, LogicLengths, RowLengths, Numbers}
 use Rattle.stitched_netlist.specs.CellsLaws.{driver_number}
 

@@ -23,8 +23,8 @@ use Rattle.plan_fitting.specs.declared.fitted.Fitted.{Fitted}
 use Rattle.stitched_netlist.specs.Sites.{Boundary}
 use Rattle.stitched_netlist.specs.Sides.{core_side, feeds_behind, core_cell}
 use Rattle.stitched_netlist.specs.Stitched.{first_net}
-use Rattle.stitched_netlist.specs.PlacesLaws.{HoldsParts}
-use Rattle.stitched_netlist.specs.PlacesLawsLaws.{port_of}
+use Rattle.stitched_netlist.specs.Places.{HoldsParts}
+use Rattle.stitched_netlist.specs.PlacesLaws.{port_of}
 use Rattle.stitched_netlist.proofs.Moved.{driven_or_not}
 use Rattle.stitched_netlist.proofs.Cones.{IsAtRow, IsCoreInside, no_flop_row, no_control_row}
 

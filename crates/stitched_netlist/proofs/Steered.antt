@@ -15,7 +15,7 @@ use Rattle.gate_parts.specs.declared.Gate.{Gate}
 use Rattle.gate_parts.specs.Parts.{feed_of, pins_of, gate_cell, cells_from, part_cells}
 use Rattle.surrounded_core.specs.register_gates.declared.bits.Steering.{Steering}
 use Rattle.surrounded_core.specs.register_gates.declared.bits.TheConstants.{SHIFT_BIT}
-use Rattle.surrounded_core.specs.register_gates.BitsLaws.{shift_bit_given, shift_bit_cells, held_bit, held_bit_given}
+use Rattle.surrounded_core.specs.register_gates.Bits.{shift_bit_given, shift_bit_cells, held_bit, held_bit_given}
 use Rattle.surrounded_core.specs.register_gates.Chains.{chain_last, chain_cells}
 use Rattle.surrounded_core.specs.instruction_gates.declared.latches.Latching.{Latching}
 use Rattle.surrounded_core.specs.instruction_gates.declared.latches.TheConstants.{LOADED}

@@ -2,13 +2,13 @@
 -- IEEE Std 1149.1-2001: test logic architecture; the order of cells is own.
 use Rattle.std.specs.Prelude.{◌≡◌, ℕ, ◌+◌, List, length, slice_get, Some}
 use Rattle.netlist_model.specs.Lists.{CellView, NetlistView, cell_at, cell_count}
-use Rattle.surrounded_core.specs.RowsLaws.{row_cells}
+use Rattle.surrounded_core.specs.Rows.{row_cells}
 use Rattle.plan_fitting.specs.declared.fitted.FitRow.{FitRow}
 use Rattle.plan_fitting.specs.declared.fitted.Fitted.{Fitted}
 use Rattle.stitched_netlist.specs.Sides.{core_cell}
 use Rattle.stitched_netlist.specs.ModelLogic.{controller_part, instruction_part, bypass_part, ident_part}
 use Rattle.stitched_netlist.specs.Stitched.{boundary_at, first_net, tdo_part}
-use Rattle.stitched_netlist.specs.PlacesLawsLaws.{port_of, scan_of, instruction_number, bypass_number, ident_number, tdo_number, row_first, row_side, row_number, row_next, boundary_row, added_drivers}
+use Rattle.stitched_netlist.specs.PlacesLaws.{port_of, scan_of, instruction_number, bypass_number, ident_number, tdo_number, row_first, row_side, row_number, row_next, boundary_row, added_drivers}
 
 -- own: the cell is one of these, the first of which has this number
 pub record IsAt (number from : ℕ) (cells : List CellView) (cell : CellView) : Type 0 where

@@ -13,7 +13,7 @@ use Rattle.stitched_netlist.specs.Sites.{Boundary, site_of}
 use Rattle.stitched_netlist.specs.ModelRows.{row_nets, net_at}
 use Rattle.stitched_netlist.specs.ModelLogic.{instruction_from, bypass_from, ident_from, logic_size, controller_part, instruction_part, bypass_part, ident_part}
 use Rattle.stitched_netlist.specs.Stitched.{boundary_at}
-use Rattle.stitched_netlist.specs.PlacesLawsLaws.{row_first, row_side}
+use Rattle.stitched_netlist.specs.PlacesLaws.{row_first, row_side}
 use Rattle.stitched_netlist.specs.CellsLaws.{gates_of_row, drivers_of_row}
 use Rattle.stitched_netlist.specs.Gates.{EachCell, DriveInTurn, IsLogicCell}
 

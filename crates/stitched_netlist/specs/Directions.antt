@@ -7,7 +7,7 @@ use Rattle.netlist_model.specs.Formed.{IsLaidOut}
 use Rattle.plan_fitting.specs.declared.fitted.Fitted.{Fitted}
 use Rattle.stitched_netlist.specs.declared.model.TapNames.{TapNames}
 use Rattle.stitched_netlist.specs.Stitched.{stitched}
-use Rattle.stitched_netlist.specs.PlacesLawsLaws.{port_of}
+use Rattle.stitched_netlist.specs.PlacesLaws.{port_of}
 
 -- own: a net of the core has its direction, those of the test access port have theirs, and no other net has any
 pub record KeepsDirections (N M : NetlistView) : Type 0 where

@@ -15,7 +15,7 @@ use Rattle.plan_fitting.specs.Devices.{fitted_of, device_of}
 use Rattle.plan_fitting.specs.FittingPlan.{IsFitting}
 use Rattle.stitched_netlist.specs.declared.model.TapNames.{TapNames}
 use Rattle.stitched_netlist.specs.Stitched.{boundary_at, stitched}
-use Rattle.stitched_netlist.specs.PlacesLaws.{HasBuiltIn}
+use Rattle.stitched_netlist.specs.Places.{HasBuiltIn}
 use Rattle.stitched_netlist.specs.Inner.{inner_net}
 use Rattle.stitched_netlist.specs.InsidePlaces.{places_in, places_of}
 

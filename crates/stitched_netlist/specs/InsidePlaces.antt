@@ -2,7 +2,7 @@
 -- IEEE Std 1149.1-2001: test logic architecture; the order is own.
 use Rattle.std.specs.Prelude.{ℕ, ◌+◌, slice_get, Option, Some, None}
 use Rattle.netlist_model.specs.Lists.{NetlistView, cell_count}
-use Rattle.surrounded_core.specs.RowsLaws.{BoundaryRow, observe_row}
+use Rattle.surrounded_core.specs.Rows.{BoundaryRow, observe_row}
 use Rattle.surrounded_core.specs.Places.{Places}
 use Rattle.plan_fitting.specs.declared.fitted.FitRow.{FitRow}
 use Rattle.plan_fitting.specs.declared.fitted.Fitted.{Fitted}
@@ -11,7 +11,7 @@ use Rattle.stitched_netlist.specs.Sites.{Boundary}
 use Rattle.stitched_netlist.specs.ModelRows.{nets_of_rows}
 use Rattle.stitched_netlist.specs.ModelLogic.{instruction_from, bypass_from, ident_from, logic_size}
 use Rattle.stitched_netlist.specs.Stitched.{boundary_at, first_net, boundary_last, stitched}
-use Rattle.stitched_netlist.specs.PlacesLawsLaws.{port_of, instruction_number, bypass_number, ident_number, tdo_number, row_first, row_side, row_number, row_next, boundary_row}
+use Rattle.stitched_netlist.specs.PlacesLaws.{port_of, instruction_number, bypass_number, ident_number, tdo_number, row_first, row_side, row_number, row_next, boundary_row}
 use Rattle.stitched_netlist.specs.Inner.{inner_net}
 
 -- a row as gates; of a place without a row nothing is asked

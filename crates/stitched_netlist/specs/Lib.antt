@@ -14,8 +14,8 @@ pub mod InsidePlaces
 pub mod Keeps
 pub mod ModelLogic
 pub mod ModelRows
+pub mod Places
 pub mod PlacesLaws
-pub mod PlacesLawsLaws
 pub mod RanksLaws
 pub mod RowsLaws
 pub mod RunsLaws

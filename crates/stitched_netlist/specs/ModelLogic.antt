@@ -8,7 +8,7 @@ use Rattle.netlist_model.specs.Lists.{CellView}
 use Rattle.test_logic.specs.declared.TapNets.{TapNets}
 use Rattle.test_logic.specs.declared.InstrNets.{InstrNets}
 use Rattle.tap_gates.specs.Controller.{tap_cells, tap_nets}
-use Rattle.surrounded_core.specs.instruction_gates.RegisterLaws.{instruction_size, instruction_cells, instruction_nets}
+use Rattle.surrounded_core.specs.instruction_gates.Register.{instruction_size, instruction_cells, instruction_nets}
 use Rattle.surrounded_core.specs.register_gates.Registers.{bypass_cells, ident_size, ident_cells, ident_last}
 use Rattle.plan_fitting.specs.declared.fitted.Fitted.{Fitted}
 use Rattle.stitched_netlist.specs.declared.model.TapPort.{TapPort}

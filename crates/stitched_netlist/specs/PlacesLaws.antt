@@ -1,88 +1,94 @@
--- What holds of the netlist with the test logic built in.
--- IEEE Std 1149.1-2001: test logic architecture, boundary-scan register; the statements are own.
-use Rattle.std.specs.Prelude.{◌≡◌, ℕ, suc, ◌+◌, ◌<◌, false, ◌++◌, length, slice_get, Some, None, option_and_then}
+-- Where the parts of the test logic stand in the netlist that they are built into: their first nets, and the numbers of
+-- their first cells.
+-- IEEE Std 1149.1-2001: TAP controller, instruction register, test data registers; the order is own.
+use Rattle.std.specs.Prelude.{ℕ, suc, ◌+◌, List, [], ◌∷◌, drop, length}
 use Rattle.netlist_model.specs.declared.NetId.{NetId}
-use Rattle.netlist_model.specs.Lists.{CellView, NetlistView, cell_at, cell_count}
-use Rattle.netlist_model.specs.Contained.{HasCells, IsDense}
-use Rattle.netlist_model.specs.Nested.{IsNested}
-use Rattle.surrounded_core.specs.RowsLaws.{row_cells}
+use Rattle.netlist_model.specs.declared.Feed.TheVariants.{Net}
+use Rattle.netlist_model.specs.Lists.{CellView, NetlistView, cell_count}
+use Rattle.test_logic.specs.declared.ScanNets.{ScanNets}
+use Rattle.surrounded_core.specs.Rows.{BoundaryRow, observe_row, input_row, output_row, control_row, bidir_row}
 use Rattle.plan_fitting.specs.declared.fitted.FitRow.{FitRow}
 use Rattle.plan_fitting.specs.declared.fitted.Fitted.{Fitted}
-use Rattle.stitched_netlist.specs.declared.model.TapNames.{TapNames}
-use Rattle.stitched_netlist.specs.Keeps.{Keeps}
-use Rattle.stitched_netlist.specs.Sides.{moves, core_side, feeds_behind, core_cell}
-use Rattle.stitched_netlist.specs.ModelLogic.{bypass_at, controller_part, instruction_part, bypass_part, ident_part}
-use Rattle.stitched_netlist.specs.Stitched.{tap_ports, boundary_at, first_net, tdo_part_by, stitched_cells_by, stitched}
-use Rattle.stitched_netlist.specs.PlacesLawsLaws.{port_of, scan_of, instruction_number, bypass_number, ident_number, tdo_number, row_first, row_side, row_number, row_next, boundary_row, added_drivers}
+use Rattle.stitched_netlist.specs.declared.model.TapPort.{TapPort}
+use Rattle.stitched_netlist.specs.declared.model.Site.{Site}
+use Rattle.stitched_netlist.specs.declared.model.Site.TheVariants as site
+use Rattle.stitched_netlist.specs.Sites.{Boundary, site_of, side_at}
+use Rattle.stitched_netlist.specs.Sides.{core_feed, level_net}
+use Rattle.stitched_netlist.specs.ModelRows.{nets_of_rows, net_at, enable_of, is_active_high, added_driver, last_bit, rows_cells}
+use Rattle.stitched_netlist.specs.ModelLogic.{logic_size, instruction_at, controller_part, instruction_part, bypass_part, ident_part}
+use Rattle.stitched_netlist.specs.Stitched.{tap_port, boundary_at, first_net, rows_part}
 
--- own: of a netlist without gaps it has the ports, and each cell by its number, with its kind and its name
-abbrev pub StitchedKeeps : Type 0
-StitchedKeeps = (N : NetlistView) (names : TapNames) (f : Fitted) → IsDense N → Keeps N (stitched N names f) (tap_ports names (port_of N))
+-- The test access port, and what steers the boundary register.
 
--- own: the gates of row k of the boundary register are there, as those of a row of its kind, and the driver that
--- is added behind it
-pub record HoldsRow (M N : NetlistView) (f : Fitted) (k : ℕ) (row : FitRow) : Type 0 where
-  pub gates : HasCells M (row_cells (boundary_row (boundary_at N f) (row_side N f k) row) (row_first N f k) (row_number N f k) (scan_of N f) (row_next N f k))
-  pub driver : HasCells M
-      (added_drivers (boundary_at N f)
-      (row_number N f k + length (row_cells (boundary_row (boundary_at N f) (row_side N f k) row) (row_first N f k) (row_number N f k) (scan_of N f) (row_next N f k)))
-      (row_side N f k) row)
+abbrev pub port_of : NetlistView → TapPort
+port_of N = tap_port (length N.nets)
 
--- own: the cells of each part are there, on their nets; TDO's take this net for the bit of the bypass register
-pub record HoldsPartsBy (M N : NetlistView) (f : Fitted) (shown : NetId) : Type 0 where
-  pub controller : HasCells M (controller_part (first_net N f) (port_of N) (cell_count N))
-  pub instruction : HasCells M (instruction_part (first_net N f) (port_of N) f (instruction_number N f))
-  pub bypass : HasCells M (bypass_part (first_net N f) (port_of N) f (bypass_number N f))
-  pub ident : HasCells M (ident_part (first_net N f) (port_of N) f (ident_number N f))
-  pub rows : (k : ℕ) (row : FitRow) → slice_get f.rows k ≡ Some row → HoldsRow M N f k row
-  pub tdo : HasCells M (tdo_part_by shown (boundary_at N f) (first_net N f) (port_of N) f (tdo_number N f))
-  -- the next bit of a row is the first net of the row after it; that of the last row is TDI
-  pub next : (k : ℕ) (row : FitRow) → slice_get f.rows (suc k) ≡ Some row → row_next N f k ≡ record { 0 = row_first N f (suc k) }
-  pub last : (k : ℕ) → slice_get f.rows (suc k) ≡ None → row_next N f k ≡ (port_of N).tdi
+abbrev pub scan_of : NetlistView → Fitted → ScanNets
+scan_of N f = (instruction_at (first_net N f) (port_of N) f).scan
 
--- own: and here that bit itself
-abbrev pub HoldsParts : NetlistView → NetlistView → Fitted → Type 0
-HoldsParts M N f = HoldsPartsBy M N f (bypass_at (first_net N f) f)
+-- The number of the first cell of each part.
 
-abbrev pub StitchedHoldsParts : Type 0
-StitchedHoldsParts = (N : NetlistView) (names : TapNames) (f : Fitted) → HoldsParts (stitched N names f) N f
+abbrev pub instruction_number : NetlistView → Fitted → ℕ
+instruction_number N f = cell_count N + length (controller_part (first_net N f) (port_of N) (cell_count N))
 
--- own: the core stands inside, each cell under its number, by the nets on the core's side
-pub record IsInside (M N : NetlistView) (f : Fitted) : Type 0 where
-  pub stands : (i : ℕ) (cell : CellView) → cell_at N i ≡ Some cell → cell_at M i ≡ Some (core_cell (boundary_at N f) cell)
-  -- a cell with operands of its own, as each is but the driver of an output or an inout with a control cell
-  pub nested : (i : ℕ) (cell : CellView) → cell_at N i ≡ Some cell → option_and_then (feeds_behind (boundary_at N f)) cell.output ≡ None
-      → IsNested M (core_side (boundary_at N f)) i cell
-  -- no two nets of the core become one
-  pub once : (a b : ℕ) → a < length N.nets → b < length N.nets → core_side (boundary_at N f) a ≡ core_side (boundary_at N f) b → a ≡ b
-  -- a net that no row moves stays
-  pub stays : (net : ℕ) → ((k : ℕ) (row : FitRow) → slice_get f.rows k ≡ Some row → moves N.ports net row ≡ false) → core_side (boundary_at N f) net ≡ net
+abbrev pub bypass_number : NetlistView → Fitted → ℕ
+bypass_number N f = instruction_number N f + length (instruction_part (first_net N f) (port_of N) f (instruction_number N f))
 
--- own: so it is of a netlist without gaps
-abbrev pub StitchedHoldsTheCore : Type 0
-StitchedHoldsTheCore = (N : NetlistView) (names : TapNames) (f : Fitted) → IsDense N → IsInside (stitched N names f) N f
+abbrev pub ident_number : NetlistView → Fitted → ℕ
+ident_number N f = bypass_number N f + length (bypass_part (first_net N f) (port_of N) f (bypass_number N f))
 
--- own: M is a netlist into which the test logic is built: it has N's library, the ports, the core behind its boundary
--- cells, and each part
-pub record HasBuiltIn (M N : NetlistView) (names : TapNames) (f : Fitted) (shown : NetId) : Type 0 where
-  pub library : M.library ≡ N.library
-  pub ports : M.ports ≡ N.ports ++ tap_ports names (port_of N)
-  pub core : IsInside M N f
-  pub parts : HoldsPartsBy M N f shown
+abbrev pub register_number : NetlistView → Fitted → ℕ
+register_number N f = ident_number N f + length (ident_part (first_net N f) (port_of N) f (ident_number N f))
 
--- own: M has the stitched netlist's library, its ports and, under their numbers, its cells, but that TDO's take this
--- net for the bit of the bypass register; whatever else M holds is free
-pub record ExtendsStitched (M N : NetlistView) (names : TapNames) (f : Fitted) (shown : NetId) : Type 0 where
-  pub library : M.library ≡ N.library
-  pub ports : M.ports ≡ N.ports ++ tap_ports names (port_of N)
-  pub cells : (k : ℕ) (cell : CellView) → slice_get (stitched_cells_by shown N f) k ≡ Some cell → cell_at M k ≡ Some cell
+abbrev pub tdo_number : NetlistView → Fitted → ℕ
+tdo_number N f = register_number N f + length (rows_part (boundary_at N f) (first_net N f) (port_of N) f (register_number N f))
 
-abbrev pub ExtensionIsBuiltIn : Type 0
-ExtensionIsBuiltIn = (M N : NetlistView) (names : TapNames) (f : Fitted) (shown : NetId) → IsDense N → ExtendsStitched M N names f shown → HasBuiltIn M N names f shown
+-- The rows of the boundary register, by their numbers: those nearer TDI stand before.
 
-abbrev pub StitchedExtends : Type 0
-StitchedExtends = (N : NetlistView) (names : TapNames) (f : Fitted) → ExtendsStitched (stitched N names f) N names f (bypass_at (first_net N f) f)
+-- own: the first net of the register
+abbrev pub register_net : NetlistView → Fitted → ℕ
+register_net N f = first_net N f + logic_size f
 
--- own: so the stitched netlist is, of a netlist without gaps
-abbrev pub StitchedIsBuiltIn : Type 0
-StitchedIsBuiltIn = (N : NetlistView) (names : TapNames) (f : Fitted) → IsDense N → HasBuiltIn (stitched N names f) N names f (bypass_at (first_net N f) f)
+-- own: the rows nearer TDI
+abbrev pub rows_before : Fitted → ℕ → List FitRow
+rows_before f k = drop (suc k) f.rows
+
+-- own: the first net of row k, which is that of its bit
+abbrev pub row_first : NetlistView → Fitted → ℕ → ℕ
+row_first N f k = register_net N f + nets_of_rows N.ports (rows_before f k)
+
+-- own: the first net between the core and it
+abbrev pub row_side : NetlistView → Fitted → ℕ → ℕ
+row_side N f k = side_at (boundary_at N f) k
+
+-- own: the number of its first cell
+abbrev pub row_number : NetlistView → Fitted → ℕ → ℕ
+row_number N f k = register_number N f
+    + length (rows_cells (boundary_at N f) (scan_of N f) (register_net N f) (register_number N f) (port_of N).tdi (row_side N f (suc k)) (rows_before f k))
+
+-- own: the net of the next bit towards TDI
+abbrev pub row_next : NetlistView → Fitted → ℕ → NetId
+row_next N f k = last_bit N.ports (register_net N f) (port_of N).tdi (rows_before f k)
+
+-- What a row is handed.
+
+abbrev pub handed_at : Boundary → ℕ → FitRow → Site → BoundaryRow
+handed_at B side row site.Observed = observe_row (net_at B row)
+handed_at B side row site.Input = input_row (net_at B row) (record { 0 = side })
+handed_at B side row site.Output = output_row row.cell (Net (record { 0 = side })) (net_at B row)
+handed_at B side row site.AddedDriver = output_row row.cell (Net (record { 0 = side })) (record { 0 = side + 1 })
+handed_at B side row site.Driver = output_row row.cell (core_feed B row) (record { 0 = side })
+handed_at B side row site.Inout = bidir_row (core_feed B row) (enable_of B row) (is_active_high B row) (net_at B row) (record { 0 = side })
+handed_at B side row site.Control = control_row row.cell (core_feed B row) row.active_high (record { 0 = side })
+
+-- own: the row by its kind, with its pin and what the core gives it, and last the net that it gives a value
+abbrev pub boundary_row : Boundary → ℕ → FitRow → BoundaryRow
+boundary_row B side row = handed_at B side row (site_of B.ports row)
+
+-- own: the driver that is added at the site, if any
+abbrev pub drivers_at : Boundary → ℕ → ℕ → FitRow → Site → List CellView
+drivers_at B number side row site.AddedDriver = added_driver number (record { 0 = side + 1 }) (level_net B row) (net_at B row) ∷ []
+drivers_at B number side row _ = []
+
+abbrev pub added_drivers : Boundary → ℕ → ℕ → FitRow → List CellView
+added_drivers B number side row = drivers_at B number side row (site_of B.ports row)

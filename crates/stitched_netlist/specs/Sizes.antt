@@ -14,9 +14,9 @@ use Rattle.stitched_netlist.specs.Sites.{site_of, sides_of}
 use Rattle.stitched_netlist.specs.ModelRows.{row_nets, nets_of_rows}
 use Rattle.stitched_netlist.specs.ModelLogic.{instruction_from, bypass_from, ident_from, code_size, logic_size, controller_part, instruction_part, bypass_part, ident_part}
 use Rattle.stitched_netlist.specs.Stitched.{boundary_at, first_net, tdo_part, stitched}
-use Rattle.stitched_netlist.specs.PlacesLawsLaws.{port_of, instruction_number, bypass_number, ident_number, register_number, tdo_number, rows_before, row_number}
+use Rattle.stitched_netlist.specs.PlacesLaws.{port_of, instruction_number, bypass_number, ident_number, register_number, tdo_number, rows_before, row_number}
 use Rattle.stitched_netlist.specs.CellsLaws.{gates_of_row, drivers_of_row}
-use Rattle.surrounded_core.specs.instruction_gates.RegisterLaws.{instruction_size}
+use Rattle.surrounded_core.specs.instruction_gates.Register.{instruction_size}
 
 -- A row.
 

@@ -1,6 +1,6 @@
 // Laws of the netlist with the test logic built in (stitched_netlist): what it keeps of the core, and where
 // its parts stand.
-// Each function has nothing to do; specs/PlacesLaws.antt has the statements.
+// Each function has nothing to do; specs/Places.antt has the statements.
 // IEEE Std 1149.1-2001: test logic architecture, boundary-scan register; the laws are own.
 //
 // - Of a netlist without gaps it has the ports and, under its number, each cell with its kind and its name
@@ -17,7 +17,7 @@
 //   `stitched_extends`, `stitched_is_built_in`).
 // By the contract of its law functions.
 
-ghost use Rattle.stitched_netlist.specs.PlacesLaws.{
+ghost use Rattle.stitched_netlist.specs.Places.{
   ExtensionIsBuiltIn,
   StitchedExtends,
   StitchedHoldsParts,

@@ -4,7 +4,7 @@ use Rattle.verilog_tree.specs.declared.tree.Module.{Module}
 use Rattle.netlist_unlink.specs.Trees.{tree_of}
 use Rattle.plan_texts.specs.declared.plan.Plan.{Plan}
 use Rattle.strip_model.specs.PlansTold.{told_plan}
-use Rattle.strip_model.specs.LawLaws.{LawOfStripping, RecoveredIsTheNetlist, Recovers}
+use Rattle.strip_model.specs.RecoveryLaw.{LawOfStripping, RecoveredIsTheNetlist, Recovers}
 use Rattle.strip_model.specs.Same.{SameIsLinked}
 use Rattle.strip_model.specs.Tree.{CoreIsTree}
 use Rattle.strip_model.specs.Answer.{IsAnswer, RecoveredGives, RefusedByAll}

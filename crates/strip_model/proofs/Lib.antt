@@ -7,7 +7,7 @@ pub mod GivesFits
 pub mod Heads
 pub mod Items
 pub mod Laid
-pub mod LawLaws
+pub mod RecoveryLaw
 pub mod LawNames
 pub mod LawStands
 pub mod Lines

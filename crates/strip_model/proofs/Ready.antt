@@ -28,7 +28,7 @@ use Rattle.written_netlists.specs.Prepared.{with_tap_names}
 use Rattle.strip_model.specs.Core.{begins}
 use Rattle.strip_model.specs.NetlistsTold.{IsOwn, IsNewTap}
 use Rattle.strip_model.specs.Ready.{FittedCanBeUndone}
-use Rattle.strip_model.specs.LawLaws.{FittedCanBeTold}
+use Rattle.strip_model.specs.RecoveryLaw.{FittedCanBeTold}
 
 both_same : (x p : ℕ) (xs prefix rest : List ℕ) → p ≡ x → xs ≡ prefix ++ rest → x ∷ xs ≡ (p ∷ prefix) ++ rest
 both_same x p xs prefix rest same tail = rw (same, tail) refl

@@ -21,8 +21,8 @@ use Rattle.strip_model.specs.Core.{core_module}
 use Rattle.strip_model.specs.Recovered.{recovered_with, recovered}
 use Rattle.strip_model.specs.NetlistsTold.{inserted_tree, told_sides, CoreIsTold}
 use Rattle.strip_model.specs.PlansTold.{told_plan, PlanIsTold}
-use Rattle.strip_model.specs.GivesLaws.{Gives}
-use Rattle.strip_model.specs.LawLaws.{FittedCanBeTold, RecoveredIsTheNetlist}
+use Rattle.strip_model.specs.Gives.{Gives}
+use Rattle.strip_model.specs.RecoveryLaw.{FittedCanBeTold, RecoveredIsTheNetlist}
 
 pub fitting : FittedIsFitting → (m : Module) (L : LinkedView) (p : Plan) (inserted : Module) (d : Device) → (g : Gives m L p inserted d) → IsFitting L p g.at.fits.seen
 fitting law m L p inserted d g =

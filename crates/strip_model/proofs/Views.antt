@@ -35,7 +35,7 @@ use Rattle.stitched_netlist.specs.Sites.{Boundary, sides_of}
 use Rattle.stitched_netlist.specs.Sides.{core_cell}
 use Rattle.written_netlists.specs.Prepared.{room_of, ports_of, with_tap_names, AreTapNames}
 use Rattle.written_netlists.specs.InsertedLaws.{with_test_logic}
-use Rattle.strip_model.specs.GivesLaws.{GivesAt}
+use Rattle.strip_model.specs.Gives.{GivesAt}
 use Rattle.strip_model.proofs.Same.{SameLists, turned, filtered, drivers_same, counted, clock_port, control_port}
 
 abbrev pub lists_same : (one other : LinkedView) → IsSameView one other → SameLists one.arena.lists other.arena.lists

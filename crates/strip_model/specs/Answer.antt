@@ -9,7 +9,7 @@ use Rattle.netlist_link.specs.Linked.{LinkedView}
 use Rattle.netlist_unlink.specs.Renumbered.{DenotesSame}
 use Rattle.plan_texts.specs.declared.plan.Plan.{Plan}
 use Rattle.strip_model.specs.Recovered.{recovered}
-use Rattle.strip_model.specs.GivesLaws.{Gives}
+use Rattle.strip_model.specs.Gives.{Gives}
 
 -- own: the module and the plan that are recovered give the module with test logic and the device, by the same netlist
 pub record IsAnswer (m : Module) (L : LinkedView) (inserted : Module) (d : Device) : Type 0 where

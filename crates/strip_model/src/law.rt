@@ -9,7 +9,7 @@
 // By the contract of its law functions.
 
 ghost use Rattle.strip_model.specs.Answer.{RecoveredGives, RefusedByAll};
-ghost use Rattle.strip_model.specs.LawLaws.{FittedCanBeTold, LawOfStripping, OneNetlistGives, RecoveredIsTheNetlist};
+ghost use Rattle.strip_model.specs.RecoveryLaw.{FittedCanBeTold, LawOfStripping, OneNetlistGives, RecoveredIsTheNetlist};
 ghost use Rattle.strip_model.specs.Once.{PinsAreSeenOnce};
 ghost use Rattle.strip_model.specs.Same.{SameIsLinked, SameNames};
 ghost use Rattle.strip_model.specs.Tree.{CoreIsTree};

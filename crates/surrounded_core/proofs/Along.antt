@@ -13,7 +13,7 @@ use Rattle.bsdl_device.specs.declared.entries.Register.TheVariants as register
 use Rattle.test_logic.specs.declared.Levels.{Levels}
 use Rattle.test_logic.specs.Registers.{first_bit, tdo_after}
 use Rattle.test_logic.specs.Machine.{Machine, in_effect, bit_of}
-use Rattle.register_gates.specs.BitsLawsLaws.{bit_after}
+use Rattle.register_gates.specs.BitsLaws.{bit_after}
 use Rattle.register_gates.specs.Tdo.{data_bit, Presents, TdoLaws, tdo_given_by}
 use Rattle.boundary_cells.specs.MachineRows.{bit_at}
 use Rattle.wrapped_chip.specs.Cells.{chip_reading}

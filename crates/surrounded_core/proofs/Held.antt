@@ -13,7 +13,7 @@ use Rattle.test_logic.specs.Registers.{shifted}
 use Rattle.test_logic.specs.Machine.{in_effect}
 use Rattle.boundary_cells.specs.Laws.{CarriesMode}
 use Rattle.boundary_cells.specs.MachineRows.{bit_at}
-use Rattle.surrounded_core.specs.RowsLaws.{IsRowOf, IsSteered, HoldsRow}
+use Rattle.surrounded_core.specs.Rows.{IsRowOf, IsSteered, HoldsRow}
 use Rattle.surrounded_core.proofs.ChipRows.{kinds_long}
 use Rattle.surrounded_core.specs.Places.{selection_nets}
 use Rattle.surrounded_core.specs.Laws.{StandsAsChip, cell_of}

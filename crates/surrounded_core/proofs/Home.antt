@@ -32,11 +32,11 @@ use Rattle.register_gates.specs.Constants.{ConstantsAreBits}
 use Rattle.register_gates.specs.Registers.{user_size}
 use Rattle.register_gates.specs.Laws.{IdentFollows}
 use Rattle.register_gates.specs.Tdo.{TdoLetsGo}
-use Rattle.instruction_gates.specs.RegisterLaws.{pattern_bits, held_shift, held_opcode}
-use Rattle.instruction_gates.specs.RegisterLawsLaws.{FitTheRegister}
+use Rattle.instruction_gates.specs.Register.{pattern_bits, held_shift, held_opcode}
+use Rattle.instruction_gates.specs.RegisterLaws.{FitTheRegister}
 use Rattle.instruction_gates.specs.Steps.{HoldsStages}
 use Rattle.boundary_cells.specs.MachineRows.{bit_at}
-use Rattle.surrounded_core.specs.RowsLaws.{BoundaryRow, observe_row, input_row, output_row, control_row, bidir_row, HoldsUpdate}
+use Rattle.surrounded_core.specs.Rows.{BoundaryRow, observe_row, input_row, output_row, control_row, bidir_row, HoldsUpdate}
 use Rattle.surrounded_core.proofs.ChipRows.{kinds_long}
 use Rattle.wrapped_chip.specs.ChipRuns.{ChipMoment, ChipEvent}
 use Rattle.wrapped_chip.specs.Home.{IsOutside, OutsideGoesOn, IsRunFromBits, FallsHome, IsHome}

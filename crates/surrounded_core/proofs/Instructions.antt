@@ -4,7 +4,7 @@ use Rattle.netlist_model.specs.declared.Feed.{Feed}
 use Rattle.netlist_model.specs.declared.Feed.TheVariants.{Net, Const}
 use Rattle.gate_parts.specs.Parts.{part_cells}
 use Rattle.gate_parts.specs.Levels.{AreFeedsUpTo}
-use Rattle.register_gates.specs.BitsLaws.{held_bit, held_bit_given, held_bit_cells}
+use Rattle.register_gates.specs.Bits.{held_bit, held_bit_given, held_bit_cells}
 use Rattle.register_gates.specs.Chains.{chain_cells}
 use Rattle.instruction_gates.specs.declared.latches.Latching.{Latching}
 use Rattle.instruction_gates.specs.declared.latches.TheConstants.{LOADED}

@@ -10,12 +10,12 @@ use Rattle.gate_parts.specs.Parts.{part_cells}
 use Rattle.gate_parts.specs.Levels.{AreFeedsUpTo}
 use Rattle.test_logic.specs.declared.ScanNets.{ScanNets}
 use Rattle.register_gates.specs.declared.bits.TheConstants.{SHIFT_BIT}
-use Rattle.register_gates.specs.BitsLaws.{shift_bit_given}
+use Rattle.register_gates.specs.Bits.{shift_bit_given}
 use Rattle.boundary_cells.specs.declared.tables.Choice.{Choice}
 use Rattle.boundary_cells.specs.declared.tables.TheConstants.{BC_1, UPDATES}
 use Rattle.boundary_cells.specs.Cells.{steering_of, choice_cell, cells_onto, stage_table, cell_given}
 use Rattle.boundary_cells.specs.ThreeState.{control_table, control_choice, control_given, bidir_table, bidir_given}
-use Rattle.surrounded_core.specs.RowsLaws.{observe_row, input_row, output_row, control_row, bidir_row}
+use Rattle.surrounded_core.specs.Rows.{observe_row, input_row, output_row, control_row, bidir_row}
 use Rattle.surrounded_core.specs.Above.{IsAbove, AreAbove, AreRanked, fits}
 use Rattle.surrounded_core.specs.Registers.{shift_levels}
 use Rattle.surrounded_core.specs.LevelsRows.{bc_1_levels, stage_levels, control_levels, row_levels, GivesAbove, RowsStandAbove}

@@ -29,17 +29,17 @@ use Rattle.test_logic.specs.Registers.{first_bit, bypass_after, ident_after}
 use Rattle.test_logic.specs.Machine.{Machine, TestLogic, machine_step, in_effect, selects, test_logic_of, code_bits, user_bits, captured_code, zeros}
 use Rattle.tap_gates.specs.Laws.{Carries as TapCarries, TapFollows, HoldsState, ShowsState, StepIsTheMachines}
 use Rattle.tap_gates.specs.Home.{IsCourse}
-use Rattle.register_gates.specs.BitsLawsLaws.{Carries, bit_after}
+use Rattle.register_gates.specs.BitsLaws.{Carries, bit_after}
 use Rattle.register_gates.specs.Laws.{captured_bits, BypassFollows, IdentFollows}
 use Rattle.register_gates.specs.Steps.{StepsByRegister}
 use Rattle.register_gates.specs.Tdo.{TdoFollows, ident_feed, tdo_given_by}
 use Rattle.instruction_gates.specs.Selections.{Selected}
-use Rattle.instruction_gates.specs.RegisterLawsLaws.{Follows}
+use Rattle.instruction_gates.specs.RegisterLaws.{Follows}
 use Rattle.instruction_gates.specs.Steps.{HoldsStages, IsLegible, InstructionLaws, InstructionSteps, InstructionsStayLegible}
 use Rattle.boundary_cells.specs.MachineRows.{RowsStep}
-use Rattle.surrounded_core.specs.RowsLawsLaws.{RowsFollow}
+use Rattle.surrounded_core.specs.RowsLaws.{RowsFollow}
 use Rattle.surrounded_core.specs.Lengths.{LengthsStay, AreLong}
-use Rattle.surrounded_core.specs.RowsLaws.{HoldsRow}
+use Rattle.surrounded_core.specs.Rows.{HoldsRow}
 use Rattle.surrounded_core.specs.Selections.{SelectedSteers}
 use Rattle.surrounded_core.specs.ChipRows.{ChipRows}
 use Rattle.wrapped_chip.specs.Cells.{captured}

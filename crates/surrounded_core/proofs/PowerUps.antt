@@ -14,9 +14,9 @@ use Rattle.test_logic.specs.declared.Levels.{Levels}
 use Rattle.test_logic.specs.declared.TapState.TheVariants.{TestLogicReset}
 use Rattle.test_logic.specs.Machine.{Machine, TestLogic, reset, test_logic_of, code_bits, zeros}
 use Rattle.tap_gates.specs.Laws.{HoldsState, ShowsState}
-use Rattle.register_gates.specs.BitsLawsLaws.{Carries}
-use Rattle.instruction_gates.specs.RegisterLawsLaws.{Follows}
-use Rattle.surrounded_core.specs.RowsLaws.{IsRowOf}
+use Rattle.register_gates.specs.BitsLaws.{Carries}
+use Rattle.instruction_gates.specs.RegisterLaws.{Follows}
+use Rattle.surrounded_core.specs.Rows.{IsRowOf}
 use Rattle.wrapped_chip.specs.Cells.{chip_reading}
 use Rattle.wrapped_chip.specs.ChipRuns.{ChipMoment, ChipEvent, IsChipRun}
 use Rattle.wrapped_chip.specs.Laws.{ChipRunOnce, SameChipMoment}

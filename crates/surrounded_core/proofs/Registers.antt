@@ -11,7 +11,7 @@ use Rattle.tap_gates.specs.Controller.{tap_given}
 use Rattle.tap_gates.specs.Laws.{tap_levels}
 use Rattle.register_gates.specs.declared.bits.Steering.{Steering}
 use Rattle.register_gates.specs.declared.bits.TheConstants.{SHIFT_BIT}
-use Rattle.register_gates.specs.BitsLaws.{shift_bit_given, shift_bit_cells}
+use Rattle.register_gates.specs.Bits.{shift_bit_given, shift_bit_cells}
 use Rattle.register_gates.specs.Chains.{chain_cells, chain_last}
 use Rattle.register_gates.specs.declared.TheConstants.{SELECTED}
 use Rattle.register_gates.specs.declared.ident.TheConstants.{INVERSE}

@@ -21,10 +21,10 @@ use Rattle.test_logic.specs.Controller.{act}
 use Rattle.test_logic.specs.Registers.{shifted, update_bit}
 use Rattle.test_logic.specs.Machine.{TestLogic, Machine, in_effect, edge_of, machine_step}
 use Rattle.test_logic.specs.Rows.{CellAt}
-use Rattle.register_gates.specs.BitsLawsLaws.{Carries, on_edge, bit_after}
+use Rattle.register_gates.specs.BitsLaws.{Carries, on_edge, bit_after}
 use Rattle.boundary_cells.specs.Laws.{ShiftLaws, UpdateLaws}
 use Rattle.boundary_cells.specs.MachineRows.{bit_at, boundary_action, boundary_updates, RowsStep}
-use Rattle.surrounded_core.specs.RowsLaws.{IsSteered}
+use Rattle.surrounded_core.specs.Rows.{IsSteered}
 
 -- a netlist that contains these cells steps, and so does the test logic
 pub record Steps (cells : List CellView) (kind : BoundaryKind) (N : NetlistView) (event : PinEvent) (before after : Levels) (m m' : Moment) (L : TestLogic)

@@ -20,12 +20,12 @@ use Rattle.test_logic.specs.Instructions.{mode_of, is_extest}
 use Rattle.test_logic.specs.Registers.{update_bit}
 use Rattle.test_logic.specs.Machine.{TestLogic, Machine, in_effect, reset, machine_step}
 use Rattle.test_logic.specs.Rows.{CellAt, output_captured, row_captured}
-use Rattle.register_gates.specs.BitsLawsLaws.{Carries}
+use Rattle.register_gates.specs.BitsLaws.{Carries}
 use Rattle.boundary_cells.specs.Laws.{CarriesMode, ObserveCellsFollow, InputCellsFollow, OutputCellsFollow, StandsAtPin, StandsAtInput, StandsAtOutput}
 use Rattle.boundary_cells.specs.ThreeState.{ControlCellsFollow, BidirCellsFollow, StandsAtInout}
 use Rattle.boundary_cells.specs.MachineRows.{RowsStep}
-use Rattle.surrounded_core.specs.RowsLaws.{BoundaryRow, observe_row, input_row, output_row, control_row, bidir_row, row_cells, output_kind, row_kind, IsRowOf, InoutStands, StandsAtRow, HoldsUpdate, HoldsRow, control_of, Gives}
-use Rattle.surrounded_core.specs.RowsLawsLaws.{Captures, IsServed}
+use Rattle.surrounded_core.specs.Rows.{BoundaryRow, observe_row, input_row, output_row, control_row, bidir_row, row_cells, output_kind, row_kind, IsRowOf, InoutStands, StandsAtRow, HoldsUpdate, HoldsRow, control_of, Gives}
+use Rattle.surrounded_core.specs.RowsLaws.{Captures, IsServed}
 use Rattle.surrounded_core.proofs.RowsBits.{Steps, shift_kept, update_kept, zero_kept}
 
 -- the laws of each kind of cell, of the lists by their places, and of runs

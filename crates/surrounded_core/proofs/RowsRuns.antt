@@ -11,8 +11,8 @@ use Rattle.test_logic.specs.declared.ScanNets.{ScanNets}
 use Rattle.test_logic.specs.Machine.{TestLogic, Machine, IsHistory, in_effect}
 use Rattle.test_logic.specs.Rows.{CellAt}
 use Rattle.boundary_cells.specs.MachineRows.{bit_at}
-use Rattle.surrounded_core.specs.RowsLaws.{BoundaryRow, row_cells, row_kind, IsRowOf, HoldsRow}
-use Rattle.surrounded_core.specs.RowsLawsLaws.{Captures, IsServed, RowsFollow}
+use Rattle.surrounded_core.specs.Rows.{BoundaryRow, row_cells, row_kind, IsRowOf, HoldsRow}
+use Rattle.surrounded_core.specs.RowsLaws.{Captures, IsServed, RowsFollow}
 use Rattle.surrounded_core.proofs.Lengths.{along}
 use Rattle.surrounded_core.proofs.RowsLaws.{CellLaws, start_at, step_at, gives_at}
 use Rattle.std.proofs.lemmas.Option.{slice_get_within}

@@ -9,7 +9,7 @@ use Rattle.test_logic.specs.declared.TapState.TheVariants.{CaptureDr, ShiftDr, U
 use Rattle.test_logic.specs.Controller.{dr_action}
 use Rattle.test_logic.specs.Machine.{selects}
 use Rattle.tap_gates.specs.Controller.{same_state}
-use Rattle.register_gates.specs.BitsLawsLaws.{is_capture, is_shift}
+use Rattle.register_gates.specs.BitsLaws.{is_capture, is_shift}
 use Rattle.boundary_cells.specs.MachineRows.{is_update}
 use Rattle.surrounded_core.specs.Selections.{SelectedSteers}
 

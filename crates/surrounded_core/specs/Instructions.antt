@@ -6,7 +6,7 @@ use Rattle.netlist_model.specs.declared.Feed.{Feed}
 use Rattle.netlist_model.specs.declared.Feed.TheVariants.{Net}
 use Rattle.gate_parts.specs.Levels.{AreFeedsUpTo}
 use Rattle.test_logic.specs.declared.TapNets.{TapNets}
-use Rattle.register_gates.specs.BitsLaws.{held_bit}
+use Rattle.register_gates.specs.Bits.{held_bit}
 use Rattle.instruction_gates.specs.declared.latches.TheConstants.{LOADED}
 use Rattle.instruction_gates.specs.declared.stages.TheConstants.{LOADS}
 use Rattle.instruction_gates.specs.declared.matches.TheConstants.{EQUAL_BIT}

@@ -13,11 +13,11 @@ use Rattle.gate_parts.specs.declared.Gate.{Gate}
 use Rattle.gate_parts.specs.Levels.{AreFeedsUpTo}
 use Rattle.test_logic.specs.declared.ScanNets.{ScanNets}
 use Rattle.register_gates.specs.declared.bits.TheConstants.{SHIFT_BIT}
-use Rattle.register_gates.specs.BitsLaws.{shift_bit_given}
+use Rattle.register_gates.specs.Bits.{shift_bit_given}
 use Rattle.boundary_cells.specs.declared.tables.TheConstants.{BC_1}
 use Rattle.boundary_cells.specs.Cells.{steering_of, stage_table, cell_given}
 use Rattle.boundary_cells.specs.ThreeState.{control_table, control_given, bidir_table, bidir_given}
-use Rattle.surrounded_core.specs.RowsLaws.{BoundaryRow, observe_row, input_row, output_row, control_row, bidir_row, row_cells}
+use Rattle.surrounded_core.specs.Rows.{BoundaryRow, observe_row, input_row, output_row, control_row, bidir_row, row_cells}
 use Rattle.surrounded_core.specs.Above.{AreAbove, AreRanked}
 use Rattle.surrounded_core.specs.Registers.{shift_levels}
 

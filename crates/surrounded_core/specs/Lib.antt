@@ -11,8 +11,8 @@ pub mod LevelsRows
 pub mod Open
 pub mod Places
 pub mod Registers
+pub mod Rows
 pub mod RowsLaws
-pub mod RowsLawsLaws
 pub mod Selections
 pub mod Sites
 pub mod Surrounds

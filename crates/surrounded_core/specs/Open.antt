@@ -17,8 +17,8 @@ use Rattle.test_logic.specs.declared.Levels.{Levels}
 use Rattle.test_logic.specs.Registers.{first_bit, tdo_after}
 use Rattle.test_logic.specs.Machine.{TestLogic, Machine, in_effect, test_logic_of}
 use Rattle.tap_gates.specs.Laws.{ShowsState}
-use Rattle.register_gates.specs.BitsLawsLaws.{Carries, bit_after}
-use Rattle.instruction_gates.specs.RegisterLawsLaws.{Follows}
+use Rattle.register_gates.specs.BitsLaws.{Carries, bit_after}
+use Rattle.instruction_gates.specs.RegisterLaws.{Follows}
 use Rattle.wrapped_chip.specs.Cells.{chip_reading}
 use Rattle.wrapped_chip.specs.ChipRuns.{ChipEvent, ChipMoment, IsChipRun}
 use Rattle.wrapped_chip.specs.Suits.{IsRead}

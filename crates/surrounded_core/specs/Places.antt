@@ -14,8 +14,8 @@ use Rattle.test_logic.specs.declared.InstrNets.{InstrNets}
 use Rattle.tap_gates.specs.Controller.{tap_cells, tap_nets}
 use Rattle.register_gates.specs.Registers.{bypass_cells, ident_cells, ident_values, ident_last}
 use Rattle.register_gates.specs.Tdo.{tdo_cells}
-use Rattle.instruction_gates.specs.RegisterLaws.{instruction_cells, instruction_nets}
-use Rattle.surrounded_core.specs.RowsLaws.{BoundaryRow}
+use Rattle.instruction_gates.specs.Register.{instruction_cells, instruction_nets}
+use Rattle.surrounded_core.specs.Rows.{BoundaryRow}
 
 -- own: the nets of the test access port; of each part its first net and the number of its first cell; the boundary
 -- register's rows by their places, with the next bit towards TDI of each, and its bit nearest TDO; and the net that a

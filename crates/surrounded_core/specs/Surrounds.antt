@@ -17,12 +17,12 @@ use Rattle.bsdl_device.specs.declared.values.Device.{Device}
 use Rattle.test_logic.specs.declared.TapInput.{TapInput}
 use Rattle.test_logic.specs.Instructions.{opcode_of}
 use Rattle.test_logic.specs.Machine.{AreCodes, test_logic_of}
-use Rattle.instruction_gates.specs.RegisterLawsLaws.{FitTheRegister}
+use Rattle.instruction_gates.specs.RegisterLaws.{FitTheRegister}
 use Rattle.wrapped_chip.specs.Cells.{net_of_row}
 use Rattle.wrapped_chip.specs.Realises.{IsTapNet, tap_place}
 use Rattle.wrapped_chip.specs.Beside.{HasPins}
 use Rattle.wrapped_chip.specs.Suits.{IsRead}
-use Rattle.surrounded_core.specs.RowsLaws.{row_cells, row_kind}
+use Rattle.surrounded_core.specs.Rows.{row_cells, row_kind}
 use Rattle.surrounded_core.specs.Places.{Places, input_net, selection_nets, HasRegistersBy, bypass_bit}
 use Rattle.surrounded_core.specs.Sites.{StandsAround, HasRowAt, IsDrivenBy, IsSeenOn}
 

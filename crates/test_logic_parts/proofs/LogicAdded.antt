@@ -13,13 +13,13 @@ use Rattle.test_logic.specs.declared.Codes.{Codes}
 use Rattle.test_logic.specs.declared.TapNets.{TapNets}
 use Rattle.test_logic.specs.declared.InstrNets.{InstrNets}
 use Rattle.tap_gates.specs.Controller.{tap_cells, tap_nets}
-use Rattle.register_gates.specs.BitsLaws.{AreNetsBelow}
+use Rattle.register_gates.specs.Bits.{AreNetsBelow}
 use Rattle.register_gates.specs.Chains.{chain_last}
 use Rattle.register_gates.specs.Constants.{ConstantsAreBits}
 use Rattle.register_gates.specs.Registers.{bypass_cells, user_size, captured_feeds, ident_size, ident_cells, ident_last}
 use Rattle.register_gates.specs.Tdo.{AreIdentBelow}
 use Rattle.boundary_cells.specs.Cells.{AreScanNetsBelow}
-use Rattle.instruction_gates.specs.RegisterLaws.{pattern_bits, instruction_size, instruction_cells, instruction_nets}
+use Rattle.instruction_gates.specs.Register.{pattern_bits, instruction_size, instruction_cells, instruction_nets}
 use Rattle.plan_fitting.specs.declared.fitted.Fitted.{Fitted}
 use Rattle.core_sides.specs.stitched_netlist.declared.model.TapPort.{TapPort}
 use Rattle.core_sides.specs.stitched_netlist.declared.model.Logic.{Logic}

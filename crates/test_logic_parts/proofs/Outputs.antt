@@ -20,7 +20,7 @@ use Rattle.tap_gates.specs.declared.table.TheConstants.{CONTROLLER}
 use Rattle.tap_gates.specs.Controller.{tap_given}
 use Rattle.register_gates.specs.declared.bits.Steering.{Steering}
 use Rattle.register_gates.specs.declared.bits.TheConstants.{SHIFT_BIT}
-use Rattle.register_gates.specs.BitsLaws.{shift_bit_given, held_bit, held_bit_given, held_bit_cells}
+use Rattle.register_gates.specs.Bits.{shift_bit_given, held_bit, held_bit_given, held_bit_cells}
 use Rattle.register_gates.specs.Chains.{chain_last, chain_cells}
 use Rattle.register_gates.specs.declared.TheConstants.{SELECTED}
 use Rattle.register_gates.specs.declared.ident.TheConstants.{INVERSE}
@@ -37,7 +37,7 @@ use Rattle.instruction_gates.specs.Matches.{match_before, equal_given, match_cel
 use Rattle.instruction_gates.specs.Copies.{copy_given, copies_cells}
 use Rattle.instruction_gates.specs.Selections.{selections_given, selections_cells}
 use Rattle.instruction_gates.specs.Stages.{loads_given, ir_steering, ir_latching, shift_stage_cells, stages_cells}
-use Rattle.instruction_gates.specs.RegisterLaws.{pattern_bits, latches_from, opcodes_from, selections_from, copies_from, cells_with, opcode_size, opcode_cells, opcodes_cells, opcodes_told, matched_instructions, instruction_cells}
+use Rattle.instruction_gates.specs.Register.{pattern_bits, latches_from, opcodes_from, selections_from, copies_from, cells_with, opcode_size, opcode_cells, opcodes_cells, opcodes_told, matched_instructions, instruction_cells}
 
 -- each of these cells that is connected drives a net from this one on
 abbrev pub DrivesFrom : ℕ → List CellView → Type 0

@@ -12,7 +12,7 @@ use Rattle.register_gates.specs.Registers.{selected_cells, selected_steering, us
 use Rattle.instruction_gates.specs.Copies.{copies_cells}
 use Rattle.instruction_gates.specs.Selections.{selections_cells}
 use Rattle.instruction_gates.specs.Stages.{stages_cells}
-use Rattle.instruction_gates.specs.RegisterLaws.{pattern_bits, latches_from, opcodes_from, selections_from, copies_from, opcodes_cells, opcodes_told, matched_instructions, instruction_size, instruction_cells}
+use Rattle.instruction_gates.specs.Register.{pattern_bits, latches_from, opcodes_from, selections_from, copies_from, opcodes_cells, opcodes_told, matched_instructions, instruction_size, instruction_cells}
 use Rattle.instruction_gates.proofs.Copied.{copies_length}
 use Rattle.instruction_gates.proofs.Sizes.{opcodes_length}
 use Rattle.instruction_gates.proofs.Added.{stages_counted}

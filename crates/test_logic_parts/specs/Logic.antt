@@ -2,7 +2,7 @@
 -- IEEE Std 1149.1-2001: TAP controller, instruction register, test data registers; the numbers are own.
 use Rattle.std.specs.Prelude.{ℕ, ◌+◌, ◌*◌, ◌<◌, ◌≤◌}
 use Rattle.netlist_arena.specs.Arena.{ArenaView}
-use Rattle.register_gates.specs.BitsLaws.{AreNetsBelow}
+use Rattle.register_gates.specs.Bits.{AreNetsBelow}
 use Rattle.register_gates.specs.Tdo.{AreIdentBelow}
 use Rattle.boundary_cells.specs.Cells.{AreScanNetsBelow}
 use Rattle.plan_fitting.specs.declared.fitted.Fitted.{Fitted}

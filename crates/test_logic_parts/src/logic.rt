@@ -6,7 +6,7 @@ ghost use Rattle.netlist_model.specs.Lists.{cell_count};
 ghost use Rattle.netlist_model.specs.Contained.{IsDense};
 ghost use Rattle.netlist_arena.specs.Adds.{IsFree};
 ghost use Rattle.gate_parts.specs.Appended.{Appended};
-ghost use Rattle.register_gates.specs.BitsLaws.{AreNetsBelow};
+ghost use Rattle.register_gates.specs.Bits.{AreNetsBelow};
 ghost use Rattle.register_gates.specs.Registers.{ident_cells, ident_last};
 ghost use Rattle.register_gates.specs.Tdo.{AreIdentBelow};
 ghost use Rattle.core_sides.specs.stitched_netlist.ModelLogic.{code_size, logic_size, logic_at, logic_cells};

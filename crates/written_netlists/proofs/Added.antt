@@ -21,7 +21,7 @@ use Rattle.tap_gates.specs.declared.table.TheConstants.{CONTROLLER}
 use Rattle.tap_gates.specs.Controller.{tap_given}
 use Rattle.register_gates.specs.declared.bits.Steering.{Steering}
 use Rattle.register_gates.specs.declared.bits.TheConstants.{SHIFT_BIT, CLEARED_BIT, PRESET_BIT}
-use Rattle.register_gates.specs.BitsLaws.{shift_bit_given, shift_bit_cells, held_bit, held_bit_given}
+use Rattle.register_gates.specs.Bits.{shift_bit_given, shift_bit_cells, held_bit, held_bit_given}
 use Rattle.register_gates.specs.Chains.{chain_last, chain_cells}
 use Rattle.register_gates.specs.declared.TheConstants.{SELECTED}
 use Rattle.register_gates.specs.declared.ident.TheConstants.{INVERSE}
@@ -41,7 +41,7 @@ use Rattle.core_sides.specs.instruction_gates.Matches.{match_before, equal_given
 use Rattle.core_sides.specs.instruction_gates.Copies.{copy_given, copies_cells}
 use Rattle.core_sides.specs.instruction_gates.Selections.{selections_given, selections_cells}
 use Rattle.core_sides.specs.instruction_gates.Stages.{loads_given, ir_steering, ir_latching, shift_stage_cells, stages_cells}
-use Rattle.core_sides.specs.instruction_gates.RegisterLaws.{pattern_bits, latches_from, cells_with, opcode_size, opcode_cells, matched_instructions, opcodes_cells, opcodes_told, opcodes_from, selections_from, copies_from, instruction_cells}
+use Rattle.core_sides.specs.instruction_gates.Register.{pattern_bits, latches_from, cells_with, opcode_size, opcode_cells, matched_instructions, opcodes_cells, opcodes_told, opcodes_from, selections_from, copies_from, instruction_cells}
 use Rattle.core_sides.specs.boundary_cells.declared.tables.Choice.{Choice}
 use Rattle.core_sides.specs.boundary_cells.declared.tables.TheConstants.{BC_1, BC_2, UPDATES, BC_1_CONTROL, BC_2_CONTROL, BC_7_HIGH, BC_7_LOW, BC_1_LEVEL, BC_2_LEVEL}
 use Rattle.core_sides.specs.boundary_cells.Cells.{steering_of, choice_cell, cells_onto, cell_given, output_cells}

@@ -30,7 +30,7 @@ use Rattle.core_sides.specs.plan_fitting.Devices.{fitted_of}
 use Rattle.core_sides.specs.plan_fitting.DevicesLaws.{FittedIsFitting}
 use Rattle.core_sides.specs.stitched_netlist.Stitched.{stitched}
 use Rattle.core_sides.specs.stitched_netlist.Sizes.{StitchedHasCounts}
-use Rattle.core_sides.specs.stitched_netlist.PlacesLaws.{StitchedKeeps}
+use Rattle.core_sides.specs.stitched_netlist.Places.{StitchedKeeps}
 use Rattle.written_netlists.specs.Prepared.{AreTapNames}
 use Rattle.written_netlists.specs.NamesLaws.{TapNamesAreEntered, StitchedHasFreePrefix}
 use Rattle.written_netlists.specs.Written.{spelt, tap_of, IsStitchedOf}

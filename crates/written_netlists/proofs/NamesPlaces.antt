@@ -15,7 +15,7 @@ use Rattle.core_sides.specs.plan_fitting.declared.fitted.Fitted.{Fitted}
 use Rattle.core_sides.specs.stitched_netlist.declared.model.TapNames.{TapNames}
 use Rattle.core_sides.specs.stitched_netlist.Sides.{core_side, core_cell}
 use Rattle.core_sides.specs.stitched_netlist.Stitched.{live_cells, boundary_at, first_net, tap_port, test_logic_cells, stitched}
-use Rattle.core_sides.specs.stitched_netlist.PlacesLaws.{StitchedHoldsTheCore}
+use Rattle.core_sides.specs.stitched_netlist.Places.{StitchedHoldsTheCore}
 use Rattle.core_sides.proofs.stitched_netlist.PlacesLaws.{listed_at}
 use Rattle.core_sides.proofs.stitched_netlist.CellsLaws.{core_length}
 use Rattle.written_netlists.proofs.Table.{at_append}

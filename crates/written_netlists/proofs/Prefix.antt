@@ -21,7 +21,7 @@ use Rattle.core_sides.specs.plan_fitting.Devices.{fitted_of}
 use Rattle.core_sides.specs.plan_fitting.DevicesLaws.{HasFreePrefix, PrefixesAreFree}
 use Rattle.core_sides.specs.stitched_netlist.declared.model.TapNames.{TapNames}
 use Rattle.core_sides.specs.stitched_netlist.Stitched.{stitched}
-use Rattle.core_sides.specs.stitched_netlist.PlacesLaws.{StitchedHoldsTheCore}
+use Rattle.core_sides.specs.stitched_netlist.Places.{StitchedHoldsTheCore}
 use Rattle.core_sides.specs.stitched_netlist.Directions.{StitchedDirections}
 use Rattle.written_netlists.specs.Prepared.{with_tap_names, AreTapNames}
 use Rattle.written_netlists.specs.NamesLaws.{StitchedHasFreePrefix}

@@ -5,7 +5,7 @@ use Rattle.cell_library.specs.declared.codes.Instr.TheVariants.{Extest, Sample, 
 use Rattle.netlist_model.specs.Lists.{PortView, NetlistView}
 use Rattle.test_logic.specs.declared.Codes.{Codes}
 use Rattle.test_logic.specs.Instructions.{opcode_of}
-use Rattle.core_sides.specs.instruction_gates.RegisterLaws.{opcode_size, opcodes_size, matched_instructions, instruction_size}
+use Rattle.core_sides.specs.instruction_gates.Register.{opcode_size, opcodes_size, matched_instructions, instruction_size}
 use Rattle.core_sides.specs.plan_fitting.declared.fitted.FitRow.{FitRow}
 use Rattle.core_sides.specs.plan_fitting.declared.fitted.Fitted.{Fitted}
 use Rattle.core_sides.specs.stitched_netlist.declared.model.Site.{Site}

@@ -19,7 +19,7 @@ use Rattle.core_sides.specs.plan_fitting.DevicesLaws.{TapNamesAreNew}
 use Rattle.core_sides.specs.stitched_netlist.declared.model.TapNames.{TapNames}
 use Rattle.core_sides.specs.stitched_netlist.Sites.{sides_of}
 use Rattle.core_sides.specs.stitched_netlist.Stitched.{tap_port, scalar, tap_ports, named_net, tap_net_views, boundary_at, test_logic_nets, stitched}
-use Rattle.core_sides.specs.stitched_netlist.PlacesLaws.{StitchedHoldsTheCore}
+use Rattle.core_sides.specs.stitched_netlist.Places.{StitchedHoldsTheCore}
 use Rattle.core_sides.specs.stitched_netlist.Directions.{KeepsDirections, StitchedDirections}
 use Rattle.written_netlists.specs.Prepared.{with_tap_names}
 use Rattle.written_netlists.specs.NamesLaws.{StitchedIsNamed}

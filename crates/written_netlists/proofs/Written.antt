@@ -18,7 +18,7 @@ use Rattle.core_sides.specs.plan_fitting.FittingPlan.{IsFitting}
 use Rattle.core_sides.specs.plan_fitting.DevicesLaws.{FittedIsFitting, PlansSuitNetlists}
 use Rattle.core_sides.specs.stitched_netlist.declared.model.TapNames.{TapNames}
 use Rattle.core_sides.specs.stitched_netlist.Stitched.{stitched}
-use Rattle.core_sides.specs.stitched_netlist.PlacesLaws.{StitchedKeeps}
+use Rattle.core_sides.specs.stitched_netlist.Places.{StitchedKeeps}
 use Rattle.written_netlists.specs.ModulesLaws.{IsStitching, StitchedIsRenumbered}
 use Rattle.written_netlists.specs.Written.{IsNumberedAnew}
 use Rattle.core_sides.specs.stitched_netlist.FormedLaws.{StitchedIsFormed}

@@ -2,7 +2,7 @@ use Rattle.std.proofs.Common.{length}
 use Rattle.netlist_model.specs.Lists.{cell_count}
 use Rattle.netlist_model.specs.declared.Feed.TheVariants.{Net}
 use Rattle.register_gates.specs.declared.bits.TheConstants.{SHIFT_BIT}
-use Rattle.register_gates.specs.BitsLaws.{shift_bit_given}
+use Rattle.register_gates.specs.Bits.{shift_bit_given}
 use Rattle.boundary_cells.specs.Cells.{steering_of}
 use Rattle.boundary_cells.proofs.add_observe_cell.Goals as goal
 

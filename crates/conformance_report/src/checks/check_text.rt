@@ -2,7 +2,7 @@
 ghost use Rattle.std.specs.Prelude.{◌≡◌, ◌++◌, IfOk, OnOk};
 ghost use Rattle.std.specs.List.{flat_map};
 ghost use Rattle.scan_vectors.specs.Grammar.{pin_of};
-ghost use Rattle.scan_vectors.specs.ScriptsLaws.{IsSpelled};
+ghost use Rattle.scan_vectors.specs.Scripts.{IsSpelled};
 ghost use Rattle.sim_runs.specs.Outputs.{done_line, missed_line};
 ghost use Rattle.conformance_report.specs.ChecksLaws.{check_text, miss_text};
 ghost use Rattle.conformance_report.specs.Merges.{AreWithin, misses_behind, text_at};

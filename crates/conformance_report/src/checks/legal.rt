@@ -1,6 +1,6 @@
 // The script of event lines that are legal for a netlist and a device.
 ghost use Rattle.std.specs.Prelude.{◌≡◌, IfErr, IfOk};
-ghost use Rattle.scan_vectors.specs.ScriptsLaws.{IsResolved, IsSpelled};
+ghost use Rattle.scan_vectors.specs.Scripts.{IsResolved, IsSpelled};
 ghost use Rattle.conformance_report.specs.Rules.{IsLinesFault, KeepsTapRule};
 ghost use Rattle.conformance_report.specs.Firsts.{lesser};
 

@@ -1,6 +1,6 @@
 // Checks a netlist and a device by event lines.
 ghost use Rattle.std.specs.Prelude.{IfErr, IfOk};
-ghost use Rattle.scan_vectors.specs.ScriptsLaws.{IsSpelled};
+ghost use Rattle.scan_vectors.specs.Scripts.{IsSpelled};
 ghost use Rattle.conformance_report.specs.ChecksLaws.{IsChecked};
 ghost use Rattle.conformance_report.specs.Rules.{IsLinesFault};
 

@@ -2,7 +2,7 @@
 ghost use Rattle.std.specs.Prelude.{◌≡◌, ◌↔◌, IsTrue, MatchOption};
 ghost use Rattle.netlist_model.specs.Runs.{IsKnownPin};
 ghost use Rattle.scan_vectors.specs.Grammar.{pin_of};
-ghost use Rattle.scan_vectors.specs.ScriptsLaws.{IsSpelled};
+ghost use Rattle.scan_vectors.specs.Scripts.{IsSpelled};
 ghost use Rattle.conformance_report.specs.Rules.{BreaksTapRule, KeepsTapRule, NamesPort, NamesTapInput};
 ghost use Rattle.conformance_report.specs.Firsts.{IsFirstTapBroken};
 

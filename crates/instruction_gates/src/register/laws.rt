@@ -1,4 +1,4 @@
-ghost use Rattle.instruction_gates.specs.RegisterLawsLaws.{InstructionFollows, RegistersFit};
+ghost use Rattle.instruction_gates.specs.RegisterLaws.{InstructionFollows, RegistersFit};
 ghost use Rattle.instruction_gates.specs.Steps.{InstructionSteps, InstructionsStayLegible};
 
 use crate::{copies_tell, matches_tell, selections_tell, stages_follow, stages_step};

@@ -5,7 +5,7 @@ ghost use Rattle.netlist_model.specs.Lists.{cell_count};
 ghost use Rattle.netlist_model.specs.Contained.{IsDense};
 ghost use Rattle.netlist_model.specs.Below.{IsFeedBelow};
 ghost use Rattle.gate_parts.specs.Appended.{Appended};
-ghost use Rattle.instruction_gates.specs.RegisterLaws.{opcode_size, opcode_cells, opcode_told, opcodes_size, opcodes_cells, opcodes_told, AreToldBelow, matched_instructions};
+ghost use Rattle.instruction_gates.specs.Register.{opcode_size, opcode_cells, opcode_told, opcodes_size, opcodes_cells, opcodes_told, AreToldBelow, matched_instructions};
 
 use crate::{Matched, add_match};
 use cell_library::Instr;

@@ -4,10 +4,10 @@ ghost use Rattle.std.specs.Prelude.{◌≡◌, ◌+◌, ◌*◌, ◌<◌, ◌≤
 ghost use Rattle.netlist_model.specs.Lists.{cell_count};
 ghost use Rattle.netlist_model.specs.Contained.{IsDense};
 ghost use Rattle.gate_parts.specs.Appended.{Appended};
-ghost use Rattle.register_gates.specs.BitsLaws.{AreNetsBelow};
+ghost use Rattle.register_gates.specs.Bits.{AreNetsBelow};
 ghost use Rattle.register_gates.specs.Chains.{chain_last};
 ghost use Rattle.instruction_gates.specs.Stages.{stages_cells};
-ghost use Rattle.instruction_gates.specs.RegisterLaws.{pattern_bits, stages_size, latches_from};
+ghost use Rattle.instruction_gates.specs.Register.{pattern_bits, stages_size, latches_from};
 
 use crate::{Stages, add_stages};
 use gate_parts::appended_count;

@@ -1,7 +1,7 @@
 ghost use Rattle.netlist_link.specs.Laws.{FaultsForbidLinks};
 ghost use Rattle.cell_text.specs.Laws as libraries;
 ghost use Rattle.scan_vectors.specs.Exactly.{SpelledIsFaultless, SpelledOnce};
-ghost use Rattle.scan_vectors.specs.ScriptsLawsLaws.{LegalIsNotIllegal};
+ghost use Rattle.scan_vectors.specs.ScriptsLaws.{LegalIsNotIllegal};
 
 use cell_text::texts_of_libraries_are_spelled_or_at_fault;
 use netlist_link::faults_forbid_links;

@@ -1,4 +1,4 @@
-ghost use Rattle.register_gates.specs.BitsLawsLaws.{ShiftBitsFollow, HeldBitsFollow};
+ghost use Rattle.register_gates.specs.BitsLaws.{ShiftBitsFollow, HeldBitsFollow};
 ghost use Rattle.register_gates.specs.Chains.{ChainsFollow};
 
 use gate_parts::{contained_part_has_flops, contained_part_meets, flop_starts, flop_steps};

@@ -1,7 +1,7 @@
 ghost use Rattle.std.specs.Prelude.{◌≡◌, length, List, IfErr, IfOk, MatchOption};
 ghost use Rattle.scan_vectors.specs.declared.lines.Line.{Line};
 ghost use Rattle.scan_vectors.specs.Rules.{BreaksRule};
-ghost use Rattle.scan_vectors.specs.ScriptsLaws.{IsScriptFault, IsResolved, IsSpelled};
+ghost use Rattle.scan_vectors.specs.Scripts.{IsScriptFault, IsResolved, IsSpelled};
 ghost use Rattle.scan_vectors.specs.Starts.{IsAfter, TakesLine};
 
 use crate::scripts::bits::{find_bit, suits};

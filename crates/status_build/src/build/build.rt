@@ -9,8 +9,8 @@ ghost use Rattle.netlist_link.specs.WellNamed.{IsWellNamed};
 ghost use Rattle.gate_parts.specs.Appended.{Appended};
 ghost use Rattle.status_gates.specs.Registers.{registers_size};
 ghost use Rattle.status_build.specs.OrderLaws.{IsProper};
-ghost use Rattle.status_build.specs.BuildLaws.{IsOpenTo, CanRead, added_cells, shown_at};
-ghost use Rattle.status_build.specs.BuildLawsLaws.{CanAdd, IsBuiltOn};
+ghost use Rattle.status_build.specs.Build.{IsOpenTo, CanRead, added_cells, shown_at};
+ghost use Rattle.status_build.specs.BuildLaws.{CanAdd, IsBuiltOn};
 
 use crate::build::{status_is_formed, status_is_named};
 use gate_parts::{appended_count, appended_grows};

@@ -4,8 +4,8 @@ use Rattle.gate_parts.specs.Parts.{added_nets}
 use Rattle.gate_parts.proofs.Steps.{length-added_nets}
 use Rattle.open_stitch.specs.declared.Parts.{Parts}
 use Rattle.open_stitch.specs.Open.{parts_at}
-use Rattle.status_build.specs.BuildLawsLaws.{CanAdd, IsBuiltOn}
-use Rattle.status_build.specs.BuildLaws.{IsOpenTo}
+use Rattle.status_build.specs.BuildLaws.{CanAdd, IsBuiltOn}
+use Rattle.status_build.specs.Build.{IsOpenTo}
 use Rattle.status_stitch.specs.Stitched.{status_first, status_size, shared_by}
 use Rattle.status_stitch.proofs.Numbers.{opened_nets, size_few, stitch_room, can_add}
 use Rattle.status_stitch.proofs.Opened.{OpenLaws, moved, operand_there, open_to, all_proper, all_read}

@@ -5,7 +5,7 @@ use Rattle.netlist_link.specs.WellNamed.{IsWellNamed}
 use Rattle.stitched_netlist.specs.Stitched.{stitched}
 use Rattle.written_netlists.specs.Same.{IsSameNetlist}
 use Rattle.status_room.specs.scan_stitch.Stitched.{CanBeStitched}
-use Rattle.status_room.specs.ReadyLaws.{AreBuildable}
+use Rattle.status_room.specs.Needed.{AreBuildable}
 use Rattle.status_room.specs.Ready.{HasStatusRoom}
 use Rattle.status_stitch.specs.Stitched.{stitched_status}
 use Rattle.status_stitch.proofs.Known.{status_names_entered, status_can, status_buildable, base_formed, base_named, status_room_made, status_fits}

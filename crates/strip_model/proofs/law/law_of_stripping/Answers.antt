@@ -1,5 +1,5 @@
 use Rattle.strip_model.proofs.law.law_of_stripping.Goals as goal
-use Rattle.strip_model.proofs.LawLaws.{law}
+use Rattle.strip_model.proofs.RecoveryLaw.{law}
 
 pub returns : goal.returns
 returns c =

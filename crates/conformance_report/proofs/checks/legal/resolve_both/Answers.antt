@@ -1,5 +1,5 @@
 use Rattle.std.proofs.Common.{subst, sym}
-use Rattle.scan_vectors.specs.ScriptsLaws.{IsScriptFault}
+use Rattle.scan_vectors.specs.Scripts.{IsScriptFault}
 use Rattle.conformance_report.specs.Rules.{IsIllegalAt}
 use Rattle.conformance_report.proofs.Earliest.{tap_first, lesser_first}
 use Rattle.conformance_report.proofs.checks.legal.resolve_both.Goals as goal

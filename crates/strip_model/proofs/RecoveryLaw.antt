@@ -18,7 +18,7 @@ use Rattle.strip_model.specs.PlansAgain.{ToldPlanFits}
 use Rattle.strip_model.specs.Spell.{ToldPlanIsSpelled}
 use Rattle.written_netlists.specs.InsertedLaws.{with_test_logic}
 use Rattle.strip_model.specs.Laid.{LinkViewIsLaidOut}
-use Rattle.strip_model.specs.LawLaws.{RecoveredIsTheNetlist, LawOfStripping, OneNetlistGives}
+use Rattle.strip_model.specs.RecoveryLaw.{RecoveredIsTheNetlist, LawOfStripping, OneNetlistGives}
 use Rattle.link_model.specs.Denoted.{denoted}
 use Rattle.strip_model.proofs.Recovered.{fitting}
 

@@ -19,7 +19,7 @@ use Rattle.written_netlists.specs.Prepared.{with_tap_names, AreTapNames}
 use Rattle.strip_model.specs.Recovered.{recovered}
 use Rattle.strip_model.specs.NetlistsTold.{CanBeTold}
 use Rattle.strip_model.specs.PlansTold.{told_plan}
-use Rattle.strip_model.specs.GivesLaws.{Gives}
+use Rattle.strip_model.specs.Gives.{Gives}
 
 -- own: what is fitted to a link view can be told
 abbrev pub FittedCanBeTold : Type 0
