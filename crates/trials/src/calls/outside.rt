@@ -1,6 +1,5 @@
 // Real files and standard output.
-use crate::calls::calls::{Call, is_answered};
-use edge_io::{FileShelf, OutSink, put_whole, read_whole, write_whole};
+use edge_io::{FileShelf, OutSink, Shelf, put_whole, read_whole, write_whole};
 use std::alloc::Global;
 use std::fs;
 use std::test::Fail;
@@ -16,20 +15,22 @@ fn long_text(alloc: Global, pieces: u32) -> Result<Text, OutOfMemory> {
 
 #[test]
 fn files_are_written_and_read(rt: HostRuntime) -> Result<(), Fail> {
-    let path = "trial_calls.txt";
+    let path = "trials.txt";
     let text = long_text(rt.alloc(), 20_000)?;
     let mut shelf = FileShelf::new(&rt, rt.alloc());
-    assert!(rt; is_answered(&mut shelf, Call::Append(path, b"x", None)));
+    assert!(rt; shelf.append(path, b"x").is_err());
     assert!(rt; write_whole(&mut shelf, path, b"old").is_ok());
     assert!(rt; write_whole(&mut shelf, path, text.as_bytes()).is_ok());
-    assert!(rt; is_answered(&mut shelf, Call::Append("other", b"x", None)));
+    assert!(rt; shelf.append("other", b"x").is_err());
     let read = read_whole(rt.alloc(), &mut shelf, path, 200_000)?;
     assert!(rt; read.as_bytes() == text.as_bytes());
-    assert!(rt; is_answered(&mut shelf, Call::Append(path, b"xy", Some(2))));
-    assert!(rt; is_answered(&mut shelf, Call::Read(path, 199_999, Some(b"9xy"))));
+    assert!(rt; shelf.append(path, b"xy").ok() == Some(2));
+    let mut last = [0u8; 3];
+    assert!(rt; shelf.read_at(path, 199_999, &mut last).ok() == Some(3));
+    assert!(rt; last == *b"9xy");
     fs::remove_file(&rt, path)?;
-    assert!(rt; is_answered(&mut shelf, Call::Read("missing", 0, None)));
-    assert!(rt; is_answered(&mut shelf, Call::Start("missing/file", false)));
+    assert!(rt; shelf.read_at("missing", 0, &mut last).is_err());
+    assert!(rt; shelf.start("missing/file").is_err());
     Ok(())
 }
 

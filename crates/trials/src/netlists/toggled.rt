@@ -5,23 +5,25 @@ ghost use Rattle.netlist_model.specs.Runs.{IsKnownPin};
 ghost use Rattle.netlist_meaning.specs.Pins.{ArePinsOf, net_of, outside};
 ghost use Rattle.netlist_meaning.specs.States.{IsStateOf};
 
-use crate::netlists::linking::linked_of;
 use cell_library::Library;
-use netlist_link::Linked;
+use netlist_link::{Linked, link};
 use netlist_meaning::{Event, Pins, Sim, State};
 use netlist_model::{PinBit, width_of};
 use signal_values::PinSig;
 use std::alloc::Global;
 use std::process::Abort;
 use std::test::Fail;
-use texts::OutOfMemory;
+use texts::{OutOfMemory, Text};
+use verilog_texts::read_module;
 
 const TOGGLE: &[u8] = b"module t(input ck, input rn, output q); wire d; not(d,q); \
 DFFR f(.D(d),.CK(ck),.RN(rn),.Q(q)); endmodule";
 
 /// The flip-flop, with CK, RN and Q as ports.
 pub(crate) fn toggle(alloc: Global) -> Result<Linked, Fail> {
-    linked_of(alloc, TOGGLE, Library::new(alloc))
+    let text = Text::from_bytes(alloc, TOGGLE)?;
+    let tree = read_module(alloc, text)?;
+    Ok(link(alloc, &tree, Library::new(alloc))?)
 }
 
 // CK and RN are 0 at the start, so q is.
@@ -36,8 +38,8 @@ const EVENTS: [(&[u8], PinSig); 8] = [
     (b"ck", PinSig::One),
 ];
 
-/// What q reads at the start and after each event.
-pub(crate) const READINGS: [PinSig; 9] = [
+// What q reads at the start and after each event.
+const READINGS: [PinSig; 9] = [
     PinSig::Zero,
     PinSig::Zero,
     PinSig::Zero,
@@ -49,8 +51,8 @@ pub(crate) const READINGS: [PinSig; 9] = [
     PinSig::One,
 ];
 
-/// The bit with this name.
-pub(crate) fn bit(linked: &Linked, word: &[u8]) -> Option<PinBit>
+// The bit with this name.
+fn bit(linked: &Linked, word: &[u8]) -> Option<PinBit>
     ensures { IfSome result (λ pin. IsSome (net_of linked.now.arena.lists.ports pin)) }
 {
     let netlist = linked.netlist();
@@ -66,15 +68,6 @@ pub(crate) fn bit(linked: &Linked, word: &[u8]) -> Option<PinBit>
     Some(pin)
 }
 
-/// The event of this number.
-pub(crate) fn event(linked: &Linked, number: usize) -> Option<Event>
-    requires { number < 8 }
-{
-    let (word, value) = EVENTS[number];
-    let pin = bit(linked, word)?;
-    Some(Event { pin, value })
-}
-
 // Steps by the event of this number, if it is legal.
 fn step(linked: &Linked, sim: &mut Sim, number: usize) -> Option<()>
     requires number { number < 8 }
@@ -82,7 +75,9 @@ fn step(linked: &Linked, sim: &mut Sim, number: usize) -> Option<()>
     ensures linked { sim.new.linked ≡ sim.old.linked }
     ensures started { sim.new.started ≡ true }
 {
-    let event = event(linked, number)?;
+    let (word, value) = EVENTS[number];
+    let pin = bit(linked, word)?;
+    let event = Event { pin, value };
     if !sim.is_legal(event) {
         return None;
     }
@@ -104,8 +99,8 @@ fn readings(linked: &Linked, sim: &mut Sim) -> Option<[PinSig; 9]>
     Some(readings)
 }
 
-/// The pins at first, where CK and RN are 0.
-pub(crate) fn pins_at_first(alloc: Global, linked: &Linked) -> Result<Pins, OutOfMemory>
+// The pins at first, where CK and RN are 0.
+fn pins_at_first(alloc: Global, linked: &Linked) -> Result<Pins, OutOfMemory>
     ensures pins { IfOk result (ArePinsOf linked.now.arena.lists) }
     ensures known { IfOk result (λ pins. (net : ℕ) → IsControlPort linked.now.arena.lists net
         → IsKnownPin (outside pins net)) }

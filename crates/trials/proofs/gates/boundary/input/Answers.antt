@@ -1,5 +1,0 @@
-use Rattle.std.proofs.Common.{arith}
-use Rattle.trials.proofs.gates.boundary.input.Goals as goal
-
-pub add_input_cell-shift-requires-clause-undriven : goal.add_input_cell-shift-requires-clause-undriven
-add_input_cell-shift-requires-clause-undriven c = c.in_ok-netlist.ensures.free 23 (omega arith)
