@@ -6,6 +6,4 @@ mod readers;
 #[cfg(test)]
 mod room;
 #[cfg(test)]
-mod settled;
-#[cfg(test)]
 mod toggled;

@@ -23,9 +23,9 @@ fn place_wide(rt: &impl Abort, alloc: Global, netlist: &mut Netlist) -> Result<(
     let copy = netlist.copy(alloc)?;
     assert_eq!(rt; copy.cell_count(), 1);
     assert_eq!(rt; copy.pin_count(), 1);
-    for (place, feed) in (0..5).zip(feeds) {
-        assert_eq!(rt; operand(&copy, wide, place), Some(feed));
-    }
+    assert_eq!(rt; operand(&copy, wide, 2), Some(Feed::Const(true)));
+    assert_eq!(rt; operand(&copy, wide, 4), Some(Feed::Net(b)));
+    assert_eq!(rt; operand(&copy, wide, 5), None);
     Ok(())
 }
 

@@ -1,4 +1,4 @@
-// A flip-flop that toggles, in a run in which each event works out all cells.
+// A flip-flop that toggles, as its netlist settles, and in a run in which each event works out all cells.
 ghost use Rattle.std.specs.Prelude.{◌≡◌, ◌<◌, ℕ, true, IfOk, IfSome, IsSome};
 ghost use Rattle.netlist_model.specs.Cones.{IsControlPort};
 ghost use Rattle.netlist_model.specs.Runs.{IsKnownPin};
@@ -7,9 +7,9 @@ ghost use Rattle.netlist_meaning.specs.States.{IsStateOf};
 
 use cell_library::Library;
 use netlist_link::{Linked, link};
-use netlist_meaning::{Event, Pins, Sim, State};
-use netlist_model::{PinBit, width_of};
-use signal_values::PinSig;
+use netlist_meaning::{Event, Nets, Pins, Sim, State, settle};
+use netlist_model::{NetId, PinBit, width_of};
+use signal_values::{PinSig, Sig};
 use std::alloc::Global;
 use std::process::Abort;
 use std::test::Fail;
@@ -19,11 +19,31 @@ use verilog_texts::read_module;
 const TOGGLE: &[u8] = b"module t(input ck, input rn, output q); wire d; not(d,q); \
 DFFR f(.D(d),.CK(ck),.RN(rn),.Q(q)); endmodule";
 
-/// The flip-flop, with CK, RN and Q as ports.
-pub(crate) fn toggle(alloc: Global) -> Result<Linked, Fail> {
+// The flip-flop, with CK, RN and Q as ports.
+fn toggle(alloc: Global) -> Result<Linked, Fail> {
     let text = Text::from_bytes(alloc, TOGGLE)?;
     let tree = read_module(alloc, text)?;
     Ok(link(alloc, &tree, Library::new(alloc))?)
+}
+
+// A state of the netlist, in which its one flip-flop holds this.
+fn holding(alloc: Global, linked: &Linked, held: Sig) -> Result<State, OutOfMemory>
+    ensures { IfOk result (IsStateOf linked.now) }
+{
+    let mut state = State::new(alloc, linked)?;
+    if linked.flop_count() == 1 {
+        state.set(0, held);
+    }
+    Ok(state)
+}
+
+// What q and d carry where the flip-flop holds this.
+fn settled(alloc: Global, linked: &Linked, held: Sig) -> Result<[Sig; 2], OutOfMemory> {
+    let pins = Pins::new(alloc, linked)?;
+    let state = holding(alloc, linked, held)?;
+    let mut nets = Nets::new(alloc, linked)?;
+    settle(linked, &pins, &state, &mut nets);
+    Ok([nets.value(NetId(2)), nets.value(NetId(3))])
 }
 
 // CK and RN are 0 at the start, so q is.
@@ -134,7 +154,9 @@ fn look_at_run(rt: &impl Abort, alloc: Global, linked: &Linked) -> Result<(), Fa
 }
 
 #[test]
-fn a_toggle_reads_as_worked_out(rt: HostRuntime) -> Result<(), Fail> {
+fn a_toggle_settles_and_reads_as_worked_out(rt: HostRuntime) -> Result<(), Fail> {
     let linked = toggle(rt.alloc())?;
+    assert!(rt; settled(rt.alloc(), &linked, Sig::One)? == [Sig::One, Sig::Zero]);
+    assert!(rt; settled(rt.alloc(), &linked, Sig::Unknown)? == [Sig::Unknown, Sig::Unknown]);
     look_at_run(&rt, rt.alloc(), &linked)
 }
