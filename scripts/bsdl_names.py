@@ -26,6 +26,15 @@ ANNEX = frozenset(
 )
 
 
+# What ports are called that are supplies, whatever stands behind.
+SUPPLY = re.compile(r"[adp]?(vdd|vss|vcc|vee|gnd|vpwr|vgnd|vpb|vnb)", re.I)
+SUPPLY_NOTE = "a supply, by its name, and it has a boundary cell: leave it out of the module, and name its pin in a line `linkage` of the plan"
+
+
+def is_supply(name):
+    return SUPPLY.match(name) is not None
+
+
 def is_identifier(name):
     """A letter, then letters, digits and single `_`, the last of them no `_`; at most 255."""
     return len(name) <= 255 and re.fullmatch(r"[A-Za-z][A-Za-z0-9]*(_[A-Za-z0-9]+)*", name) is not None

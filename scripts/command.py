@@ -33,9 +33,32 @@ def keep(path, text):
         raise Fault(f"{path}: can't be written ({error.strerror})") from None
 
 
+class Once(argparse.Action):
+    """An option that stands at most once."""
+
+    def __call__(self, words, asked, value, option=None):
+        given = asked.__dict__.setdefault("given_once", set())
+        if option and self.dest in given:
+            words.error(f"{option} stands twice")
+        given.add(self.dest)
+        setattr(asked, self.dest, value)
+
+
+class Words(argparse.ArgumentParser):
+    """A command line whose files and options stand in any order, each option once."""
+
+    def __init__(self, **more):
+        super().__init__(formatter_class=argparse.RawDescriptionHelpFormatter, **more)
+        for action in (None, "store"):
+            self.register("action", action, Once)
+
+    def parse_args(self, *words):
+        return self.parse_intermixed_args(*words)
+
+
 def words_of(text, **more):
     """A reader of the command line, whose --help begins with this text."""
-    return argparse.ArgumentParser(description=text, formatter_class=argparse.RawDescriptionHelpFormatter, **more)
+    return Words(description=text, **more)
 
 
 def add_program(words):

@@ -22,6 +22,9 @@ class Group:
     words: List[str]
     values: Dict[str, str] = field(default_factory=dict)
     groups: List["Group"] = field(default_factory=list)
+    # Where it stands in the text without comments: from its kind to its `}`.
+    first: int = 0
+    last: int = 0
 
     def of_kind(self, *kinds):
         return [group for group in self.groups if group.kind in kinds]
@@ -68,7 +71,7 @@ class Reader:
         self.at = words.end()
         if not words[2]:
             return None
-        opened = Group(head[1], words_in(words[1]))
+        opened = Group(head[1], words_in(words[1]), first=start)
         if opened.kind not in DROPPED:
             group.groups.append(opened)
         return opened
@@ -76,7 +79,7 @@ class Reader:
     def library(self):
         """The group `library` of the text."""
         top = Group("text", [])
-        open_groups, places = [top], [0]
+        open_groups = [top]
         while True:
             self.skip_blanks()
             if self.at == len(self.text):
@@ -84,18 +87,15 @@ class Reader:
             if self.text[self.at] == "}":
                 if len(open_groups) == 1:
                     raise self.fault(self.at, "has a `}` too many")
-                open_groups.pop()
-                places.pop()
                 self.at += 1
+                open_groups.pop().last = self.at
                 continue
-            place = self.at
             opened = self.statement(open_groups[-1])
             if opened:
                 open_groups.append(opened)
-                places.append(place)
         if len(open_groups) > 1:
             last = open_groups[-1]
-            raise Fault(f"{self.path}: the text ends in the group `{last.kind} ({', '.join(last.words)})` that begins at line {self.line(places[-1])}")
+            raise Fault(f"{self.path}: the text ends in the group `{last.kind} ({', '.join(last.words)})` that begins at line {self.line(last.first)}")
         libraries = top.of_kind("library")
         if len(libraries) != 1:
             raise Fault(f"{self.path} has {len(libraries) or 'no'} group{'s' * (len(libraries) > 1)} `library (..) {{..}}`, and a Liberty file has one")
@@ -103,7 +103,17 @@ class Reader:
 
 
 def read_liberty(path, text):
-    """The library of a Liberty file."""
+    """The library of a Liberty file, and its text without comments."""
     if text.startswith("\x1f\x8b"):
         raise Fault(f"{path} is packed by gzip; unpack it")
-    return Reader(path, text).library()
+    reader = Reader(path, text)
+    return reader.library(), reader.text
+
+
+def without_groups(text, groups):
+    """The text without these groups, each of which stands in it behind the one before."""
+    kept, at = [], 0
+    for group in groups:
+        kept.append(text[at : group.first])
+        at = group.last
+    return "".join([*kept, text[at:]])

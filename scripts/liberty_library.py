@@ -2,8 +2,9 @@
 import re
 
 from command import Fault, text_of
-from liberty_groups import read_liberty
+from liberty_groups import read_liberty, without_groups
 from listed_cells import MOST_INPUTS, MOST_STEPS, Broken, Cell, expression
+from netlist_words import spelled
 
 WORD = re.compile(r"\s*([A-Za-z_][\w$.]*(?:\[\d+\])?|[01](?![\w])|['!^*&+|()])")
 # Operators of two sides, the one that binds least first; a blank is `&` too.
@@ -155,6 +156,8 @@ class LibertyCell:
 
     def is_logic(self):
         """Whether functions and flip-flops say all of it, so that synthesis can put gates in its place."""
+        if self.group.of_kind("bus", "bundle"):
+            return False
         try:
             self.bar()
         except Broken:
@@ -173,6 +176,20 @@ class LibertyCell:
         ports = ", ".join([*(f"input {name}" for name in self.inputs), f"output {out}"])
         return f"module {self.name} ({ports});\n  assign {out} = {off} ? 1'bz : {value};\nendmodule\n"
 
+    def black_box(self, widths):
+        """A module with its ports and nothing inside; `widths` are those of the library's types of buses."""
+        own = {**widths, **widths_of(self.group)}
+        ports = [(pin, "") for pin in self.group.of_kind("pin")]
+        for bus in self.group.of_kind("bus"):
+            ports.append((bus, f"[{own.get(bus.values.get('bus_type', '').strip(), 1) - 1}:0] "))
+        for bundle in self.group.of_kind("bundle"):
+            ports += [(pin, "") for pin in bundle.of_kind("pin")]
+        told = []
+        for port, bounds in ports:
+            direction = port.values.get("direction", "").strip()
+            told += [f"{direction if direction in ('input', 'output') else 'inout'} {bounds}{spelled(name)}" for name in port.words]
+        return f"(* blackbox *)\nmodule {spelled(self.name)} ({', '.join(told)});\nendmodule\n"
+
     def listed(self):
         """The cell as it is listed, and a note or None."""
         self.bar()
@@ -182,25 +199,28 @@ class LibertyCell:
         return cell, note
 
 
+def widths_of(group):
+    """How many bits a bus of each type has, by the types of a group."""
+    return {it.name(): int(it.values.get("bit_width", "").strip() or 1) for it in group.of_kind("type") if it.values.get("bit_width", "1").strip().isdigit()}
+
+
 class Liberty:
     """The cells of a file: those that are listed, with their areas; and what is said of others, by their names."""
 
     def __init__(self, path):
         self.path, self.cells, self.areas, self.left_out, self.notes = path, [], {}, {}, {}
-        # Of those that are left out: which synthesis can put gates in the place of, and models of those with three
-        # states.
-        self.logic, self.three_states = set(), {}
-        for group in read_liberty(path, text_of(path)).of_kind("cell"):
+        # Of those that are left out: which synthesis can put gates in the place of, and models of the others.
+        self.logic, self.three_states, self.black_boxes = set(), {}, {}
+        library, text = read_liberty(path, text_of(path))
+        self.widths, others = widths_of(library), []
+        for group in library.of_kind("cell"):
             found = LibertyCell(group)
             try:
                 cell, note = found.listed()
             except Broken as broken:
-                self.left_out[found.name] = str(broken)
-                model = found.three_states()
-                if model:
-                    self.three_states[found.name] = model
-                elif found.is_logic():
-                    self.logic.add(found.name)
+                self.leave_out(found, str(broken))
+                if found.name not in self.logic:
+                    others.append(group)
                 continue
             if cell.name in self.areas:
                 raise Fault(f"{path}: the cell {cell.name} stands twice")
@@ -210,6 +230,18 @@ class Liberty:
                 self.notes[cell.name] = note
         if not self.cells:
             raise Fault(f"{path}: of {len(self.left_out)} cells none can be listed{''.join(f'; {name}: {why}' for name, why in list(self.left_out.items())[:1])}")
+        # What synthesis reads: some other cells, as those with a bus, make it refuse the whole text.
+        self.explained = without_groups(text, others)
+
+    def leave_out(self, found, why):
+        self.left_out[found.name] = why
+        model = found.three_states()
+        if model:
+            self.three_states[found.name] = model
+        elif found.is_logic():
+            self.logic.add(found.name)
+        else:
+            self.black_boxes[found.name] = found.black_box(self.widths)
 
     def text(self, source):
         return "\n".join([f"# the cells of {source}, by scripts/liberty_cells", "cells 1", *(cell.line() for cell in self.cells)]) + "\n"

@@ -46,10 +46,20 @@ class Bits:
         return "" if left is None else f"[{left}:{right}] "
 
 
+def unescaped(names):
+    """A table by names as they are: yosys has a `\\` before one that begins with a digit, `$` or `\\`."""
+    table = {}
+    for name, what in names.items():
+        bare = name[1:] if name.startswith("\\") else name
+        table[name if bare in names else bare] = what
+    return table
+
+
 def module_of(path, name):
     """The module of a text of yosys."""
     with open(path, encoding="utf-8", errors="replace") as file:
-        return json.load(file)["modules"][name]
+        module = unescaped(json.load(file)["modules"])[name]
+    return {**module, **{part: unescaped(module[part]) for part in ("ports", "cells", "netnames")}}
 
 
 def net_names(module):
@@ -78,6 +88,8 @@ class Netlist:
         self.names = Names([*self.ports, *(cell for cell, what in self.cells.items() if not what.get("hide_name"))], module["netnames"])
         self.rtl_names = net_names(module)
         self.items, self.wires, self.counts = [], [], {}
+        # The flip-flops by what they drive, and inouts that nothing drives.
+        self.flop_names, self.idle_inouts = {}, []
         # The word of each bit that is a net, and the bare name of it; the drivers of pins that need a bufif1 of their
         # own.
         self.nets, self.bare, self.moved, self.inouts = {}, {}, {}, set()
@@ -115,6 +127,8 @@ class Netlist:
         """An inout that nothing drives, or a gate: it has a bufif1 all the same."""
         if bit in self.driven:
             self.moved[bit] = self.new_net("n")
+        else:
+            self.idle_inouts.append(self.bare[bit])
         self.put("bufif1", self.gate_name(), [word, self.moved.get(bit, "1'b0"), "1'b1" if bit in self.driven else "1'b0"])
 
     def feed(self, direction, word, bare, bit):
@@ -170,11 +184,16 @@ class Netlist:
         return self.names.free(re.sub(r"(\[\d+\])?$", r"_reg\1", bare, count=1), f"g{len(self.items)}_reg")
 
     def place_nets(self, cell, what):
+        if not self.is_known(what["type"]):
+            raise Fault(f"{cell} is of {what['type']}, which is no gate and no listed cell")
         for port, bits in what["connections"].items():
             if len(bits) > 1:
                 raise Fault(f"{cell} is of {what['type']}, whose port {port} has {len(bits)} bits; a cell of a netlist has ports of one")
             if bits:
                 self.net(bits[0], cell)
+
+    def is_known(self, kind):
+        return kind in GATES or kind in OWN_FLOPS or kind in (THREE_STATES, "$_MUX_", "MUX2") or kind in self.listed or kind in FLOPS
 
     def place_cell(self, cell, what):
         kind, links = what["type"], what["connections"]
@@ -188,11 +207,18 @@ class Netlist:
         elif kind == "$_MUX_":
             self.put("MUX2", name, [f".{port}({pins[port]})" for port in "ABSY"])
         elif kind in OWN_FLOPS:
+            self.flop_names[out] = name
             self.put_flop(name, OWN_FLOPS[kind], pins)
-        elif kind in self.listed or kind == "MUX2" or kind in FLOPS:
-            self.put(kind, name, [f".{port}({pin})" for port, pin in pins.items()])
         else:
-            raise Fault(f"{cell} is of {kind}, which is no gate and no listed cell")
+            self.put(kind, name, [f".{port}({pin})" for port, pin in pins.items()])
+
+    def flops_within(self):
+        """A flip-flop of each instance of the RTL that had a net of its own there, by the instance."""
+        found = {}
+        for bit, flop in self.flop_names.items():
+            for name in self.rtl_names.get(bit, ()):
+                found.setdefault(name.rpartition(".")[0], flop)
+        return found
 
     def put_flop(self, name, known, pins):
         taken = [pins[port] for port in "DCR" if port in pins]

@@ -20,6 +20,8 @@ HELD = (
 SKIPPED = r"Yosys has only limited support for tri-state|multiple conflicting drivers|found logic loop|Wire .* is used but has no driver|Complex async reset"
 # At most so many names are told of one fault.
 SHOWN = 8
+# In the room: what yosys reads of the library, and the module with all instances of the library's cells.
+LIBRARY, PLACED = "library.lib", "placed.json"
 
 
 @dataclass
@@ -43,15 +45,19 @@ def quoted(word):
 def library_steps(design, room):
     """Reads the library: a cell of it that RTL names stays, but for one that isn't listed and whose function says all
     of it."""
-    liberty, models = design.liberty, os.path.join(room, "three_states.v")
+    liberty, models = design.liberty, os.path.join(room, "models.v")
     own = set(re.findall(r"\bmodule\s+\\?(\w+)", "\n".join(map(text_of, design.files))))
-    keep(models, "".join(model for name, model in liberty.three_states.items() if name not in own))
+    keep(models, "".join(model for name, model in {**liberty.three_states, **liberty.black_boxes}.items() if name not in own))
+    keep(os.path.join(room, LIBRARY), liberty.explained)
     yield f"read_verilog {models}"
-    yield f"read_liberty -nooverwrite -ignore_miss_func -ignore_miss_dir -ignore_miss_data_latch {quoted(os.path.abspath(liberty.path))}"
-    others = [name for name in liberty.left_out if name not in liberty.logic and name not in liberty.three_states and name not in own]
-    for name in (*(cell.name for cell in liberty.cells), *others):
-        if re.fullmatch(r"\w+", name):
-            yield f"blackbox {name}"
+    yield f"read_liberty -nooverwrite -ignore_miss_func -ignore_miss_dir -ignore_miss_data_latch {LIBRARY}"
+    for cell in liberty.cells:
+        yield f"blackbox {cell.name}"
+    # Instances of listed cells stay, also where nothing reads them; all of the library's are still there in `placed`.
+    yield from (f"setattr -set keep 1 */t:{cell.name}" for cell in liberty.cells)
+    anew = [name for name in (*sorted(liberty.logic), *liberty.three_states) if name not in own and re.fullmatch(r"\w+", name)]
+    yield from (f"setattr -mod -set keep_hierarchy 1 {name}" for name in anew)
+    yield from (f"hierarchy -check -top {design.top}", "proc", "flatten", f"write_json {PLACED}", "setattr -mod -unset keep_hierarchy *")
 
 
 def steps(design, room):
@@ -64,7 +70,7 @@ def steps(design, room):
         yield from library_steps(design, room)
     yield from (f"hierarchy -check -top {design.top}", "proc", "flatten", "tribuf -logic", "opt_clean", "log from_rtl: first check", "check", f"write_json {os.path.join(room, 'first.json')}")
     yield from (f"synth -noabc -nofsm -top {design.top}", "log from_rtl: second check", "check", f"write_json {os.path.join(room, 'before.json')}")
-    yield from ("dfflegalize -cell $_DFF_?_ x -cell $_DFF_?N?_ x", f"abc -liberty {quoted(os.path.abspath(design.liberty.path))}" if design.liberty else OWN_GATES)
+    yield from ("dfflegalize -cell $_DFF_?_ x -cell $_DFF_?N?_ x", f"abc -liberty {LIBRARY}" if design.liberty else OWN_GATES)
     yield from ("setundef -zero", "opt_clean", f"write_json {os.path.join(room, 'after.json')}")
 
 
@@ -89,6 +95,8 @@ class Run:
         """yosys' words with names and files as the RTL and the command have them."""
         for path in self.design.files:
             text = text.replace(os.path.abspath(path), path)
+        if self.design.liberty:
+            text = text.replace(LIBRARY, self.design.liberty.path)
         text = re.sub(r"\$\w+\$(\S+:\d+)\$\d+", r"at \1", text)
         return re.sub(r"\\(?=[^\s\\])", "", text)
 
@@ -100,12 +108,17 @@ class Run:
         """The ports that are declared [0:0], which yosys holds as scalars."""
         found = re.findall(rf"(?ms)^ *module \\?{re.escape(self.design.top)} ?\(.*?^ *endmodule", self.log)
         ports = re.findall(r"^ *(?:input|output|inout)\b[^\n]*?\[0:0\] (\\\S+|\w+) ?;", found[-1], re.M) if found else ()
-        return {port.lstrip("\\") for port in ports}
+        return {port[1:] if port.startswith("\\") else port for port in ports}
 
     def idle_pins(self):
         """The bits of outputs that are 1'bz always, by port and place from the right; synthesis takes them for 0."""
         ports = self.module("first.json")["ports"].items()
         return {(port, place) for port, what in ports for place, bit in enumerate(what["bits"]) if bit == "z" and what["direction"] == "output"}
+
+    def placed(self):
+        """The instances of the library's cells in the RTL, with their cells."""
+        module = self.module(PLACED)
+        return {name: cell["type"] for name, cell in module["cells"].items()} if module else {}
 
     def warnings(self):
         """What yosys warns of, but for its checks and three states, each once."""
