@@ -64,6 +64,13 @@ def tried(program, room):
     if said != wanted:
         sys.exit(f"pulse: the bench prints\n{said}\nand check\n{wanted}")
     yield f"pulse, of a library's cells, with the models of its text: {said.strip()}"
+    wanted = text_of(bench)
+    for words in (["--step", "50", bsdl, vectors, bench, cells], [bsdl, vectors, bench, "--step", "50", cells], [bsdl, "--module", "pulse", vectors, "--step", "50", bench, cells]):
+        keep(bench, "")
+        script("bench", *words)
+        if text_of(bench) != wanted:
+            sys.exit(f"another bench by the words {words}")
+    yield "the same with LIB and options in another order"
     netlist, bsdl = demo(program, room, 999)
     run([program, "vectors", bsdl, vectors])
     yield f"demo 999: {played(room, bsdl, vectors, apart(room, netlist), '--module', 'demo').strip()}"
@@ -81,6 +88,7 @@ def tried(program, room):
     wrong["a pin of another chip"] = [chips[1][2], vectors, bench]
     wrong["a netlist as the library"] = [bsdl, vectors, bench, netlist]
     wrong["no time"] = [bsdl, vectors, bench, "--step", "0"]
+    wrong["two times"] = [bsdl, vectors, bench, "--step", "50", "--step", "60"]
     wrong["a register of the design's own"] = [with_own_register(room), vectors, bench]
     yield refusals("bench", wrong)
 

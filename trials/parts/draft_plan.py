@@ -1,5 +1,5 @@
 """Plans that scripts/draft_plan drafts are taken by `insert`, and what comes of them does what its BSDL file says."""
-import os, re, sys
+import os, re, subprocess, sys
 
 from chips import TOP, keep, run, text_of
 from script_trials import SCRIPTS, SMALL, demo, refusals, script
@@ -68,6 +68,16 @@ def with_usercode(program, room):
     return f"counter8 with USERCODE: {said}"
 
 
+def supplies(program, room):
+    """A port that is a supply by its name is told, in the plan and on standard error; LIB may stand behind options."""
+    netlist = keep(os.path.join(room, "supply.v"), "module m (input a, inout VDD, output y);\n  bufif1 (VDD, 1'b0, 1'b0);\n  INVX1 i (.A(a), .Y(y));\nendmodule\n")
+    library = os.path.join(TOP, "examples/synthesis/small.cells")
+    done = subprocess.run([sys.executable, os.path.join(SCRIPTS, "draft_plan"), netlist, "--program", program, library], stdin=subprocess.DEVNULL, capture_output=True, text=True)
+    if done.returncode or not re.search(r"^# VDD: a supply, .*\npin VDD 2 BC_7$", done.stdout, re.M) or not done.stderr.startswith("draft_plan: VDD: a supply, "):
+        sys.exit(f"a supply: status {done.returncode}, {done.stdout}{done.stderr}")
+    return "a port VDD is told as a supply, in the plan and on standard error"
+
+
 def tried(program, room):
     for folder, name in SMALL:
         plan, said = taken(program, room, name, os.path.join(folder, name + ".v"))
@@ -81,6 +91,7 @@ def tried(program, room):
         yield f"{name}, of a library's cells: BC_4 at {', '.join(bit for bit, kind in cells_of(plan).items() if kind == 'BC_4')}; {said}"
     yield names(program, room)
     yield with_usercode(program, room)
+    yield supplies(program, room)
     large, _ = demo(program, room, 9999)
     kinds = cells_of(taken(program, room, "demo 9999", large)[0])
     yield f"demo 9999 with test logic, to which more is added: BC_4 at {', '.join(bit for bit, kind in kinds.items() if kind == 'BC_4')}"

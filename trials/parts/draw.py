@@ -54,10 +54,24 @@ def drawn(name, bsdl, room):
     return f"{name}: {led} pins and {len(cells)} cells are drawn, and stand in the table; codes: {len(codes)}"
 
 
+def warned(room, chips):
+    """Outputs that no row turns off are told, in the table and in the picture, and only these."""
+    count, svg = 0, os.path.join(room, "chip.svg")
+    for name, _, bsdl in chips:
+        always = [int(number) for number in re.findall(r'^    "(\d+) \(BC_\d, [^,]+, output2,', text_of(bsdl), re.M)]
+        told = re.findall(r"^WARNING: no row turns these outputs off, .*: cells? (.*)$", script("draw", bsdl, svg), re.M)
+        numbers = [number for part in ", ".join(told).split(", ") if part for first, _, last in [part.partition("-")] for number in range(int(first), int(last or first) + 1)]
+        if numbers != sorted(always) or ("no row turns these outputs off" in text_of(svg)) != bool(always):
+            sys.exit(f"{name}: cells {always} are always on, and told are {told}")
+        count += bool(always)
+    return f"outputs that no row turns off: told of {count} of {len(chips)} chips, each of their cells"
+
+
 def tried(program, room):
     chips = list(small_chips(program, room))
     for name, _, bsdl in chips:
         yield drawn(name, bsdl, room)
+    yield warned(room, chips)
     yield drawn("200 pins", two_hundred(program, room)[1], room)
     yield drawn("demo 999", demo(program, room, 999)[1], room)
     yield drawn("4,091 rows", most_rows(room), room)

@@ -34,6 +34,39 @@ TAKEN = {
         "DFFX1 \\a-b_reg (.D(d), .CK(c), .Q(\\a-b ));", "DFFX1 q_reg (.D(\\a-b ), .CK(c), .Q(q));"),
 }
 
+# A netlist of a library's cells: what is told of each instance that isn't in what is written, and what is there.
+INSTANCES = """module low (input c, d, se, si, output q); SDFFX1 u_ff (.D(d), .SE(se), .SI(si), .CK(c), .Q(q)); FILL1 u_fill (); endmodule
+module t (input c, d, se, si, a, b, en, inout VDD, inout idle, output q, y, s, co, z, output \\1st );
+  low u_low (.c(c), .d(d), .se(se), .si(si), .q(q));
+  FILL1 u_fill ();
+  ANTENNA1 u_antenna (.A(a));
+  FAX1 u_add (.A(a), .B(b), .C(d), .S(s), .CO(co));
+  TBUFX1 u_open (.A(a), .EN(en), .Y(z));
+  NAND2X1 u_spare (.A(1'b0), .B(1'b0), .Y());
+  AND2X1 u_and (.A(a), .B(b), .Y(y));
+  wire \\2nd , \\$3 ;
+  INVX1 \\4th (.A(a), .Y(\\2nd ));
+  INVX1 \\u5/x (.A(\\2nd ), .Y(\\$3 ));
+  INVX1 \\\\6 (.A(\\$3 ), .Y(\\1st ));
+endmodule
+"""
+TOLD = """left out: u_antenna of ANTENNA1 (it has no output)
+left out: u_fill of FILL1 (it has no output)
+left out: u_low.u_fill of FILL1 (it has no output)
+made anew: u_add of FAX1, as gates
+made anew: u_low.u_ff of SDFFX1, as the flip-flop q_reg, and gates
+made anew: u_open of TBUFX1, as gates
+VDD: a supply, by its name, and it has a boundary cell: leave it out of the module, and name its pin in a line `linkage` of the plan
+idle: an inout that nothing drives, so it has a bufif1 that is never on
+"""
+STAY = ("NAND2X1 u_spare (.A(1'b0), .B(1'b0));", "AND2X1 u_and (.A(a), .B(b), .Y(y));", "INVX1 \\4th (.A(a), .Y(\\2nd ));", "INVX1 \\u5/x (.A(\\2nd ), .Y(\\$3 ));", "INVX1 \\\\6 (.A(\\$3 ), .Y(\\1st ));", "  output \\1st \n")
+# Cells with buses and a bundle, which yosys refuses to read.
+BUSES = """  type (four) { base_type : array; data_type : bit; bit_width : 4; bit_from : 3; bit_to : 0; }
+  cell (RAM16) { bus (A) { bus_type : four; direction : input; } bus (Q) { bus_type : four; direction : output; } pin (CK) { direction : input; } }
+  cell (PAIR) { bundle (D) { members (D1, D2); pin (D1) { direction : input; } pin (D2) { direction : input; } } pin (Y) { direction : output; function : "D1 D2"; } }
+  cell (ANTENNA1) { pin (A) { direction : input; } }
+"""
+
 
 def log_of(room, *words):
     """What pulse_play.v prints of a chip."""
@@ -97,14 +130,46 @@ def small_designs(program, room):
     return f"{len(TAKEN) + 1} small designs are taken, and {len(REFUSED)} refused with the names of their RTL"
 
 
+def with_buses(room):
+    """The small library with cells that have buses, and one without an output."""
+    return keep(os.path.join(room, "buses.lib"), text_of(os.path.join(EXAMPLE, "small.lib")).replace("  cell (INVX1)", BUSES + "  cell (INVX1)", 1))
+
+
+def instances(program, room):
+    """Each instance of a library's cell is in the netlist with its name, or told."""
+    status, said, netlist = synthesised(program, room, INSTANCES, "--liberty", with_buses(room))
+    told = sorted(line.replace("from_rtl: ", "", 1) for line in said.strip().split("\n"))
+    lacking = [line for line in STAY if line not in netlist]
+    if status or lacking or told != sorted(TOLD.strip().split("\n")):
+        sys.exit(f"instances: status {status}, {said}{netlist}lacks {lacking}")
+    return f"of 11 instances {len(STAY) - 1} stay with their names, and {len(re.findall('(?m)^(?:left out|made anew): ', TOLD))} are told; a supply and an inout that nothing drives, too"
+
+
+def buses(program, room):
+    """A library with buses is taken, and an instance of such a cell is refused by its name."""
+    library = with_buses(room)
+    status, said, netlist = synthesised(program, room, "module t (input a, output y); assign y = ~a; endmodule", "--liberty", library)
+    if status or "INVX1" not in netlist:
+        sys.exit(f"a library with a bus: status {status}, {said}{netlist}")
+    for cell, links in (("RAM16", ".A(a), .Q(q), .CK(c)"), ("PAIR", ".D1(c), .D2(c), .Y(q[0])")):
+        status, said, _ = synthesised(program, room, f"module t (input c, input [3:0] a, output [3:0] q); {cell} u1 ({links}); endmodule", "--liberty", library)
+        if status != 1 or said.split("\n")[-2] != f"from_rtl: u1 is of {cell}, which is no gate and no listed cell":
+            sys.exit(f"an instance of {cell}: status {status}, {said}")
+    return "a library with buses and a bundle is taken, and instances of these cells are refused by their names"
+
+
 def tried(program, room):
     yield example(program, room)
     yield small_designs(program, room)
+    yield instances(program, room)
+    yield buses(program, room)
     pulse, out = os.path.join(EXAMPLE, "pulse.v"), ["--out", os.path.join(room, "wrong.v"), "--program", program]
     wrong = {"no file": ["pulse", os.path.join(room, "missing"), *out], "a folder": ["pulse", room, *out], "no module": ["lacking", pulse, *out], "no word": []}
     wrong["no Liberty file"] = ["pulse", pulse, "--liberty", os.path.join(room, "missing"), *out]
     wrong["RTL as a Liberty file"] = ["pulse", pulse, "--liberty", pulse, *out]
     wrong["a folder to write to"] = ["pulse", pulse, "--out", room, "--program", program]
     wrong["a port that isn't there"] = ["pulse", pulse, "--port", "x=y", *out]
+    small = os.path.join(EXAMPLE, "small.lib")
+    wrong["two Liberty files"] = ["pulse", pulse, "--liberty", small, "--liberty", small, *out]
     wrong["no program"] = ["pulse", pulse, *out[:2], "--program", os.path.join(room, "missing")]
     yield refusals("from_rtl", wrong)

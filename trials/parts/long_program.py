@@ -39,6 +39,19 @@ def by_check(program, room):
         yield f"{name}: {lines} lines, `check` says {run([program, 'check', netlist, bsdl, events]).strip()}"
 
 
+def by_most(program, room):
+    """With --most a program has no more lines, and the chip meets it."""
+    _, netlist, bsdl = next(small_chips(program, room))
+    events, told = os.path.join(room, "long.events"), []
+    for most in (60, 1000, 2500, 2000000):
+        said = script("long_program", "--most", str(most), bsdl, events).split("\n")
+        lines = sum(line[:1] != "#" for line in text_of(events).splitlines()[1:])
+        if said[0] != f"{lines} event lines" or lines > most or (len(said) > 2) != (most < 10**6) or misses(netlist, events):
+            sys.exit(f"--most {most}: {lines} lines, {said}")
+        told.append(f"{lines} of {most}")
+    return f"with --most: {', '.join(told)} lines, which the counter meets"
+
+
 def by_rows(program, room):
     """Every exchange of two rows of the counter's file is found."""
     _, netlist, bsdl = next(small_chips(program, room))
@@ -107,6 +120,7 @@ def tried(program, room):
     if len(seen) != 32:
         sys.exit(f"of 32 transitions the counter's program makes {len(seen)}")
     yield "the counter's program makes all 32 transitions of the controller"
+    yield by_most(program, room)
     yield by_rows(program, room)
     yield by_codes(program, room)
     bsdl = most_rows(room)
@@ -116,6 +130,7 @@ def tried(program, room):
     keep(net, "module m (); endmodule\n")
     missing = os.path.join(room, "missing")
     wrong = {"no file": [missing, events], "a netlist": [net, events], "a folder to write to": [bsdl, room], "no word": []}
+    wrong["room for nothing"] = ["--most", "20", bsdl, events]
     wrong["a row less"] = [keep(os.path.join(room, "less.bsd"), text_of(bsdl).replace('    "7 (BC_1, a(7), input, X)," &\n', "")), events]
     wrong["a register of the design's own"] = [with_own_register(room), events]
     yield refusals("long_program", wrong)

@@ -79,6 +79,13 @@ def tried(program, room):
     script("vcd", netlist, own, dump, library, "--program", program)
     said_of_cells = run([program, "sim", netlist, own, library])
     yield f"accumulator, of a library's cells: {compared('accumulator', values_at(dump), said_of_cells, own)} readings as `sim` has them"
+    wanted = text_of(dump)
+    for words in (["--program", program, netlist, own, dump, library], [netlist, "--program", program, own, dump, library], [netlist, own, dump, "--program", program, library]):
+        keep(dump, "")
+        script("vcd", *words)
+        if text_of(dump) != wanted:
+            sys.exit(f"another dump by the words {words}")
+    yield "the same with LIB and options in another order"
     unlisted = [netlist, own, dump, "--program", program]
     _, netlist, bsdl = chips[0]
     most = most_rows(room)
