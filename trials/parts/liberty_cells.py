@@ -56,6 +56,18 @@ def functions(room):
     return f"{len(FUNCTIONS)} functions have the values of their tables"
 
 
+def buses(room):
+    """Cells with a bus or a bundle are left out, wherever they stand, and the others listed as without them."""
+    bus = "cell (RAM) { bus (A) { bus_type : four; direction : input; } pin (Y) { direction : output; } }"
+    bundle = 'cell (PAIR) { bundle (D) { members (D1, D2); pin (D1) { direction : input; } } pin (Y) { direction : output; function : "D1"; } }'
+    path = keep(os.path.join(room, "buses.lib"), liberty([bus, gate("C", "A B"), bundle]))
+    done = subprocess.run([sys.executable, os.path.join(SCRIPTS, "liberty_cells"), path], capture_output=True, text=True)
+    wanted = "".join(f"left out: {name}: it has a bus or a bundle of pins\n" for name in ("RAM", "PAIR"))
+    if done.returncode or list(cells_of(done.stdout)) != ["C"] or done.stderr != wanted:
+        sys.exit(f"cells with buses: status {done.returncode}, {done.stdout}{done.stderr}")
+    return "cells with a bus or a bundle are left out, and told"
+
+
 def models(room, path, cells):
     """yosys finds each gate equal to what it reads of the Liberty file."""
     from_text = os.path.join(room, "models.v")
@@ -82,6 +94,7 @@ def tried(program, room):
         sys.exit("nothing is said of QN")
     yield f"small.lib: {len(cells_of(done.stdout))} cells as in small.cells, {len(LEFT_OUT)} left out, each with its reason"
     yield functions(room)
+    yield buses(room)
     libraries = [(small, os.path.join(EXAMPLE, "small.cells"))]
     if os.path.exists(OSU):
         cells = keep(os.path.join(room, "osu.cells"), script("liberty_cells", OSU))
