@@ -30,6 +30,7 @@ use Rattle.stitched_netlist.specs.declared.model.TapNames.{TapNames}
 use Rattle.stitched_netlist.specs.declared.model.TapPort.{TapPort}
 use Rattle.stitched_netlist.specs.Stitched.{tap_ports, tap_port}
 use Rattle.status_inputs.specs.status_register.Devices.{extended_of}
+use Rattle.status_inputs.specs.status_register.Stitch.{HasRoomFor}
 use Rattle.status_inputs.specs.status_room.Prepared.{prepared_status}
 use Rattle.status_inputs.specs.status_stitch.Stitch.{CanStitchStatus, IsStitchedStatus}
 use Rattle.status_inputs.specs.status_register.WrittenLaws.{IsStitchedOf, IsStitching, StatusCanBeWritten, StatusIsWritten, WrittenStatusRealises, WrittenStatusIsAlone, WrittenStatusHasControls}
@@ -153,6 +154,7 @@ insertion_made laws library net text lines verilog bsdl report before readied af
       faultless = made.registers.faultless;
       registers = s;
       registers_fit = made.registers.fitted;
+      room = subst (λ (g : Fitted). HasRoomFor before g s) fits.is made.prepares.room;
       written_tree = out.tree;
       verilog_is = out.text_is;
       spells_written = subst (λ (t : List ℕ). SpellsText t out.tree) (sym out.text_is) w.spells;

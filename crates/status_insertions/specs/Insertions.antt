@@ -21,7 +21,7 @@ use Rattle.plan_texts.specs.declared.plan.Plan.{Plan}
 use Rattle.plan_texts.specs.Grammar.{SpellsPlan}
 use Rattle.plan_fitting.specs.declared.fitted.Fitted.{Fitted}
 use Rattle.plan_fitting.specs.Fits.{Fits}
-use Rattle.plan_fitting.specs.Devices.{device_of}
+use Rattle.plan_fitting.specs.Devices.{fitted_of, device_of}
 use Rattle.wrapped_chip.specs.Realises.{Keeps, Alone}
 use Rattle.wrapped_chip.specs.Legal.{HasControls}
 use Rattle.written_netlists.specs.Written.{spelt, tap_of}
@@ -31,6 +31,7 @@ use Rattle.status_fitting.specs.declared.fitted.FittedStatus.{FittedStatus}
 use Rattle.status_fitting.specs.Faults.{HasNoFault}
 use Rattle.status_fitting.specs.Fitted.{IsFitted as AreFitted}
 use Rattle.status_inputs.specs.status_register.Devices.{extended_of}
+use Rattle.status_inputs.specs.status_register.Stitch.{HasRoomFor}
 use Rattle.status_gates.specs.Realises.{RealisesStatus}
 use Rattle.insertions.specs.insertion_inputs.Inputs.{IsNetlistOf}
 use Rattle.status_inputs.specs.Inputs.{IsFittingAs}
@@ -44,10 +45,10 @@ pub record IsExtendedText (extended : Extended) (text : List ℕ) : Type 0 where
 
 -- The whole. As of an insertion without registers: the netlist's bytes spell one tree, which is linked with the library
 -- to this netlist, and the plan's bytes spell one plan, which fits it. The registers' bytes spell registers, which fit
--- both, and these are the wires that they capture. The written text is the canonical text of a tree, which it spells
--- alone; no fault stands in that tree, which has one netlist with the same library, and that keeps the first one's
--- ports and cells, with the test access port. The BSDL text is the canonical text of the plan's device with these
--- registers, which it spells alone. The report is on that device.
+-- both, and these are the wires that they capture. There was room for the test logic and the registers. The written
+-- text is the canonical text of a tree, which it spells alone; no fault stands in that tree, which has one netlist with
+-- the same library, and that keeps the first one's ports and cells, with the test access port. The BSDL text is the
+-- canonical text of the plan's device with these registers, which it spells alone. The report is on that device.
 pub record IsStatusInsertion (library : List ListedCell) (net plan lines verilog bsdl report : List ℕ) : Type 0 where
   pub tree : Module
   pub spells : SpellsText net tree
@@ -67,6 +68,7 @@ pub record IsStatusInsertion (library : List ListedCell) (net plan lines verilog
   pub faultless : HasNoFault linked wanted asked
   pub registers : FittedStatus
   pub registers_fit : AreFitted linked asked registers
+  pub room : HasRoomFor linked (fitted_of linked wanted fits.seen) registers
   pub written_tree : Module
   pub verilog_is : verilog ≡ canonical written_tree
   pub spells_written : SpellsText verilog written_tree
