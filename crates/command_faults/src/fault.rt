@@ -52,9 +52,9 @@ pub enum Fault<'a> {
     Fit(FitFault),
     #[error("a text is none of data registers, or they don't fit a plan and a netlist")]
     Registers(StatusFault),
-    #[error("with the test logic a netlist would have {count} of something, where {limit} is the limit")]
+    #[error("a netlist would have {count} of something, where {limit} is the limit")]
     TooMany { what: What, count: u64, limit: u64 },
-    #[error("no netlist and plan give a netlist with test logic and a device")]
+    #[error("no netlist and plan give these two texts")]
     NotInserted,
     #[error("out of memory")]
     OutOfMemory,
