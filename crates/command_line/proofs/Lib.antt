@@ -1,3 +1,4 @@
+pub mod CommandLaws
 pub mod Ends
 pub mod FormLaws
 pub mod Forms

@@ -1,11 +1,9 @@
 -- Numbers of 1 to 4 digits.
-use Rattle.std.proofs.Common.{ℕ, ◌<◌, ◌≤◌, ◌-◌, List, [], ◌∷◌, IsTrue, arith}
+use Rattle.std.proofs.Common.{ℕ, ◌<◌, ◌≤◌, ◌-◌, List, [], ◌∷◌, length, IsTrue, arith, refl}
 use Rattle.std.specs.List.{list_all}
 use Rattle.bsdl_lexicon.specs.Bytes.{is_digit}
-use Rattle.command_line.specs.declared.command.Command.{Command}
-use Rattle.command_line.specs.declared.command.Command.TheVariants as command
-use Rattle.command_line.specs.Forms.{IsNumeral, HasForm}
-use Rattle.command_line.specs.Parsed.{form_of, HasSmallNumber}
+use Rattle.bsdl_device.specs.Runs.{value_after}
+use Rattle.command_line.specs.Forms.{IsNumeral}
 
 digit_small : (d : ℕ) → IsTrue (is_digit d) → d - 48 ≤ 9
 digit_small d is = grind arith
@@ -42,14 +40,6 @@ numeral_small (a ∷ b ∷ c ∷ d ∷ []) number n =
     omega (arith, n.value, one, two, three, four)
 numeral_small (a ∷ b ∷ c ∷ d ∷ e ∷ more) number n = absurd (omega (arith, n.few))
 
-pub small_number : (words : List (List ℕ)) (c : Command) → HasForm words (form_of c) → HasSmallNumber c
-small_number words (command.Demo number outnet outbsdl) has = numeral_small has.words_are.0 number has.words_are.1.0
-small_number words (command.Convert conversion input output) has = tt
-small_number words (command.Flatten input top output library) has = tt
-small_number words (command.Sim netlist events library) has = tt
-small_number words (command.Insert netlist plan outnet outbsdl library) has = tt
-small_number words (command.InsertStatus netlist plan registers outnet outbsdl library) has = tt
-small_number words (command.Strip netlist bsdl outnet outplan library) has = tt
-small_number words (command.StatusBsdl input output) has = tt
-small_number words (command.Vectors bsdl output) has = tt
-small_number words (command.Check netlist bsdl events library) has = tt
+pub value_small : (digits : List ℕ) → length digits ≤ 4 → IsTrue (list_all is_digit digits) → value_after 10 0 digits < 10000
+value_small [] few are = omega arith
+value_small (d ∷ ds) few are = numeral_small (d ∷ ds) (value_after 10 0 (d ∷ ds)) (record { some = omega arith; few = few; are_digits = are; value = refl })

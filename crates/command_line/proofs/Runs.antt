@@ -7,11 +7,13 @@ use Rattle.command_faults.specs.declared.status.Status.TheVariants as status
 use Rattle.command_faults.specs.Statuses.{status_of}
 use Rattle.command_edges.specs.Names.{IsOneOf}
 use Rattle.command_edges.specs.Seen.{ShelfSeen, SinkSeen, SinkRose}
+use Rattle.command_edges.specs.Ends.{IsEnd}
 use Rattle.command_edges.specs.Tasks as tasks
 use Rattle.command_edges.proofs.Outcome as outcome
 use Rattle.command_line.specs.Forms.{Form, HasForm, IsNoCommand}
 use Rattle.command_line.specs.Tasks.{task_of}
 use Rattle.command_line.specs.Names.{Runs, Writes, IsRepeated, inputs, outputs}
+use Rattle.command_line.specs.Outcomes.{CameTo}
 use Rattle.command_line.specs.Causes.{Finishes, Stands, Completes}
 use Rattle.command_line.proofs.FormLaws.{form_once}
 use Rattle.command_line.proofs.NameLaws.{apart_none}
@@ -50,6 +52,41 @@ run_keeps words form shelf sink runs k = record {
   later = k.later;
   puts_later = k.puts_later;
 }
+
+-- What came of the task of a command is what comes of its words.
+
+pub came_done : (r : Result Status Fault) (words : List (List ℕ)) (form : Form) (shelf : ShelfSeen) (sink : SinkSeen) → HasForm words form → CameTo (task_of form) shelf sink r
+    → IfOk r (Finishes words shelf sink)
+came_done r words form shelf sink has (inl s) = subst (λ (x : Result Status Fault). IfOk x (Finishes words shelf sink)) (sym s.is) tt
+came_done r words form shelf sink has (inr t) = run_done r words form shelf sink (record { has = has; apart = t.apart }) t.done
+
+pub came_ended : (r : Result Status Fault) (form : Form) (shelf : ShelfSeen) (sink : SinkSeen) → CameTo (task_of form) shelf sink r → IfOk r IsEnd
+came_ended r form shelf sink (inl s) = subst (λ (x : Result Status Fault). IfOk x IsEnd) (sym s.is) tt
+came_ended r form shelf sink (inr t) = t.ended
+
+pub came_fault : (r : Result Status Fault) (words : List (List ℕ)) (form : Form) (shelf : ShelfSeen) (sink : SinkSeen) → HasForm words form → CameTo (task_of form) shelf sink r
+    → IfErr r (λ f. Stands words shelf sink f sink.given_after)
+came_fault r words form shelf sink has (inl s) =
+    subst (λ (x : Result Status Fault). IfErr x (λ f. Stands words shelf sink f sink.given_after)) (sym s.is)
+    (inl (record { form = form; has = has; repeated = s.repeated }, ((λ name. s.keeps.others name (λ none. none)), s.given)))
+came_fault r words form shelf sink has (inr t) = run_fault r words form shelf sink sink.given_after (record { has = has; apart = t.apart }) t.stands
+
+pub came_completes : (r : Result Status Fault) (words : List (List ℕ)) (form : Form) (shelf : ShelfSeen) (sink : SinkSeen) → HasForm words form → CameTo (task_of form) shelf sink r
+    → IfErr r (λ f. Completes words shelf sink (status_of f))
+came_completes r words form shelf sink has (inl s) =
+    subst (λ (x : Result Status Fault). IfErr x (λ f. Completes words shelf sink (status_of f))) (sym s.is)
+    (name_completes words form s.name.now shelf sink status.Usage has s.repeated)
+came_completes r words form shelf sink has (inr t) = run_completes r words form shelf sink (record { has = has; apart = t.apart }) t.complete
+
+pub came_keeps : (r : Result Status Fault) (words : List (List ℕ)) (form : Form) (shelf : ShelfSeen) (sink : SinkSeen) → HasForm words form → CameTo (task_of form) shelf sink r
+    → tasks.Keeps (Writes words) shelf sink
+came_keeps r words form shelf sink has (inl s) = record {
+  others = λ name none. s.keeps.others name (λ no. no);
+  held = s.keeps.held;
+  later = s.keeps.later;
+  puts_later = s.keeps.puts_later;
+}
+came_keeps r words form shelf sink has (inr t) = run_keeps words form shelf sink (record { has = has; apart = t.apart }) t.keeps
 
 -- A sink's count that rose goes on as risen.
 

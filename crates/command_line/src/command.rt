@@ -1,4 +1,4 @@
-ghost use Rattle.std.specs.Prelude.{◌≡◌, [], ◌∷◌, map, string_bytes};
+ghost use Rattle.std.specs.Prelude.{◌≡◌, ◌<◌, [], ◌∷◌, map, string_bytes, IfSome};
 ghost use Rattle.std.specs.List.{list_any};
 ghost use Rattle.command_line.specs.Forms as forms;
 ghost use Rattle.command_line.specs.Parsed.{IsCommandOf, IsNumberOf, IsPlainOf};
@@ -6,80 +6,35 @@ ghost use Rattle.command_line.specs.Parsed.{IsCommandOf, IsNumberOf, IsPlainOf};
 use crate::words::WordList;
 use bsdl_device::runs::numbers::decimal;
 use bsdl_device::runs::runs::is_integer;
-use text_command::convert::Conversion;
+use insert_command::Insert;
+use insert_command::demo::Demo;
+use insert_command::status::InsertStatus;
+use play_command::check::Check;
+use play_command::vectors::Vectors;
+use strip_command::Strip;
+use text_command::convert::{Conversion, Convert};
+use text_command::extended::StatusBsdl;
+use text_command::flatten::Flatten;
 
-/// A command with the names of its files.
+/// A command: the task that it is, with the names of its files.
 #[derive(Clone, Copy)]
 pub enum Command<'a> {
-    /// Writes the canonical text of a netlist or of a device.
-    Convert {
-        conversion: Conversion,
-        input: &'a str,
-        output: &'a str,
-    },
-    /// Writes the canonical text of a device that may have registers of its own.
-    StatusBsdl {
-        input: &'a str,
-        output: &'a str,
-    },
-    /// Writes the flat module of the module of a name, of those of a text, with the library of another if there is one.
-    Flatten {
-        input: &'a str,
-        top: &'a str,
-        output: &'a str,
-        library: Option<&'a str>,
-    },
-    /// Plays the events of one text on the netlist of another, with the library of a third if there is one.
+    Convert(Convert<'a>),
+    StatusBsdl(StatusBsdl<'a>),
+    Flatten(Flatten<'a>),
+    /// Plays the events of one text on the netlist of another, with the library of a third if there is one, and puts
+    /// what comes of it as it goes.
     Sim {
         netlist: &'a str,
         events: &'a str,
         library: Option<&'a str>,
     },
-    /// Builds the test logic of a plan into a netlist, and writes the netlist and its BSDL file.
-    Insert {
-        netlist: &'a str,
-        plan: &'a str,
-        outnet: &'a str,
-        outbsdl: &'a str,
-        library: Option<&'a str>,
-    },
-    /// Builds the test logic of a plan, and registers of the design's own, into a netlist, and writes the netlist and
-    /// its BSDL file.
-    InsertStatus {
-        netlist: &'a str,
-        plan: &'a str,
-        registers: &'a str,
-        outnet: &'a str,
-        outbsdl: &'a str,
-        library: Option<&'a str>,
-    },
-    /// Writes the netlist and a plan that a netlist with test logic and its BSDL text were made from, with the library
-    /// of a third text if there is one.
-    Strip {
-        netlist: &'a str,
-        bsdl: &'a str,
-        outnet: &'a str,
-        outplan: &'a str,
-        library: Option<&'a str>,
-    },
-    /// Writes the program of a device.
-    Vectors {
-        bsdl: &'a str,
-        output: &'a str,
-    },
-    /// Runs events on a netlist that is to have the test logic of a device.
-    Check {
-        netlist: &'a str,
-        bsdl: &'a str,
-        events: &'a str,
-        library: Option<&'a str>,
-    },
-    /// Builds test logic into the demonstration netlist of a number, and writes the netlist and its BSDL file.
-    Demo {
-        number: u32,
-        outnet: &'a str,
-        outbsdl: &'a str,
-    },
+    Insert(Insert<'a>),
+    InsertStatus(InsertStatus<'a>),
+    Strip(Strip<'a>),
+    Vectors(Vectors<'a>),
+    Check(Check<'a>),
+    Demo(Demo<'a>),
 }
 
 fn begins_with_dash(word: &str) -> bool
@@ -107,36 +62,38 @@ fn of_two<'a>(word: &str, first: &'a str, second: &'a str) -> Option<Command<'a>
     ensures { IsPlainOf (word.now ∷ first.now ∷ second.now ∷ []) result }
 {
     match word {
-        "canon" => Some(Command::Convert {
+        "canon" => Some(Command::Convert(Convert {
             conversion: Conversion::Canon,
             input: first,
             output: second,
-        }),
-        "showbsdl" => Some(Command::Convert {
+        })),
+        "showbsdl" => Some(Command::Convert(Convert {
             conversion: Conversion::ShowBsdl,
             input: first,
             output: second,
-        }),
-        "statusbsdl" => Some(Command::StatusBsdl {
+        })),
+        "statusbsdl" => Some(Command::StatusBsdl(StatusBsdl {
             input: first,
             output: second,
-        }),
+        })),
         "sim" => Some(Command::Sim {
             netlist: first,
             events: second,
             library: None,
         }),
-        "vectors" => Some(Command::Vectors {
+        "vectors" => Some(Command::Vectors(Vectors {
             bsdl: first,
             output: second,
-        }),
+        })),
         _ => None,
     }
 }
 
 // The number that 1 to 4 digits are.
+#[tactic(auto, using(crate::proofs::Numbers::value_small))]
 fn number_of(word: &str) -> Option<u32>
-    ensures { IsNumberOf word.now result }
+    ensures number { IsNumberOf word.now result }
+    ensures small { IfSome result (λ number. number < 10000) }
 {
     let digits = word.as_bytes();
     if digits.len() <= 4 && is_integer(digits) {
@@ -151,29 +108,29 @@ fn of_three<'a>(word: &str, first: &'a str, second: &'a str, third: &'a str) -> 
     ensures { IsPlainOf (word.now ∷ first.now ∷ second.now ∷ third.now ∷ []) result }
 {
     match word {
-        "check" => Some(Command::Check {
+        "check" => Some(Command::Check(Check {
             netlist: first,
             bsdl: second,
             events: third,
             library: None,
-        }),
-        "flatten" => Some(Command::Flatten {
+        })),
+        "flatten" => Some(Command::Flatten(Flatten {
             input: first,
             top: second,
             output: third,
             library: None,
-        }),
+        })),
         "sim" => Some(Command::Sim {
             netlist: first,
             events: second,
             library: Some(third),
         }),
         "demo" => match number_of(first) {
-            Some(number) => Some(Command::Demo {
+            Some(number) => Some(Command::Demo(Demo {
                 number,
                 outnet: second,
                 outbsdl: third,
-            }),
+            })),
             None => None,
         },
         _ => None,
@@ -191,32 +148,32 @@ fn of_four<'a>(
     ensures { IsPlainOf (word.now ∷ first.now ∷ second.now ∷ third.now ∷ fourth.now ∷ []) result }
 {
     match word {
-        "insert" => Some(Command::Insert {
+        "insert" => Some(Command::Insert(Insert {
             netlist: first,
             plan: second,
             outnet: third,
             outbsdl: fourth,
             library: None,
-        }),
-        "strip" => Some(Command::Strip {
+        })),
+        "strip" => Some(Command::Strip(Strip {
             netlist: first,
             bsdl: second,
             outnet: third,
             outplan: fourth,
             library: None,
-        }),
-        "check" => Some(Command::Check {
+        })),
+        "check" => Some(Command::Check(Check {
             netlist: first,
             bsdl: second,
             events: third,
             library: Some(fourth),
-        }),
-        "flatten" => Some(Command::Flatten {
+        })),
+        "flatten" => Some(Command::Flatten(Flatten {
             input: first,
             top: second,
             output: third,
             library: Some(fourth),
-        }),
+        })),
         _ => None,
     }
 }
@@ -234,28 +191,28 @@ fn of_five<'a>(
 {
     let library = Some(fifth);
     match word {
-        "insert" => Some(Command::Insert {
+        "insert" => Some(Command::Insert(Insert {
             netlist: first,
             plan: second,
             outnet: third,
             outbsdl: fourth,
             library,
-        }),
-        "strip" => Some(Command::Strip {
+        })),
+        "strip" => Some(Command::Strip(Strip {
             netlist: first,
             bsdl: second,
             outnet: third,
             outplan: fourth,
             library,
-        }),
-        "status" => Some(Command::InsertStatus {
+        })),
+        "status" => Some(Command::InsertStatus(InsertStatus {
             netlist: first,
             plan: second,
             registers: third,
             outnet: fourth,
             outbsdl: fifth,
             library: None,
-        }),
+        })),
         _ => None,
     }
 }
@@ -273,14 +230,14 @@ fn of_six<'a>(
     ensures { IsPlainOf (word.now ∷ first.now ∷ second.now ∷ third.now ∷ fourth.now ∷ fifth.now ∷ sixth.now ∷ []) result }
 {
     match word {
-        "status" => Some(Command::InsertStatus {
+        "status" => Some(Command::InsertStatus(InsertStatus {
             netlist: first,
             plan: second,
             registers: third,
             outnet: fourth,
             outbsdl: fifth,
             library: Some(sixth),
-        }),
+        })),
         _ => None,
     }
 }

@@ -1,6 +1,8 @@
 // The tool's top call: the words of a command, run over any shelf of texts and any sink.
 // The contract of `run_tool` cites specs/Causes.antt, which stands on Forms.antt (the words of each command),
 // Tasks.antt (its task, as the crate of the command says) and Names.antt (that its outputs have names of their own).
+// A command is the task that it is, which says its own files (`files`); `dispatch` looks at their names and runs it,
+// and Outcomes.antt says what comes of it.
 // IEEE Std 1364-2001 and IEEE Std 1149.1-2001 for the texts that are read and written; commands, faults and
 // statuses are own.
 //
@@ -31,6 +33,8 @@
 
 mod command;
 mod dispatch;
+mod file_names;
+mod files;
 mod names;
 mod tool;
 mod words;

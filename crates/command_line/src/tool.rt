@@ -11,7 +11,6 @@ ghost use Rattle.command_line.specs.Names.{Writes};
 
 use crate::command::command_of;
 use crate::dispatch::run_command;
-use crate::names::same_name;
 use crate::words::WordList;
 use cell_text::texts_of_libraries_are_spelled_or_at_fault;
 use command_faults::{Fault, Status, put_fault};
@@ -44,10 +43,7 @@ fn run<'a, S: Shelf, O: Sink>(
     let Some(command) = command_of(words) else {
         return Err(Fault::Usage);
     };
-    match same_name(command) {
-        Some(name) => Err(Fault::SameName { name }),
-        None => run_command(alloc, shelf, out, command),
-    }
+    run_command(alloc, shelf, out, command)
 }
 
 /// Runs the command that the words are, over a shelf of texts and a sink, and answers how it ended. A fault puts its

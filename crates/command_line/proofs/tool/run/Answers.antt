@@ -1,23 +1,22 @@
-use Rattle.command_faults.specs.declared.status.Status.TheVariants as status
 use Rattle.command_edges.specs.Seen.{ShelfSeen, SinkSeen, shelf_seen, sink_seen}
-use Rattle.command_line.specs.Names.{Runs}
 use Rattle.command_line.specs.Parsed.{form_of}
-use Rattle.command_line.proofs.Numbers.{small_number}
-use Rattle.command_line.proofs.Runs.{run_completes, name_completes}
+use Rattle.command_line.proofs.Runs.{came_done, came_ended, came_fault, came_completes, came_keeps}
 use Rattle.command_line.proofs.tool.run.Goals as goal
 
-pub run_command-requires-clause-small : goal.run_command-requires-clause-small
-run_command-requires-clause-small g c = small_number c.args.words.now c.in-Some.command c.in-Some.ensures
+pub returns-clause-done : goal.returns-clause-done
+returns-clause-done g c = came_done c.run_command.result c.args.words.now (form_of c.in-Some.command) _ _ c.in-Some.ensures c.run_command.ensures
 
-pub returns-in-None-clause-complete : goal.returns-in-None-clause-complete
-returns-in-None-clause-complete g c =
+pub returns-clause-ended : goal.returns-clause-ended
+returns-clause-ended g c =
     let shelf : ShelfSeen = shelf_seen g.S.Shelf.tells g.S.Shelf.held g.S.Shelf.written g.S.Shelf.faults c.args.shelf.now c.run_command.new.shelf in
     let sink : SinkSeen = sink_seen g.O.Sink.given g.O.Sink.faults c.args.out.now c.run_command.new.out in
-    let runs : Runs c.args.words.now (form_of c.in-Some.command) = record { has = c.in-Some.ensures; apart = c.same_name.ensures.apart c.in-None.is } in
-    run_completes c.run_command.result c.args.words.now (form_of c.in-Some.command) shelf sink runs c.run_command.ensures.complete
+    came_ended c.run_command.result (form_of c.in-Some.command) shelf sink c.run_command.ensures
 
-pub returns-in-Some-same_name-clause-complete : goal.returns-in-Some-same_name-clause-complete
-returns-in-Some-same_name-clause-complete g c =
-    let shelf : ShelfSeen = shelf_seen g.S.Shelf.tells g.S.Shelf.held g.S.Shelf.written g.S.Shelf.faults c.args.shelf.now c.args.shelf.now in
-    let sink : SinkSeen = sink_seen g.O.Sink.given g.O.Sink.faults c.args.out.now c.args.out.now in
-    name_completes c.args.words.now (form_of c.in-Some.command) c.in-Some-same_name.name.now shelf sink status.Usage c.in-Some.ensures c.in-Some-same_name.ensures.same
+pub returns-clause-fault : goal.returns-clause-fault
+returns-clause-fault g c = came_fault c.run_command.result c.args.words.now (form_of c.in-Some.command) _ _ c.in-Some.ensures c.run_command.ensures
+
+pub returns-clause-complete : goal.returns-clause-complete
+returns-clause-complete g c = came_completes c.run_command.result c.args.words.now (form_of c.in-Some.command) _ _ c.in-Some.ensures c.run_command.ensures
+
+pub returns-clause-keeps : goal.returns-clause-keeps
+returns-clause-keeps g c = came_keeps c.run_command.result c.args.words.now (form_of c.in-Some.command) _ _ c.in-Some.ensures c.run_command.ensures
