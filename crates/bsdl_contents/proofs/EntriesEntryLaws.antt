@@ -1,23 +1,17 @@
 -- The entries of the design's own registers are read as they are spelled.
-use Rattle.std.proofs.Common.{◌≡◌, ℕ, List, [], ◌∷◌, ◌++◌, true, length, ◌<◌, Option, Some, is_some, refl, ap, Result, Ok, Err, IsErrAnd, IsTrue}
+use Rattle.std.proofs.Common.{◌≡◌, ℕ, List, [], ◌∷◌, ◌++◌, Some, refl, ap, IsTrue}
 use Rattle.bsdl_device.specs.Patterns.{MatchesBy, separated_by, is_filled}
-use Rattle.bsdl_device.specs.Runs.{ContentWord, ContentPattern, Fits, mark_in, NameRun, IntegerRun, IdentifierRun, MarkByte, comma, left_parenthesis, right_parenthesis}
-use Rattle.bsdl_device.specs.Readers.{Read, front, rest_if}
+use Rattle.bsdl_device.specs.Runs.{ContentWord, ContentPattern, Fits, NameRun, IntegerRun, IdentifierRun, MarkByte, comma, left_parenthesis, right_parenthesis}
+use Rattle.bsdl_device.specs.Readers.{Read}
 use Rattle.bsdl_device.proofs.Exact.{Exact, Anything}
 use Rattle.bsdl_device.proofs.Matched.{Spelled, spelled_ended, spelled_pair, spelled_made}
 use Rattle.bsdl_device.proofs.Listed.{AreSome}
 use Rattle.bsdl_device.proofs.Views.{Free, all_free}
-use Rattle.bsdl_contents.specs.declared.fault.PartFault.TheVariants as part
 use Rattle.bsdl_contents.specs.Reader.{views}
 use Rattle.bsdl_contents.proofs.Chosen.{whole_sound, whole_complete}
 use Rattle.bsdl_contents.proofs.EntryLaws.{marks_law, name_law, integer_law, identifier_law, list_law}
-use Rattle.bsdl_contents.proofs.ListLoops as loops
-use Rattle.bsdl_contents.proofs.ListLoops.{Continues}
 use Rattle.bsdl_device.specs.declared.registers.values.RegisterEntry.{RegisterEntry}
 use Rattle.bsdl_device.specs.Entries.{entry_words}
-use Rattle.bsdl_contents.specs.declared.entries.part_fault.PartFault.{PartFault}
-use Rattle.bsdl_contents.specs.declared.entries.part_fault.PartFault.TheVariants as fault
-use Rattle.bsdl_contents.specs.EntriesOutcomes.{Gives}
 use Rattle.bsdl_contents.specs.EntriesReader.{head_at, length_at, instruction_at, entry_of, entry_at, entries_in}
 
 -- Parts.
@@ -61,15 +55,3 @@ entries_sound ws entries h =
 pub entries_complete : (ws : List ContentWord) (entries : List RegisterEntry) → IsTrue (is_filled entries) → MatchesBy Fits (separated_by comma entry_words entries) ws → entries_in ws ≡ Some entries
 entries_complete ws entries filled m =
     ap (λ (r : Read ContentWord (List RegisterEntry)). r.0) (whole_complete (AreSome Free) (λ xs. separated_by comma entry_words xs) (list_law entry_words entry_law) refl ws entries (filled, all_free entries) m)
-
--- The loop, as the code answers it.
-
-abbrev comma_next : List ContentWord → Option (Unit {0})
-comma_next ws = front (mark_in 44) ws
-
-pub faults : {X : Type 0} (one : List ContentWord → Read ContentWord X) (now : List X) (ws behind left : List ContentWord) (all : Read ContentWord (List X)) (result : Result (List X) PartFault) (e : PartFault) → Continues one now ws all → is_some (comma_next ws) ≡ true → behind ≡ rest_if (comma_next ws) ws → length behind < length ws → IsErrAnd result (λ f. f ≡ e) → Gives {X = X} (Err e) left (one behind) → Gives result left all
-faults one now ws behind left all (Ok x) e k there moved less same read = absurd same
-faults one now ws behind left all (Err fault.OutOfMemory) e k there moved less same read = tt
-faults one now ws behind left all (Err fault.Wrong) fault.OutOfMemory k there moved less same read = absurd (cc)
-faults {X} one now ws behind left all (Err fault.Wrong) fault.Wrong k there moved less same read =
-    loops.faults one now ws behind left all (Err part.Wrong) part.Wrong k there moved less refl read

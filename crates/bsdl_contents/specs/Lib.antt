@@ -1,7 +1,5 @@
 pub mod BaseFile
-pub mod EntriesOutcomes
 pub mod EntriesReader
-pub mod EntriesWords
 pub mod Laws
 pub mod Outcomes
 pub mod OwnPlaces

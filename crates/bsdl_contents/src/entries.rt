@@ -7,11 +7,8 @@
 // - Inside: such entries begin behind the last comma before the first `[` (`own_place`).
 // By the contract of `without_own`.
 
-mod cut;
 mod entries;
 mod own_place;
-mod part_fault;
 mod parted;
-mod reader;
 
 pub use parted::{Parted, without_own};

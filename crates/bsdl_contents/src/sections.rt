@@ -11,9 +11,9 @@ use cell_library::Bits;
 use std::alloc::Global;
 use texts::{OutOfMemory, Row, Text};
 
-// The strings' bytes without anything between.
+/// The strings' bytes without anything between.
 #[tactic(auto, using(crate::proofs::JoinedStrings::joined_more, crate::proofs::JoinedStrings::joined_past))]
-fn joined(alloc: Global, strings: &[Text]) -> Result<Text, OutOfMemory>
+pub fn joined(alloc: Global, strings: &[Text]) -> Result<Text, OutOfMemory>
     ensures { IfOk result (λ bytes. bytes ≡ shape.joined strings.now) }
 {
     let mut bytes = Text::new(alloc);

@@ -22,7 +22,7 @@ none_there : {X : Type 0} (o : Option X) → is_some o ≡ false → o ≡ None
 none_there None e = refl
 none_there (Some x) e = absurd (cc)
 
-sound_cell : (words : Words) (cell : ListedCell) → IsCellOf words cell → is_unfit cell.name ≡ false → IsSoundCell cell
+pub sound_cell : (words : Words) (cell : ListedCell) → IsCellOf words cell → is_unfit cell.name ≡ false → IsSoundCell cell
 sound_cell words cell is fit =
     let both = both_false (not (is_cell_name cell.name)) (is_some (own_kind_named cell.name)) fit in
     record {
@@ -69,7 +69,7 @@ name_at (y ∷ rows) (suc k) words at = name_at rows k words at
 free_cell : (rows : List Words) (k : ℕ) (words : Words) (cell : ListedCell) → barred_after [] (map name_in rows) ≡ None → slice_get rows k ≡ Some words → IsCellOf words cell → IsFree (map name_in rows) k cell.name
 free_cell rows k words cell none at is = free_at (map name_in rows) k cell.name none (name_at rows k words at ∙ ap (λ (n : List ℕ). Some n) (name_is words cell is))
 
-kind_free : (name : List ℕ) → is_unfit name ≡ false → own_kind_named name ≡ None
+pub kind_free : (name : List ℕ) → is_unfit name ≡ false → own_kind_named name ≡ None
 kind_free name fit = none_there (own_kind_named name) (both_false (not (is_cell_name name)) (is_some (own_kind_named name)) fit).1
 
 within : {X : Type 0} (xs : List X) (k : ℕ) (x : X) → slice_get xs k ≡ Some x → k < length xs
@@ -112,7 +112,7 @@ can_add exact rows k words library cell can at same e =
     }
 
 -- the cells of all lines are a library
-all_each : {X : Type 0} (P : X → Type 0) (xs : List X) → ((k : ℕ) (x : X) → slice_get xs k ≡ Some x → P x) → All P xs
+pub all_each : {X : Type 0} (P : X → Type 0) (xs : List X) → ((k : ℕ) (x : X) → slice_get xs k ≡ Some x → P x) → All P xs
 all_each P [] each = All-nil P
 all_each P (x ∷ xs) each = All-cons P x xs (each 0 x refl) (all_each P xs (λ k y at. each (suc k) y at))
 

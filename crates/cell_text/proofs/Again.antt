@@ -78,7 +78,7 @@ apart_from before (p ∷ ports) none =
       (here.0, all_so (λ (n : List ℕ). has_name (before ++ p ∷ []) n ≡ false) (λ (n : List ℕ). has_name before n ≡ false) ports (λ n h. (had_none before p n h).0) more.1),
     )
 
-none_is : {X : Type 0} (o : Option X) → is_none o ≡ true → o ≡ None
+pub none_is : {X : Type 0} (o : Option X) → is_none o ≡ true → o ≡ None
 none_is None e = refl
 none_is (Some x) e = absurd (cc)
 

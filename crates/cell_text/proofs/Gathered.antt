@@ -121,19 +121,19 @@ all_of_front words is = let few = few_words words is in front_all words 85 (omeg
 
 -- Lines that are kept.
 
-rows_push : (lines : List (Bor (List ℕ))) (line : Bor (List ℕ)) → rows_of (lines ++ line ∷ []) ≡ rows_of lines ++ words_of line.now ∷ []
+pub rows_push : (lines : List (Bor (List ℕ))) (line : Bor (List ℕ)) → rows_of (lines ++ line ∷ []) ≡ rows_of lines ++ words_of line.now ∷ []
 rows_push lines line = map_push (λ (l : Bor (List ℕ)). words_of l.now) lines line
 
-rows_length : (lines : List (Bor (List ℕ))) → length (rows_of lines) ≡ length lines
+pub rows_length : (lines : List (Bor (List ℕ))) → length (rows_of lines) ≡ length lines
 rows_length [] = refl
 rows_length (l ∷ lines) = ap suc (rows_length lines)
 
-short_front : {X : Type 0} (n : ℕ) (xs : List X) → length (take n xs) < n → length xs < n
+pub short_front : {X : Type 0} (n : ℕ) (xs : List X) → length (take n xs) < n → length xs < n
 short_front zero xs low = absurd (omega arith)
 short_front (suc n) [] low = omega arith
 short_front (suc n) (x ∷ xs) low = let more = short_front n xs (omega arith) in omega arith
 
-long_front : {X : Type 0} (n : ℕ) (xs ys : List X) → n ≤ length (take n xs) → take n (xs ++ ys) ≡ take n xs
+pub long_front : {X : Type 0} (n : ℕ) (xs ys : List X) → n ≤ length (take n xs) → take n (xs ++ ys) ≡ take n xs
 long_front zero xs ys long = refl
 long_front (suc n) [] ys long = absurd (omega arith)
 long_front {X = X} (suc n) (x ∷ xs) ys long = ap (λ (l : List X). x ∷ l) (long_front n xs ys (omega arith))

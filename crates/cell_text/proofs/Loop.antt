@@ -20,12 +20,12 @@ use Rattle.cell_text.proofs.Added.{CanAdd, can_add}
 abbrev pub cells_are : List (Bor (List ℕ)) → List ListedCell → Type 0
 cells_are lines library = map cell_in (rows_of lines) ≡ map (λ (c : ListedCell). Some c) library
 
-row_at : (lines : List (Bor (List ℕ))) (k : ℕ) (line : Bor (List ℕ)) → slice_get lines k ≡ Some line → slice_get (rows_of lines) k ≡ Some (words_of line.now)
+pub row_at : (lines : List (Bor (List ℕ))) (k : ℕ) (line : Bor (List ℕ)) → slice_get lines k ≡ Some line → slice_get (rows_of lines) k ≡ Some (words_of line.now)
 row_at [] k line at = absurd (let none : None ≡ Some line = at in cc)
 row_at (y ∷ lines) zero line at = let same : y ≡ line = cc in ap (λ (z : Bor (List ℕ)). Some (words_of z.now)) same
 row_at (y ∷ lines) (suc k) line at = row_at lines k line at
 
-rows_take : (k : ℕ) (lines : List (Bor (List ℕ))) → rows_of (take k lines) ≡ take k (rows_of lines)
+pub rows_take : (k : ℕ) (lines : List (Bor (List ℕ))) → rows_of (take k lines) ≡ take k (rows_of lines)
 rows_take zero lines = refl
 rows_take (suc k) [] = refl
 rows_take (suc k) (x ∷ lines) = ap (λ (l : List Words). words_of x.now ∷ l) (rows_take k lines)

@@ -31,7 +31,7 @@ use Rattle.cell_text.proofs.Again.{gate_body}
 
 -- Words of known bytes.
 
-word_bytes : List ℕ → Bool
+pub word_bytes : List ℕ → Bool
 word_bytes [] = true
 word_bytes (b ∷ bytes) = cond (is_blank_byte b) false (cond (is_line_end b) false (word_bytes bytes))
 
@@ -47,7 +47,7 @@ each_word_byte (b ∷ bytes) h =
     let both = word_bytes-step b (is_blank_byte b) (is_line_end b) (word_bytes bytes) refl refl h in
     All-cons IsWordByte b bytes both.0 (each_word_byte bytes both.1)
 
-known_word : (b : ℕ) (bytes : List ℕ) → word_bytes (b ∷ bytes) ≡ true → IsWord (b ∷ bytes)
+pub known_word : (b : ℕ) (bytes : List ℕ) → word_bytes (b ∷ bytes) ≡ true → IsWord (b ∷ bytes)
 known_word b bytes h = record { some = λ e. cc; each = each_word_byte (b ∷ bytes) h }
 
 gate_word : IsWord (codes "gate")
@@ -58,7 +58,7 @@ flop_key : IsWord (codes "flop")
 unfolding word_bytes
 flop_key = known_word 102 (codes "lop") refl
 
-colon_word : IsWord (codes ":")
+pub colon_word : IsWord (codes ":")
 unfolding word_bytes
 colon_word = known_word 58 [] refl
 
@@ -88,10 +88,10 @@ simple_word : (name : List ℕ) → is_simple_name name ≡ true → IsWord name
 simple_word [] h = absurd (cc)
 simple_word (b ∷ bytes) h = record { some = λ e. cc; each = name_bytes (b ∷ bytes) (and_right (is_letter b) (list_all is_name_byte (b ∷ bytes)) h) }
 
-name_word : (name : List ℕ) → is_cell_name name ≡ true → IsWord name
+pub name_word : (name : List ℕ) → is_cell_name name ≡ true → IsWord name
 name_word name h = simple_word name (and_left (is_simple_name name) (not (is_some (reserved_of name)) && nat_le (length name) 255) h)
 
-port_word : (name : List ℕ) → IsPort name → IsWord name
+pub port_word : (name : List ℕ) → IsPort name → IsWord name
 port_word name h = name_word name (and_left (is_cell_name name) (not (bytes_eq name (codes "mux"))) h)
 
 port_words : (ports : Words) → All IsPort ports → All IsWord ports
@@ -153,7 +153,7 @@ cell_is_row cell sound =
     let words = port_words (cell.output ∷ cell.inputs) sound.ports in
     body_is_row cell.name cell.output cell.inputs cell.body (name_word cell.name sound.name) (All-head IsWord cell.output cell.inputs words) (All-tail IsWord cell.output cell.inputs words) sound.body
 
-cells_are_rows : (library : List ListedCell) → All IsSoundCell library → All IsRow (map cell_words library)
+pub cells_are_rows : (library : List ListedCell) → All IsSoundCell library → All IsRow (map cell_words library)
 cells_are_rows [] all = All-nil IsRow
 cells_are_rows (c ∷ library) all =
     All-cons IsRow (cell_words c) (map cell_words library) (cell_is_row c (All-head IsSoundCell c library all)) (cells_are_rows library (All-tail IsSoundCell c library all))
@@ -165,7 +165,7 @@ version_is_row = record {
   each = All-cons IsWord (codes "cells") (codes "1" ∷ []) (known_word 99 (codes "ells") refl) (All-cons IsWord (codes "1") [] (known_word 49 [] refl) (All-nil IsWord));
 }
 
-words_numbered : (n : ℕ) (rows : List Words) → map words_in (enumerate_from n rows) ≡ rows
+pub words_numbered : (n : ℕ) (rows : List Words) → map words_in (enumerate_from n rows) ≡ rows
 words_numbered n [] = refl
 words_numbered n (row ∷ rows) = ap (λ (l : List Words). row ∷ l) (words_numbered (n + 1) rows)
 
@@ -176,7 +176,7 @@ library_spells law library is =
 
 -- The loop over the cells.
 
-rows_push : (rows : List Words) (row : Words) → rows_text (rows ++ row ∷ []) ≡ rows_text rows ++ row_text row
+pub rows_push : (rows : List Words) (row : Words) → rows_text (rows ++ row ∷ []) ≡ rows_text rows ++ row_text row
 rows_push rows row = flat_map-append row_text rows (row ∷ []) ∙ ap (λ (l : List ℕ). rows_text rows ++ l) (append-nil (row_text row))
 
 pub cell_put : (t text new : List ℕ) (library : List ListedCell) (k : ℕ) (cell : ListedCell) → slice_get library k ≡ Some cell → new ≡ text ++ row_text (cell_words cell)

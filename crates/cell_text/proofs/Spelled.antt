@@ -41,7 +41,7 @@ version_is (a ∷ b ∷ []) is =
     let two : b ≡ codes "1" = (bytes_eq-Decides b (codes "1")).0 (and_right (bytes_eq a (codes "cells")) (bytes_eq b (codes "1")) is) in
     rw (one, two) refl
 
-words_of_cells : OwnNamesAreExact → (rows : List Words) (library : List ListedCell) → map cell_in rows ≡ map (λ (c : ListedCell). Some c) library → rows ≡ map cell_words library
+pub words_of_cells : OwnNamesAreExact → (rows : List Words) (library : List ListedCell) → map cell_in rows ≡ map (λ (c : ListedCell). Some c) library → rows ≡ map cell_words library
 words_of_cells exact [] [] same = refl
 words_of_cells exact [] (c ∷ library) same = absurd (cc)
 words_of_cells exact (w ∷ rows) [] same = absurd (cc)
@@ -81,7 +81,7 @@ spelled exact bytes library lines can same = record {
 
 -- Faults of rules.
 
-count_none : (rows : List Words) → length rows ≤ 4096 → too_many rows ≡ None
+pub count_none : (rows : List Words) → length rows ≤ 4096 → too_many rows ≡ None
 count_none rows few = ap (λ (b : Bool). if b then Some (fault.TooMany (length rows)) else None) (le-ltb 4096 (length rows) few)
 
 pub told_rules : (bytes : List ℕ) (f : LibFault) → line_fault (end_of bytes) (kept_lines bytes) ≡ None → rule_fault (cell_rows bytes) ≡ Some f → first_fault bytes ≡ Some f
@@ -107,13 +107,13 @@ told_body rows f few barred body =
 
 -- Laws.
 
-cells_again : (library : List ListedCell) → All IsSoundCell library → map cell_in (map cell_words library) ≡ map (λ (c : ListedCell). Some c) library
+pub cells_again : (library : List ListedCell) → All IsSoundCell library → map cell_in (map cell_words library) ≡ map (λ (c : ListedCell). Some c) library
 cells_again [] all = refl
 cells_again (c ∷ library) all =
     ap (λ (o : Option ListedCell). o ∷ map cell_in (map cell_words library)) (cell_again c (All-head IsSoundCell c library all))
     ∙ ap (λ (l : List (Option ListedCell)). Some c ∷ l) (cells_again library (All-tail IsSoundCell c library all))
 
-same_cells : (one other : List ListedCell) → map (λ (c : ListedCell). Some c) one ≡ map (λ (c : ListedCell). Some c) other → one ≡ other
+pub same_cells : (one other : List ListedCell) → map (λ (c : ListedCell). Some c) one ≡ map (λ (c : ListedCell). Some c) other → one ≡ other
 same_cells [] [] same = refl
 same_cells [] (c ∷ other) same = absurd (cc)
 same_cells (c ∷ one) [] same = absurd (cc)
@@ -128,7 +128,7 @@ spelled_once bytes one other is like =
     let cells : map cell_words one ≡ map cell_words other = cc in
     same_cells one other (sym (cells_again one is.can_be.sound) ∙ ap (map cell_in) cells ∙ cells_again other like.can_be.sound)
 
-names_again : (library : List ListedCell) → map name_in (map cell_words library) ≡ map (λ (c : ListedCell). c.name) library
+pub names_again : (library : List ListedCell) → map name_in (map cell_words library) ≡ map (λ (c : ListedCell). c.name) library
 names_again [] = refl
 names_again (c ∷ library) = ap (λ (n : List ℕ). n ∷ map name_in (map cell_words library)) (name_of_words c) ∙ ap (λ (l : Words). c.name ∷ l) (names_again library)
 
@@ -142,7 +142,7 @@ all_there [] k c all at = absurd (let none : None ≡ Some c = at in cc)
 all_there (d ∷ library) zero c all at = let same : d ≡ c = cc in subst IsSoundCell same (All-head IsSoundCell d library all)
 all_there (d ∷ library) (suc k) c all at = all_there library k c (All-tail IsSoundCell d library all) at
 
-names_free : (library : List ListedCell) → IsLibrary library → barred_after [] (map (λ (c : ListedCell). c.name) library) ≡ None
+pub names_free : (library : List ListedCell) → IsLibrary library → barred_after [] (map (λ (c : ListedCell). c.name) library) ≡ None
 names_free library is = none_barred [] (map (λ (c : ListedCell). c.name) library)
     (λ k name at.
     let found = named_at library k name at in
@@ -156,7 +156,7 @@ names_free library is = none_barred [] (map (λ (c : ListedCell). c.name) librar
     is.once i j a.0 b.0 a.1 b.1 (a.2 ∙ sym b.2))
     (λ k name at. refl)
 
-no_body_fault : (library : List ListedCell) → All IsSoundCell library → first_in body_fault (map cell_words library) ≡ None
+pub no_body_fault : (library : List ListedCell) → All IsSoundCell library → first_in body_fault (map cell_words library) ≡ None
 no_body_fault [] all = refl
 no_body_fault (c ∷ library) all =
     ap (λ (o : Option ListedCell). or_else (if is_none o then Some (fault.LibBody (name_in (cell_words c))) else None) (first_in body_fault (map cell_words library))) (cell_again c (All-head IsSoundCell c library all))
@@ -194,18 +194,18 @@ no_line : (o : Option ℕ) → option_map fault.LibLine o ≡ None → o ≡ Non
 no_line None e = refl
 no_line (Some n) e = absurd (cc)
 
-no_name : (o : Option (List ℕ)) → option_map fault.LibName o ≡ None → o ≡ None
+pub no_name : (o : Option (List ℕ)) → option_map fault.LibName o ≡ None → o ≡ None
 no_name None e = refl
 no_name (Some n) e = absurd (cc)
 
-few_rows : (rows : List Words) → too_many rows ≡ None → length rows ≤ 4096
+pub few_rows : (rows : List Words) → too_many rows ≡ None → length rows ≤ 4096
 few_rows rows none = by (nat_lt 4096 (length rows)) refl none
   where
     by : (b : Bool) → nat_lt 4096 (length rows) ≡ b → (if b then Some (fault.TooMany (length rows)) else None) ≡ None → length rows ≤ 4096
     by true e h = absurd (let some : Some (fault.TooMany (length rows)) ≡ None = h in cc)
     by false e h = ltb-false 4096 (length rows) e
 
-cells_there : (rows : List Words) → first_in body_fault rows ≡ None → (library : List ListedCell) × (map cell_in rows ≡ map (λ (c : ListedCell). Some c) library)
+pub cells_there : (rows : List Words) → first_in body_fault rows ≡ None → (library : List ListedCell) × (map cell_in rows ≡ map (λ (c : ListedCell). Some c) library)
 cells_there [] none = ([], refl)
 cells_there (w ∷ rows) none =
     let both = or_else-parts (body_fault w) (first_in body_fault rows) none in

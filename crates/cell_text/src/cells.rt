@@ -21,7 +21,8 @@ pub(crate) fn is_cell_name(word: &[u8]) -> bool
     is_simple_name(word) && reserved_of(word).is_none() && word.len() <= 255
 }
 
-fn is_port_name(word: &[u8]) -> bool
+/// A cell's name other than `mux`, which stands for a step.
+pub fn is_port_name(word: &[u8]) -> bool
     ensures { result ≡ sound.is_port_name word.now }
 {
     is_cell_name(word) && word != b"mux".as_slice()

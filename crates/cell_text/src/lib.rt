@@ -10,6 +10,8 @@
 // - A law: bytes spell one library, or have a fault, and not both. Another: a line has the form of a cell's
 //   exactly where its words are a key, a name, ports, and steps behind a colon or a kind of flip-flop, in the
 //   counts that are allowed.
+// - What texts of other libraries are made of too: the form of a cell's line (`is_cell_line`), the rule on names
+//   (`find_barred`), the cells of lines (`add_cells`), and a cell's line as it is written (`put_cell`).
 // By the contract of `read_library`, `print_library` and its law functions.
 #![tactic(auto)]
 
@@ -22,7 +24,11 @@ mod printer;
 mod reader;
 mod words;
 
+pub use cells::is_port_name;
 pub use fault::LibFault;
 pub use laws::{lines_have_forms, texts_of_libraries_are_spelled_or_at_fault};
-pub use printer::print_library;
-pub use reader::read_library;
+pub use lines::is_cell_line;
+pub use names::find_barred;
+pub use printer::{print_library, put_cell, put_head, put_word};
+pub use reader::{add_cells, read_library};
+pub use words::name_in;

@@ -97,10 +97,7 @@ fn has_form(words: &[&[u8]]) -> bool
 
 /// Whether a line has the form of a cell's; `words` is room for its words.
 #[tactic(auto, using(crate::proofs::Gathered::form_of_front))]
-pub(crate) fn is_cell_line<'a>(
-    line: &'a [u8],
-    words: &mut Vec<&'a [u8]>,
-) -> Result<bool, OutOfMemory>
+pub fn is_cell_line<'a>(line: &'a [u8], words: &mut Vec<&'a [u8]>) -> Result<bool, OutOfMemory>
     ensures { IfOk result (λ is. is ≡ lines.is_cell_line (words_of line.now)) }
 {
     gather_words(line, words)?;

@@ -53,10 +53,7 @@ fn barred<'a>(alloc: Global, names: &[&'a [u8]]) -> Result<Option<&'a [u8]>, Out
 }
 
 /// The first name that is unfit or came before, where these are the lines of cells.
-pub(crate) fn find_barred<'a>(
-    alloc: Global,
-    lines: &[&'a [u8]],
-) -> Result<Option<&'a [u8]>, OutOfMemory>
+pub fn find_barred<'a>(alloc: Global, lines: &[&'a [u8]]) -> Result<Option<&'a [u8]>, OutOfMemory>
     ensures { IfOk result (λ found. bytes_of found
         ≡ rules.barred_after [] (map rules.name_in (rows_of lines.now))) }
 {

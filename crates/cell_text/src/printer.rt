@@ -11,7 +11,8 @@ use std::alloc::Global;
 use texts::{OutOfMemory, Text};
 use word_cutter::lines::{put_two, texts_of_rows_read_back};
 
-fn put_word(text: &mut Text, word: &[u8]) -> Result<(), OutOfMemory>
+/// A blank and a word.
+pub fn put_word(text: &mut Text, word: &[u8]) -> Result<(), OutOfMemory>
     ensures { OnOk result (text.new ≡ text.old ++ behind_blank word.now) }
 {
     text.push(b' ')?;
@@ -73,7 +74,8 @@ fn flop_name(library: &Library, kind: FlopKind) -> &[u8]
     }
 }
 
-fn put_head(text: &mut Text, key: &[u8], name: &[u8]) -> Result<(), OutOfMemory>
+/// The first two words of a line.
+pub fn put_head(text: &mut Text, key: &[u8], name: &[u8]) -> Result<(), OutOfMemory>
     ensures { OnOk result (text.new ≡ text.old ++ key.now ++ behind_blank name.now) }
 {
     text.append(key)?;
@@ -109,7 +111,8 @@ fn put_flop(
     text.push(b'\n')
 }
 
-fn put_cell(text: &mut Text, library: &Library, cell: &ListedCell) -> Result<(), OutOfMemory>
+/// The line of a cell.
+pub fn put_cell(text: &mut Text, library: &Library, cell: &ListedCell) -> Result<(), OutOfMemory>
     ensures { OnOk result (text.new ≡ text.old ++ row_text (grammar.cell_words cell.now)) }
 {
     match &cell.body {

@@ -91,9 +91,9 @@ fn read_lines(alloc: Global, bytes: &[u8]) -> Result<Kept<'_>, LibFault>
     keep_lines(alloc, &mut reader)
 }
 
-// The cells of lines, in their order.
+/// The cells of lines, in their order.
 #[tactic(auto, using(crate::proofs::Loop::starts, crate::proofs::Loop::next_can, crate::proofs::Loop::next_is, crate::proofs::Loop::body_is, crate::proofs::Loop::all_added))]
-fn add_cells(alloc: Global, lines: &[&[u8]]) -> Result<Library, LibFault>
+pub fn add_cells(alloc: Global, lines: &[&[u8]]) -> Result<Library, LibFault>
     requires can { reading.CanBeCells (reading.rows_of lines.now) }
     ensures cells { IfOk result (λ library. map cells.cell_in (reading.rows_of lines.now) ≡ map Some library) }
     ensures fault { IfErr result (λ f. reading.IsFirst f (first_in rules.body_fault (reading.rows_of lines.now))) }

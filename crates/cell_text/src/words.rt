@@ -31,7 +31,7 @@ pub(crate) fn gather_words<'a>(line: &'a [u8], words: &mut Vec<&'a [u8]>) -> Res
 }
 
 /// The second word of a line.
-pub(crate) fn name_in(line: &[u8]) -> &[u8]
+pub fn name_in(line: &[u8]) -> &[u8]
     ensures { result.now ≡ name_in (words_of line.now) }
 {
     let (_, rest) = next_word(line);

@@ -14,6 +14,7 @@ use Rattle.command_edges.proofs.Outcome.{told_same}
 use Rattle.play_command.specs.Checks.{IsCheck}
 use Rattle.play_command.specs.CheckTasks.{IsChecked, AreChecked, check_task}
 use Rattle.insertion_laws.specs.ChecksLaws.{WrittenProgramsMissNothing}
+use Rattle.insertion_laws.proofs.Marks.{misses_nothing_there}
 use Rattle.command_line.specs.Forms.{Form}
 use Rattle.command_line.specs.Tasks.{task_of}
 use Rattle.command_line.specs.Causes.{Finishes}
@@ -22,8 +23,9 @@ use Rattle.command_line.proofs.FormLaws.{form_once}
 
 none_missed : WrittenProgramsMissNothing → (library : List ListedCell) (net text lines put : List ℕ) (missed : ℕ) → AreOfChip library net text lines → IsCheck library net text lines put missed → missed ≡ 0
 none_missed law library net text lines put missed of c =
-    c.checked.missed_is ∙ ap length (law library net text lines of.together of.program c.linked
-    (record { tree = c.netlist.tree; spells = c.netlist.spells; listed = c.netlist.listed; library_is = c.netlist.library_is; links = c.netlist.links }) c.lines c.spells_lines c.checked.script c.checked.resolved c.checked.verdict c.checked.judged)
+    let n = c.netlist in
+    c.checked.missed_is
+    ∙ ap length (misses_nothing_there law library net text lines of.together of.program c.linked n.tree n.spells n.listed n.library_is n.links c.lines c.spells_lines c.checked.script c.checked.resolved c.checked.verdict c.checked.judged)
 
 done_missed : status.Done ≢ status.Missed
 done_missed e = cc

@@ -1,10 +1,10 @@
 -- When the ports of a netlist are those of a device.
 -- IEEE Std 1149.1-2001: the annex on BSDL (logical port description); that names are compared byte for byte is own.
-use Rattle.std.specs.Prelude.{◌≡◌, ◌≢◌, ℕ, ◌<◌, List, length, slice_get, Some}
+use Rattle.std.specs.Prelude.{◌≡◌, ◌≢◌, ℕ, ◌<◌, false, List, length, slice_get, Some}
 use Rattle.std.specs.Option.{option_map}
 use Rattle.netlist_model.specs.Lists.{PortView}
 use Rattle.link_model.specs.Denoted.{name_bytes}
-use Rattle.netlist_link.specs.Linked.{LinkedView}
+use Rattle.netlist_link.specs.Linked.{LinkedView, is_straight}
 use Rattle.bsdl_device.specs.declared.values.PortMode.TheVariants.{Linkage}
 use Rattle.bsdl_device.specs.declared.values.DevPort.{DevPort}
 use Rattle.bsdl_device.specs.declared.values.Device.{Device}
@@ -25,18 +25,23 @@ pub record IsOfDevice (L : LinkedView) (ports : List DevPort) (number : ℕ) : T
   pub there : slice_get ports place ≡ Some other
   pub same : IsSamePort L number other
 
+-- the netlist's port with this number isn't hidden, and is the same as the device's
+abbrev pub IsOwnPort : LinkedView → ℕ → DevPort → Type 0
+IsOwnPort L number other = (is_straight L number ≡ false) × IsSamePort L number other
+
 -- the port of the device is one of the netlist's
 pub record IsOfNetlist (L : LinkedView) (other : DevPort) : Type 0 where
   pub number : ℕ
+  pub own : is_straight L number ≡ false
   pub same : IsSamePort L number other
 
 abbrev pub AreOfDevice : LinkedView → List DevPort → Type 0
-AreOfDevice L ports = (number : ℕ) → number < length L.arena.lists.ports → IsOfDevice L ports number
+AreOfDevice L ports = (number : ℕ) → number < length L.arena.lists.ports → is_straight L number ≡ false → IsOfDevice L ports number
 
 abbrev pub AreOfNetlist : LinkedView → List DevPort → Type 0
 AreOfNetlist L ports = (place : ℕ) (other : DevPort) → slice_get ports place ≡ Some other → other.mode ≢ Linkage → IsOfNetlist L other
 
--- the ports of the netlist are those of the device but for linkage, in any order
+-- the ports of the netlist but for hidden ones are those of the device but for linkage, in any order
 pub record PortsAgree (L : LinkedView) (d : Device) : Type 0 where
   pub of_device : AreOfDevice L d.ports
   pub of_netlist : AreOfNetlist L d.ports

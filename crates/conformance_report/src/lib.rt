@@ -4,7 +4,8 @@
 // IEEE Std 1149.1-2001: the annex on BSDL; verdicts are own.
 //
 // - `ports_agree`: true exactly where each port of the netlist is one of the device's, and each of the device's
-//   but linkage one of the netlist's, with the same name byte for byte, direction and range. It takes no memory.
+//   but linkage one of the netlist's, with the same name byte for byte, direction and range. Hidden ports count for
+//   none. It takes no memory.
 // - `judge`: the verdict is that of a run of the script, in which every flip-flop begins unknown: how many sets
 //   there are, how many expectations are met, and all others in their order, each with its line, what it wants and
 //   what is read.

@@ -1,16 +1,18 @@
 // Whether the ports of a netlist are those of a device.
-ghost use Rattle.std.specs.Prelude.{◌≡◌, ◌↔◌, ◌<◌, length, IsTrue};
+ghost use Rattle.std.specs.Prelude.{◌≡◌, ◌↔◌, ◌<◌, false, length, IsTrue};
 ghost use Rattle.std.specs.Option.{option_map};
+ghost use Rattle.netlist_link.specs.Linked.{is_straight};
 ghost use Rattle.netlist_link.specs.PinWords.{HasPortName};
 ghost use Rattle.plan_fitting.specs.Devices.{mode_of_side, port_range};
-ghost use Rattle.conformance_report.specs.Agreement.{AreOfDevice, AreOfNetlist, IsOfDevice, IsOfNetlist, IsSamePort, PortsAgree};
+ghost use Rattle.conformance_report.specs.Agreement.{AreOfDevice, AreOfNetlist, IsOfDevice, IsOfNetlist, IsOwnPort, IsSamePort, PortsAgree};
 
 use bsdl_device::{DevPort, Device, PortMode, PortRange};
 use netlist_link::Linked;
 use netlist_model::{Dir, PortId, Range};
 
-/// Whether the ports of the netlist are the device's but for linkage, in any order: with the same names, byte for byte,
-/// directions and ranges. It takes no memory. Where both have them in one order, each is looked at once.
+/// Whether the ports of the netlist, but for hidden ones, are the device's but for linkage, in any order: with the same
+/// names, byte for byte, directions and ranges. It takes no memory. Where both have them in one order and none is hidden,
+/// each is looked at once.
 pub fn ports_agree(linked: &Linked, device: &Device) -> bool
     ensures { IsTrue result ↔ PortsAgree linked.now device.now }
 {
@@ -18,16 +20,25 @@ pub fn ports_agree(linked: &Linked, device: &Device) -> bool
     are_of_device(linked, ports) && are_of_netlist(linked, ports)
 }
 
-// Whether each port of the netlist is one of the device's.
+// Whether each port of the netlist that isn't hidden is one of the device's.
 fn are_of_device(linked: &Linked, ports: &[DevPort]) -> bool
     ensures { IsTrue result ↔ AreOfDevice linked.now ports.now }
 {
     for number in 0..linked.netlist().port_count() {
-        if !is_of_device(linked, ports, PortId(number)) {
+        if !is_hidden_or_of_device(linked, ports, PortId(number)) {
             return false;
         }
     }
     true
+}
+
+// Whether a port of the netlist is hidden or one of the device's.
+fn is_hidden_or_of_device(linked: &Linked, ports: &[DevPort], port: PortId) -> bool
+    requires { port.0 < length linked.now.arena.lists.ports }
+    ensures { IsTrue result ↔ (is_straight linked.now port.0 ≡ false
+        → IsOfDevice linked.now ports.now port.0) }
+{
+    linked.straight().has(port) || is_of_device(linked, ports, port)
 }
 
 // Whether a port of the netlist is one of the device's. It is looked for at its own place first.
@@ -78,15 +89,23 @@ fn is_of_netlist(linked: &Linked, place: usize, port: &DevPort) -> bool
     ensures { IsTrue result ↔ IsOfNetlist linked.now port.now }
 {
     let count = linked.netlist().port_count();
-    if place < count as usize && is_same(linked, PortId(place as u32), port) {
+    if place < count as usize && is_own(linked, PortId(place as u32), port) {
         return true;
     }
     for number in 0..count {
-        if is_same(linked, PortId(number), port) {
+        if is_own(linked, PortId(number), port) {
             return true;
         }
     }
     false
+}
+
+// Whether a port that isn't hidden has the name, the direction and the range of the device's.
+fn is_own(linked: &Linked, port: PortId, other: &DevPort) -> bool
+    requires { port.0 < length linked.now.arena.lists.ports }
+    ensures { IsTrue result ↔ IsOwnPort linked.now port.0 other.now }
+{
+    !linked.straight().has(port) && is_same(linked, port, other)
 }
 
 fn is_linkage(mode: PortMode) -> bool

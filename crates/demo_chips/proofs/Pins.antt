@@ -30,7 +30,7 @@ use Rattle.netlist_link.specs.PinWords.IsPinWord.{scalar, vector}
 use Rattle.netlist_link.specs.WellNamed.{IsWellNamed}
 use Rattle.netlist_link.proofs.PinLaws.{one_port, indexed_once}
 use Rattle.plan_texts.specs.declared.plan.PinLine.{PinLine}
-use Rattle.plan_fitting.specs.Pins.{PinSeen, NamesBit, IsSeen, AreSeen}
+use Rattle.plan_fitting.specs.Pins.{PinSeen, IsSeen, AreSeen}
 use Rattle.plan_fitting.specs.Rows.{three_state}
 use Rattle.plan_fitting.proofs.Drivers.{plain_driver}
 use Rattle.demo_chips.specs.Netlists.{from_zero, demo_module}
@@ -137,7 +137,7 @@ chip_spots =
 
 -- the line names the bit, with what stands there
 pub record StandsAt (L : LinkedView) (line : PinLine) (s : Spot) : Type 0 where
-  pub named : NamesBit L line.port s.pin
+  pub named : IsPinWord L.names L.arena.lists line.port s.pin
   pub port : PortView
   pub there : slice_get L.arena.lists.ports s.pin.port.0 ≡ Some port
   pub side : port.dir ≡ s.side
@@ -275,7 +275,7 @@ not_control false P given never = refl
 
 spot_is : DriverDrives → (number : ℕ) (L : LinkedView) → IsLinkOf (demo_module number) L → IsWellNamed L.names L.arena.lists → (line : PinLine) (one : PinSeen) (s : Spot) → StandsAt L line s → IsSeen L line.port one → IsSpot one s
 spot_is law number L links well line one s stands seen =
-    let pin : one.pin ≡ s.pin = pin_once L.names L.arena.lists line.port well one.pin s.pin seen.named stands.named in
+    let pin : one.pin ≡ s.pin = pin_once L.names L.arena.lists line.port well one.pin s.pin seen.named.0 stands.named in
     let port : seen.port ≡ stands.port = ports_same L.arena.lists.ports s.pin.port.0 seen.port stands.port (subst (λ (p : PinBit). slice_get L.arena.lists.ports p.port.0 ≡ Some seen.port) pin seen.there) stands.there in
     let net : ◌≡◌ {A = Option NetId} (Some one.net) (Some (net_id s.net)) =
     sym seen.net ∙ ap (λ (p : PinBit). slice_get seen.port.nets p.bit) pin ∙ ap (λ (q : PortView). slice_get q.nets s.pin.bit) port ∙ stands.net in

@@ -16,7 +16,7 @@ use Rattle.netlist_model.specs.declared.Dir.TheVariants as dir
 use Rattle.netlist_model.specs.declared.PinBit.{PinBit}
 use Rattle.netlist_model.specs.Lists.{PortView}
 use Rattle.netlist_model.specs.Drivers.{DriverDrives}
-use Rattle.netlist_link.specs.Linked.{LinkedView}
+use Rattle.netlist_link.specs.Linked.{LinkedView, HidesNone, own_ports}
 use Rattle.netlist_link.specs.Links.{IsLinkOf}
 use Rattle.netlist_link.specs.WellNamed.{IsWellNamed}
 use Rattle.texts.specs.Repeated.{has_name}
@@ -27,8 +27,10 @@ use Rattle.plan_texts.specs.declared.plan.PinLine.{PinLine}
 use Rattle.plan_fitting.specs.declared.fault.FitFault.{FitFault}
 use Rattle.plan_fitting.specs.declared.fault.FitFault.TheVariants as fault
 use Rattle.plan_fitting.specs.Pins.{PinSeen, AreSeen, same_bit}
-use Rattle.plan_fitting.specs.Names.{port_names, net_names, cell_names, NamedBit, port_bits}
+use Rattle.plan_fitting.specs.Names.{port_names, net_names, cell_names, hidden_names, NamedBit, port_bits}
 use Rattle.plan_fitting.specs.Fits.{has_line, bit_fault, missing_fault, Taken, PhysicalPin, PortBit, taken_alone, taken_by, tap_lines, twice_after, twice_fault, suits_port, cell_fault, is_barred, barred_after, names_of, unit_names, name_fault, begun_fault, prefix_fault, fault_with}
+use Rattle.plan_fitting.proofs.NoneHidden.{all_own, all_named, no_hidden_names}
+use Rattle.plan_fitting.proofs.PortBits.{missing_is}
 use Rattle.demo_chips.specs.Netlists.{demo_module}
 use Rattle.demo_chips.specs.Plans.{demo_plan, pin_lines}
 use Rattle.demo_chips.specs.PlansLaws.{HasNoFitFault}
@@ -66,17 +68,17 @@ none_missing seen pins (bit ∷ bits) same all =
     ap (λ (t : Bool). or_else (if t then None else Some (fault.PlanPortMissing bit.word)) (first_in (bit_fault seen) bits)) here
     ∙ none_missing seen pins bits same (and_right (has_pin pins bit.pin) (list_all (has_pin pins) (map (λ (b : NamedBit). b.pin) bits)) all)
 
-abbrev with_ports : LinkedView → List PortView → LinkedView
-with_ports L ports = record L { arena = record L.arena { lists = record L.arena.lists { ports = ports } } }
+no_missing : (number : ℕ) (L : LinkedView) → IsLinkOf (demo_module number) L → HidesNone L → (seen : List PinSeen) → AreAll IsSpot seen chip_spots → missing_fault L seen ≡ None
+no_missing number L links none seen are = by (own_ports L) refl
+  where
+    every : list_all (has_pin chip_pins) (map (λ (b : NamedBit). b.pin) (port_bits L)) ≡ true
+    every = ap (list_all (has_pin chip_pins)) (pins_are number L links none)
 
-some_missing : (L : LinkedView) (ports : List PortView) (seen : List PinSeen) → length ports ≡ 4 → first_in (bit_fault seen) (port_bits (with_ports L ports)) ≡ None → missing_fault (with_ports L ports) seen ≡ None
-some_missing L [] seen many none = absurd (omega (arith, many))
-some_missing L (port ∷ ports) seen many none = none
-
-no_missing : (number : ℕ) (L : LinkedView) → IsLinkOf (demo_module number) L → (seen : List PinSeen) → AreAll IsSpot seen chip_spots → missing_fault L seen ≡ None
-no_missing number L links seen are =
-    let every : list_all (has_pin chip_pins) (map (λ (b : NamedBit). b.pin) (port_bits L)) ≡ true = ap (list_all (has_pin chip_pins)) (pins_are number L links) in
-    some_missing L L.arena.lists.ports seen (AreAll-length (IsPort L.names) L.arena.lists.ports chip_ports (ports_are number L links)) (none_missing seen chip_pins (port_bits L) (same_pins seen are) every)
+    by : (ports : List PortView) → own_ports L ≡ ports → missing_fault L seen ≡ None
+    by [] is =
+        let many : length (own_ports L) ≡ 4 = ap length (all_own L none) ∙ AreAll-length (IsPort L.names) L.arena.lists.ports chip_ports (ports_are number L links) in
+        absurd (omega (arith, many, ap length is))
+    by (port ∷ ports) is = missing_is L seen port ports is ∙ none_missing seen chip_pins (port_bits L) (same_pins seen are) every
 
 -- Nothing stands twice.
 
@@ -176,14 +178,16 @@ unit_free : barred_after [] [] unit ≡ None
 unfolding is_reserved
 unit_free = refl
 
-no_name : (number : ℕ) (L : LinkedView) → IsLinkOf (demo_module number) L → name_fault L demo_plan ≡ None
-no_name number L links =
-    let names : unit_names L demo_plan ≡ unit = ap (λ (l : List (List ℕ)). codes "demo_chip" ∷ codes "PK" ∷ l) (port_names_are number L links) in
-    let apart = tests_append is_apart (net_names L) (cell_names L) (net_names_apart number L links) (cell_names_apart number L links) in
+no_name : (number : ℕ) (L : LinkedView) → IsLinkOf (demo_module number) L → HidesNone L → name_fault L demo_plan ≡ None
+no_name number L links none =
+    let others = net_names L ++ (cell_names L ++ hidden_names L) in
+    let names : unit_names L demo_plan ≡ unit = ap (λ (l : List (List ℕ)). codes "demo_chip" ∷ codes "PK" ∷ l) (port_names_are number L links none) in
+    let inner = tests_append is_apart (cell_names L) (hidden_names L) (cell_names_apart number L links) (ap (list_all is_apart) (no_hidden_names L none)) in
+    let apart = tests_append is_apart (net_names L) (cell_names L ++ hidden_names L) (net_names_apart number L links none) inner in
     let alone : barred_after [] [] (unit_names L demo_plan) ≡ None = ap (barred_after [] []) names ∙ unit_free in
-    let taps : barred_after (net_names L ++ cell_names L) (unit_names L demo_plan) (names_of (tap_lines demo_plan)) ≡ None =
-    ap (λ (l : List (List ℕ)). barred_after (net_names L ++ cell_names L) l (names_of (tap_lines demo_plan))) names ∙ taps_free (net_names L ++ cell_names L) apart in
-    both_none (barred_after [] [] (unit_names L demo_plan)) _ alone (both_none (barred_after (net_names L ++ cell_names L) (unit_names L demo_plan) (names_of (tap_lines demo_plan))) None taps refl)
+    let taps : barred_after others (unit_names L demo_plan) (names_of (tap_lines demo_plan)) ≡ None =
+    ap (λ (l : List (List ℕ)). barred_after others l (names_of (tap_lines demo_plan))) names ∙ taps_free others apart in
+    both_none (barred_after [] [] (unit_names L demo_plan)) _ alone (both_none (barred_after others (unit_names L demo_plan) (names_of (tap_lines demo_plan))) None taps refl)
 
 -- No name begins with the prefix.
 
@@ -203,26 +207,27 @@ none_begin : (test : List ℕ → Option FitFault) (xs ys : List (List ℕ)) →
 none_begin test [] ys one two = two
 none_begin test (x ∷ xs) ys one two = let t = or_else-parts (test x) (first_in test xs) one in ap (λ (o : Option FitFault). or_else o (first_in test (xs ++ ys))) t.0 ∙ none_begin test xs ys t.1 two
 
-no_prefix : (number : ℕ) (L : LinkedView) → IsLinkOf (demo_module number) L → prefix_fault L demo_plan ≡ None
-no_prefix number L links =
+no_prefix : (number : ℕ) (L : LinkedView) → IsLinkOf (demo_module number) L → HidesNone L → prefix_fault L demo_plan ≡ None
+no_prefix number L links none =
     let test = begun_fault (codes "bs_") in
     let taps : List (List ℕ) = names_of (tap_lines demo_plan) in
-    none_begin test (port_names L) (net_names L ++ (cell_names L ++ taps)) (ap (first_in test) (port_names_are number L links))
-    (none_begin test (net_names L) (cell_names L ++ taps) (none_begins (net_names L) (net_names_apart number L links))
-    (none_begin test (cell_names L) taps (none_begins (cell_names L) (cell_names_apart number L links)) refl))
+    none_begin test (port_names L) (net_names L ++ (cell_names L ++ (hidden_names L ++ taps))) (ap (first_in test) (port_names_are number L links none))
+    (none_begin test (net_names L) (cell_names L ++ (hidden_names L ++ taps)) (none_begins (net_names L) (net_names_apart number L links none))
+    (none_begin test (cell_names L) (hidden_names L ++ taps) (none_begins (cell_names L) (cell_names_apart number L links))
+    (none_begin test (hidden_names L) taps (ap (first_in test) (no_hidden_names L none)) refl)))
 
 -- The whole.
 
-faultless : DriverDrives → (number : ℕ) (L : LinkedView) → IsLinkOf (demo_module number) L → IsWellNamed L.names L.arena.lists → (seen : List PinSeen) → AreSeen L demo_plan.pins seen → fault_with L demo_plan seen ≡ None
-faultless law number L links well seen are =
+faultless : DriverDrives → (number : ℕ) (L : LinkedView) → IsLinkOf (demo_module number) L → HidesNone L → IsWellNamed L.names L.arena.lists → (seen : List PinSeen) → AreSeen L demo_plan.pins seen → fault_with L demo_plan seen ≡ None
+faultless law number L links none well seen are =
     let spots = seen_are law number L links well seen are in
-    both_none (missing_fault L seen) _ (no_missing number L links seen spots)
+    both_none (missing_fault L seen) _ (no_missing number L links none seen spots)
     (both_none (twice_fault demo_plan seen) _ (no_twice seen spots)
     (both_none (cell_fault demo_plan.pins seen) _ (cells_suit pin_lines seen chip_spots spots refl)
-    (both_none (name_fault L demo_plan) (prefix_fault L demo_plan) (no_name number L links) (no_prefix number L links))))
+    (both_none (name_fault L demo_plan) (prefix_fault L demo_plan) (no_name number L links none) (no_prefix number L links none))))
 
-pub plan_fits : DriverDrives → (number : ℕ) (L : LinkedView) → IsLinkOf (demo_module number) L → IsWellNamed L.names L.arena.lists → HasNoFitFault L
-plan_fits law number L links well = record {
-  named = λ place line there. (let stands = AreAll-right (StandsAt L) pin_lines chip_spots place line (lines_stand number L links) there in (stands.0.pin, stands.2.named));
-  faultless = faultless law number L links well;
+pub plan_fits : DriverDrives → (number : ℕ) (L : LinkedView) → IsLinkOf (demo_module number) L → HidesNone L → IsWellNamed L.names L.arena.lists → HasNoFitFault L
+plan_fits law number L links none well = record {
+  named = λ place line there. (let stands = AreAll-right (StandsAt L) pin_lines chip_spots place line (lines_stand number L links) there in (stands.0.pin, all_named L none line.port stands.0.pin stands.2.named));
+  faultless = faultless law number L links none well;
 }

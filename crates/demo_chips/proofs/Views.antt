@@ -14,10 +14,11 @@ use Rattle.link_model.specs.Nets.{NetDeclaration, width, declared_nets, nets_in,
 use Rattle.link_model.specs.Cells.{NamedCell}
 use Rattle.link_model.specs.Denoted.{NamedPort, IsPort, IsNet, IsName, IsCell, IsLive, ports_from, name_bytes, denoted}
 use Rattle.link_model.specs.Nets as nets
-use Rattle.netlist_link.specs.Linked.{LinkedView}
+use Rattle.netlist_link.specs.Linked.{LinkedView, HidesNone}
 use Rattle.netlist_link.specs.Links.{IsLinkOf}
 use Rattle.netlist_link.specs.PinWords.{pin_at}
 use Rattle.plan_fitting.specs.Names.{port_names, net_names, name_of_cell, cell_names, NamedBit, bits_of_port, named_bit, port_bits}
+use Rattle.plan_fitting.proofs.NoneHidden.{all_port_names, all_port_bits, all_net_names}
 use Rattle.demo_chips.specs.Netlists.{demo_ports, demo_module}
 use Rattle.demo_chips.specs.PlansLaws.{net_count}
 use Rattle.demo_chips.proofs.PlansLists.{same_listed, tests_flat, tests_mapped, tests_listed}
@@ -31,9 +32,10 @@ chip_ports = ports_from 0 demo_ports
 pub ports_are : (number : ℕ) (L : LinkedView) → IsLinkOf (demo_module number) L → AreAll (IsPort L.names) L.arena.lists.ports chip_ports
 ports_are number L links = links.denoted.ports
 
-pub port_names_are : (number : ℕ) (L : LinkedView) → IsLinkOf (demo_module number) L → port_names L ≡ codes "clk" ∷ codes "rn" ∷ codes "d" ∷ codes "q" ∷ []
-port_names_are number L links =
-    same_listed (IsPort L.names) (λ (p : PortView). name_bytes L.names p.name) (λ (p : NamedPort). p.name) (λ p named is. is.name) L.arena.lists.ports chip_ports (ports_are number L links)
+pub port_names_are : (number : ℕ) (L : LinkedView) → IsLinkOf (demo_module number) L → HidesNone L → port_names L ≡ codes "clk" ∷ codes "rn" ∷ codes "d" ∷ codes "q" ∷ []
+port_names_are number L links none =
+    all_port_names L none
+    ∙ same_listed (IsPort L.names) (λ (p : PortView). name_bytes L.names p.name) (λ (p : NamedPort). p.name) (λ p named is. is.name) L.arena.lists.ports chip_ports (ports_are number L links)
 
 four_counted : (table : List (List ℕ)) (ports : List PortView) (a b c d : NamedPort) → AreAll (IsPort table) ports (a ∷ b ∷ c ∷ d ∷ []) → bit_count ports ≡ length a.nets + length b.nets + length c.nets + length d.nets
 four_counted table [] a b c d are = absurd are
@@ -76,8 +78,8 @@ pins_of_ports L number (port ∷ ports) (p ∷ named) are =
     ∙ ap (λ (ns : List NetId). map (pin_at number) (counted_from 0 (length ns)) ++ map (λ (b : NamedBit). b.pin) (flat_map (bits_of_port L) (enumerate_from (number + 1) ports))) are.0.nets
     ∙ ap (λ (pins : List PinBit). map (pin_at number) (counted_from 0 (length p.nets)) ++ pins) (pins_of_ports L (number + 1) ports named are.1)
 
-pub pins_are : (number : ℕ) (L : LinkedView) → IsLinkOf (demo_module number) L → map (λ (b : NamedBit). b.pin) (port_bits L) ≡ pins_from 0 chip_ports
-pins_are number L links = pins_of_ports L 0 L.arena.lists.ports chip_ports (ports_are number L links)
+pub pins_are : (number : ℕ) (L : LinkedView) → IsLinkOf (demo_module number) L → HidesNone L → map (λ (b : NamedBit). b.pin) (port_bits L) ≡ pins_from 0 chip_ports
+pins_are number L links none = ap (map (λ (b : NamedBit). b.pin)) (all_port_bits L none) ∙ pins_of_ports L 0 L.arena.lists.ports chip_ports (ports_are number L links)
 
 -- Nets.
 
@@ -94,10 +96,10 @@ list_all-map_names : (ns : List nets.NamedNet) → list_all is_apart (map (λ (n
 list_all-map_names [] = refl
 list_all-map_names (n ∷ ns) = ap (λ (t : Bool). is_apart n.name && t) (list_all-map_names ns)
 
-pub net_names_apart : (number : ℕ) (L : LinkedView) → IsLinkOf (demo_module number) L → list_all is_apart (net_names L) ≡ true
-net_names_apart number L links =
+pub net_names_apart : (number : ℕ) (L : LinkedView) → IsLinkOf (demo_module number) L → HidesNone L → list_all is_apart (net_names L) ≡ true
+net_names_apart number L links none =
     let listed = same_listed (IsNet L.names) (λ (n : NetView). name_bytes L.names n.name) (λ (n : nets.NamedNet). n.name) (λ n named is. is.name) L.arena.lists.nets (nets_in (declared_nets (demo_module number))) links.denoted.nets in
-    ap (list_all is_apart) listed ∙ list_all-map_names (nets_in (declared_nets (demo_module number)))
+    ap (list_all is_apart) (all_net_names L none ∙ listed) ∙ list_all-map_names (nets_in (declared_nets (demo_module number)))
     ∙ nets_apart (declared_nets (demo_module number)) (refl, (refl, (refl, (refl, (refl, (refl, tt))))))
 
 abbrev widths : List NetDeclaration → ℕ

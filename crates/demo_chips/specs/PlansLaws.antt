@@ -6,7 +6,7 @@ use Rattle.verilog_tree.specs.Canonical.{canonical}
 use Rattle.netlist_model.specs.declared.PinBit.{PinBit}
 use Rattle.netlist_arena.specs.Arena.{bit_count}
 use Rattle.cell_library.specs.Sound.{IsLibrary}
-use Rattle.netlist_link.specs.Linked.{LinkedView}
+use Rattle.netlist_link.specs.Linked.{LinkedView, HidesNone}
 use Rattle.netlist_link.specs.Links.{IsLinkOf}
 use Rattle.plan_texts.specs.declared.plan.Plan.{Plan}
 use Rattle.plan_texts.specs.declared.plan.PinLine.{PinLine}
@@ -36,7 +36,7 @@ pub record HasNoFitFault (linked : LinkedView) : Type 0 where
   pub faultless : (seen : List PinSeen) → AreSeen linked demo_plan.pins seen → fault_with linked demo_plan seen ≡ None
 
 abbrev pub PlanFits : Type 0
-PlanFits = (number : ℕ) (linked : LinkedView) → IsTree (demo_module number) → IsLibrary linked.arena.lists.library → IsLinkOf (demo_module number) linked → HasNoFitFault linked
+PlanFits = (number : ℕ) (linked : LinkedView) → IsTree (demo_module number) → IsLibrary linked.arena.lists.library → IsLinkOf (demo_module number) linked → HidesNone linked → HasNoFitFault linked
 
 -- Counts.
 

@@ -1,4 +1,4 @@
-// The tool's edge: shelves of named texts, and sinks. It hands on the texts and lists of `texts`.
+// The tool's edge: shelves of named texts, and sinks.
 // Contracts cite specs/Shelf.antt: what a shelf holds and took to write, and when its count of faults rose.
 // Own: no chapter of a standard speaks of it.
 //

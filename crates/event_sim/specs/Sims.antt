@@ -11,6 +11,7 @@ use Rattle.netlist_meaning.specs.Sims.{MomentView}
 pub use Rattle.event_parts.specs.QueuesLaws.{IsEmpty, IsIn, Pops}
 use Rattle.event_laws.specs.Work.{IsAtRest}
 use Rattle.event_turns.specs.Circuits.{CircuitView}
+use Rattle.event_turns.specs.Events.{AwaitsEvent}
 use Rattle.event_sim.specs.Shown.{ArePlaces, place_at, shown_nets}
 
 -- own: whether it was started, the moment at which it is, and the places of shown bits that may read anew
@@ -49,3 +50,9 @@ pub record IsResting (N : NetlistView) (pins : List PinSig) (before values state
 -- own: nothing is queued
 abbrev pub IsNone : List ℕ → Type 0
 IsNone words = (number : ℕ) → IsIn words number → ⊥
+
+-- own: an event is awaited, what was before is what is, and no net is logged
+pub record IsBetweenEvents (c : CircuitView) (pins : List PinSig) (before values state : List Sig) (drives : List PinSig) (queue log : List ℕ) : Type 0 where
+  pub awaits : AwaitsEvent c pins values state drives queue log
+  pub same : before ≡ values
+  pub none : IsNone log

@@ -5,12 +5,12 @@ ghost use Rattle.signal_values.specs.declared.PinSig.{PinSig};
 ghost use Rattle.signal_values.specs.declared.Sig.{Sig};
 ghost use Rattle.netlist_model.specs.Lists.{CellView, cell_at, direction};
 ghost use Rattle.netlist_model.specs.Settled.{pin_rule, pin_value};
-ghost use Rattle.netlist_model.specs.Runs.{IsLegal, IsStep, pins_after};
+ghost use Rattle.netlist_model.specs.Runs.{IsLegal, pins_after};
 ghost use Rattle.netlist_settling.specs.Values.{value_at, pin_at};
-ghost use Rattle.event_laws.specs.Work.{IsAtRest, IsFrontier};
-ghost use Rattle.event_laws.specs.Counts.{touched_count};
+ghost use Rattle.event_laws.specs.Work.{IsFrontier};
 ghost use Rattle.event_parts.specs.QueuesLaws.{IsIn};
 ghost use Rattle.event_turns.specs.Circuits.{FitsCircuit, HasRun, HasTurn, IsGateIn, IsInRange, IsUnderWay, TakesValue, Wakes, event_from, place_of, turn_at};
+ghost use Rattle.event_turns.specs.Events.{AwaitsEvent, StepsBy};
 ghost use Rattle.event_turns.specs.Logs.{Logs, drives_with};
 
 use crate::circuit::{Circuit, Gate};
@@ -218,27 +218,16 @@ fn step_from<L: Ledger>(
 )
     requires legal { IsLegal circuit.now.lists (record { net = net.0; value = value }) }
     requires there { net.0 < length circuit.now.lists.nets }
-    requires pins { length pins.old ≡ length circuit.now.lists.nets }
     requires given { given ≡ pin_rule circuit.now.lists (pins_after (pin_at pins.old)
         (record { net = net.0; value = value })) (value_at values.old) net.0 }
     requires before { before.now ≡ values.old }
-    requires rest { IsAtRest circuit.now.lists (pin_at pins.old) (value_at values.old) (value_at state.old)
-        (pin_at drives.old) }
-    requires fits { FitsCircuit circuit.now values.old state.old drives.old queue.old }
-    requires log { length circuit.now.lists.nets ≤ 64 * length log.old }
-    requires empty { (turn : ℕ) → IsIn queue.old turn → ⊥ }
+    requires awaits { AwaitsEvent circuit.now pins.old values.old state.old drives.old queue.old
+        log.old }
     requires frontier { IsFrontier circuit.now.lists (turn_at circuit.now.turns) net.0 first }
-    ensures step { IsStep circuit.now.lists (record { net = net.0; value = value })
-        (record { pins = pin_at pins.old; state = value_at state.old; value = value_at values.old })
-        (record { pins = pin_at pins.new; state = value_at state.new; value = value_at values.new }) }
-    ensures rest { IsAtRest circuit.now.lists (pin_at pins.new) (value_at values.new) (value_at state.new)
-        (pin_at drives.new) }
-    ensures fits { FitsCircuit circuit.now values.new state.new drives.new queue.new }
-    ensures pins { length pins.new ≡ length pins.old }
-    ensures state { length state.new ≡ length state.old }
-    ensures empty { (turn : ℕ) → IsIn queue.new turn → ⊥ }
-    ensures few { steps.new ≤ steps.old + touched_count circuit.now.lists (value_at values.old)
-        (value_at values.new) }
+    ensures stepped { StepsBy circuit.now.lists (record { net = net.0; value = value })
+        pins.old pins.new values.old values.new state.old state.new steps.old steps.new }
+    ensures awaits { AwaitsEvent circuit.now pins.new values.new state.new drives.new queue.new
+        log.new }
     ensures logs { Logs (length circuit.now.lists.nets) values.old values.new drives.old drives.new
         log.old log.new }
     ensures own { IsIn log.new net.0 }
@@ -268,24 +257,13 @@ pub fn step<L: Ledger>(
 )
     requires legal { IsLegal circuit.now.lists (record { net = net.0; value = value }) }
     requires there { net.0 < length circuit.now.lists.nets }
-    requires pins { length pins.old ≡ length circuit.now.lists.nets }
     requires before { before.now ≡ values.old }
-    requires rest { IsAtRest circuit.now.lists (pin_at pins.old) (value_at values.old) (value_at state.old)
-        (pin_at drives.old) }
-    requires fits { FitsCircuit circuit.now values.old state.old drives.old queue.old }
-    requires log { length circuit.now.lists.nets ≤ 64 * length log.old }
-    requires empty { (turn : ℕ) → IsIn queue.old turn → ⊥ }
-    ensures step { IsStep circuit.now.lists (record { net = net.0; value = value })
-        (record { pins = pin_at pins.old; state = value_at state.old; value = value_at values.old })
-        (record { pins = pin_at pins.new; state = value_at state.new; value = value_at values.new }) }
-    ensures rest { IsAtRest circuit.now.lists (pin_at pins.new) (value_at values.new) (value_at state.new)
-        (pin_at drives.new) }
-    ensures fits { FitsCircuit circuit.now values.new state.new drives.new queue.new }
-    ensures pins { length pins.new ≡ length pins.old }
-    ensures state { length state.new ≡ length state.old }
-    ensures empty { (turn : ℕ) → IsIn queue.new turn → ⊥ }
-    ensures few { steps.new ≤ steps.old + touched_count circuit.now.lists (value_at values.old)
-        (value_at values.new) }
+    requires awaits { AwaitsEvent circuit.now pins.old values.old state.old drives.old queue.old
+        log.old }
+    ensures stepped { StepsBy circuit.now.lists (record { net = net.0; value = value })
+        pins.old pins.new values.old values.new state.old state.new steps.old steps.new }
+    ensures awaits { AwaitsEvent circuit.now pins.new values.new state.new drives.new queue.new
+        log.new }
     ensures logs { Logs (length circuit.now.lists.nets) values.old values.new drives.old drives.new
         log.old log.new }
     ensures own { IsIn log.new net.0 }

@@ -6,7 +6,7 @@ use Rattle.cell_text.specs.Laws as libraries
 use Rattle.insert_command.specs.Tasks.{HaveFault, AreInsertable}
 use Rattle.verilog_tree.specs.declared.tree.Module.{Module}
 use Rattle.cell_library.specs.declared.listed.ListedCell.{ListedCell}
-use Rattle.netlist_link.specs.Linked.{LinkedView}
+use Rattle.netlist_link.specs.Linked.{LinkedView, HidesNone}
 use Rattle.netlist_link.specs.Links.{IsLinkOf}
 use Rattle.netlist_link.specs.Laws.{FaultsForbidLinks}
 use Rattle.plan_texts.specs.declared.plan.Plan.{Plan}
@@ -59,9 +59,9 @@ fit_memory linked p (fit.PrefixTaken word) free bad = absurd (has_fault linked p
 fit_memory linked p fit.OutOfMemory free bad = refl
 
 -- a plan that is spelled beside the free one is that
-same_free : SpelledOnce → (library : List ListedCell) (net text : List ℕ) (linked : LinkedView) (m : Module) (p : Plan) → (ok : IsInsertable library net text) → ok.tree ≡ m → linked.arena.lists.library ≡ library → IsLinkOf m linked → SpellsPlan text p → HasNoFault linked p
-same_free once library net text linked m p ok same is links spells =
-    subst (λ (q : Plan). HasNoFault linked q) (once text ok.plan p ok.spells_plan spells) (ok.free linked is (subst (λ (t : Module). IsLinkOf t linked) (sym same) links))
+same_free : SpelledOnce → (library : List ListedCell) (net text : List ℕ) (linked : LinkedView) (m : Module) (p : Plan) → (ok : IsInsertable library net text) → ok.tree ≡ m → linked.arena.lists.library ≡ library → IsLinkOf m linked → HidesNone linked → SpellsPlan text p → HasNoFault linked p
+same_free once library net text linked m p ok same is links hides spells =
+    subst (λ (q : Plan). HasNoFault linked q) (once text ok.plan p ok.spells_plan spells) (ok.free linked is (subst (λ (t : Module). IsLinkOf t linked) (sym same) links) hides)
 
 -- Both texts.
 
@@ -70,10 +70,10 @@ inputs_memory laws library net text (insert.Netlist f) ok stands = text_memory n
 inputs_memory laws library net text (insert.Link f) ok stands = has_link_memory laws.links library net ok.tree f ok.spells ok.linkable stands
 inputs_memory laws library net text (insert.Plan f) ok stands = plan_memory laws.faultless text ok.plan f ok.spells_plan stands.stands
 inputs_memory laws library net text (insert.Fit f) ok h =
-    let free = same_free laws.once library net text h.linked h.netlist.tree h.stands.plan ok (h.netlist.only ok.tree ok.spells) h.netlist.library_is h.netlist.links h.stands.spells in
+    let free = same_free laws.once library net text h.linked h.netlist.tree h.stands.plan ok (h.netlist.only ok.tree ok.spells) h.netlist.library_is h.netlist.links h.netlist.hides h.stands.spells in
     fit_memory h.linked h.stands.plan f free h.stands.stands
 inputs_memory laws library net text (insert.TooMany what count limit) ok h =
-    let free = same_free laws.once library net text h.linked h.netlist.tree h.stands.plan ok (h.netlist.only ok.tree ok.spells) h.netlist.library_is h.netlist.links h.stands.spells in
+    let free = same_free laws.once library net text h.linked h.netlist.tree h.stands.plan ok (h.netlist.only ok.tree ok.spells) h.netlist.library_is h.netlist.links h.netlist.hides h.stands.spells in
     let bad = h.stands.stands in
     none_some (sym (free.room bad.fitted bad.is) ∙ bad.passes)
 inputs_memory laws library net text insert.OutOfMemory ok stands = refl

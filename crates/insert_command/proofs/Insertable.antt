@@ -14,7 +14,7 @@ use Rattle.netlist_arena.specs.declared.room.ReserveFault.{ReserveFault}
 use Rattle.netlist_arena.specs.declared.room.ReserveFault.TheVariants as reserve
 use Rattle.netlist_arena.specs.Arena.{bit_count}
 use Rattle.netlist_arena.specs.Room.{excess_of, too_many}
-use Rattle.netlist_link.specs.Linked.{LinkedView}
+use Rattle.netlist_link.specs.Linked.{LinkedView, HidesNone}
 use Rattle.netlist_link.specs.Links.{IsLinkOf}
 use Rattle.plan_fitting.specs.declared.fitted.Fitted.{Fitted}
 use Rattle.plan_fitting.specs.Rows.{rows}
@@ -55,10 +55,10 @@ room_of_chip number L low cells counted f is = subst (HasRoomFor L) (sym is.is) 
     (omega (arith, rows_are, cells, low)) (omega (arith, rows_are, nets, low)) (omega (arith, bits))
     )
 
-free : Laws → (number : ℕ) (L : LinkedView) → number < 10000 → IsTree (demo_module number) → IsLibrary L.arena.lists.library → IsLinkOf (demo_module number) L
+free : Laws → (number : ℕ) (L : LinkedView) → number < 10000 → IsTree (demo_module number) → IsLibrary L.arena.lists.library → IsLinkOf (demo_module number) L → HidesNone L
     → HasNoFault L demo_plan
-free laws number L low tree listed links =
-    let fits = laws.fits number L tree listed links in
+free laws number L low tree listed links hides =
+    let fits = laws.fits number L tree listed links hides in
     record { named = fits.named; faultless = fits.faultless; room = λ f is. room_of_chip number L low (laws.cells number L links) (laws.counted number L tree listed links) f is }
 
 -- no cells make a library
@@ -79,5 +79,5 @@ texts_are_insertable laws number low tree linkable = record {
   linkable = linkable;
   plan = demo_plan;
   spells_plan = laws.spelled;
-  free = λ linked is links. free laws number linked low tree (subst IsLibrary (sym is) no_library) links;
+  free = λ linked is links hides. free laws number linked low tree (subst IsLibrary (sym is) no_library) links hides;
 }

@@ -5,7 +5,7 @@ use Rattle.command_edges.proofs.Memory.{text_memory, has_link_memory, library_me
 use Rattle.cell_text.specs.Laws as libraries
 use Rattle.cell_library.specs.declared.listed.ListedCell.{ListedCell}
 use Rattle.verilog_tree.specs.declared.tree.Module.{Module}
-use Rattle.netlist_link.specs.Linked.{LinkedView}
+use Rattle.netlist_link.specs.Linked.{LinkedView, HidesNone}
 use Rattle.netlist_link.specs.Links.{IsLinkOf}
 use Rattle.netlist_link.specs.Laws.{FaultsForbidLinks}
 use Rattle.plan_texts.specs.declared.plan.Plan.{Plan}
@@ -70,9 +70,9 @@ registers_memory laws linked p lines asked line.OutOfMemory spells free bad = re
 
 -- a plan that is spelled beside the free one is that
 same_free : SpelledOnce → (library : List ListedCell) (net text lines : List ℕ) (linked : LinkedView) (m : Module) (p : Plan) → (ok : IsInsertable library net text lines) → ok.tree ≡ m
-    → linked.arena.lists.library ≡ library → IsLinkOf m linked → SpellsPlan text p → HasNoFault linked p ok.asked
-same_free once library net text lines linked m p ok same is links spells =
-    subst (λ (q : Plan). HasNoFault linked q ok.asked) (once text ok.plan p ok.spells_plan spells) (ok.free linked is (subst (λ (t : Module). IsLinkOf t linked) (sym same) links))
+    → linked.arena.lists.library ≡ library → IsLinkOf m linked → HidesNone linked → SpellsPlan text p → HasNoFault linked p ok.asked
+same_free once library net text lines linked m p ok same is links hides spells =
+    subst (λ (q : Plan). HasNoFault linked q ok.asked) (once text ok.plan p ok.spells_plan spells) (ok.free linked is (subst (λ (t : Module). IsLinkOf t linked) (sym same) links) hides)
 
 -- All texts.
 
@@ -82,15 +82,15 @@ inputs_memory laws library net text lines (fault.Insert (insert.Netlist f)) ok s
 inputs_memory laws library net text lines (fault.Insert (insert.Link f)) ok stands = has_link_memory laws.links library net ok.tree f ok.spells ok.linkable stands
 inputs_memory laws library net text lines (fault.Insert (insert.Plan f)) ok h = plan_memory laws.faultless text ok.plan f ok.spells_plan h.stands
 inputs_memory laws library net text lines (fault.Insert (insert.Fit f)) ok h =
-    let free = same_free laws.once library net text lines h.linked h.netlist.tree h.stands.plan ok (h.netlist.only ok.tree ok.spells) h.netlist.library_is h.netlist.links h.stands.spells in
+    let free = same_free laws.once library net text lines h.linked h.netlist.tree h.stands.plan ok (h.netlist.only ok.tree ok.spells) h.netlist.library_is h.netlist.links h.netlist.hides h.stands.spells in
     fit_memory h.linked h.stands.plan ok.asked f free h.stands.stands
 inputs_memory laws library net text lines (fault.Insert (insert.TooMany what count limit)) ok h =
-    let free = same_free laws.once library net text lines h.linked h.netlist.tree h.stands.plan ok (h.netlist.only ok.tree ok.spells) h.netlist.library_is h.netlist.links h.stands.spells in
+    let free = same_free laws.once library net text lines h.linked h.netlist.tree h.stands.plan ok (h.netlist.only ok.tree ok.spells) h.netlist.library_is h.netlist.links h.netlist.hides h.stands.spells in
     let mine = subst (λ (a : StatusPlan). HasNoFault h.linked h.stands.plan a) (laws.registers_once lines ok.asked h.stands.registers_are.asked ok.spells_registers h.stands.registers_are.spells) free in
     none_some (sym (mine.room h.stands.fitted h.stands.status h.stands.is h.stands.registers_are.fitted) ∙ h.stands.passes)
 inputs_memory laws library net text lines (fault.Insert insert.OutOfMemory) ok stands = refl
 inputs_memory laws library net text lines (fault.Registers f) ok h =
-    let free = same_free laws.once library net text lines h.linked h.netlist.tree h.stands.plan ok (h.netlist.only ok.tree ok.spells) h.netlist.library_is h.netlist.links h.stands.spells in
+    let free = same_free laws.once library net text lines h.linked h.netlist.tree h.stands.plan ok (h.netlist.only ok.tree ok.spells) h.netlist.library_is h.netlist.links h.netlist.hides h.stands.spells in
     registers_memory laws h.linked h.stands.plan lines ok.asked f ok.spells_registers free h.stands.stands
 
 pub free_memory : Laws → FreeStatusTextsWantMemory

@@ -5,7 +5,7 @@ use Rattle.verilog_tree.specs.Texts.{SpellsText}
 use Rattle.cell_library.specs.declared.listed.ListedCell.{ListedCell}
 use Rattle.link_model.specs.Late.{IsLinkable}
 use Rattle.netlist_model.specs.declared.PinBit.{PinBit}
-use Rattle.netlist_link.specs.Linked.{LinkedView}
+use Rattle.netlist_link.specs.Linked.{LinkedView, HidesNone}
 use Rattle.netlist_link.specs.Links.{IsLinkOf}
 use Rattle.plan_texts.specs.declared.plan.Plan.{Plan}
 use Rattle.plan_texts.specs.declared.plan.PinLine.{PinLine}
@@ -37,7 +37,7 @@ pub record IsInsertable (library : List ListedCell) (net text : List ℕ) : Type
   pub linkable : IsLinkable library tree
   pub plan : Plan
   pub spells_plan : SpellsPlan text plan
-  pub free : (linked : LinkedView) → linked.arena.lists.library ≡ library → IsLinkOf tree linked → HasNoFault linked plan
+  pub free : (linked : LinkedView) → linked.arena.lists.library ≡ library → IsLinkOf tree linked → HidesNone linked → HasNoFault linked plan
 
 -- a fault of such texts is want of memory
 abbrev pub FreeTextsWantMemory : Type 0

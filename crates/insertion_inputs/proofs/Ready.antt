@@ -14,7 +14,7 @@ use Rattle.netlist_arena.specs.Room.{too_many}
 use Rattle.netlist_arena.specs.declared.room.ReserveFault.{ReserveFault}
 use Rattle.netlist_model.specs.Ports.{BitHasDirection}
 use Rattle.netlist_model.specs.Drivers.{DriverIsFound}
-use Rattle.netlist_link.specs.Linked.{LinkedView}
+use Rattle.netlist_link.specs.Linked.{LinkedView, own_ports}
 use Rattle.plan_texts.specs.declared.plan.Plan.{Plan}
 use Rattle.plan_texts.specs.Canonical.{IsPlan}
 use Rattle.plan_fitting.specs.declared.fitted.Fitted.{Fitted}
@@ -29,6 +29,7 @@ use Rattle.scan_stitch.specs.written_netlists.Prepared.{room_of, ports_of, prepa
 use Rattle.bsdl_device.specs.IsDevice.{IsDevice}
 use Rattle.plan_fitting.proofs.DevicesFacts.{facts_of}
 use Rattle.plan_fitting.proofs.DeviceIs.{rows_within}
+use Rattle.plan_fitting.proofs.OwnPorts.{own_few, own_bits_few}
 use Rattle.scan_stitch.proofs.written_netlists.NamesLimits.{few_bits}
 use Rattle.insertion_inputs.specs.Inputs.{IsLinkedTree, IsReadyAs, IsPreparedAs, HasRoomFor}
 use Rattle.insertion_inputs.specs.Reserves.{reserve_fault}
@@ -81,8 +82,9 @@ few_ports : Laws → (L : LinkedView) (p : Plan) (f : Fitted) → IsLinkedTree L
 few_ports laws L p f linked plan is =
     let bits : bit_count L.arena.lists.ports ≤ 4096 = bits_few linked.tree L linked.links in
     let within : length L.arena.lists.ports ≤ bit_count L.arena.lists.ports = ports_within L.arena.lists.ports (fitting_of laws.fitting L p f linked plan is).wide in
-    let same : length f.ports ≡ length L.arena.lists.ports =
-    ap (λ (g : Fitted). length g.ports) is.is ∙ length-map (enumerate_from 0 L.arena.lists.ports) (fit_port L p is.seen) ∙ enumerated 0 L.arena.lists.ports in
+    let own : length (own_ports L) ≤ length L.arena.lists.ports = own_few L in
+    let same : length f.ports ≡ length (own_ports L) =
+    ap (λ (g : Fitted). length g.ports) is.is ∙ length-map (enumerate_from 0 (own_ports L)) (fit_port L p is.seen) ∙ enumerated 0 (own_ports L) in
     omega arith
 
 -- Names.
@@ -113,6 +115,7 @@ device_there : FittedIsFitting → PlansMakeDevices → (L : LinkedView) (p : Pl
 device_there fitting make L p f linked plan is room =
     let bits : bit_count L.arena.lists.ports + ports_of f ≤ 4096 = few_bits L.arena.lists (room_of f) (room_of f) (ports_of f) room in
     let lines : length f.linkage ≡ length p.linkage = ap (λ (g : Fitted). length g.linkage) is.is in
+    let own : bit_count (own_ports L) ≤ bit_count L.arena.lists.ports = own_bits_few L in
     let limit : HasRoom L p = omega arith in
     make L p is.seen (fitting_of fitting L p f linked plan is) limit
 

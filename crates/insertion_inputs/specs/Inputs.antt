@@ -7,7 +7,7 @@ use Rattle.verilog_tree.specs.IsTree.{IsTree}
 use Rattle.cell_library.specs.declared.listed.ListedCell.{ListedCell}
 use Rattle.cell_library.specs.Sound.{IsLibrary}
 use Rattle.netlist_arena.specs.Room.{too_many}
-use Rattle.netlist_link.specs.Linked.{LinkedView}
+use Rattle.netlist_link.specs.Linked.{LinkedView, HidesNone}
 use Rattle.netlist_link.specs.Links.{IsLinkOf}
 use Rattle.plan_texts.specs.declared.plan.Plan.{Plan}
 use Rattle.plan_texts.specs.Grammar.{SpellsPlan}
@@ -18,7 +18,7 @@ use Rattle.bsdl_device.specs.IsDevice.{IsDevice}
 use Rattle.scan_stitch.specs.written_netlists.Prepared.{room_of, ports_of, prepared}
 use Rattle.scan_stitch.specs.Ready.{IsSmall, HasTapNames, AreBitsInRange}
 
--- The bytes spell one tree, which is linked with this library to this netlist.
+-- The bytes spell one tree, which is linked with this library to this netlist. It hides nothing.
 pub record IsNetlistOf (library : List ListedCell) (net : List ℕ) (linked : LinkedView) : Type 0 where
   pub tree : Module
   pub spells : SpellsText net tree
@@ -27,13 +27,15 @@ pub record IsNetlistOf (library : List ListedCell) (net : List ℕ) (linked : Li
   pub listed : IsLibrary library
   pub library_is : linked.arena.lists.library ≡ library
   pub links : IsLinkOf tree linked
+  pub hides : HidesNone linked
 
--- own: some tree is linked to the netlist
+-- own: some tree is linked to the netlist, which hides nothing
 pub record IsLinkedTree (linked : LinkedView) : Type 0 where
   pub tree : Module
   pub is : IsTree tree
   pub listed : IsLibrary linked.arena.lists.library
   pub links : IsLinkOf tree linked
+  pub hides : HidesNone linked
 
 -- own: present and asked, nothing passes a limit
 abbrev pub HasRoomFor : LinkedView → Fitted → Type 0

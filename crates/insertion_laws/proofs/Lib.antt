@@ -1,4 +1,5 @@
 mod Chips
+pub mod Marks
 mod Ports
 mod Stripped
 mod Together

@@ -3,6 +3,7 @@ use Rattle.std.proofs.Common.{refl, sym, subst, ◌∙◌}
 use Rattle.cell_library.specs.Sound.{IsLibrary}
 use Rattle.verilog_tree.specs.Conditions.{SpelledTreesKeepConditions}
 use Rattle.plan_fitting.specs.Devices.{device_of}
+use Rattle.plan_fitting.proofs.NoneHidden.{none_straight, none_ends, none_open}
 use Rattle.strip_model.specs.RecoveryLaw.{OneNetlistGives}
 use Rattle.strip_model.specs.Answer.{RecoveredGives}
 use Rattle.insertion_laws.specs.Laws.{InsertionGives, InsertionIsStripped, InsertionComesBack}
@@ -12,6 +13,9 @@ insertion library net plan verilog bsdl report i = record {
   is = i.can_be_written;
   listed = subst IsLibrary (sym i.is.library_is) i.is.listed;
   links = i.is.links;
+  straight = none_straight i.is.linked i.is.hides;
+  ends = none_ends i.is.linked i.is.hides;
+  open_names = none_open i.is.linked i.is.hides;
   plan = (plan, i.is.spells_plan);
   at = record {
     fits = i.is.fits;

@@ -22,7 +22,8 @@ ghost use Rattle.insertion_laws.specs.ChecksLaws.{TextsAgree, ProgramsAreLegalTh
 use bsdl_device::round_trip::spelled_devices_keep_the_conditions;
 use bsdl_values::spells_one_device;
 use netlist_link::{link_view_is_formed, link_view_is_named, link_views_agree};
-use plan_fitting::devices::{devices_have_ports, plans_suit_netlists};
+use netlist_model::laws::direction_of_a_bit;
+use plan_fitting::devices::{devices_have_ports, hidden_bits_have_none, plans_suit_netlists};
 use program_runs::plans_stand_around;
 use program_runs::scripts::{programs_are_legal, scripts_are_met};
 use scan_vectors::texts_of_events_are_spelled_or_at_fault;
@@ -35,10 +36,12 @@ use wrapped_chip::copies::same_realises;
 pub fn netlists_have_chips()
     ensures { NetlistsHaveChips }
 {
+    direction_of_a_bit();
     link_view_is_named();
     link_view_is_formed();
     plans_suit_netlists();
     devices_have_ports();
+    hidden_bits_have_none();
     plans_stand_around();
     same_realises();
 }
@@ -52,6 +55,7 @@ pub fn program_texts_spell_programs()
 pub fn texts_have_chips()
     ensures { TextsHaveChips }
 {
+    direction_of_a_bit();
     spelled_trees_keep_the_conditions();
     spelled_devices_keep_the_conditions();
     bytes_spell_one_tree();
@@ -61,6 +65,7 @@ pub fn texts_have_chips()
     link_view_is_formed();
     plans_suit_netlists();
     devices_have_ports();
+    hidden_bits_have_none();
     plans_stand_around();
     same_realises();
 }

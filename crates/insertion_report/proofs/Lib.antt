@@ -1,1 +1,2 @@
+pub mod OwnBits
 mod Words

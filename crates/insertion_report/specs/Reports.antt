@@ -1,11 +1,17 @@
 -- The report of an insertion: the entity, the bits of the ports, the cells of the core, the instructions and
 -- the registers. Own.
-use Rattle.std.specs.Prelude.{ℕ, List, [], ◌∷◌, ◌++◌, map, length, codes, Option, Some, None}
+use Rattle.std.specs.Prelude.{ℕ, ◌-◌, List, [], ◌∷◌, ◌++◌, map, length, codes, Option, Some, None}
 use Rattle.std.specs.Fmt.{decimal}
 use Rattle.output_lines.specs.Lines.{words_line}
 use Rattle.cell_library.specs.declared.codes.Opcode.{Opcode}
+use Rattle.netlist_arena.specs.Arena.{bit_count}
+use Rattle.netlist_link.specs.Linked.{LinkedView, hidden_ports}
 use Rattle.bsdl_device.specs.declared.values.Device.{Device}
 use Rattle.bsdl_device.specs.Instructions.{instruction_word}
+
+-- the bits of the ports that aren't hidden
+abbrev pub own_bits : LinkedView → ℕ
+own_bits L = bit_count L.arena.lists.ports - bit_count (hidden_ports L)
 
 -- the name of an opcode's instruction
 abbrev pub name_of : Opcode → List ℕ

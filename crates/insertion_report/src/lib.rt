@@ -3,7 +3,7 @@
 // Own: no chapter of a standard speaks of it.
 //
 // - `report` gives exactly the lines `entity`, `pins`, `kept`, `instructions` and `registers` on the device, with
-//   the count of the netlist's port bits and of the core's cells.
+//   the count of the netlist's port bits, but for hidden ones, and of the core's cells.
 // By the contract of `report`.
 #![tactic(auto)]
 

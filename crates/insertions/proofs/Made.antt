@@ -14,7 +14,7 @@ use Rattle.netlist_model.specs.Lists.{PortView, cell_count}
 use Rattle.netlist_model.specs.Formed.{IsLaidOut}
 use Rattle.netlist_arena.specs.Arena.{bit_count}
 use Rattle.netlist_arena.specs.Room.{too_many}
-use Rattle.netlist_link.specs.Linked.{LinkedView}
+use Rattle.netlist_link.specs.Linked.{LinkedView, HidesNone}
 use Rattle.netlist_link.specs.Links.{IsLinkOf}
 use Rattle.netlist_unlink.specs.Prefixes.{IsFreePrefix}
 use Rattle.netlist_unlink.specs.Trees.{tree_of}
@@ -63,7 +63,7 @@ pub listed_of : (library : List ListedCell) (net : List ℕ) (linked : LinkedVie
 listed_of library net linked is = subst IsLibrary (sym is.library_is) is.listed
 
 pub linked_tree : (library : List ListedCell) (net : List ℕ) (linked : LinkedView) → IsNetlistOf library net linked → IsLinkedTree linked
-linked_tree library net linked is = record { tree = is.tree; is = is.is; listed = listed_of library net linked is; links = is.links }
+linked_tree library net linked is = record { tree = is.tree; is = is.is; listed = listed_of library net linked is; links = is.links; hides = is.hides }
 
 abbrev pub stitching : (library : List ListedCell) (net text : List ℕ) (before readied after : LinkedView) (p : Plan) (f : Fitted) (d : Device) → (is : IsNetlistOf library net before) → IsLaidOut before.arena.lists
     → IsFittingAs text before p f d readied → IsStitchedOf before f after → IsStitching is.tree before p f after
@@ -124,6 +124,27 @@ free_prefix law library net text before readied after p f d is laid made built =
 pub device_kept : (text : List ℕ) (before readied : LinkedView) (p : Plan) (f : Fitted) (d : Device) → IsFittingAs text before p f d readied → IsDevice d
 device_kept text before readied p f d made = subst IsDevice (sym made.device_is) made.prepares.device
 
+-- The written netlist.
+
+-- the same netlist, in which nothing is marked as hidden
+abbrev unmarked : LinkedView → LinkedView
+unmarked L = record {
+  arena = L.arena;
+  names = L.names;
+  module_name = L.module_name;
+  order = L.order;
+  room = L.room;
+  straight = record { first = length L.arena.lists.ports; count = 0 };
+  inner = 0;
+  rails = [];
+}
+
+unmarked_links : (m : Module) (L : LinkedView) → IsLinkOf m L → IsLinkOf m (unmarked L)
+unmarked_links m L links = record { linkable = links.linkable; denoted = links.denoted; names = links.names; title = links.title; dense = links.dense }
+
+unmarked_hides : (L : LinkedView) → HidesNone (unmarked L)
+unmarked_hides L = record { straight = refl; inner = refl; rails = refl }
+
 -- The whole.
 
 -- what it tells
@@ -140,13 +161,14 @@ insertion_does : SpelledOnce → StitchedIsWritten → WrittenRealises → Writt
     → IsInsertion library net text verilog bsdl
 insertion_does once law realise single steer find stay library net text verilog bsdl before after p f d is s laid_after spelled device_is out device =
     let w : WritesStitched before p out.tree = law is.tree before p f after s out.tree out.is out.writes in
-    written_made once realise single steer find stay library net text verilog bsdl before after p f d is s laid_after spelled device_is out device w w.linked.0 w.linked.1 w.linked.2
+    written_made once realise single steer find stay library net text verilog bsdl before after p f d is s laid_after spelled device_is out device w (unmarked w.linked.0) w.linked.1
+    (unmarked_links out.tree w.linked.0 w.linked.2) (unmarked_hides w.linked.0)
   where
     written_made : SpelledOnce → WrittenRealises → WrittenIsAlone → WrittenHasControls → WrittenFindsHome → WrittenIsAloneFromHome → (library : List ListedCell) (net text verilog bsdl : List ℕ) (before after : LinkedView) (p : Plan) (f : Fitted) (d : Device) → (is : IsNetlistOf library net before)
         → (s : IsStitching is.tree before p f after) → IsLaidOut after.arena.lists → SpellsPlan text p → d ≡ device_of before p s.fits.seen → (out : IsNetlistText after p.prefix verilog) → IsDeviceText d bsdl
         → WritesStitched before p out.tree → (written : LinkedView)
-        → written.arena.lists.library ≡ before.arena.lists.library → IsLinkOf out.tree written → IsInsertion library net text verilog bsdl
-    written_made once realise single steer find stay library net text verilog bsdl before after p f d is s laid_after spelled device_is out device w written same links =
+        → written.arena.lists.library ≡ before.arena.lists.library → IsLinkOf out.tree written → HidesNone written → IsInsertion library net text verilog bsdl
+    written_made once realise single steer find stay library net text verilog bsdl before after p f d is s laid_after spelled device_is out device w written same links hides =
         record {
           tree = is.tree;
           spells = is.spells;
@@ -155,6 +177,7 @@ insertion_does once law realise single steer find stay library net text verilog 
           listed = is.listed;
           library_is = is.library_is;
           links = is.links;
+          hides = is.hides;
           wanted = p;
           spells_plan = spelled;
           only_plan = λ other spells. once text other p spells spelled;
@@ -165,6 +188,7 @@ insertion_does once law realise single steer find stay library net text verilog 
           written = written;
           written_library = same ∙ is.library_is;
           links_written = links;
+          written_hides = hides;
           one = λ other other_same other_links. w.one written other same (other_same ∙ sym is.library_is) links other_links;
           keeps = w.keeps written same links;
           spells_device = subst (λ (e : Device). SpellsDeviceText bsdl e) device_is device.spells;

@@ -15,7 +15,7 @@ use Rattle.netlist_model.specs.Lists.{cell_count}
 use Rattle.netlist_model.specs.Formed.{IsLaidOut}
 use Rattle.netlist_arena.specs.Arena.{bit_count}
 use Rattle.netlist_arena.specs.Room.{too_many}
-use Rattle.netlist_link.specs.Linked.{LinkedView}
+use Rattle.netlist_link.specs.Linked.{LinkedView, HidesNone}
 use Rattle.netlist_link.specs.Links.{IsLinkOf}
 use Rattle.netlist_link.specs.ViewLaws.{IsSameView}
 use Rattle.netlist_unlink.specs.Trees.{tree_of}
@@ -58,7 +58,7 @@ pub record IsDeviceText (device : Device) (text : List ℕ) : Type 0 where
 -- same library, and that keeps the first one's ports and cells, with the test access port. The BSDL text spells the
 -- plan's device alone. The written netlist behaves as the first one wrapped in that device's test logic, and as the
 -- first one alone while a transparent instruction is in effect; its control ports are the first one's, TCK and TRST.
--- Five ones on TMS lead it there from whatever its test logic holds.
+-- Five ones on TMS lead it there from whatever its test logic holds. No port of either netlist is hidden.
 pub record IsInsertion (library : List ListedCell) (net plan verilog bsdl : List ℕ) : Type 0 where
   pub tree : Module
   pub spells : SpellsText net tree
@@ -67,6 +67,7 @@ pub record IsInsertion (library : List ListedCell) (net plan verilog bsdl : List
   pub listed : IsLibrary library
   pub library_is : linked.arena.lists.library ≡ library
   pub links : IsLinkOf tree linked
+  pub hides : HidesNone linked
   pub wanted : Plan
   pub spells_plan : SpellsPlan plan wanted
   pub only_plan : (other : Plan) → SpellsPlan plan other → other ≡ wanted
@@ -77,6 +78,7 @@ pub record IsInsertion (library : List ListedCell) (net plan verilog bsdl : List
   pub written : LinkedView
   pub written_library : written.arena.lists.library ≡ library
   pub links_written : IsLinkOf written_tree written
+  pub written_hides : HidesNone written
   pub one : (other : LinkedView) → other.arena.lists.library ≡ library → IsLinkOf written_tree other → IsSameView written other
   pub keeps : Keeps written.arena.lists linked.arena.lists (spelt written.names) (spelt linked.names) (tap_of wanted)
   pub spells_device : SpellsDeviceText bsdl (device_of linked wanted fits.seen)

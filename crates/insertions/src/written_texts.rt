@@ -44,7 +44,7 @@ fn device_text(alloc: Global, device: &Device) -> Result<Text, OutOfMemory>
     print_device(alloc, device)
 }
 
-/// The texts of a netlist with its test logic, of its device, and the report.
+/// The texts of a netlist with its test logic, of its device, and the report. No port of the netlist is hidden.
 pub fn write_texts(
     alloc: Global,
     linked: &Linked,
@@ -52,6 +52,7 @@ pub fn write_texts(
 ) -> Result<Inserted, OutOfMemory>
     requires prefix { IsFreePrefix linked.now fitting.now.plan.prefix }
     requires device { IsDevice fitting.now.device }
+    requires open { linked.now.straight.count ≡ 0 }
     ensures netlist { IfOk result (λ made. IsNetlistText linked.now fitting.now.plan.prefix
         made.verilog) }
     ensures bsdl { IfOk result (λ made. IsDeviceText fitting.now.device made.bsdl) }

@@ -1,4 +1,5 @@
--- Link views of a tree: where it can be linked there is one, and all are the same but for spare room, walks and order.
+-- Link views of a tree: where it can be linked there is one, and all are the same but for spare room, walks, order, and
+-- what is marked in them.
 -- IEEE Std 1364-2001: hierarchical structures, data types; that a tree has one netlist is own.
 use Rattle.std.specs.Prelude.{◌≡◌, ℕ, List}
 use Rattle.cell_library.specs.declared.listed.ListedCell.{ListedCell}

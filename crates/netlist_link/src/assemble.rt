@@ -2,12 +2,14 @@ ghost use Rattle.std.specs.Prelude.{◌≡◌, IfOk};
 ghost use Rattle.netlist_model.specs.Formed.{IsWellFormed};
 ghost use Rattle.netlist_model.specs.Orders.{IsCellOrder};
 ghost use Rattle.link_arena.specs.cell_order.Tables.{FitsRoom};
+ghost use Rattle.netlist_link.specs.Linked.{HidesNone};
 ghost use Rattle.netlist_link.specs.Links.{IsLinkOf};
 ghost use Rattle.netlist_link.specs.Steps.{IsBuilt, IsSound};
 ghost use Rattle.netlist_link.specs.WellNamed.{IsWellNamed};
 
 use crate::linked::Linked;
 use crate::port_names::ports_by_name;
+use crate::straight::Straight;
 use link_arena::Built;
 use link_arena::lower_cell_order::WorkArea;
 use link_arena::lower_link_rules::{controls_are_links, nets_have_their_drivers};
@@ -31,6 +33,7 @@ pub fn assemble(
     requires room { FitsRoom built.netlist.lists area.room }
     ensures linked { IfOk result (IsLinkOf tree.now) }
     ensures library { IfOk result (λ linked. linked.arena.lists.library ≡ built.netlist.lists.library) }
+    ensures marks { IfOk result HidesNone }
 {
     let Built { netlist, names } = built;
     is_well_named(tree, &netlist, &names);
@@ -39,12 +42,16 @@ pub fn assemble(
     let title = Text::from_bytes(alloc, tree.name.as_bytes())?;
     let mut area = area;
     area.flag_ports(&netlist);
+    let straight = Straight::none(netlist.port_count());
     Ok(Linked {
         netlist,
         names,
         title,
         area,
         ports,
+        straight,
+        inner: 0,
+        rails: Vec::new(alloc),
         alloc,
     })
 }

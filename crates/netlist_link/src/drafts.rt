@@ -12,7 +12,7 @@ ghost use Rattle.link_names.specs.link_model.Denoted.{name_bytes};
 ghost use Rattle.link_arena.specs.NameTableNames.{with_name};
 ghost use Rattle.netlist_link.specs.Drafts.{IsEmpty, reserved, with_spare};
 ghost use Rattle.netlist_link.specs.LentDrafts.{LendsNetlist};
-ghost use Rattle.netlist_link.specs.Linked.{IsLinked};
+ghost use Rattle.netlist_link.specs.Linked.{HasSameMarks, IsLinked};
 ghost use Rattle.netlist_link.specs.WellNamed.{IsWellNamed};
 
 use crate::linked::Linked;
@@ -89,6 +89,7 @@ impl Linked {
         ensures names { self.new.names ≡ self.old.names }
         ensures module_name { self.new.module_name ≡ self.old.module_name }
         ensures room { self.new.room ≡ self.old.room }
+        ensures marks { HasSameMarks self.new self.old }
     {
         let empty = Netlist::new(self.alloc, Library::new(self.alloc));
         self.area.fill(&empty);
@@ -109,6 +110,7 @@ impl Linked {
         ensures names { self.new.names ≡ self.old.names }
         ensures module_name { self.new.module_name ≡ self.old.module_name }
         ensures room { self.new.room ≡ self.old.room }
+        ensures marks { HasSameMarks self.new self.old }
     {
         let Draft { netlist } = draft;
         self.area.fill(&netlist);

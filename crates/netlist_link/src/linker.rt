@@ -5,6 +5,7 @@ ghost use Rattle.link_names.specs.link_model.Late.{HasNoDerived};
 ghost use Rattle.netlist_model.specs.Orders.{IsCellOrder};
 ghost use Rattle.link_arena.specs.cell_order.Loops.{IsOrderFault};
 ghost use Rattle.link_arena.specs.cell_order.Tables.{FitsRoom};
+ghost use Rattle.netlist_link.specs.Linked.{HidesNone};
 ghost use Rattle.netlist_link.specs.Links.{IsLinkFault, IsLinkOf};
 ghost use Rattle.netlist_link.specs.Steps.{AreNetsAndCells, IsBuilt, link_fault};
 
@@ -27,6 +28,7 @@ pub fn link(alloc: Global, tree: &Module, library: Library) -> Result<Linked, Li
     requires tree { IsTree tree.now }
     ensures ok { IfOk result (IsLinkOf tree.now) }
     ensures library { IfOk result (λ linked. linked.arena.lists.library ≡ library) }
+    ensures marks { IfOk result HidesNone }
     ensures fault { IfErr result (IsLinkFault library tree.now) }
 {
     // Asked so that the proof knows that it is a library.
@@ -48,6 +50,7 @@ fn link_resolved(
     requires { AreNetsAndCells library tree.now resolved.nets.items resolved.cells.items }
     ensures ok { IfOk result (IsLinkOf tree.now) }
     ensures library { IfOk result (λ linked. linked.arena.lists.library ≡ library) }
+    ensures marks { IfOk result HidesNone }
     ensures fault { IfErr result (IsLinkFault library tree.now) }
 {
     match find_driver_fault(alloc, &resolved.nets, &resolved.cells) {
@@ -69,6 +72,7 @@ fn link_driven(
     requires drivers { driver_fault resolved.nets.items resolved.cells.items ≡ None }
     ensures ok { IfOk result (IsLinkOf tree.now) }
     ensures library { IfOk result (λ linked. linked.arena.lists.library ≡ library) }
+    ensures marks { IfOk result HidesNone }
     ensures fault { IfErr result (IsLinkFault library tree.now) }
 {
     match build(alloc, library, tree, &resolved.nets, &resolved.cells) {
@@ -89,6 +93,7 @@ fn link_built(
     requires built { IsBuilt tree.now built.netlist.lists built.names }
     ensures ok { IfOk result (IsLinkOf tree.now) }
     ensures library { IfOk result (λ linked. linked.arena.lists.library ≡ built.netlist.lists.library) }
+    ensures marks { IfOk result HidesNone }
     ensures fault { IfErr result (IsLinkFault built.netlist.lists.library tree.now) }
 {
     let Resolved { nets, cells } = resolved;
@@ -136,6 +141,7 @@ fn link_ordered(
     requires room { FitsRoom built.netlist.lists area.room }
     ensures ok { IfOk result (IsLinkOf tree.now) }
     ensures library { IfOk result (λ linked. linked.arena.lists.library ≡ built.netlist.lists.library) }
+    ensures marks { IfOk result HidesNone }
     ensures fault { IfErr result (IsLinkFault built.netlist.lists.library tree.now) }
 {
     nets_have_their_drivers();
@@ -165,6 +171,7 @@ fn link_sound(
     requires derived { HasNoDerived built.netlist.lists.library tree.now }
     ensures ok { IfOk result (IsLinkOf tree.now) }
     ensures library { IfOk result (λ linked. linked.arena.lists.library ≡ built.netlist.lists.library) }
+    ensures marks { IfOk result HidesNone }
 {
     nets_have_their_drivers();
     drop(nets);

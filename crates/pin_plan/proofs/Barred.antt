@@ -12,9 +12,9 @@ use Rattle.plan_texts.specs.declared.plan.Plan.{Plan}
 use Rattle.plan_fitting.specs.declared.fault.FitFault.{FitFault}
 use Rattle.plan_fitting.specs.declared.fault.FitFault.TheVariants as fault
 use Rattle.netlist_link.specs.Linked.{LinkedView}
-use Rattle.plan_fitting.specs.Names.{port_names, net_names, cell_names}
+use Rattle.plan_fitting.specs.Names.{port_names, net_names, cell_names, hidden_names}
 use Rattle.plan_fitting.specs.Fits.{is_barred, barred_after, begun_fault, names_of, tap_lines, unit_names, name_fault, prefix_fault}
-use Rattle.pin_plan.specs.Names.{own_names, name_fault_among, prefix_fault_among}
+use Rattle.pin_plan.specs.Names.{own_names, inner_names, name_fault_among, prefix_fault_among}
 use Rattle.bsdl_lexicon.specs.declared.name_key.NameKey.{NameKey}
 
 pub list_any-keys : (name : List ℕ) (ks : List NameKey) → list_any (λ (k : NameKey). is_same_name name k.0.now) ks ≡ list_any (is_same_name name) (names_in ks)
@@ -47,29 +47,30 @@ or_else-assoc (Some x) b c = refl
 
 -- The netlist's own names.
 
-pub names_are : (L : LinkedView) (p : Plan) → name_fault_among p (port_names L) (net_names L ++ cell_names L) ≡ name_fault L p
+pub names_are : (L : LinkedView) (p : Plan) → name_fault_among p (port_names L) (inner_names L) ≡ name_fault L p
 names_are L p =
     let own : Option FitFault = barred_after [] [] (own_names p) in
     let ports : Option FitFault = barred_after [] (own_names p) (port_names L) in
     let rest : Option FitFault =
-    or_else (barred_after (net_names L ++ cell_names L) (unit_names L p) (names_of (tap_lines p)))
+    or_else (barred_after (inner_names L) (unit_names L p) (names_of (tap_lines p)))
     (barred_after [] (unit_names L p ++ names_of (tap_lines p)) (names_of p.linkage)) in
     or_else-assoc own ports rest ∙ ap (λ (o : Option FitFault). or_else o rest) (sym (barred_after-append [] [] (own_names p) (port_names L)))
 
-pub prefixes_are : (L : LinkedView) (p : Plan) → prefix_fault_among p (port_names L) (net_names L ++ cell_names L) ≡ prefix_fault L p
+pub prefixes_are : (L : LinkedView) (p : Plan) → prefix_fault_among p (port_names L) (inner_names L) ≡ prefix_fault L p
 prefixes_are L p =
     let test : List ℕ → Option FitFault = begun_fault p.prefix in
     let taps : List (List ℕ) = names_of (tap_lines p) in
     sym (
-    ap (λ (l : List (List ℕ)). first_in test (port_names L ++ l)) (sym (append_assoc (net_names L) (cell_names L) taps))
-    ∙ first_in-append test (port_names L) ((net_names L ++ cell_names L) ++ taps)
-    ∙ ap (or_else (first_in test (port_names L))) (first_in-append test (net_names L ++ cell_names L) taps)
+    ap (λ (l : List (List ℕ)). first_in test (port_names L ++ (net_names L ++ l))) (sym (append_assoc (cell_names L) (hidden_names L) taps))
+    ∙ ap (λ (l : List (List ℕ)). first_in test (port_names L ++ l)) (sym (append_assoc (net_names L) (cell_names L ++ hidden_names L) taps))
+    ∙ first_in-append test (port_names L) (inner_names L ++ taps)
+    ∙ ap (or_else (first_in test (port_names L))) (first_in-append test (inner_names L) taps)
     )
 
-pub names_told : (L : LinkedView) (p : Plan) (ports inner : List (List ℕ)) → ports ≡ port_names L → inner ≡ net_names L ++ cell_names L → name_fault_among p ports inner ≡ name_fault L p
+pub names_told : (L : LinkedView) (p : Plan) (ports inner : List (List ℕ)) → ports ≡ port_names L → inner ≡ inner_names L → name_fault_among p ports inner ≡ name_fault L p
 names_told L p ports inner one two =
     ap (λ (l : List (List ℕ)). name_fault_among p l inner) one ∙ ap (name_fault_among p (port_names L)) two ∙ names_are L p
 
-pub prefixes_told : (L : LinkedView) (p : Plan) (ports inner : List (List ℕ)) → ports ≡ port_names L → inner ≡ net_names L ++ cell_names L → prefix_fault_among p ports inner ≡ prefix_fault L p
+pub prefixes_told : (L : LinkedView) (p : Plan) (ports inner : List (List ℕ)) → ports ≡ port_names L → inner ≡ inner_names L → prefix_fault_among p ports inner ≡ prefix_fault L p
 prefixes_told L p ports inner one two =
     ap (λ (l : List (List ℕ)). prefix_fault_among p l inner) one ∙ ap (prefix_fault_among p (port_names L)) two ∙ prefixes_are L p

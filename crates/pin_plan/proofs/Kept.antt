@@ -1,5 +1,5 @@
 -- What is kept of the bits that pin lines name.
-use Rattle.std.proofs.Common.{◌≡◌, ℕ, zero, suc, ◌+◌, ◌<◌, Bool, List, [], ◌∷◌, ◌++◌, length, map, take, refl, ap, sym, ◌∙◌, arith, Option, Some, None, IsTrue, subst}
+use Rattle.std.proofs.Common.{◌≡◌, ℕ, zero, suc, ◌+◌, ◌<◌, ◌≤◌, Bool, List, [], ◌∷◌, ◌++◌, length, map, take, refl, ap, sym, ◌∙◌, arith, Option, Some, None, IsTrue, subst}
 use Rattle.std.specs.Prelude.{slice_get, IsSome, ◌↔◌}
 use Rattle.std.specs.Option.{option_map}
 use Rattle.list_laws.proofs.Lists.{slice_get_there, taken_more, map_push}

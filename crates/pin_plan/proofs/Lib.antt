@@ -4,6 +4,7 @@ mod Collected
 mod Gates
 mod Kept
 mod Lists
+mod Marks
 mod Plain
 mod PortBits
 mod PortLists

@@ -12,7 +12,7 @@ use Rattle.netlist_model.specs.declared.Feed.{Feed}
 use Rattle.netlist_model.specs.declared.Feed.TheVariants.{Net}
 use Rattle.netlist_model.specs.declared.PinBit.{PinBit}
 use Rattle.netlist_model.specs.Lists.{PortView, CellView}
-use Rattle.netlist_link.specs.Linked.{LinkedView}
+use Rattle.netlist_link.specs.Linked.{LinkedView, own_ports}
 use Rattle.netlist_link.specs.PinWords.{pin_at}
 use Rattle.link_model.specs.Nets.{counted_from}
 use Rattle.texts.specs.First.{or_else}
@@ -54,9 +54,9 @@ plain_bit : (seen : List PinSeen) (bit : NamedBit) → bit_fault (map plain seen
 plain_bit seen bit = ap (λ (b : Bool). fault_unless b bit.word) (plain_line seen bit.pin)
 
 plain_missing : (L : LinkedView) (seen : List PinSeen) → missing_fault L (map plain seen) ≡ missing_fault L seen
-plain_missing L seen = by L.arena.lists.ports refl
+plain_missing L seen = by (own_ports L) refl
   where
-    by : (ports : List PortView) → L.arena.lists.ports ≡ ports → missing_fault L (map plain seen) ≡ missing_fault L seen
+    by : (ports : List PortView) → own_ports L ≡ ports → missing_fault L (map plain seen) ≡ missing_fault L seen
     by [] e = rw e refl
     by (port ∷ ports) e = rw e (first_in-alike (bit_fault (map plain seen)) (bit_fault seen) (plain_bit seen) _)
 
@@ -137,5 +137,5 @@ fitted_with L p made ports = record (fitted_of L p []) { rows = made; ports = po
 
 pub plain_fitted : (L : LinkedView) (p : Plan) (seen : List PinSeen) → fitted_of L p (map plain seen) ≡ fitted_of L p seen
 plain_fitted L p seen =
-    ap (λ (made : List FitRow). fitted_with L p made (map (fit_port L p (map plain seen)) (enumerate_from 0 L.arena.lists.ports))) (plain_rows p.control (has_highz p.opcodes) [] p.pins seen)
-    ∙ ap (λ (ports : List FitPort). fitted_with L p (rows p seen) ports) (map-alike (fit_port L p (map plain seen)) (fit_port L p seen) (plain_port L p seen) (enumerate_from 0 L.arena.lists.ports))
+    ap (λ (made : List FitRow). fitted_with L p made (map (fit_port L p (map plain seen)) (enumerate_from 0 (own_ports L)))) (plain_rows p.control (has_highz p.opcodes) [] p.pins seen)
+    ∙ ap (λ (ports : List FitPort). fitted_with L p (rows p seen) ports) (map-alike (fit_port L p (map plain seen)) (fit_port L p seen) (plain_port L p seen) (enumerate_from 0 (own_ports L)))

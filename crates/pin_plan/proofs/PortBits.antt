@@ -8,13 +8,14 @@ use Rattle.list_laws.proofs.Lists.{left_at, slice_get_there}
 use Rattle.list_laws.proofs.Options.{first_in-append}
 use Rattle.link_model.specs.Nets.{counted_from}
 use Rattle.netlist_model.specs.Lists.{PortView}
-use Rattle.netlist_link.specs.Linked.{LinkedView}
+use Rattle.netlist_link.specs.Linked.{LinkedView, own_ports}
 use Rattle.netlist_link.specs.PinWords.{pin_at}
 use Rattle.plan_fitting.specs.declared.fault.FitFault.{FitFault}
 use Rattle.plan_fitting.specs.declared.fault.FitFault.TheVariants as fault
 use Rattle.plan_fitting.specs.Pins.{PinSeen, same_bit}
 use Rattle.plan_fitting.specs.Names.{bits_of_port, named_bit, NamedBit}
 use Rattle.plan_fitting.specs.Fits.{bit_fault}
+use Rattle.plan_fitting.proofs.OwnPorts.{own_there}
 use Rattle.pin_plan.specs.Bits.{missing_at, word_at}
 use Rattle.pin_plan.proofs.Lists.{list_any-position}
 
@@ -36,26 +37,26 @@ one_bit L number port from width less =
     ap (λ (k : ℕ). map (named_bit L number port) (counted_from from k)) split
     ∙ ap (λ (k : ℕ). named_bit L number port from ∷ map (named_bit L number port) (counted_from k (width - k))) next
 
--- What is left of the ports.
+-- What is left of the own ports.
 
 abbrev pub ports_left : LinkedView → ℕ → List NamedBit
-ports_left L number = flat_map (bits_of_port L) (enumerate_from number (drop number L.arena.lists.ports))
+ports_left L number = flat_map (bits_of_port L) (enumerate_from number (drop number (own_ports L)))
 
-pub one_port : (L : LinkedView) (number : ℕ) (port : PortView) → slice_get L.arena.lists.ports number ≡ Some port
+pub one_port : (L : LinkedView) (number : ℕ) (port : PortView) → slice_get (own_ports L) number ≡ Some port
     → ports_left L number ≡ bits_of_port L (number, port) ++ ports_left L (number + 1)
 one_port L number port at =
     let next : suc number ≡ number + 1 = omega arith in
-    ap (λ (ports : List PortView). flat_map (bits_of_port L) (enumerate_from number ports)) (left_at L.arena.lists.ports number port at)
-    ∙ ap (λ (k : ℕ). bits_of_port L (number, port) ++ flat_map (bits_of_port L) (enumerate_from (number + 1) (drop k L.arena.lists.ports))) next
+    ap (λ (ports : List PortView). flat_map (bits_of_port L) (enumerate_from number ports)) (left_at (own_ports L) number port at)
+    ∙ ap (λ (k : ℕ). bits_of_port L (number, port) ++ flat_map (bits_of_port L) (enumerate_from (number + 1) (drop k (own_ports L)))) next
 
 -- A fault in a port, and none.
 
-pub port_faults : (L : LinkedView) (seen : List PinSeen) (number : ℕ) (found : Option FitFault) (whole : Option FitFault) → number < length L.arena.lists.ports → found ≡ missing_at L seen number
+pub port_faults : (L : LinkedView) (seen : List PinSeen) (number : ℕ) (found : Option FitFault) (whole : Option FitFault) → number < length (own_ports L) → found ≡ missing_at L seen number
     → first_in (bit_fault seen) (ports_left L number) ≡ whole → or_else found (first_in (bit_fault seen) (ports_left L (number + 1))) ≡ whole
 port_faults L seen number found whole less is so_far =
-    let there = slice_get_there L.arena.lists.ports number less in
+    let there = slice_get_there (own_ports L) number less in
     let here : found ≡ first_in (bit_fault seen) (bits_of_port L (number, there.0)) =
-    is ∙ ap (λ (o : Option PortView). option_map_or (λ (p : PortView). first_in (bit_fault seen) (bits_of_port L (number, p))) o None) there.1 in
+    is ∙ ap (λ (o : Option PortView). option_map_or (λ (p : PortView). first_in (bit_fault seen) (bits_of_port L (number, p))) o None) (own_there L number there.0 there.1) in
     ap (λ (o : Option FitFault). or_else o (first_in (bit_fault seen) (ports_left L (number + 1)))) here
     ∙ sym (ap (first_in (bit_fault seen)) (one_port L number there.0 there.1) ∙ first_in-append (bit_fault seen) (bits_of_port L (number, there.0)) (ports_left L (number + 1)))
     ∙ so_far

@@ -4,16 +4,18 @@ use Rattle.std.specs.Prelude.{⊤}
 use Rattle.std.specs.List.{list_any, starts_with}
 use Rattle.list_laws.specs.Options.{or_else, first_in}
 use Rattle.netlist_model.specs.Lists.{PortView}
-use Rattle.netlist_link.specs.Linked.{LinkedView}
+use Rattle.netlist_link.specs.Linked.{LinkedView, own_ports}
+use Rattle.netlist_link.specs.Hidden.{AreStraight, EndsHidden}
 use Rattle.plan_texts.specs.declared.plan.Plan.{Plan}
 use Rattle.plan_texts.specs.declared.plan.PinLine.{PinLine}
 use Rattle.plan_fitting.specs.declared.fault.FitFault.{FitFault}
 use Rattle.plan_fitting.specs.declared.fault.FitFault.TheVariants as fault
 use Rattle.plan_fitting.specs.declared.fitted.Fitted.{Fitted}
 use Rattle.plan_fitting.specs.Pins.{PinSeen}
-use Rattle.plan_fitting.specs.Names.{NamedBit, port_names, net_names, cell_names}
+use Rattle.plan_fitting.specs.Names.{NamedBit, port_names, net_names, cell_names, hidden_names}
 use Rattle.plan_fitting.specs.Fits.{Taken, same_taken, told, has_line, bit_fault, missing_fault, all_taken, twice_after, twice_fault, cell_fault, suits_port, is_barred, barred_after, unit_names, names_of, tap_lines, name_fault, begun_fault, prefix_fault, fault_with, HasFault, IsFault}
 use Rattle.plan_fitting.specs.Devices.{fitted_of, IsFitted}
+use Rattle.pin_plan.specs.Names.{inner_names}
 use Rattle.pin_plan.specs.Seen.{ArePinsOf}
 use Rattle.pin_plan.proofs.Plain.{plain_fault, plain_fitted}
 
@@ -44,9 +46,9 @@ bit_other seen bit = by (has_line seen bit.pin)
     by false = tt
 
 missing_other : (L : LinkedView) (seen : List PinSeen) → TellsOther (missing_fault L seen)
-missing_other L seen = by L.arena.lists.ports refl
+missing_other L seen = by (own_ports L) refl
   where
-    by : (ports : List PortView) → L.arena.lists.ports ≡ ports → TellsOther (missing_fault L seen)
+    by : (ports : List PortView) → own_ports L ≡ ports → TellsOther (missing_fault L seen)
     by [] e = rw e tt
     by (port ∷ ports) e = rw e (first_other (bit_fault seen) (bit_other seen) _)
 
@@ -85,14 +87,14 @@ begun_other prefix name = by (starts_with nat_eq name prefix)
 name_other : (L : LinkedView) (p : Plan) → TellsOther (name_fault L p)
 name_other L p =
     let unit : Option FitFault = barred_after [] [] (unit_names L p) in
-    let tap : Option FitFault = barred_after (net_names L ++ cell_names L) (unit_names L p) (names_of (tap_lines p)) in
+    let tap : Option FitFault = barred_after (inner_names L) (unit_names L p) (names_of (tap_lines p)) in
     let linkage : Option FitFault = barred_after [] (unit_names L p ++ names_of (tap_lines p)) (names_of p.linkage) in
     either_other unit (or_else tap linkage) (barred_other [] [] (unit_names L p))
-    (either_other tap linkage (barred_other (net_names L ++ cell_names L) (unit_names L p) (names_of (tap_lines p)))
+    (either_other tap linkage (barred_other (inner_names L) (unit_names L p) (names_of (tap_lines p)))
     (barred_other [] (unit_names L p ++ names_of (tap_lines p)) (names_of p.linkage)))
 
 prefix_other : (L : LinkedView) (p : Plan) → TellsOther (prefix_fault L p)
-prefix_other L p = first_other (begun_fault p.prefix) (begun_other p.prefix) (port_names L ++ (net_names L ++ (cell_names L ++ names_of (tap_lines p))))
+prefix_other L p = first_other (begun_fault p.prefix) (begun_other p.prefix) (port_names L ++ (net_names L ++ (cell_names L ++ (hidden_names L ++ names_of (tap_lines p)))))
 
 other : (L : LinkedView) (p : Plan) (seen : List PinSeen) → TellsOther (fault_with L p seen)
 other L p seen =
@@ -106,12 +108,14 @@ other L p seen =
 
 -- The whole.
 
-pub is_fitted : (L : LinkedView) (p : Plan) (kept : List PinSeen) (f : Fitted) → ArePinsOf L p.pins kept → None ≡ fault_with L p kept → f ≡ fitted_of L p kept → IsFitted L p f
-is_fitted L p kept f are none is = record {
+pub is_fitted : (L : LinkedView) (p : Plan) (kept : List PinSeen) (f : Fitted) → AreStraight L → EndsHidden L → ArePinsOf L p.pins kept → None ≡ fault_with L p kept → f ≡ fitted_of L p kept → IsFitted L p f
+is_fitted L p kept f straight ends are none is = record {
   seen = are.0;
   are_seen = are.1;
   faultless = sym (plain_fault L p are.0) ∙ sym (ap (fault_with L p) are.2) ∙ sym none;
   is = is ∙ ap (fitted_of L p) are.2 ∙ plain_fitted L p are.0;
+  straight = straight;
+  ends = ends;
 }
 
 first_of : (L : LinkedView) (p : Plan) (kept : List PinSeen) (f : FitFault) → ArePinsOf L p.pins kept → Some f ≡ fault_with L p kept → HasFault L p f

@@ -5,8 +5,9 @@
 // and cells is own.
 //
 // - `fit` answers what fitting gives (`IsFitted`) only where each pin line names a bit and no fault stands:
-//   exactly the plan's boundary cells, in their order and with their control cells, the netlist's ports with their
-//   pins, and the plan's names and codes. There are fewer than 2^32 cells.
+//   exactly the plan's boundary cells, in their order and with their control cells, the netlist's own ports with their
+//   pins, and the plan's names and codes. There are fewer than 2^32 cells. Hidden ports, which it wants to be the last
+//   ones, are none of a plan's.
 // - It answers a fault only where that is the first (`IsFault`), with its word; `OutOfMemory` says nothing.
 // - One table of three-state gates is made in one pass over the cells, and one of names; pin lines are found by an
 //   index, which the contracts tie to the first line of the definition, as control_cells finds control cells.
@@ -16,6 +17,7 @@
 // Keys of tables, and the bits of ports that pin lines name.
 mod bits;
 mod drivers;
+mod hidden;
 mod keys;
 mod netlist_names;
 mod pins;

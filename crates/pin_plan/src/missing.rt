@@ -72,7 +72,7 @@ fn missing_bit(
 ) -> Result<Option<FitFault>, OutOfMemory>
     ensures { IfOk result (λ found. found ≡ missing_among linked.now bits.now) }
 {
-    for number in 0..linked.netlist().port_count() {
+    for number in 0..linked.own_port_count() {
         match missing_in_port(alloc, linked, bits, PortId(number))? {
             Some(fault) => return Ok(Some(fault)),
             None => {}
@@ -89,7 +89,7 @@ pub fn find_missing(
 ) -> Result<Option<FitFault>, OutOfMemory>
     ensures { IfOk result (λ found. found ≡ fits.missing_fault linked.now bits.now) }
 {
-    if linked.netlist().port_count() == 0 {
+    if linked.own_port_count() == 0 {
         return Ok(Some(FitFault::PlanPortMissing {
             word: Text::from_bytes(alloc, b"pin")?,
         }));

@@ -1,6 +1,8 @@
 // What stands at the bits that pin lines name.
-ghost use Rattle.std.specs.Prelude.{◌≡◌, ◌++◌, ◌∷◌, [], IfErr, IfOk, IsSome, OnOk};
+ghost use Rattle.std.specs.Prelude.{◌≡◌, ◌↔◌, ◌++◌, ◌∷◌, [], IfErr, IfOk, IsSome, OnOk, Some};
+ghost use Rattle.netlist_model.specs.declared.PinBit.{PinBit};
 ghost use Rattle.netlist_model.specs.Lists.{bit_net};
+ghost use Rattle.plan_fitting.specs.Pins.{NamesBit};
 ghost use Rattle.pin_plan.specs.Tables.{AreDrivers};
 ghost use Rattle.pin_plan.specs.Seen.{ArePinsOf, IsLineFault, IsPinOf, IsPinOfLine, IsPortFault};
 
@@ -62,6 +64,18 @@ fn pin_at(linked: &Linked, drivers: &[Option<Driver>], pin: PinBit) -> PinAt
     }
 }
 
+// The bit that a word names, unless it is hidden.
+fn own_pin(linked: &Linked, word: &[u8]) -> Option<PinBit>
+    ensures { (pin : PinBit) → (result ≡ Some pin) ↔ NamesBit linked.now word.now pin }
+{
+    let pin = linked.find_pin(word)?;
+    if pin.port.0 < linked.straight().first {
+        Some(pin)
+    } else {
+        None
+    }
+}
+
 // What stands at the bit that a pin line names.
 fn pin_of_line(
     alloc: Global,
@@ -74,7 +88,7 @@ fn pin_of_line(
     ensures fault { IfErr result (IsLineFault linked.now line.now) }
 {
     linked.netlist().is_laid_out();
-    match linked.find_pin(line.port.as_bytes()) {
+    match own_pin(linked, line.port.as_bytes()) {
         Some(pin) => Ok(pin_at(linked, drivers, pin)),
         None => Err(FitFault::PlanPort {
             word: Text::from_bytes(alloc, line.port.as_bytes())?,

@@ -1,5 +1,6 @@
 // Fitting a plan to a netlist.
 ghost use Rattle.std.specs.Prelude.{◌≡◌, ◌<◌, ◌^◌, IfErr, IfOk, length};
+ghost use Rattle.netlist_link.specs.Hidden.{AreStraight, EndsHidden};
 ghost use Rattle.plan_fitting.specs.Devices.{IsFitted, fitted_of};
 ghost use Rattle.plan_fitting.specs.Fits.{IsFault, fault_with, name_fault, prefix_fault};
 ghost use Rattle.texts.specs.First.{or_else};
@@ -30,6 +31,7 @@ fn find_text_fault(
     plan: &Plan,
     linked: &Linked,
 ) -> Result<Option<FitFault>, OutOfMemory>
+    requires { EndsHidden linked.now }
     ensures { IfOk result (λ found. found ≡ or_else (name_fault linked.now plan.now)
         (prefix_fault linked.now plan.now)) }
 {
@@ -49,7 +51,8 @@ fn find_fault(
     pins: &[PinAt],
     bits: &BitTable,
 ) -> Result<Option<FitFault>, OutOfMemory>
-    requires { bits.now ≡ pins.now }
+    requires bits { bits.now ≡ pins.now }
+    requires last { EndsHidden linked.now }
     ensures { IfOk result (λ found. found ≡ fault_with linked.now plan.now pins.now) }
 {
     match find_missing(alloc, linked, bits)? {
@@ -163,6 +166,8 @@ fn fitted(
 /// Fits a plan to a netlist, in time linear in both: its boundary cells and ports where no fault stands, else the first
 /// fault in the order of `FitFault`. It says `OutOfMemory` also for 2^32 - 1 boundary cells.
 pub fn fit(alloc: Global, plan: &Plan, linked: &Linked) -> Result<Fitted, FitFault>
+    requires straight { AreStraight linked.now }
+    requires last { EndsHidden linked.now }
     ensures fitted { IfOk result (IsFitted linked.now plan.now) }
     ensures count { IfOk result (λ fitted. length fitted.rows < 2 ^ 32) }
     ensures fault { IfErr result (IsFault linked.now plan.now) }

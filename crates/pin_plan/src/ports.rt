@@ -1,7 +1,8 @@
-// The netlist's ports with their physical pins.
+// The netlist's own ports with their physical pins.
 ghost use Rattle.std.specs.Prelude.{◌≡◌, ◌<◌, [], IfOk, length, map, Some, slice_get};
 ghost use Rattle.std.specs.List.{enumerate_from};
 ghost use Rattle.std.specs.Option.{option_map, option_map_or};
+ghost use Rattle.netlist_link.specs.Linked.{own_ports};
 ghost use Rattle.plan_fitting.specs.Devices as devices;
 
 use crate::bits::BitTable;
@@ -82,7 +83,7 @@ fn fit_port(
     })
 }
 
-/// The netlist's ports, with a physical pin for each bit.
+/// The netlist's own ports, with a physical pin for each bit.
 pub fn fit_ports(
     alloc: Global,
     linked: &Linked,
@@ -90,10 +91,10 @@ pub fn fit_ports(
     bits: &BitTable,
 ) -> Result<Row<FitPort>, OutOfMemory>
     ensures { IfOk result (λ ports. ports ≡ map (devices.fit_port linked.now plan.now bits.now)
-        (enumerate_from 0 linked.now.arena.lists.ports)) }
+        (enumerate_from 0 (own_ports linked.now))) }
 {
     let mut ports = Row::new(alloc);
-    for number in 0..linked.netlist().port_count() {
+    for number in 0..linked.own_port_count() {
         ports.push(fit_port(alloc, linked, plan, bits, PortId(number))?)?;
     }
     Ok(ports)

@@ -15,7 +15,7 @@ use Rattle.netlist_model.specs.declared.PinBit.{PinBit}
 use Rattle.netlist_model.specs.declared.Range.{Range}
 use Rattle.netlist_model.specs.Lists.{PortView}
 use Rattle.netlist_model.specs.Formed.{width_of}
-use Rattle.netlist_unlink.specs.netlist_link.Linked.{LinkedView}
+use Rattle.netlist_unlink.specs.netlist_link.Linked.{LinkedView, own_ports}
 use Rattle.netlist_unlink.specs.netlist_link.PinWords.{pin_at}
 use Rattle.netlist_unlink.specs.netlist_link.WellNamed.{index_from}
 use Rattle.bsdl_device.specs.declared.values.DevPort.{DevPort}
@@ -33,17 +33,18 @@ use Rattle.plan_fitting.specs.Rows.{rows, has_highz}
 use Rattle.plan_fitting.specs.Devices.{fit_port, fitted_of, dev_port, port_range, scalar_port, tap_ports, dev_ports, dev_bit, cell_row, device_of}
 use Rattle.plan_fitting.specs.FittingPlan.{HasWidths}
 use Rattle.plan_fitting.proofs.DevicesLists.{all_from_places, enumerated_at, all_enumerated}
+use Rattle.plan_fitting.proofs.OwnPorts.{own_there, own_below}
 use Rattle.plan_fitting.proofs.Rows.{Fact, Each}
 use Rattle.plan_fitting.proofs.RowCounts.{weigh, count-cons, count_some, sits, makes_row, rows_count, at_most_one}
 use Rattle.plan_fitting.proofs.Lined.{IsLined}
 use Rattle.plan_fitting.proofs.PortPins.{same_bits_join}
-use Rattle.plan_fitting.proofs.Indices.{IsBit, range_there, dev_port_at, count_of_ports, same_in_device, same_dev_bit}
+use Rattle.plan_fitting.proofs.Indices.{IsBit, range_there, dev_port_at, count_of_own, same_in_device, same_dev_bit}
 use Rattle.plan_fitting.proofs.DeviceTap.{behind_own}
 use Rattle.plan_fitting.proofs.DeviceRows.{lined_bit, mapped_at}
 use Rattle.link_model.specs.Nets as link
 use Rattle.bsdl_device.specs.declared.values.PortMode.TheVariants as mode
 
--- Each bit of the netlist has a line.
+-- Each bit of the netlist's own ports has a line.
 
 flat_at : {X Y : Type 0} (p : Y → Bool) (g : X → List Y) (xs : List X) (k : ℕ) (x : X) → list_all p (flat_map g xs) ≡ true → slice_get xs k ≡ Some x → list_all p (g x) ≡ true
 flat_at p g [] k x all h = absurd (cc)
@@ -53,11 +54,11 @@ flat_at {X = X} p g (y ∷ xs) zero x all h =
 flat_at p g (y ∷ xs) (suc k) x all h = flat_at p g xs k x (and_right (list_all p (g y)) (list_all p (flat_map g xs)) (sym (list_all-append p (g y) (flat_map g xs)) ∙ all)) h
 
 pub bit_has_line : (L : LinkedView) (seen : List PinSeen) → list_all (λ (b : NamedBit). has_line seen b.pin) (port_bits L) ≡ true
-    → (k : ℕ) (port : PortView) (j : ℕ) → slice_get L.arena.lists.ports k ≡ Some port → j < length port.nets → has_line seen (pin_at k j) ≡ true
+    → (k : ℕ) (port : PortView) (j : ℕ) → slice_get (own_ports L) k ≡ Some port → j < length port.nets → has_line seen (pin_at k j) ≡ true
 bit_has_line L seen all k port j there low =
     let at : 0 + k ≡ k = omega arith in
-    let number : slice_get (enumerate_from 0 L.arena.lists.ports) k ≡ Some (k, port) = enumerated_at 0 L.arena.lists.ports k port there ∙ ap (λ (n : ℕ). Some (n, port)) at in
-    let own = flat_at (λ (b : NamedBit). has_line seen b.pin) (bits_of_port L) (enumerate_from 0 L.arena.lists.ports) k (k, port) all number in
+    let number : slice_get (enumerate_from 0 (own_ports L)) k ≡ Some (k, port) = enumerated_at 0 (own_ports L) k port there ∙ ap (λ (n : ℕ). Some (n, port)) at in
+    let own = flat_at (λ (b : NamedBit). has_line seen b.pin) (bits_of_port L) (enumerate_from 0 (own_ports L)) k (k, port) all number in
     let place : slice_get (link.counted_from 0 (length port.nets)) j ≡ Some (0 + j) = slice_get-counted_from 0 (length port.nets) j low in
     let bit : 0 + j ≡ j = omega arith in
     test_at (λ (b : NamedBit). has_line seen b.pin) (bits_of_port L (k, port)) j (named_bit L k port j) own
@@ -191,23 +192,23 @@ own_bits_all L p seen wide P each =
     let at : k ≡ 0 + k = omega arith in
     subst (λ (n : ℕ). AllByRecursion P (own_bits_at (device_of L p seen) n q)) at (at_place k q there)))
   where
-    own : (k : ℕ) (port : PortView) (q : DevPort) → slice_get L.arena.lists.ports k ≡ Some port → slice_get (device_of L p seen).ports k ≡ Some q → AllByRecursion P (own_bits_at (device_of L p seen) k q)
+    own : (k : ℕ) (port : PortView) (q : DevPort) → slice_get (own_ports L) k ≡ Some port → slice_get (device_of L p seen).ports k ≡ Some q → AllByRecursion P (own_bits_at (device_of L p seen) k q)
     own k port q here there =
         let mine : dev_port (fit_port L p seen (k, port)) ≡ q = some_same (dev_port (fit_port L p seen (k, port))) q (slice_get (device_of L p seen).ports k) (dev_port_at L p seen k port here) there in
         subst (λ (x : DevPort). AllByRecursion P (own_bits_at (device_of L p seen) k x)) mine
         (either_way P (is_tap_place (device_of L p seen) k || is_mode mode.Linkage (dev_port (fit_port L p seen (k, port))).mode)
         (map (λ (index : Option ℕ). let bit : DevBit = record { port = k; index = index } in bit) (indices (option_map port_range port.range)))
         (indices_all P k port.range (λ j low.
-        let b : IsBit L (pin_at k j) = record { port = port; there = here; within = low } in
+        let b : IsBit L (pin_at k j) = record { port = port; there = own_there L k port here; own = own_below L k port here; within = low } in
         subst (λ (r : Option Range). P (record { port = k; index = index_from r j })) (range_there L p seen (pin_at k j) b) (each (pin_at k j) b))))
 
     at_place : (k : ℕ) (q : DevPort) → slice_get (device_of L p seen).ports k ≡ Some q → AllByRecursion P (own_bits_at (device_of L p seen) k q)
-    at_place k q there = elim (cases_lt k (length L.arena.lists.ports)) [
-      | inl low ↦ (let port = slice_get_there L.arena.lists.ports k low in own k port.0 q port.1 there)
+    at_place k q there = elim (cases_lt k (length (own_ports L))) [
+      | inl low ↦ (let port = slice_get_there (own_ports L) k low in own k port.0 q port.1 there)
       | inr high ↦
           (let f = fitted_of L p seen in
           let n = length f.ports in
-          let many : length f.ports ≡ length L.arena.lists.ports = count_of_ports L p seen in
+          let many : length f.ports ≡ length (own_ports L) = count_of_own L p seen in
           let j = k - n in
           let at : k ≡ n + j = omega arith in
           let last : slice_get (tap_ports f ++ map (scalar_port mode.Linkage) f.linkage) j ≡ Some q = sym (behind_own f j) ∙ ap (slice_get (dev_ports f)) (sym at) ∙ there in

@@ -12,7 +12,7 @@ use Rattle.netlist_model.specs.Formed.{width_of}
 use Rattle.netlist_arena.specs.Arena.{bit_count}
 use Rattle.netlist_model.specs.Ports.{BitHasDirection}
 use Rattle.netlist_model.specs.Drivers.{DriverIsFound}
-use Rattle.netlist_unlink.specs.netlist_link.Linked.{LinkedView}
+use Rattle.netlist_unlink.specs.netlist_link.Linked.{LinkedView, own_ports}
 use Rattle.netlist_unlink.specs.netlist_link.PinWords.{pin_at}
 use Rattle.bsdl_device.specs.declared.values.DevBit.{DevBit}
 use Rattle.bsdl_device.specs.declared.values.CellRow.{CellRow}
@@ -32,8 +32,9 @@ use Rattle.plan_fitting.proofs.PlanClock.{HasRegister, plans_have_registers}
 use Rattle.plan_fitting.proofs.PlanBits.{HasBits, plans_have_bits}
 use Rattle.plan_fitting.proofs.PlanCodes.{HasCodes, plans_have_codes}
 use Rattle.plan_fitting.proofs.PlanPrefix.{plans_have_controls}
+use Rattle.plan_fitting.proofs.OwnPorts.{own_there, own_below, own_bits_few}
 use Rattle.plan_fitting.proofs.RowCounts.{rows_few}
-use Rattle.plan_fitting.proofs.Indices.{IsBit}
+use Rattle.plan_fitting.proofs.Indices.{IsBit, bit_there}
 use Rattle.plan_fitting.proofs.DevicePorts.{right_ports, device_ports}
 use Rattle.plan_fitting.proofs.DeviceTap.{device_tap}
 use Rattle.plan_fitting.proofs.DeviceRows.{right_row}
@@ -71,13 +72,14 @@ one_row_at : (L : LinkedView) (p : Plan) (seen : List PinSeen) → IsFitting L p
 one_row_at L p seen fits facts x b =
     let wide : length b.port.nets ≡ width_of b.port.range = fits.wide x.port.0 b.port b.there in
     let within : x.bit < width_of b.port.range = b.within in
-    let there = bit_has_line L seen facts.lined.each x.port.0 b.port x.bit b.there (omega arith) in
+    let there = bit_has_line L seen facts.lined.each x.port.0 b.port x.bit (bit_there L x b) (omega arith) in
     (one_row L p seen fits.wide fits.are_seen.count facts.each facts.makes facts.once.bits x b there).1
 
 some_rows : (L : LinkedView) (p : Plan) (seen : List PinSeen) → IsFitting L p seen → Facts L p seen → 0 < length (device_of L p seen).cells
 some_rows L p seen fits facts =
-    let first = slice_get_there L.arena.lists.ports 0 facts.lined.some in
-    let one = one_row_at L p seen fits facts (pin_at 0 0) (record { port = first.0; there = first.1; within = some_width first.0.range }) in
+    let first = slice_get_there (own_ports L) 0 facts.lined.some in
+    let here = own_there L 0 first.0 first.1 in
+    let one = one_row_at L p seen fits facts (pin_at 0 0) (record { port = first.0; there = here; own = own_below L 0 first.0 first.1; within = some_width first.0.range }) in
     let most = count_by-le-length (is_at (dev_bit (fitted_of L p seen) (pin_at 0 0))) (device_of L p seen).cells in
     omega arith
 
@@ -101,20 +103,26 @@ lines_few L p seen fits facts =
         let one : count_by (λ (y : PinSeen). same_bit b.pin y.pin) seen ≡ 1 = one_line seen b.pin facts.once.bits (and_left (has_line seen b.pin) (list_all (λ (x : NamedBit). has_line seen x.pin) bits) all) in
         (omega arith, each_once bits (and_right (has_line seen b.pin) (list_all (λ (x : NamedBit). has_line seen x.pin) bits) all))
 
--- two rows for each bit of the netlist's ports at most
-pub rows_within : (L : LinkedView) (p : Plan) (seen : List PinSeen) → IsFitting L p seen → Facts L p seen → length (rows p seen) ≤ 2 * bit_count L.arena.lists.ports
-rows_within L p seen fits facts =
+-- two rows for each bit of the netlist's own ports at most
+pub own_rows_within : (L : LinkedView) (p : Plan) (seen : List PinSeen) → IsFitting L p seen → Facts L p seen → length (rows p seen) ≤ 2 * bit_count (own_ports L)
+own_rows_within L p seen fits facts =
     let lines : length seen ≤ length (port_bits L) = lines_few L p seen fits facts in
-    let bits : length (port_bits L) ≡ bit_count L.arena.lists.ports = count_of_bits L in
+    let bits : length (port_bits L) ≡ bit_count (own_ports L) = count_of_bits L in
     let many : length seen ≡ length p.pins = fits.are_seen.count in
     let rest : length (rows p seen) ≤ 0 + 2 * length p.pins = rows_few p.control (has_highz p.opcodes) [] p.pins seen in
     omega arith
 
+pub rows_within : (L : LinkedView) (p : Plan) (seen : List PinSeen) → IsFitting L p seen → Facts L p seen → length (rows p seen) ≤ 2 * bit_count L.arena.lists.ports
+rows_within L p seen fits facts =
+    let own : length (rows p seen) ≤ 2 * bit_count (own_ports L) = own_rows_within L p seen fits facts in
+    let few : bit_count (own_ports L) ≤ bit_count L.arena.lists.ports = own_bits_few L in
+    omega arith
+
 few_rows : (L : LinkedView) (p : Plan) (seen : List PinSeen) → IsFitting L p seen → Facts L p seen → HasRoom L p → length (device_of L p seen).cells < 10 ^ 9
 few_rows L p seen fits facts room =
-    let within : length (rows p seen) ≤ 2 * bit_count L.arena.lists.ports = rows_within L p seen fits facts in
+    let within : length (rows p seen) ≤ 2 * bit_count (own_ports L) = own_rows_within L p seen fits facts in
     let same : length (device_of L p seen).cells ≡ length (rows p seen) = length-map (rows p seen) (cell_row (fitted_of L p seen)) in
-    let limit : bit_count L.arena.lists.ports + (5 + length p.linkage) ≤ 4096 = room in
+    let limit : bit_count (own_ports L) + (5 + length p.linkage) ≤ 4096 = room in
     omega arith
 
 -- The whole.

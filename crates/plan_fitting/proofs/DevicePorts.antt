@@ -25,7 +25,7 @@ use Rattle.netlist_model.specs.declared.Name.TheVariants.{Original}
 use Rattle.netlist_model.specs.Lists.{PortView}
 use Rattle.netlist_model.specs.Formed.{width_of}
 use Rattle.netlist_arena.specs.Arena.{bit_count}
-use Rattle.netlist_unlink.specs.netlist_link.Linked.{LinkedView}
+use Rattle.netlist_unlink.specs.netlist_link.Linked.{LinkedView, own_ports}
 use Rattle.netlist_unlink.specs.netlist_link.PinWords.{pin_at}
 use Rattle.netlist_unlink.specs.netlist_link.WellNamed.{IsShortRange, IsWellNamed}
 use Rattle.bsdl_lexicon.proofs.SameNames.{same_turned}
@@ -39,6 +39,7 @@ use Rattle.plan_fitting.specs.Devices.{pin_for, pins_of_port, fit_port, fitted_o
 use Rattle.plan_fitting.specs.FittingPlan.{IsFitting, HasRoom}
 use Rattle.plan_fitting.proofs.DevicesNames.{NamesFit}
 use Rattle.plan_fitting.proofs.DevicesLists.{all_from_places}
+use Rattle.plan_fitting.proofs.OwnPorts.{own_there}
 use Rattle.plan_fitting.proofs.PlanPins.{HasPins}
 use Rattle.plan_fitting.proofs.PortBits.{bits_are_apart, AreLined}
 use Rattle.plan_fitting.proofs.PortPins.{bit_pins, pins_once, pins_are_right}
@@ -71,7 +72,7 @@ pub device_pins : (L : LinkedView) (p : Plan) (seen : List PinSeen)
 device_pins L p seen =
     flat-append (map dev_port (fitted_of L p seen).ports) (tap_ports (fitted_of L p seen) ++ map (scalar_port mode.Linkage) p.linkage)
     ∙ ap (λ (l : List (List ℕ)). l ++ (map (λ (line : TapLine). line.pin) (tap_lines p) ++ flat_map (λ (q : DevPort). q.pins) (map (scalar_port mode.Linkage) p.linkage)))
-    (own_pins L p seen (enumerate_from 0 L.arena.lists.ports))
+    (own_pins L p seen (enumerate_from 0 (own_ports L)))
     ∙ ap (λ (l : List (List ℕ)). bit_pins p seen (port_bits L) ++ (map (λ (line : TapLine). line.pin) (tap_lines p) ++ l)) (linkage_pins p.linkage)
 
 -- Names.
@@ -107,12 +108,15 @@ linkage_names : (lines : List TapLine) → map (λ (q : DevPort). q.name) (map (
 linkage_names [] = refl
 linkage_names (line ∷ lines) = ap (λ (l : List (List ℕ)). line.name ∷ l) (linkage_names lines)
 
-pub device_names : (L : LinkedView) (p : Plan) (seen : List PinSeen) → AllByRecursion (HasBytes L) L.arena.lists.ports
+own_have_bytes : (L : LinkedView) → IsWellNamed L.names L.arena.lists → AllByRecursion (HasBytes L) (own_ports L)
+own_have_bytes L named = all_from_places (HasBytes L) (own_ports L) (λ k port there. all_at (HasBytes L) L.arena.lists.ports k port (ports_have_bytes L named) (own_there L k port there))
+
+pub device_names : (L : LinkedView) (p : Plan) (seen : List PinSeen) → AllByRecursion (HasBytes L) (own_ports L)
     → device.names_of (dev_ports (fitted_of L p seen)) ≡ port_names L ++ (names_of (tap_lines p) ++ names_of p.linkage)
 device_names L p seen all =
     map-append (λ (q : DevPort). q.name) (map dev_port (fitted_of L p seen).ports) (tap_ports (fitted_of L p seen) ++ map (scalar_port mode.Linkage) p.linkage)
     ∙ ap (λ (l : List (List ℕ)). l ++ (names_of (tap_lines p) ++ map (λ (q : DevPort). q.name) (map (scalar_port mode.Linkage) p.linkage)))
-    (own_names L p seen 0 L.arena.lists.ports ∙ named_same L L.arena.lists.ports all)
+    (own_names L p seen 0 (own_ports L) ∙ named_same L (own_ports L) all)
     ∙ ap (λ (l : List (List ℕ)). port_names L ++ (names_of (tap_lines p) ++ l)) (linkage_names p.linkage)
 
 apart_from : (a b : List ℕ) (names : List (List ℕ)) → list_any (is_same_name a) names ≡ false → list_any (is_same_name b) names ≡ false
@@ -202,27 +206,27 @@ linkage_width (line ∷ lines) = (refl, linkage_width lines)
 
 -- The whole.
 
-pub right_ports : (L : LinkedView) (p : Plan) (seen : List PinSeen) → IsFitting L p seen → NamesFit L p → AllByRecursion (IsRightPort L) L.arena.lists.ports
+pub right_ports : (L : LinkedView) (p : Plan) (seen : List PinSeen) → IsFitting L p seen → NamesFit L p → AllByRecursion (IsRightPort L) (own_ports L)
 right_ports L p seen fits names =
-    let bytes = ports_have_bytes L fits.named in
-    let named = right_names L L.arena.lists.ports (subst (λ (l : List (List ℕ)). AllByRecursion IsDeviceName l) (sym (named_same L L.arena.lists.ports bytes)) names.unit.1.1) in
-    all_from_places (IsRightPort L) L.arena.lists.ports (λ k port there. record {
-      name = all_at (λ (q : PortView). IsDeviceName (port_name L q)) L.arena.lists.ports k port named there;
-      short = fits.named.port_ranges k port there;
-      wide = fits.wide k port there;
+    let bytes = own_have_bytes L fits.named in
+    let named = right_names L (own_ports L) (subst (λ (l : List (List ℕ)). AllByRecursion IsDeviceName l) (sym (named_same L (own_ports L) bytes)) names.unit.1.1) in
+    all_from_places (IsRightPort L) (own_ports L) (λ k port there. record {
+      name = all_at (λ (q : PortView). IsDeviceName (port_name L q)) (own_ports L) k port named there;
+      short = fits.named.port_ranges k port (own_there L k port there);
+      wide = fits.wide k port (own_there L k port there);
     })
 
 pub device_ports : (L : LinkedView) (p : Plan) (seen : List PinSeen) → IsFitting L p seen → HasRoom L p → NamesFit L p → HasPins p → TakenOnce p seen → AreLined L seen
-    → AllByRecursion (IsRightPort L) L.arena.lists.ports → AreDevicePorts (device_of L p seen)
+    → AllByRecursion (IsRightPort L) (own_ports L) → AreDevicePorts (device_of L p seen)
 device_ports L p seen fits room names pins once lined right =
     let more = map (scalar_port mode.Linkage) p.linkage in
     let taps = tap_ports (fitted_of L p seen) in
-    let bytes = ports_have_bytes L fits.named in
+    let bytes = own_have_bytes L fits.named in
     let rest = port_names L ++ (names_of (tap_lines p) ++ names_of p.linkage) in
     let same = device_names L p seen bytes in
     let of_entity : list_any (is_same_name p.entity) (p.«package» ∷ rest) ≡ false = or_first (list_any (is_same_name p.entity) (p.«package» ∷ rest)) (is_repeated (p.«package» ∷ rest)) names.distinct in
     let of_package : is_repeated (p.«package» ∷ rest) ≡ false = or_second (list_any (is_same_name p.entity) (p.«package» ∷ rest)) (is_repeated (p.«package» ∷ rest)) names.distinct in
-    let own : sum_by (λ (q : DevPort). width q.range) (map dev_port (fitted_of L p seen).ports) ≡ bit_count L.arena.lists.ports = own_width L p seen 0 L.arena.lists.ports right in
+    let own : sum_by (λ (q : DevPort). width q.range) (map dev_port (fitted_of L p seen).ports) ≡ bit_count (own_ports L) = own_width L p seen 0 (own_ports L) right in
     let scalars : sum_by (λ (q : DevPort). width q.range) (taps ++ more) ≡ length (taps ++ more) = scalars_width (taps ++ more) (refl, (refl, (refl, (refl, (refl, linkage_width p.linkage))))) in
     let count : length more ≡ length p.linkage = length-map p.linkage (scalar_port mode.Linkage) in
     let sum : sum_by (λ (q : DevPort). width q.range) (dev_ports (fitted_of L p seen))
@@ -230,7 +234,7 @@ device_ports L p seen fits room names pins once lined right =
     sum_by-append (λ (q : DevPort). width q.range) (map dev_port (fitted_of L p seen).ports) (taps ++ more) in
     record {
       each = all_append IsDevicePort (map dev_port (fitted_of L p seen).ports) (taps ++ more)
-          (own_each L p seen 0 L.arena.lists.ports fits.are_seen.count pins.pin_lines right lined.each) (
+          (own_each L p seen 0 (own_ports L) fits.are_seen.count pins.pin_lines right lined.each) (
             right_scalar mode.Input p.tck names.tap.0 pins.taps.0,
             (
               right_scalar mode.Input p.tms names.tap.1.0 pins.taps.1.0,

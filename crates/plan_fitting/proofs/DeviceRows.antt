@@ -23,7 +23,7 @@ use Rattle.netlist_model.specs.declared.Dir.TheVariants as dir
 use Rattle.netlist_model.specs.declared.PinBit.{PinBit}
 use Rattle.netlist_model.specs.declared.Range.{Range}
 use Rattle.netlist_model.specs.Formed.{width_of}
-use Rattle.netlist_unlink.specs.netlist_link.Linked.{LinkedView}
+use Rattle.netlist_unlink.specs.netlist_link.Linked.{LinkedView, own_ports}
 use Rattle.netlist_unlink.specs.netlist_link.WellNamed.{index_from}
 use Rattle.plan_texts.specs.declared.plan.Plan.{Plan}
 use Rattle.plan_texts.specs.declared.plan.PinLine.{PinLine}
@@ -35,7 +35,7 @@ use Rattle.plan_fitting.specs.Devices.{mode_of_side, fit_port, fitted_of, dev_po
 use Rattle.plan_fitting.specs.FittingPlan.{HasWidths}
 use Rattle.plan_fitting.proofs.Rows.{side_driver, data_function, IsDataRow, IsControlRow, Each}
 use Rattle.plan_fitting.proofs.Lined.{IsLined, clocks_control, suits_data, suits_control}
-use Rattle.plan_fitting.proofs.Indices.{IsBit, range_there, dev_port_at, count_of_ports, has_index}
+use Rattle.plan_fitting.proofs.Indices.{IsBit, bit_there, range_there, dev_port_at, count_of_own, has_index}
 use Rattle.plan_fitting.proofs.DeviceTap.{none_same}
 
 pub mapped_at : {X Y : Type 0} (g : X → Y) (xs : List X) (k : ℕ) (y : Y) → slice_get (map g xs) k ≡ Some y → (x : X) × (slice_get xs k ≡ Some x) × (g x ≡ y)
@@ -51,17 +51,17 @@ unfoldable pub lined_bit : (L : LinkedView) → HasWidths L.arena.lists → (lin
 lined_bit L wide line one is =
     let inside : one.pin.bit < length is.seen.port.nets = slice_get_within is.seen.port.nets one.pin.bit one.net is.seen.net in
     let many : length is.seen.port.nets ≡ width_of is.seen.port.range = wide one.pin.port.0 is.seen.port is.seen.there in
-    record { port = is.seen.port; there = is.seen.there; within = omega arith }
+    record { port = is.seen.port; there = is.seen.there; own = is.seen.named.1; within = omega arith }
 
 same_mode : (side : Dir) → is_mode (mode_of_side side) (mode_of_side side) ≡ true
 same_mode dir.Input = refl
 same_mode dir.Output = refl
 same_mode dir.Inout = refl
 
--- a place of the netlist's ports
-pub no_tap : (L : LinkedView) (p : Plan) (seen : List PinSeen) (k : ℕ) → k < length L.arena.lists.ports → is_tap_place (device_of L p seen) k ≡ false
+-- a place of the netlist's own ports
+pub no_tap : (L : LinkedView) (p : Plan) (seen : List PinSeen) (k : ℕ) → k < length (own_ports L) → is_tap_place (device_of L p seen) k ≡ false
 no_tap L p seen k low =
-    let many : length (fitted_of L p seen).ports ≡ length L.arena.lists.ports = count_of_ports L p seen in
+    let many : length (fitted_of L p seen).ports ≡ length (own_ports L) = count_of_own L p seen in
     none_same k (tap_places (device_of L p seen)) (omega arith, (omega arith, (omega arith, (omega arith, (omega arith, tt)))))
 
 bit_stands : (L : LinkedView) (p : Plan) (seen : List PinSeen) (pin : PinBit) (b : IsBit L pin) (side : Dir) → side ≡ b.port.dir → is_bit_of (device_of L p seen) (mode_of_side side) (dev_bit (fitted_of L p seen) pin) ≡ true
@@ -69,8 +69,9 @@ bit_stands L p seen pin b side is =
     let d = device_of L p seen in
     let f = fitted_of L p seen in
     let q = dev_port (fit_port L p seen (pin.port.0, b.port)) in
-    let inside : pin.port.0 < length L.arena.lists.ports = slice_get_within L.arena.lists.ports pin.port.0 b.port b.there in
-    ap (λ (o : Option DevPort). option_map_or (λ (x : DevPort). has_bit x.range (dev_bit f pin).index && not (is_tap_place d pin.port.0) && is_mode (mode_of_side side) x.mode) o false) (dev_port_at L p seen pin.port.0 b.port b.there)
+    let there = bit_there L pin b in
+    let inside : pin.port.0 < length (own_ports L) = slice_get_within (own_ports L) pin.port.0 b.port there in
+    ap (λ (o : Option DevPort). option_map_or (λ (x : DevPort). has_bit x.range (dev_bit f pin).index && not (is_tap_place d pin.port.0) && is_mode (mode_of_side side) x.mode) o false) (dev_port_at L p seen pin.port.0 b.port there)
     ∙ and_true (has_bit q.range (dev_bit f pin).index && not (is_tap_place d pin.port.0)) (is_mode (mode_of_side side) q.mode)
     (and_true (has_bit q.range (dev_bit f pin).index) (not (is_tap_place d pin.port.0))
     (ap (λ (r : Option Range). has_bit q.range (index_from r pin.bit)) (range_there L p seen pin b) ∙ has_index b.port.range pin.bit b.within)

@@ -14,7 +14,7 @@ use Rattle.texts.specs.First.{or_else}
 use Rattle.texts.specs.Repeated.{has_name}
 use Rattle.bsdl_lexicon.proofs.SameNames.{same_turned}
 use Rattle.plan_texts.specs.declared.plan.Plan.{Plan}
-use Rattle.plan_fitting.specs.Names.{net_names, cell_names}
+use Rattle.plan_fitting.specs.Names.{net_names, cell_names, hidden_names}
 use Rattle.plan_fitting.specs.Fits.{is_barred, barred_after, names_of, tap_lines, unit_names, name_fault}
 use Rattle.plan_fitting.proofs.Identifiers.{is_device_name}
 use Rattle.plan_fitting.proofs.Pairs.{any_across, any_front, any_back, across_same, across_turned, pair_joined}
@@ -69,8 +69,8 @@ pub record NamesFit (L : LinkedView) (p : Plan) : Type 0 where
   pub tap : AllByRecursion IsDeviceName (names_of (tap_lines p))
   pub linkage : AllByRecursion IsDeviceName (names_of p.linkage)
   pub distinct : is_repeated (unit_names L p ++ (names_of (tap_lines p) ++ names_of p.linkage)) ≡ false
-  -- no name of the test access port is a wire's, gate's or instance's
-  pub new : AllByRecursion (λ name. has_name (net_names L ++ cell_names L) name ≡ false) (names_of (tap_lines p))
+  -- no name of the test access port is a wire's, gate's, instance's or hidden bit's
+  pub new : AllByRecursion (λ name. has_name (net_names L ++ (cell_names L ++ hidden_names L)) name ≡ false) (names_of (tap_lines p))
 
 names_are : (others before names : List (List ℕ)) → AllByRecursion (IsFreeName others before) names → AllByRecursion IsDeviceName names
 names_are others before [] all = tt
@@ -94,7 +94,7 @@ names_fit L p h =
     let unit = unit_names L p in
     let taps = names_of (tap_lines p) in
     let more = names_of p.linkage in
-    let others = net_names L ++ cell_names L in
+    let others = net_names L ++ (cell_names L ++ hidden_names L) in
     let first = or_else-parts (barred_after [] [] unit) (or_else (barred_after others unit taps) (barred_after [] (unit ++ taps) more)) h in
     let second = or_else-parts (barred_after others unit taps) (barred_after [] (unit ++ taps) more) first.1 in
     let a = free_names [] [] unit first.0 in

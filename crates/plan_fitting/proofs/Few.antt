@@ -1,4 +1,4 @@
--- A plan that fits has no more lines than the netlist's ports have bits.
+-- A plan that fits has no more lines than the netlist's own ports have bits.
 use Rattle.std.proofs.Common.{◌≡◌, ℕ, zero, suc, ◌+◌, ◌<◌, ◌≤◌, ◌==◌, Bool, true, List, [], ◌∷◌, length, slice_get, Some, option_map, refl, sym, ap, ◌∙◌, arith}
 use Rattle.std.specs.Prelude.{◌||◌, count_by, sum_by}
 use Rattle.std.specs.List.{list_any, flat_map, enumerate_from, AllByRecursion}
@@ -13,10 +13,11 @@ use Rattle.list_laws.proofs.Options.{some_same}
 use Rattle.link_model.specs.Nets.{counted_from}
 use Rattle.netlist_model.specs.Lists.{PortView}
 use Rattle.netlist_arena.specs.Arena.{bit_count}
-use Rattle.netlist_unlink.specs.netlist_link.Linked.{LinkedView}
+use Rattle.netlist_unlink.specs.netlist_link.Linked.{LinkedView, own_ports}
 use Rattle.plan_fitting.specs.Pins.{PinSeen, IsSeen, same_bit}
 use Rattle.plan_fitting.specs.Names.{NamedBit, named_bit, bits_of_port, port_bits}
 use Rattle.plan_fitting.proofs.DevicesLists.{enumerated_at}
+use Rattle.plan_fitting.proofs.OwnPorts.{own_from}
 use Rattle.plan_fitting.proofs.RowCounts.{weigh, count-cons, count_some}
 
 -- Two ways to count.
@@ -70,8 +71,8 @@ bits_many L n (port ∷ ports) =
     let sum : bit_count (port ∷ ports) ≡ length port.nets + bit_count ports = sum_by-cons (λ (q : PortView). length q.nets) port ports in
     length-append (bits_of_port L (n, port)) (flat_map (bits_of_port L) (enumerate_from (n + 1) ports)) ∙ omega arith
 
-pub count_of_bits : (L : LinkedView) → length (port_bits L) ≡ bit_count L.arena.lists.ports
-count_of_bits L = bits_many L 0 L.arena.lists.ports
+pub count_of_bits : (L : LinkedView) → length (port_bits L) ≡ bit_count (own_ports L)
+count_of_bits L = bits_many L 0 (own_ports L)
 
 any_flat : {X Y : Type 0} (p : Y → Bool) (g : X → List Y) (xs : List X) (k : ℕ) (x : X) → slice_get xs k ≡ Some x → list_any p (g x) ≡ true → list_any p (flat_map g xs) ≡ true
 any_flat p g [] k x h t = absurd (cc)
@@ -87,11 +88,11 @@ seen_is_bit L word one seen =
     let j = one.pin.bit in
     let low : j < length seen.port.nets = slice_get_within seen.port.nets j one.net seen.net in
     let at : 0 + k ≡ k = omega arith in
-    let number : slice_get (enumerate_from 0 L.arena.lists.ports) k ≡ Some (k, seen.port) = enumerated_at 0 L.arena.lists.ports k seen.port seen.there ∙ ap (λ (n : ℕ). Some (n, seen.port)) at in
+    let number : slice_get (enumerate_from 0 (own_ports L)) k ≡ Some (k, seen.port) = enumerated_at 0 (own_ports L) k seen.port (own_from L k seen.port seen.named.1 seen.there) ∙ ap (λ (n : ℕ). Some (n, seen.port)) at in
     let place : slice_get (counted_from 0 (length seen.port.nets)) j ≡ Some (0 + j) = slice_get-counted_from 0 (length seen.port.nets) j low in
     let bit : 0 + j ≡ j = omega arith in
     count_some (λ (b : NamedBit). same_bit b.pin one.pin) (port_bits L)
-    (any_flat (λ (b : NamedBit). same_bit b.pin one.pin) (bits_of_port L) (enumerate_from 0 L.arena.lists.ports) k (k, seen.port) number
+    (any_flat (λ (b : NamedBit). same_bit b.pin one.pin) (bits_of_port L) (enumerate_from 0 (own_ports L)) k (k, seen.port) number
     (any_at (λ (b : NamedBit). same_bit b.pin one.pin) (bits_of_port L (k, seen.port)) j (named_bit L k seen.port j)
     (slice_get-map (named_bit L k seen.port) (counted_from 0 (length seen.port.nets)) j ∙ ap (option_map (named_bit L k seen.port)) place ∙ ap (λ (n : ℕ). Some (named_bit L k seen.port n)) bit)
     (and_true (k == k) (j == j) (eqb_same k) (eqb_same j))))

@@ -12,7 +12,8 @@ use Rattle.netlist_model.specs.declared.Range.{Range}
 use Rattle.netlist_model.specs.declared.PinBit.{PinBit}
 use Rattle.netlist_model.specs.Lists.{PortView}
 use Rattle.netlist_model.specs.Formed.{width_of}
-use Rattle.netlist_unlink.specs.netlist_link.Linked.{LinkedView}
+use Rattle.netlist_unlink.specs.netlist_link.Linked.{LinkedView, own_ports}
+use Rattle.netlist_unlink.specs.netlist_link.Hidden.{EndsHidden}
 use Rattle.netlist_unlink.specs.netlist_link.WellNamed.{index_from}
 use Rattle.bsdl_device.specs.declared.values.PortMode.TheVariants as mode
 use Rattle.bsdl_device.specs.declared.values.DevBit.{DevBit}
@@ -24,28 +25,32 @@ use Rattle.plan_fitting.specs.Pins.{PinSeen, same_bit}
 use Rattle.plan_fitting.specs.Devices.{fit_port, fitted_of, dev_port, port_range, scalar_port, tap_ports, dev_ports, range_at, dev_bit}
 use Rattle.plan_fitting.proofs.Tests.{true_not_false}
 use Rattle.plan_fitting.proofs.DevicesLists.{enumerated_at}
+use Rattle.plan_fitting.proofs.OwnPorts.{own_count, own_from}
 
 -- Ports.
 
-pub fit_port_at : (L : LinkedView) (p : Plan) (seen : List PinSeen) (k : ℕ) (port : PortView) → slice_get L.arena.lists.ports k ≡ Some port
+pub fit_port_at : (L : LinkedView) (p : Plan) (seen : List PinSeen) (k : ℕ) (port : PortView) → slice_get (own_ports L) k ≡ Some port
     → slice_get (fitted_of L p seen).ports k ≡ Some (fit_port L p seen (k, port))
 fit_port_at L p seen k port there =
     let at : 0 + k ≡ k = omega arith in
-    slice_get-map (fit_port L p seen) (enumerate_from 0 L.arena.lists.ports) k
-    ∙ ap (option_map (fit_port L p seen)) (enumerated_at 0 L.arena.lists.ports k port there)
+    slice_get-map (fit_port L p seen) (enumerate_from 0 (own_ports L)) k
+    ∙ ap (option_map (fit_port L p seen)) (enumerated_at 0 (own_ports L) k port there)
     ∙ ap (λ (n : ℕ). Some (fit_port L p seen (n, port))) at
 
-pub count_of_ports : (L : LinkedView) (p : Plan) (seen : List PinSeen) → length (fitted_of L p seen).ports ≡ length L.arena.lists.ports
-count_of_ports L p seen = length-map (enumerate_from 0 L.arena.lists.ports) (fit_port L p seen) ∙ length-enumerate_from 0 L.arena.lists.ports
+pub count_of_own : (L : LinkedView) (p : Plan) (seen : List PinSeen) → length (fitted_of L p seen).ports ≡ length (own_ports L)
+count_of_own L p seen = length-map (enumerate_from 0 (own_ports L)) (fit_port L p seen) ∙ length-enumerate_from 0 (own_ports L)
 
--- the netlist's ports come first, in their order
-pub dev_port_at : (L : LinkedView) (p : Plan) (seen : List PinSeen) (k : ℕ) (port : PortView) → slice_get L.arena.lists.ports k ≡ Some port
+pub count_of_ports : (L : LinkedView) (p : Plan) (seen : List PinSeen) → EndsHidden L → length (fitted_of L p seen).ports ≡ L.straight.first
+count_of_ports L p seen ends = count_of_own L p seen ∙ own_count L ends
+
+-- the netlist's own ports come first, in their order
+pub dev_port_at : (L : LinkedView) (p : Plan) (seen : List PinSeen) (k : ℕ) (port : PortView) → slice_get (own_ports L) k ≡ Some port
     → slice_get (dev_ports (fitted_of L p seen)) k ≡ Some (dev_port (fit_port L p seen (k, port)))
 dev_port_at L p seen k port there =
     let f = fitted_of L p seen in
-    let inside : k < length L.arena.lists.ports = slice_get_within L.arena.lists.ports k port there in
+    let inside : k < length (own_ports L) = slice_get_within (own_ports L) k port there in
     let many : length (map dev_port f.ports) ≡ length f.ports = length-map f.ports dev_port in
-    let same : length f.ports ≡ length L.arena.lists.ports = count_of_ports L p seen in
+    let same : length f.ports ≡ length (own_ports L) = count_of_own L p seen in
     slice_get-append_left (map dev_port f.ports) (tap_ports f ++ map (scalar_port mode.Linkage) f.linkage) k (omega arith)
     ∙ slice_get-map dev_port f.ports k
     ∙ ap (option_map dev_port) (fit_port_at L p seen k port there)
@@ -99,14 +104,18 @@ same_index-place (Some r) a b low high = by (nat_le r.left r.right) refl
 
 -- Bits.
 
--- a bit of a port of the netlist
+-- a bit of a port of the netlist that isn't hidden
 pub record IsBit (L : LinkedView) (pin : PinBit) : Type 0 where
   pub port : PortView
   pub there : slice_get L.arena.lists.ports pin.port.0 ≡ Some port
+  pub own : pin.port.0 < L.straight.first
   pub within : pin.bit < width_of port.range
 
+pub bit_there : (L : LinkedView) (pin : PinBit) (b : IsBit L pin) → slice_get (own_ports L) pin.port.0 ≡ Some b.port
+bit_there L pin b = own_from L pin.port.0 b.port b.own b.there
+
 pub range_there : (L : LinkedView) (p : Plan) (seen : List PinSeen) (pin : PinBit) (b : IsBit L pin) → range_at (fitted_of L p seen) pin ≡ b.port.range
-range_there L p seen pin b = ap (λ (o : Option FitPort). option_and_then (λ (q : FitPort). q.range) o) (fit_port_at L p seen pin.port.0 b.port b.there)
+range_there L p seen pin b = ap (λ (o : Option FitPort). option_and_then (λ (q : FitPort). q.range) o) (fit_port_at L p seen pin.port.0 b.port (bit_there L pin b))
 
 -- the net of a bit of the device is that of the bit there
 pub net_of_dev_bit : (L : LinkedView) (p : Plan) (seen : List PinSeen) (pin : PinBit) (b : IsBit L pin) → net_of_bit L.arena.lists (dev_bit (fitted_of L p seen) pin) ≡ slice_get b.port.nets pin.bit

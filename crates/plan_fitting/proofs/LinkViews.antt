@@ -46,4 +46,6 @@ fitted_is_fitting named formed m L p f tree listed view spelled is = record {
   spelled = spelled;
   are_seen = is.are_seen;
   faultless = is.faultless;
+  straight = is.straight;
+  ends = is.ends;
 }

@@ -8,9 +8,9 @@ use Rattle.list_laws.proofs.Options.{some_same}
 use Rattle.netlist_model.specs.declared.NetId.{NetId}
 use Rattle.netlist_model.specs.declared.Dir.{Dir}
 use Rattle.netlist_model.specs.declared.PinBit.{PinBit}
-use Rattle.netlist_model.specs.Lists.{PortView, NetlistView, direction}
+use Rattle.netlist_model.specs.Lists.{PortView, NetlistView}
 use Rattle.netlist_model.specs.Formed.{width_of}
-use Rattle.netlist_model.specs.Ports.{DirectionHasBit}
+use Rattle.netlist_model.specs.Ports.{IsBitOf}
 use Rattle.netlist_unlink.specs.netlist_link.Linked.{LinkedView}
 use Rattle.netlist_unlink.specs.netlist_link.PinWords.{pin_at}
 use Rattle.bsdl_device.specs.declared.values.CellRow.{CellRow}
@@ -26,7 +26,7 @@ use Rattle.plan_fitting.proofs.DevicesLists.{none_there}
 use Rattle.plan_fitting.proofs.Lined.{IsLined}
 use Rattle.plan_fitting.proofs.Rows.{IsDataRow}
 use Rattle.plan_fitting.proofs.RowCounts.{sits, count_at}
-use Rattle.plan_fitting.proofs.Indices.{IsBit, net_of_dev_bit}
+use Rattle.plan_fitting.proofs.Indices.{IsBit, bit_there, net_of_dev_bit}
 use Rattle.plan_fitting.proofs.DeviceRows.{lined_bit, mapped_at}
 use Rattle.plan_fitting.proofs.DeviceBits.{bit_has_line, one_row}
 use Rattle.plan_fitting.proofs.DevicesFacts.{Facts}
@@ -131,20 +131,19 @@ net_there L x y port other net last same a b c d =
 same_moved : (x a b : PinBit) → a ≡ b → same_bit x b ≡ true → same_bit x a ≡ true
 same_moved x a b e h = ap (same_bit x) e ∙ h
 
--- a net with a direction has a row
-pub some_row : DirectionHasBit → (L : LinkedView) (p : Plan) (seen : List PinSeen) → IsFitting L p seen → Facts L p seen → (side : Dir) (net : ℕ) → direction L.arena.lists.ports net ≡ Some side
-    → (found : Numbered) × (row_of (device_of L p seen) L.arena.lists net ≡ Some found)
+-- the net of a bit of the netlist's own ports has a row
+pub own_row : (L : LinkedView) (p : Plan) (seen : List PinSeen) → IsFitting L p seen → Facts L p seen → (side : Dir) (id : NetId) (bit : IsBitOf L.arena.lists side id) → bit.number < L.straight.first
+    → (found : Numbered) × (row_of (device_of L p seen) L.arena.lists id.0 ≡ Some found)
 unfolding row_of
-some_row has L p seen fits facts side net h =
+own_row L p seen fits facts side id bit own =
     let N = L.arena.lists in
+    let net = id.0 in
     let f = fitted_of L p seen in
-    let id : NetId = record { 0 = net } in
-    let bit = has N side id h in
     let x = pin_at bit.number bit.bit in
     let inside : bit.bit < length bit.port.nets = slice_get_within bit.port.nets bit.bit id bit.has in
     let many : length bit.port.nets ≡ width_of bit.port.range = fits.wide bit.number bit.port bit.stands in
-    let b : IsBit L x = record { port = bit.port; there = bit.stands; within = omega arith } in
-    let line = bit_has_line L seen facts.lined.each bit.number bit.port bit.bit bit.stands inside in
+    let b : IsBit L x = record { port = bit.port; there = bit.stands; own = own; within = omega arith } in
+    let line = bit_has_line L seen facts.lined.each bit.number bit.port bit.bit (bit_there L x b) inside in
     let one : count_by (sits x) (rows p seen) ≡ 1 = (one_row L p seen fits.wide fits.are_seen.count facts.each facts.makes facts.once.bits x b line).0 in
     let at = count_at (sits x) (rows p seen) (omega arith) in
     let pin = sits_by x at.1.pin at.3 in

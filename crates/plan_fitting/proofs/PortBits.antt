@@ -1,5 +1,5 @@
--- The bits of a netlist's ports: each has a line of a plan that fits, and no two are the same.
-use Rattle.std.proofs.Common.{◌≡◌, ℕ, zero, suc, ◌+◌, ◌<◌, ◌≤◌, Bool, true, false, ◌&&◌, ◌==◌, List, [], ◌∷◌, map, length, if◌then◌else◌, Option, Some, None, refl, ◌∙◌, arith, leb-true, le-leb}
+-- The bits of a netlist's own ports: each has a line of a plan that fits, and no two are the same.
+use Rattle.std.proofs.Common.{◌≡◌, ℕ, zero, suc, ◌+◌, ◌<◌, ◌≤◌, Bool, true, false, ◌&&◌, ◌==◌, List, [], ◌∷◌, map, length, if◌then◌else◌, codes, Some, None, refl, sym, ap, ◌∙◌, arith, leb-true, le-leb}
 use Rattle.std.specs.Prelude.{nat_le}
 use Rattle.std.specs.List.{list_any, list_all, flat_map, enumerate_from}
 use Rattle.std.proofs.lemmas.List.Folds.{list_all-append}
@@ -8,13 +8,8 @@ use Rattle.list_laws.proofs.Numbers.{eqb_less}
 use Rattle.list_laws.proofs.Options.{or_else-parts}
 use Rattle.link_model.specs.Nets.{counted_from}
 use Rattle.bsdl_device.specs.Checks.{any_pair}
-use Rattle.cell_library.specs.declared.listed.ListedCell.{ListedCell}
-use Rattle.netlist_model.specs.declared.CellId.{CellId}
-use Rattle.netlist_model.specs.declared.Reader.{Reader}
-use Rattle.netlist_model.specs.Lists.{PortView, NetView, CellView}
-use Rattle.netlist_arena.specs.Arena.{SpareView}
-use Rattle.netlist_unlink.specs.cell_order.Tables.{RoomView}
-use Rattle.netlist_unlink.specs.netlist_link.Linked.{LinkedView}
+use Rattle.netlist_model.specs.Lists.{PortView}
+use Rattle.netlist_unlink.specs.netlist_link.Linked.{LinkedView, own_ports}
 use Rattle.texts.specs.First.{first_in}
 use Rattle.plan_fitting.specs.declared.fault.FitFault.{FitFault}
 use Rattle.plan_fitting.specs.declared.fault.FitFault.TheVariants as fault
@@ -38,49 +33,24 @@ all_lined seen (b ∷ bits) h =
 
 -- there is a port, and each bit has a line
 pub record AreLined (L : LinkedView) (seen : List PinSeen) : Type 0 where
-  pub some : 0 < length L.arena.lists.ports
+  pub some : 0 < length (own_ports L)
   pub each : list_all (λ (b : NamedBit). has_line seen b.pin) (port_bits L) ≡ true
 
--- the parts of a linked netlist beside its ports
-record Beside : Type 0 where
-  library : List ListedCell
-  nets : List NetView
-  cells : List (Option CellView)
-  spare : SpareView
-  walks : List (List Reader)
-  names : List (List ℕ)
-  module_name : List ℕ
-  order : List CellId
-  room : RoomView
-
-abbrev with_ports : Beside → List PortView → LinkedView
-with_ports b ports = record {
-  arena = record { lists = record { library = b.library; ports = ports; nets = b.nets; cells = b.cells }; spare = b.spare; walks = b.walks };
-  names = b.names;
-  module_name = b.module_name;
-  order = b.order;
-  room = b.room;
-}
-
-lined_by : (b : Beside) (ports : List PortView) (seen : List PinSeen) → missing_fault (with_ports b ports) seen ≡ None → AreLined (with_ports b ports) seen
-lined_by b [] seen h = absurd (cc)
-lined_by b (port ∷ ports) seen h = record { some = omega arith; each = all_lined seen (port_bits (with_ports b (port ∷ ports))) h }
-
-abbrev beside : LinkedView → Beside
-beside L = record {
-  library = L.arena.lists.library;
-  nets = L.arena.lists.nets;
-  cells = L.arena.lists.cells;
-  spare = L.arena.spare;
-  walks = L.arena.walks;
-  names = L.names;
-  module_name = L.module_name;
-  order = L.order;
-  room = L.room;
-}
+-- where there is a port
+pub missing_is : (L : LinkedView) (seen : List PinSeen) (port : PortView) (ports : List PortView) → own_ports L ≡ port ∷ ports → missing_fault L seen ≡ first_in (bit_fault seen) (port_bits L)
+missing_is L seen port ports is = rw is (ap (λ (ps : List PortView). first_in (bit_fault seen) (flat_map (bits_of_port L) (enumerate_from 0 ps))) is)
 
 pub are_lined : (L : LinkedView) (seen : List PinSeen) → missing_fault L seen ≡ None → AreLined L seen
-are_lined L seen h = lined_by (beside L) L.arena.lists.ports seen h
+are_lined L seen none = by (own_ports L) refl
+  where
+    no_port : own_ports L ≡ [] → missing_fault L seen ≡ Some (fault.PlanPortMissing (codes "pin"))
+    no_port is = rw is refl
+
+    by : (ports : List PortView) → own_ports L ≡ ports → AreLined L seen
+    by [] is = absurd (let told : Some (fault.PlanPortMissing (codes "pin")) ≡ None = sym (no_port is) ∙ none in cc)
+    by (port ∷ ports) is =
+        let many : length (own_ports L) ≡ length (port ∷ ports) = ap length is in
+        record { some = omega arith; each = all_lined seen (port_bits L) (sym (missing_is L seen port ports is) ∙ none) }
 
 -- No two bits are the same.
 
@@ -139,4 +109,4 @@ ports_apart L n (port ∷ ports) =
     })
 
 pub bits_are_apart : (L : LinkedView) → any_pair same_named (port_bits L) ≡ false
-bits_are_apart L = ports_apart L 0 L.arena.lists.ports
+bits_are_apart L = ports_apart L 0 (own_ports L)

@@ -1,4 +1,4 @@
--- A row of a plan that fits is the one of its bit, and each bit has one.
+-- A row of a plan that fits is the one of its bit; each bit of the netlist's own ports has one, and no hidden bit.
 use Rattle.std.proofs.Common.{◌≡◌, ℕ, zero, suc, ◌+◌, ◌<◌, ◌≤◌, ◌==◌, Bool, true, false, List, [], ◌∷◌, length, slice_get, Option, Some, None, option_map, refl, sym, ap, ◌∙◌, inl, inr, arith, eqb-true, eq-eqb}
 use Rattle.std.specs.Prelude.{option_and_then, count_by}
 use Rattle.std.specs.Option.{option_map_or}
@@ -23,11 +23,12 @@ use Rattle.plan_fitting.specs.Pins.{PinSeen, same_bit}
 use Rattle.plan_fitting.specs.Rows.{rows, has_highz}
 use Rattle.plan_fitting.specs.Devices.{fitted_of, cell_row, device_of}
 use Rattle.plan_fitting.specs.FittingPlan.{IsFitting}
-use Rattle.plan_fitting.specs.DevicesLaws.{IsRowOf, RowsStandAtBits, BitsHaveRows}
+use Rattle.plan_fitting.specs.DevicesLaws.{IsRowOf, RowsStandAtBits, BitsHaveRows, HiddenBitsHaveNone}
 use Rattle.plan_fitting.proofs.Lined.{IsLined}
 use Rattle.plan_fitting.proofs.Rows.{IsDataRow}
+use Rattle.plan_fitting.proofs.OwnPorts.{own_from}
 use Rattle.plan_fitting.proofs.RowCounts.{sits, weigh, count-cons, count_some, count_at}
-use Rattle.plan_fitting.proofs.Indices.{IsBit}
+use Rattle.plan_fitting.proofs.Indices.{IsBit, bit_there}
 use Rattle.plan_fitting.proofs.DeviceRows.{lined_bit}
 use Rattle.plan_fitting.proofs.DeviceBits.{bit_has_line, one_row, same_self}
 use Rattle.plan_fitting.proofs.DevicesFacts.{Facts, facts_of}
@@ -90,7 +91,7 @@ data_stands L p seen fits facts number r pin at is d =
     let apart = fits.formed.bits_apart y.port.0 x.port.0 y.bit x.bit d.one.net (net_of_line_is L other.line.line other.line.one other.line.on d.one.net net) (net_of_line L d.line d.one d.on) in
     let same : same_bit x y ≡ true = and_true (x.port.0 == y.port.0) (x.bit == y.bit) (eq-eqb x.port.0 y.port.0 (sym apart.0)) (eq-eqb x.bit y.bit (sym apart.1)) in
     let b : IsBit L x = lined_bit L fits.wide d.line d.one d.on in
-    let line = bit_has_line L seen facts.lined.each x.port.0 d.on.seen.port x.bit d.on.seen.there (slice_get_within d.on.seen.port.nets x.bit d.one.net d.on.seen.net) in
+    let line = bit_has_line L seen facts.lined.each x.port.0 d.on.seen.port x.bit (own_from L x.port.0 d.on.seen.port d.on.seen.named.1 d.on.seen.there) (slice_get_within d.on.seen.port.nets x.bit d.one.net d.on.seen.net) in
     let one : count_by (sits x) (rows p seen) ≡ 1 = (one_row L p seen fits.wide fits.are_seen.count facts.each facts.makes facts.once.bits x b line).0 in
     let place : found.0.number ≡ number =
     once_at (sits x) (rows p seen) found.0.number number other.row r (omega arith) other.there at (sits_at x other.row y other.line.pin same) (sits_at x r x d.pin (same_self x)) in
@@ -123,15 +124,31 @@ pin_moved : (o : Option PinBit) (a b : PinBit) → o ≡ Some a → a ≡ b → 
 pin_moved o a b e f = e ∙ ap (λ (q : PinBit). Some q) f
 
 pub bits_have_rows : BitHasDirection → DriverIsFound → BitsHaveRows
-bits_have_rows has driven L p seen fits number bit net h =
+bits_have_rows has driven L p seen fits number bit net own h =
     let facts = facts_of has driven L p seen fits in
     let x = pin_at number bit in
     let port = port_of_net L bit net (slice_get L.arena.lists.ports number) h in
     let inside : bit < length port.0.nets = slice_get_within port.0.nets bit net port.2 in
     let many : length port.0.nets ≡ width_of port.0.range = fits.wide number port.0 port.1 in
-    let b : IsBit L x = record { port = port.0; there = port.1; within = omega arith } in
-    let line = bit_has_line L seen facts.lined.each number port.0 bit port.1 inside in
+    let b : IsBit L x = record { port = port.0; there = port.1; own = own; within = omega arith } in
+    let line = bit_has_line L seen facts.lined.each number port.0 bit (bit_there L x b) inside in
     let one : count_by (sits x) (rows p seen) ≡ 1 = (one_row L p seen fits.wide fits.are_seen.count facts.each facts.makes facts.once.bits x b line).0 in
     let at = count_at (sits x) (rows p seen) (omega arith) in
     let pin = sits_by x at.1.pin at.3 in
     record { number = at.0; row = at.1; there = at.2; at = pin_moved at.1.pin pin.0 x pin.1 (same_pin x pin.0 pin.2) }
+
+none_unless : (o : Option Numbered) → ((found : Numbered) → o ≡ Some found → ⊥) → o ≡ None
+none_unless None never = refl
+none_unless (Some found) never = absurd (never found refl)
+
+-- a row's bit isn't hidden, and no two bits have one net
+pub hidden_bits_have_none : BitHasDirection → DriverIsFound → HiddenBitsHaveNone
+hidden_bits_have_none has driven L p seen fits number bit net hidden h =
+    let facts = facts_of has driven L p seen fits in
+    none_unless (row_of (device_of L p seen) L.arena.lists net.0) (λ found is.
+    let at = row_at L p seen fits facts net.0 found is in
+    let pin = at.line.one.pin in
+    let own : pin.port.0 < L.straight.first = at.line.on.seen.named.1 in
+    let here = net_of_line_is L at.line.line at.line.one at.line.on net (same_net at.line.one.net net at.same) in
+    let same : pin.port.0 ≡ number = (fits.formed.bits_apart pin.port.0 number pin.bit bit net here h).0 in
+    absurd (omega arith))

@@ -1,5 +1,5 @@
 -- What the pin lines of the examples are of.
-use Rattle.std.proofs.Common.{◌≡◌, ℕ, zero, suc, ◌⊎◌, Bool, true, false, List, [], ◌∷◌, ◌++◌, codes, slice_get, is_some, Option, Some, None, refl, sym, ap, ◌∙◌, subst, inl, inr}
+use Rattle.std.proofs.Common.{◌≡◌, ℕ, zero, suc, ◌<◌, ◌⊎◌, Bool, true, false, List, [], ◌∷◌, ◌++◌, codes, slice_get, is_some, Option, Some, None, refl, sym, ap, ◌∙◌, subst, inl, inr, arith}
 use Rattle.cell_library.specs.Gates.{is_flop}
 use Rattle.cell_library.specs.declared.codes.BoundaryKind.{BoundaryKind}
 use Rattle.cell_library.specs.declared.codes.BoundaryKind.TheVariants.{Bc1, Bc4}
@@ -35,13 +35,14 @@ and_seen L line lines one seen first more = record { count = ap suc more.count; 
 -- Scalar ports.
 
 record IsScalarAt (L : LinkedView) (number : ℕ) (side : Dir) (name : List ℕ) : Type 0 where
+  own : number < L.straight.first
   there : slice_get L.arena.lists.ports number ≡ Some (scalar number side)
   named : slice_get L.names number ≡ Some name
 
 scalar_seen : (L : LinkedView) (number : ℕ) (side : Dir) (name : List ℕ) → IsScalarAt L number side name
     → (IsClockPort L.arena.lists number → ⊥) → (IsControlPort L.arena.lists number → ⊥) → IsSeen L name (seen_at L.arena.lists number side)
 scalar_seen L number side name is no_clock no_control = record {
-  named = scalar_word {number = number} (record { port = scalar number side; named = record { there = is.there; named = is.named }; scalar = refl });
+  named = (scalar_word {number = number} (record { port = scalar number side; named = record { there = is.there; named = is.named }; scalar = refl }), is.own);
   port = scalar number side;
   there = is.there;
   side = refl;
@@ -54,7 +55,7 @@ scalar_seen L number side name is no_clock no_control = record {
 clock_seen : (L : LinkedView) (number : ℕ) (side : Dir) (name : List ℕ) → IsScalarAt L number side name
     → IsClockPort L.arena.lists number → IsControlPort L.arena.lists number → IsSeen L name (as_clock (seen_at L.arena.lists number side))
 clock_seen L number side name is clock control = record {
-  named = scalar_word {number = number} (record { port = scalar number side; named = record { there = is.there; named = is.named }; scalar = refl });
+  named = (scalar_word {number = number} (record { port = scalar number side; named = record { there = is.there; named = is.named }; scalar = refl }), is.own);
   port = scalar number side;
   there = is.there;
   side = refl;
@@ -94,10 +95,10 @@ no_flop_d (suc (suc i)) cell live = absurd (cc)
 
 pub are_seen_d : AreSeen linked_d plan_d.pins seen_d
 are_seen_d =
-    and_seen linked_d _ _ _ _ (plain_seen linked_d 0 Input _ no_flop_d (record { there = refl; named = refl }))
-    (and_seen linked_d _ _ _ _ (plain_seen linked_d 1 Input _ no_flop_d (record { there = refl; named = refl }))
-    (and_seen linked_d _ _ _ _ (plain_seen linked_d 2 Output _ no_flop_d (record { there = refl; named = refl }))
-    (and_seen linked_d _ _ _ _ (plain_seen linked_d 3 Output _ no_flop_d (record { there = refl; named = refl }))
+    and_seen linked_d _ _ _ _ (plain_seen linked_d 0 Input _ no_flop_d (record { own = omega arith; there = refl; named = refl }))
+    (and_seen linked_d _ _ _ _ (plain_seen linked_d 1 Input _ no_flop_d (record { own = omega arith; there = refl; named = refl }))
+    (and_seen linked_d _ _ _ _ (plain_seen linked_d 2 Output _ no_flop_d (record { own = omega arith; there = refl; named = refl }))
+    (and_seen linked_d _ _ _ _ (plain_seen linked_d 3 Output _ no_flop_d (record { own = omega arith; there = refl; named = refl }))
     (none_seen linked_d))))
 
 no_flop_n : HasNoFlop netlist_n
@@ -112,8 +113,8 @@ seen_n = seen_at netlist_n 0 Input ∷ seen_at netlist_n 1 Output ∷ []
 
 pub are_seen_n : AreSeen linked_n (pin_line (codes "a+b") (codes "1") Bc1 ∷ pin_line (codes "y") (codes "2") Bc1 ∷ []) seen_n
 are_seen_n =
-    and_seen linked_n _ _ _ _ (plain_seen linked_n 0 Input _ no_flop_n (record { there = refl; named = refl }))
-    (and_seen linked_n _ _ _ _ (plain_seen linked_n 1 Output _ no_flop_n (record { there = refl; named = refl })) (none_seen linked_n))
+    and_seen linked_n _ _ _ _ (plain_seen linked_n 0 Input _ no_flop_n (record { own = omega arith; there = refl; named = refl }))
+    (and_seen linked_n _ _ _ _ (plain_seen linked_n 1 Output _ no_flop_n (record { own = omega arith; there = refl; named = refl })) (none_seen linked_n))
 
 -- The flip-flop is clocked by ck.
 
@@ -171,22 +172,22 @@ data_seen number side name is =
 
 ck_seen : IsSeen linked_c (codes "ck") (as_clock (seen_at netlist_c 0 Input))
 ck_seen =
-    clock_seen linked_c 0 Input _ (record { there = refl; named = refl })
+    clock_seen linked_c 0 Input _ (record { own = omega arith; there = refl; named = refl })
     (refl, record { root = 0; operand = ck_operand; cone = itself })
     (refl, record { root = 0; operand = inl ck_operand; cone = itself })
 
 pub q_seen : IsSeen linked_c (codes "q") (seen_at netlist_c 2 Output)
-q_seen = data_seen 1 Output _ (record { there = refl; named = refl })
+q_seen = data_seen 1 Output _ (record { own = omega arith; there = refl; named = refl })
 
 pub are_seen_c : (cell : BoundaryKind) → AreSeen linked_c (plan_c cell).pins seen_c
 are_seen_c cell =
     and_seen linked_c _ _ _ _ ck_seen
-    (and_seen linked_c _ _ _ _ (data_seen 0 Input _ (record { there = refl; named = refl }))
+    (and_seen linked_c _ _ _ _ (data_seen 0 Input _ (record { own = omega arith; there = refl; named = refl }))
     (and_seen linked_c _ _ _ _ q_seen (none_seen linked_c)))
 
 pub are_seen_twice : AreSeen linked_c ((plan_c Bc4).pins ++ pin_line (codes "q") (codes "4") Bc1 ∷ []) (seen_c ++ seen_at netlist_c 2 Output ∷ [])
 are_seen_twice =
     and_seen linked_c _ _ _ _ ck_seen
-    (and_seen linked_c _ _ _ _ (data_seen 0 Input _ (record { there = refl; named = refl }))
+    (and_seen linked_c _ _ _ _ (data_seen 0 Input _ (record { own = omega arith; there = refl; named = refl }))
     (and_seen linked_c _ _ _ _ q_seen
     (and_seen linked_c _ _ _ _ q_seen (none_seen linked_c))))

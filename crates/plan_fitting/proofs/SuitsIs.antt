@@ -1,5 +1,5 @@
 -- The cells of the device of a plan that fits suit the netlist.
-use Rattle.std.proofs.Common.{◌≡◌, ◌⊎◌, ℕ, Bool, true, false, not, List, [], ◌∷◌, slice_get, Option, Some, None, option_map, refl, sym, ap, ◌∙◌, subst, inl, inr}
+use Rattle.std.proofs.Common.{◌≡◌, ◌⊎◌, ℕ, ◌<◌, Bool, true, false, not, List, [], ◌∷◌, slice_get, Option, Some, None, option_map, refl, sym, ap, ◌∙◌, subst, inl, inr}
 use Rattle.std.specs.Prelude.{is_some, ◌&&◌}
 use Rattle.std.specs.Option.{option_map_or}
 use Rattle.list_laws.proofs.Tests.{and_left, and_right}
@@ -16,6 +16,7 @@ use Rattle.netlist_model.specs.declared.Dir.{Dir}
 use Rattle.netlist_model.specs.declared.Dir.TheVariants as dir
 use Rattle.netlist_model.specs.declared.Feed.{Feed}
 use Rattle.netlist_model.specs.declared.Feed.TheVariants.{Net, Const}
+use Rattle.netlist_model.specs.declared.NetId.{NetId}
 use Rattle.netlist_model.specs.Lists.{CellView, direction, Drives}
 use Rattle.netlist_model.specs.Cones.{IsControlPort}
 use Rattle.netlist_model.specs.Ports.{BitHasDirection, DirectionHasBit}
@@ -24,7 +25,7 @@ use Rattle.netlist_unlink.specs.netlist_link.Linked.{LinkedView}
 use Rattle.bsdl_device.specs.declared.values.Disable.{Disable}
 use Rattle.bsdl_device.specs.declared.values.CellRow.{CellRow}
 use Rattle.wrapped_chip.specs.Cells.{Numbered, row_of}
-use Rattle.wrapped_chip.specs.Suits.{IsRead, inactive_level, SuitsDriver, HasCell, is_input, is_output, is_bidir}
+use Rattle.wrapped_chip.specs.Suits.{IsRead, inactive_level, SuitsDriver, CellSuits, HasCell, is_input, is_output, is_bidir}
 use Rattle.texts.specs.First.{or_else}
 use Rattle.plan_texts.specs.declared.plan.Plan.{Plan}
 use Rattle.plan_fitting.specs.declared.fitted.FitRow.{FitRow}
@@ -38,7 +39,8 @@ use Rattle.plan_fitting.specs.DevicesLaws.{PlansSuitNetlists}
 use Rattle.plan_fitting.proofs.Rows.{side_driver, data_function, Controlled}
 use Rattle.plan_fitting.proofs.DevicesDrivers.{seen_direction, seen_driver, gate_has_driver}
 use Rattle.plan_fitting.proofs.DevicesFacts.{Facts, facts_of}
-use Rattle.plan_fitting.proofs.NetRows.{RowAt, row_at, some_row}
+use Rattle.plan_fitting.proofs.NetRows.{RowAt, row_at, own_row}
+use Rattle.plan_fitting.proofs.OwnPorts.{own_or_hidden}
 
 -- Functions.
 
@@ -57,21 +59,34 @@ side_is has L p seen fits net found at side h =
     some_same at.line.one.side side (direction L.arena.lists.ports net)
     (ap (direction L.arena.lists.ports) (sym at.same) ∙ seen_direction has L fits.formed at.line.line.port at.line.one at.line.on.seen) h
 
-has_cell : BitHasDirection → DirectionHasBit → (L : LinkedView) (p : Plan) (seen : List PinSeen) → IsFitting L p seen → Facts L p seen → (test : Function → Bool) (side : Dir)
-    → ((clock : Bool) (d : Option Driver) → test (data_function side clock d) ≡ true) → (net : ℕ) → direction L.arena.lists.ports net ≡ Some side → HasCell (device_of L p seen) L.arena.lists test net
-has_cell has back L p seen fits facts test side right net h =
-    let found = some_row back L p seen fits facts side net h in
-    let at = row_at L p seen fits facts net found.0 found.1 in
+-- the cell of a net's bit has a function for the bit's side
+cell_suits : BitHasDirection → (L : LinkedView) (p : Plan) (seen : List PinSeen) → IsFitting L p seen → Facts L p seen → (test : Function → Bool) (side : Dir)
+    → ((clock : Bool) (d : Option Driver) → test (data_function side clock d) ≡ true) → (net : ℕ) → direction L.arena.lists.ports net ≡ Some side
+    → CellSuits (device_of L p seen) L.arena.lists test net
+cell_suits has L p seen fits facts test side right net h r first =
+    let at = row_at L p seen fits facts net r first in
     let one = at.line.one in
-    let is = side_is has L p seen fits net found.0 at side h in
+    let is = side_is has L p seen fits net r at side h in
+    ap (λ (x : CellRow). test x.function) (sym at.is)
+    ∙ ap test at.line.does
+    ∙ ap (λ (s : Dir). test (data_function s one.clock (side_driver (has_highz p.opcodes) one one.side))) is
+    ∙ right one.clock (side_driver (has_highz p.opcodes) one one.side)
+
+-- an inout bit isn't hidden, so it has a cell
+inout_cell : BitHasDirection → DirectionHasBit → (L : LinkedView) (p : Plan) (seen : List PinSeen) → IsFitting L p seen → Facts L p seen → (net : ℕ) → direction L.arena.lists.ports net ≡ Some dir.Inout
+    → HasCell (device_of L p seen) L.arena.lists is_bidir net
+inout_cell has back L p seen fits facts net h =
+    let id : NetId = record { 0 = net } in
+    let bit = back L.arena.lists dir.Inout id h in
+    let own : bit.number < L.straight.first = elim (own_or_hidden L fits.ends bit.number bit.port bit.stands) [
+      | inl low ↦ low
+      | inr hidden ↦ absurd ((fits.straight bit.number bit.bit bit.port id hidden bit.stands bit.has).side bit.same)
+    ] in
+    let found = own_row L p seen fits facts dir.Inout id bit own in
     record {
       found = found.0;
       first = found.1;
-      suitable =
-          ap (λ (r : CellRow). test r.function) (sym at.is)
-          ∙ ap test at.line.does
-          ∙ ap (λ (s : Dir). test (data_function s one.clock (side_driver (has_highz p.opcodes) one one.side))) is
-          ∙ right one.clock (side_driver (has_highz p.opcodes) one one.side);
+      suitable = cell_suits has L p seen fits facts is_bidir dir.Inout (λ clock d. refl) net h found.0 found.1;
     }
 
 -- Control ports.
@@ -202,9 +217,9 @@ pub plans_suit_netlists : BitHasDirection → DirectionHasBit → DriverIsFound 
 plans_suit_netlists has back driven L p seen fits =
     let facts = facts_of has driven L p seen fits in
     record {
-      inputs = has_cell has back L p seen fits facts is_input dir.Input does_input;
-      outputs = has_cell has back L p seen fits facts is_output dir.Output does_output;
-      inouts = has_cell has back L p seen fits facts is_bidir dir.Inout (λ clock d. refl);
+      inputs = cell_suits has L p seen fits facts is_input dir.Input does_input;
+      outputs = cell_suits has L p seen fits facts is_output dir.Output does_output;
+      inouts = inout_cell has back L p seen fits facts;
       controls = λ net r control row. control_cell has L p seen fits facts net r control row;
       drivers = λ i net cell r drives read row. suits_driver has driven L p seen fits facts i net cell r drives read row;
     }

@@ -5,7 +5,7 @@ use Rattle.std.specs.List.{list_any, AllByRecursion}
 use Rattle.std.specs.Str.{bytes_eq}
 use Rattle.std.proofs.lemmas.List.Elements.{All-from_recursion}
 use Rattle.list_laws.proofs.Bytes.{bytes_eq-same}
-use Rattle.list_laws.proofs.Lists.{all_front, all_back, each_fails}
+use Rattle.list_laws.proofs.Lists.{all_front, all_back}
 use Rattle.list_laws.proofs.Tests.{or_first, or_second}
 use Rattle.bsdl_lexicon.specs.Bytes.{is_letter, is_name_byte}
 use Rattle.bsdl_lexicon.specs.Names.{lower, is_same_name}
@@ -16,13 +16,15 @@ use Rattle.netlist_model.specs.declared.Name.TheVariants.{Original}
 use Rattle.netlist_unlink.specs.netlist_link.Linked.{LinkedView}
 use Rattle.netlist_unlink.specs.Prefixes.{IsUsed}
 use Rattle.texts.specs.Repeated.{has_name}
-use Rattle.bsdl_lexicon.proofs.SameNames.{same_turned}
+use Rattle.plan_texts.specs.declared.plan.Plan.{Plan}
 use Rattle.plan_texts.specs.declared.plan.TapLine.{TapLine}
-use Rattle.plan_fitting.specs.Names.{port_names, net_names, cell_names}
+use Rattle.plan_fitting.specs.Pins.{PinSeen}
+use Rattle.plan_fitting.specs.Names.{net_names, cell_names, hidden_names}
 use Rattle.plan_fitting.specs.Fits.{tap_lines, names_of, unit_names}
+use Rattle.plan_fitting.specs.FittingPlan.{IsFitting}
 use Rattle.plan_fitting.specs.DevicesLaws.{TapNamesAreNew}
 use Rattle.plan_fitting.proofs.Tests.{true_not_false}
-use Rattle.plan_fitting.proofs.Pairs.{any_across, pair_split, across_front, across_turned, across_same}
+use Rattle.plan_fitting.proofs.Pairs.{pair_split}
 use Rattle.plan_fitting.proofs.DevicesNames.{names_fit}
 use Rattle.plan_fitting.proofs.DevicesFacts.{no_fault}
 use Rattle.plan_fitting.proofs.Prefix.{used_holds}
@@ -82,13 +84,6 @@ lines_distinct (x ∷ lines) h (suc j) (suc k) one other a b e = ap suc (lines_d
 abbrev IsOther : List ℕ → List ℕ → Type 0
 IsOther name other = name ≡ other → ⊥
 
-others_same : (name : List ℕ) (names : List (List ℕ)) → list_any (is_same_name name) names ≡ false → AllByRecursion (IsOther name) names
-others_same name [] h = tt
-others_same name (other ∷ names) h = (
-  λ e. true_not_false (is_same_name name other) (same_self name other e) (or_first (is_same_name name other) (list_any (is_same_name name) names) h),
-  others_same name names (or_second (is_same_name name other) (list_any (is_same_name name) names) h),
-)
-
 others_bytes : (name : List ℕ) (names : List (List ℕ)) → has_name names name ≡ false → AllByRecursion (IsOther name) names
 others_bytes name [] h = tt
 others_bytes name (other ∷ names) h = (
@@ -96,18 +91,19 @@ others_bytes name (other ∷ names) h = (
   others_bytes name names (or_second (bytes_eq name other) (has_name names name) h),
 )
 
-lines_new : (L : LinkedView) (lines : List TapLine) → AllByRecursion (λ name. list_any (is_same_name name) (port_names L) ≡ false) (names_of lines)
-    → AllByRecursion (λ name. has_name (net_names L ++ cell_names L) name ≡ false) (names_of lines)
+lines_new : (L : LinkedView) (p : Plan) (seen : List PinSeen) → IsFitting L p seen → (lines : List TapLine)
+    → AllByRecursion (λ name. has_name (net_names L ++ (cell_names L ++ hidden_names L)) name ≡ false) (names_of lines)
     → AllByRecursion (λ (line : TapLine). (number : ℕ) → IsUsed L.arena.lists (Original number) → slice_get L.names number ≡ Some line.name → ⊥) lines
-lines_new L [] apart new = tt
-lines_new L (line ∷ lines) apart new =
-    let rest = others_bytes line.name (net_names L ++ cell_names L) new.0 in (
-      λ number used at. used_holds L (IsOther line.name) (record {
-        ports = others_same line.name (port_names L) apart.0;
-        nets = all_front (IsOther line.name) (net_names L) (cell_names L) rest;
-        cells = all_back (IsOther line.name) (net_names L) (cell_names L) rest;
+lines_new L p seen fits [] new = tt
+lines_new L p seen fits (line ∷ lines) new =
+    let others = others_bytes line.name (net_names L ++ (cell_names L ++ hidden_names L)) new.0 in
+    let rest = all_back (IsOther line.name) (net_names L) (cell_names L ++ hidden_names L) others in (
+      λ number used at. used_holds L p seen fits (IsOther line.name) (record {
+        nets = all_front (IsOther line.name) (net_names L) (cell_names L ++ hidden_names L) others;
+        cells = all_front (IsOther line.name) (cell_names L) (hidden_names L) rest;
+        hidden = all_back (IsOther line.name) (cell_names L) (hidden_names L) rest;
       }) (Original number) used number line.name refl at refl,
-      lines_new L lines apart.1 new.1,
+      lines_new L p seen fits lines new.1,
     )
 
 pub tap_names_are_new : TapNamesAreNew
@@ -117,14 +113,9 @@ tap_names_are_new L p seen fits =
     let more = names_of p.linkage in
     let whole = pair_split is_same_name (unit_names L p) (taps ++ more) names.distinct in
     let rest = pair_split is_same_name taps more whole.back in
-    let ports : any_across is_same_name (port_names L) taps ≡ false =
-    or_second (list_any (is_same_name p.«package») taps) (any_across is_same_name (port_names L) taps)
-    (or_second (list_any (is_same_name p.entity) taps) (any_across is_same_name (p.«package» ∷ port_names L) taps) (across_front is_same_name (unit_names L p) taps more whole.across)) in
-    let turned : any_across is_same_name taps (port_names L) ≡ false =
-    across_turned is_same_name taps (port_names L) (across_same (λ y x. is_same_name x y) is_same_name (λ y x. same_turned x y) (port_names L) taps ∙ ports) in
     record {
       written = All-from_recursion (λ (line : TapLine). IsTreeName line.name) (tap_lines p) (lines_written (tap_lines p) names.tap);
       distinct = lines_distinct (tap_lines p) rest.front;
       new = All-from_recursion (λ (line : TapLine). (number : ℕ) → IsUsed L.arena.lists (Original number) → slice_get L.names number ≡ Some line.name → ⊥) (tap_lines p)
-          (lines_new L (tap_lines p) (each_fails (λ name. list_any (is_same_name name) (port_names L)) taps turned) names.new);
+          (lines_new L p seen fits (tap_lines p) names.new);
     }

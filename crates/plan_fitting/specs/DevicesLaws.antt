@@ -1,7 +1,7 @@
 -- Laws on the devices of plans that fit.
 -- IEEE Std 1149.1-2001: boundary-scan register, the annex on BSDL; IEEE Std 1364-2001: lexical
 -- conventions (simple names).
-use Rattle.std.specs.Prelude.{◌≡◌, ℕ, ◌+◌, List, ◌++◌, All, length, slice_get, Option, Some, None}
+use Rattle.std.specs.Prelude.{◌≡◌, ℕ, ◌+◌, ◌<◌, ◌≤◌, List, ◌++◌, All, length, slice_get, Option, Some, None}
 use Rattle.std.specs.Option.{option_map, option_map_or}
 use Rattle.signal_values.specs.declared.Sig.{Sig}
 use Rattle.signal_values.specs.declared.Sig.TheVariants.{Unknown}
@@ -43,7 +43,7 @@ use Rattle.plan_fitting.specs.FittingPlan.{IsFitting, HasRoom}
 abbrev pub PlansMakeDevices : Type 0
 PlansMakeDevices = (L : LinkedView) (p : Plan) (seen : List PinSeen) → IsFitting L p seen → HasRoom L p → IsDevice (device_of L p seen)
 
--- each bit of the netlist's ports has the cell that it may have
+-- each bit of the netlist's ports that has a cell has one that it may have; `BitsHaveRows` tells which have one
 abbrev pub PlansSuitNetlists : Type 0
 PlansSuitNetlists = (L : LinkedView) (p : Plan) (seen : List PinSeen) → IsFitting L p seen → Suits (device_of L p seen) L.arena.lists
 
@@ -78,24 +78,24 @@ pub record HasOwnPort (L : LinkedView) (d : Device) (number : ℕ) (port : PortV
   pub side : q.mode ≡ mode_of_side port.dir
   pub range : q.range ≡ option_map port_range port.range
 
--- the netlist's ports, the five of the test access port, and linkage, each in their order
+-- the netlist's own ports, the five of the test access port, and linkage, each in their order
 pub record HasPorts (L : LinkedView) (p : Plan) (d : Device) : Type 0 where
-  pub count : length d.ports ≡ length L.arena.lists.ports + (5 + length p.linkage)
-  pub own : (number : ℕ) (port : PortView) → slice_get L.arena.lists.ports number ≡ Some port → HasOwnPort L d number port
-  pub tck : slice_get d.ports (length L.arena.lists.ports) ≡ Some (scalar_port mode.Input p.tck)
-  pub tms : slice_get d.ports (length L.arena.lists.ports + 1) ≡ Some (scalar_port mode.Input p.tms)
-  pub tdi : slice_get d.ports (length L.arena.lists.ports + 2) ≡ Some (scalar_port mode.Input p.tdi)
-  pub tdo : slice_get d.ports (length L.arena.lists.ports + 3) ≡ Some (scalar_port mode.Output p.tdo)
-  pub trst : slice_get d.ports (length L.arena.lists.ports + 4) ≡ Some (scalar_port mode.Input p.trst)
-  pub linkage : (place : ℕ) (line : TapLine) → slice_get p.linkage place ≡ Some line → slice_get d.ports (length L.arena.lists.ports + (5 + place)) ≡ Some (scalar_port mode.Linkage line)
+  pub count : length d.ports ≡ L.straight.first + (5 + length p.linkage)
+  pub own : (number : ℕ) (port : PortView) → number < L.straight.first → slice_get L.arena.lists.ports number ≡ Some port → HasOwnPort L d number port
+  pub tck : slice_get d.ports L.straight.first ≡ Some (scalar_port mode.Input p.tck)
+  pub tms : slice_get d.ports (L.straight.first + 1) ≡ Some (scalar_port mode.Input p.tms)
+  pub tdi : slice_get d.ports (L.straight.first + 2) ≡ Some (scalar_port mode.Input p.tdi)
+  pub tdo : slice_get d.ports (L.straight.first + 3) ≡ Some (scalar_port mode.Output p.tdo)
+  pub trst : slice_get d.ports (L.straight.first + 4) ≡ Some (scalar_port mode.Input p.trst)
+  pub linkage : (place : ℕ) (line : TapLine) → slice_get p.linkage place ≡ Some line → slice_get d.ports (L.straight.first + (5 + place)) ≡ Some (scalar_port mode.Linkage line)
 
 -- and the test access port stands at those places
 pub record HasTapPlaces (L : LinkedView) (d : Device) : Type 0 where
-  pub tck : d.tck ≡ length L.arena.lists.ports
-  pub tms : d.tms ≡ length L.arena.lists.ports + 1
-  pub tdi : d.tdi ≡ length L.arena.lists.ports + 2
-  pub tdo : d.tdo ≡ length L.arena.lists.ports + 3
-  pub trst : d.trst ≡ length L.arena.lists.ports + 4
+  pub tck : d.tck ≡ L.straight.first
+  pub tms : d.tms ≡ L.straight.first + 1
+  pub tdi : d.tdi ≡ L.straight.first + 2
+  pub tdo : d.tdo ≡ L.straight.first + 3
+  pub trst : d.trst ≡ L.straight.first + 4
 
 abbrev pub DevicesHavePorts : Type 0
 DevicesHavePorts = (L : LinkedView) (p : Plan) (seen : List PinSeen) → IsFitting L p seen → HasPorts L p (device_of L p seen) × HasTapPlaces L (device_of L p seen)
@@ -120,9 +120,14 @@ pub record HasRow (p : Plan) (seen : List PinSeen) (pin : PinBit) : Type 0 where
   pub there : slice_get (rows p seen) number ≡ Some row
   pub at : row.pin ≡ Some pin
 
--- each bit of the netlist's ports has one
+-- each bit of the netlist's own ports has one
 abbrev pub BitsHaveRows : Type 0
-BitsHaveRows = (L : LinkedView) (p : Plan) (seen : List PinSeen) → IsFitting L p seen → (number bit : ℕ) (net : NetId) → bit_net L.arena.lists number bit ≡ Some net → HasRow p seen (pin_at number bit)
+BitsHaveRows = (L : LinkedView) (p : Plan) (seen : List PinSeen) → IsFitting L p seen → (number bit : ℕ) (net : NetId) → number < L.straight.first → bit_net L.arena.lists number bit ≡ Some net → HasRow p seen (pin_at number bit)
+
+-- and no hidden bit has one
+abbrev pub HiddenBitsHaveNone : Type 0
+HiddenBitsHaveNone = (L : LinkedView) (p : Plan) (seen : List PinSeen) → IsFitting L p seen → (number bit : ℕ) (net : NetId) → L.straight.first ≤ number → bit_net L.arena.lists number bit ≡ Some net
+    → row_of (device_of L p seen) L.arena.lists net.0 ≡ None
 
 -- The core's side of the rows.
 

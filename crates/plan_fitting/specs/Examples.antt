@@ -1,6 +1,6 @@
 -- Small modules with their plans: their boundary cells, and what a plan of theirs is refused for.
 -- IEEE Std 1149.1-2001: boundary-scan register, the annex on BSDL; the modules are own.
-use Rattle.std.specs.Prelude.{◌≡◌, ℕ, Bool, true, false, List, [], ◌∷◌, ◌++◌, codes, Option, Some, None}
+use Rattle.std.specs.Prelude.{◌≡◌, ℕ, Bool, true, false, List, [], ◌∷◌, ◌++◌, codes, length, Option, Some, None}
 use Rattle.cell_library.specs.declared.Kind.{Kind}
 use Rattle.cell_library.specs.declared.Kind.TheVariants.{And, Not, Buf, Bufif0, Bufif1, Flop}
 use Rattle.cell_library.specs.declared.Edge.TheVariants.{Rise}
@@ -58,6 +58,9 @@ linked names N = record {
   module_name = codes "chip";
   order = [];
   room = record { cells = 0; nets = 0 };
+  straight = record { first = length N.ports; count = 0 };
+  inner = 0;
+  rails = [];
 }
 
 -- the scalar port with this number, whose net has the same number; it doesn't clock, clear or preset

@@ -38,7 +38,7 @@ realising_meets_program meets M B N formed suits around realises given events ch
 -- Runs.
 
 pub some_run_beside_program : ProgramRunExists → RunBesideProgramExists
-some_run_beside_program exists M B N formed realises start =
-    let has = exists B N formed start in
+some_run_beside_program exists M B N formed realises start outside known =
+    let has = exists B N formed start outside known in
     let beside = realises.some start start has.events has.chip has.plays.run (λ i cell kind live is. refl) in
-    record { events = has.events; chip = has.chip; moment = beside.0; plays = has.plays; beside = beside.1; starts = beside.2 }
+    record { events = has.events; chip = has.chip; moment = beside.0; plays = has.plays; straight = has.straight; beside = beside.1; starts = beside.2 }

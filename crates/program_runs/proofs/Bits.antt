@@ -28,6 +28,7 @@ use Rattle.scan_programs.specs.Met.{Moment, BitReads}
 use Rattle.program_runs.specs.Around.{StandsAtNet, StandsAround}
 use Rattle.program_runs.specs.Readings.{ChipBitReads}
 use Rattle.program_runs.proofs.Cells.{core_of, reading_same}
+use Rattle.program_runs.proofs.Pins.{side_is}
 use Rattle.program_runs.proofs.Sides.{port_of, LeavesPins, outside_is}
 
 -- The cell at a bit.
@@ -94,7 +95,7 @@ stands_there B N bit number around cell =
       | inr none ↦ absurd (let no : None ≡ Some bit = sym none.pin ∙ cell.pin in cc)
     ]
 
-pub bit_reads : BitHasDirection → (B : Device) (N : NetlistView) (w : ChipMoment) (word : List ℕ) (value : PinSig) → IsWellFormed N → Suits B N → StandsAround B N → LeavesPins N w
+pub bit_reads : BitHasDirection → (B : Device) (N : NetlistView) (w : ChipMoment) (word : List ℕ) (value : PinSig) → IsWellFormed N → Suits B N → StandsAround B N → LeavesPins B N w
     → BitReads B (moment_of B N w) word value → ChipBitReads B N w word value
 bit_reads directed B N w word value formed suits around leaves reads =
     let bit : DevBit = record { port = reads.place; index = reads.index } in
@@ -102,7 +103,7 @@ bit_reads directed B N w word value formed suits around leaves reads =
     let stands = stands_there B N bit reads.number around cell in
     let at : net_of_bit N bit ≡ Some stands.net = sym (ap (option_and_then (net_of_bit N)) cell.pin) ∙ stands.at in
     let port = port_of directed N formed bit stands.net at in
-    let side = around.sides reads.place port.port reads.port port.there reads.there in
+    let side = around.sides reads.number cell.row bit port.port reads.port cell.there cell.pin port.there reads.there in
     record {
       net = stands.net.0;
       bit = record {
@@ -110,8 +111,11 @@ bit_reads directed B N w word value formed suits around leaves reads =
         port = reads.port;
         index = reads.index;
         there = reads.there;
+        inside = λ e. side_is port.port.dir (sym side ∙ e);
         named = reads.named;
         at = at;
+        row = record { number = reads.number; row = cell.row };
+        found = stands.found;
         read = read_by (direction N.ports stands.net.0) port.port.dir port.side (read_side port.port.dir reads.port.mode (is_tap_place B reads.place) side reads.read);
       };
       reads = reading_same B N w reads.number cell.row stands cell.there (outside_is directed B N w formed suits leaves reads.number cell.row stands) ∙ reads.reads;

@@ -10,8 +10,7 @@ use Rattle.scan_vectors.specs.declared.lines.Lines.{Lines}
 use Rattle.scan_vectors.specs.Grammar.{act_of, pin_of, value_of}
 use Rattle.scan_vectors.specs.declared.scripts.script.ScriptLine.{ScriptLine}
 use Rattle.scan_vectors.specs.Pins.{Names}
-use Rattle.scan_vectors.specs.Scripts.{IsSpelled, IsFound, IsScriptOf}
-use Rattle.scan_vectors.proofs.Verdicts.{spelled_lengths}
+use Rattle.scan_vectors.specs.Scripts.{IsFound, IsScriptOf}
 use Rattle.program_runs.specs.Lines.{IsStartOf, NamePins}
 
 -- the line with its pin found
@@ -46,8 +45,8 @@ found_by L (line ∷ lines) (number ∷ numbers) (found ∷ script) many numbere
     )
 
 -- what is resolved is found
-pub are_found : (L : LinkedView) (lines : Lines) (script : List ScriptLine) → IsSpelled lines → IsScriptOf L lines script → AreFound L lines.list script
-are_found L lines script spelled is = found_by L lines.list lines.numbers script is.count (spelled_lengths lines spelled) is.each
+pub are_found : (L : LinkedView) (lines : Lines) (script : List ScriptLine) → length lines.numbers ≡ length lines.list → IsScriptOf L lines script → AreFound L lines.list script
+are_found L lines script numbered is = found_by L lines.list lines.numbers script is.count numbered is.each
 
 -- One line.
 

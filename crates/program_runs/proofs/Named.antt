@@ -1,17 +1,14 @@
 -- The words of a device's bits name them, in a netlist with its ports.
-use Rattle.std.proofs.Common.{◌≡◌, ℕ, ◌+◌, ◌-◌, ◌%◌, ◌<◌, ◌≤◌, ◌^◌, Bool, true, false, cond, List, [], ◌∷◌, ◌++◌, Option, Some, None, refl, sym, ap, ◌∙◌, subst, arith, leb-true, lit<, append_assoc}
-use Rattle.std.specs.Prelude.{IfSome, IsTrue, nat_le}
+use Rattle.std.proofs.Common.{◌≡◌, ℕ, ◌+◌, ◌-◌, ◌<◌, ◌≤◌, ◌^◌, Bool, true, false, cond, List, [], ◌∷◌, ◌++◌, Option, Some, None, refl, sym, ap, ◌∙◌, subst, arith, leb-true, lit<, append_assoc}
+use Rattle.std.specs.Prelude.{IfSome, nat_le}
 use Rattle.std.specs.Fmt.{decimal}
-use Rattle.std.specs.List.{AllByRecursion}
-use Rattle.std.proofs.lemmas.Fmt.{decimal_by_steps, decimal_nonempty, length-decimal-le}
-use Rattle.list_laws.proofs.Lists.{all_append}
-use Rattle.verilog_lexicon.specs.Bytes.{is_digit}
+use Rattle.std.proofs.lemmas.Fmt.{decimal_nonempty, length-decimal-le}
 use Rattle.verilog_lexicon.specs.Pieces.{IsNumber, value_from}
 use Rattle.netlist_model.specs.declared.Range.{Range}
 use Rattle.netlist_model.specs.Lists.{PortView}
 use Rattle.netlist_model.specs.Formed.{width_of}
 use Rattle.netlist_link.specs.Linked.{LinkedView}
-use Rattle.netlist_link.specs.PinWords.{IsPortNamed, IsScalarWord, pin_at}
+use Rattle.netlist_link.specs.PinWords.{IsPortNamed, pin_at}
 use Rattle.netlist_link.specs.PinWords.IsPinWord.{scalar, vector}
 use Rattle.netlist_link.specs.WellNamed.{IsShortRange, index_from}
 use Rattle.bsdl_device.specs.declared.values.DevPort.{DevPort}
@@ -20,22 +17,12 @@ use Rattle.scan_vectors.specs.Pins.{Names}
 use Rattle.scan_programs.specs.Pins.{bit_word}
 use Rattle.conformance_report.specs.Agreement.{IsSamePort}
 use Rattle.program_runs.specs.Beside.{IsDescribed}
-use Rattle.program_runs.proofs.ScriptsWords.{not_plain, decimal_value}
+use Rattle.program_runs.proofs.ScriptsWords.{no_scalar, decimal_value, digits_are}
 
 -- Digits.
 
-digit_byte : (d : ℕ) → d < 10 → is_digit (48 + d) ≡ true
-digit_byte d h = grind arith
-
-last_digit : (n : ℕ) → n % 10 < 10
-last_digit n = omega arith
-
-digits_are : (n : ℕ) → n < 2 ^ 64 → AllByRecursion (λ c. IsTrue (is_digit c)) (decimal n)
-digits_are = decimal_by_steps (λ n ds. AllByRecursion (λ c. IsTrue (is_digit c)) ds) (λ n h. (digit_byte n h, tt))
-    (λ n ds h all. all_append (λ c. IsTrue (is_digit c)) ds ((48 + n % 10) ∷ []) all (digit_byte (n % 10) (last_digit n), tt))
-
 number_there : (n : ℕ) → n < 10 ^ 9 → IsNumber (decimal n)
-number_there n low = let fits : n < 2 ^ 64 = omega (arith, low) in (decimal_nonempty n fits, length-decimal-le 9 n (lit< tt) low fits, digits_are n fits)
+number_there n low = let fits : n < 2 ^ 64 = omega (arith, low) in (decimal_nonempty n fits, length-decimal-le 9 n (lit< tt) low fits, digits_are n)
 
 short_index : (r : Range) (bit : ℕ) (b : Bool) → nat_le r.left r.right ≡ b → r.left < 10 ^ 9 → r.right < 10 ^ 9 → bit < width_of (Some r) → cond b (r.left + bit) (r.left - bit) < 10 ^ 9
 short_index r bit true e left right low = let up : r.left ≤ r.right = leb-true r.left r.right e in omega (arith, up, left, right, low)
@@ -51,9 +38,7 @@ vector_named L B described place port name named r range bit low =
     let index : ℕ = cond (nat_le r.left r.right) (r.left + bit) (r.left - bit) in
     let few : index < 10 ^ 9 = short_index r bit (nat_le r.left r.right) refl short.left short.right low in
     let value : index ≡ value_from 0 (decimal index) = sym (decimal_value index (let fits : index < 2 ^ 64 = omega (arith, few) in fits)) in
-    let none : (other : ℕ) → IsScalarWord L.names L.arena.lists (bit_word name (Some index)) other → ⊥ =
-    λ other is. not_plain name (decimal index ++ 93 ∷ []) (described.plain other is.port (bit_word name (Some index)) is.named) in
-    vector none (record {
+    vector (no_scalar L described.plain described.open_names name index) (record {
       name = name;
       index = index;
       indexed = record { digits = decimal index; number = number_there index few; spelled = sym (append_assoc name (91 ∷ decimal index) (93 ∷ [])); value = value };

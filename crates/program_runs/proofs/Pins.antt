@@ -1,5 +1,5 @@
 -- The pins that the words of a device name in a netlist with its ports.
-use Rattle.std.proofs.Common.{◌≡◌, ◌≢◌, ℕ, zero, suc, ◌+◌, ◌-◌, ◌<◌, true, false, ◌||◌, List, [], slice_get, Option, Some, None, option_map, refl, sym, ap, ◌∙◌, subst, arith}
+use Rattle.std.proofs.Common.{◌≡◌, ◌≢◌, ℕ, zero, suc, ◌+◌, ◌-◌, ◌<◌, ◌≤◌, nat_lt, nat_le, Bool, true, false, ◌&&◌, ◌||◌, if◌then◌else◌, List, [], slice_get, Option, Some, None, option_map, refl, sym, ap, ◌∙◌, subst, arith, ltb-true, ltb-false}
 use Rattle.std.specs.Prelude.{unwrap_or}
 use Rattle.std.specs.Option.{option_map_or}
 use Rattle.std.proofs.lemmas.Option.{slice_get-map}
@@ -13,7 +13,7 @@ use Rattle.netlist_model.specs.declared.Range.{Range}
 use Rattle.netlist_model.specs.Lists.{PortView, NetlistView, bit_net}
 use Rattle.netlist_model.specs.Formed.{width_of}
 use Rattle.link_model.specs.Denoted.{name_bytes}
-use Rattle.netlist_link.specs.Linked.{LinkedView}
+use Rattle.netlist_link.specs.Linked.{LinkedView, is_straight}
 use Rattle.netlist_link.specs.PinWords.{pin_at}
 use Rattle.netlist_link.specs.WellNamed.{index_from}
 use Rattle.bsdl_device.specs.declared.values.PortMode.{PortMode}
@@ -29,7 +29,7 @@ use Rattle.sim_runs.specs.Runs.{net_number}
 use Rattle.scan_programs.specs.Pins.{bit_word, port_word, takes_start}
 use Rattle.conformance_report.specs.Agreement.{IsSamePort}
 use Rattle.program_runs.specs.ScriptsWords.{WordsNameBits}
-use Rattle.program_runs.specs.Beside.{HasScalarPort, IsDescribed}
+use Rattle.program_runs.specs.Beside.{place_there, HasScalarPort, IsDescribed}
 
 -- Indices.
 
@@ -108,35 +108,75 @@ start_is_inside port takes e = absurd (let no : false ≡ true = sym (takes_none
 pub number_is : (M : NetlistView) (pin : PinBit) (net : ℕ) → bit_net M pin.port.0 pin.bit ≡ Some (record { 0 = net }) → net_number M pin ≡ net
 number_is M pin net e = ap (λ (o : Option NetId). unwrap_or (option_map (λ (n : NetId). n.0) o) 0) e
 
+-- Places.
+
+below_hidden : (first count n : ℕ) → n < first → (nat_le first n && nat_lt n (first + count)) ≡ false
+below_hidden first count n low = grind arith
+
+behind_hidden : (first count n : ℕ) → first + count ≤ n → (nat_le first n && nat_lt n (first + count)) ≡ false
+behind_hidden first count n high = grind arith
+
+-- no port of the device is hidden
+pub place_own : (L : LinkedView) (place : ℕ) → is_straight L (place_there L place) ≡ false
+place_own L place = by (nat_lt place L.straight.first) refl
+  where
+    by : (b : Bool) → nat_lt place L.straight.first ≡ b → is_straight L (if b then place else place + L.straight.count) ≡ false
+    by true e = below_hidden L.straight.first L.straight.count place (ltb-true place L.straight.first e)
+    by false e =
+        let high : L.straight.first ≤ place = ltb-false place L.straight.first e in
+        behind_hidden L.straight.first L.straight.count (place + L.straight.count) (omega (arith, high))
+
+once_by : (first count one other : ℕ) (b c : Bool) → nat_lt one first ≡ b → nat_lt other first ≡ c → (if b then one else one + count) ≡ (if c then other else other + count) → one ≡ other
+once_by first count one other true true e f h = h
+once_by first count one other true false e f h =
+    let low : one < first = ltb-true one first e in
+    let high : first ≤ other = ltb-false other first f in
+    absurd (omega (arith, low, high, h))
+once_by first count one other false true e f h =
+    let high : first ≤ one = ltb-false one first e in
+    let low : other < first = ltb-true other first f in
+    absurd (omega (arith, low, high, h))
+once_by first count one other false false e f h = omega (arith, h)
+
+-- and no two of them are one there
+pub place_once : (L : LinkedView) (one other : ℕ) → place_there L one ≡ place_there L other → one ≡ other
+place_once L one other same =
+    once_by L.straight.first L.straight.count one other (nat_lt one L.straight.first) (nat_lt other L.straight.first) refl refl same
+
+-- The ports of the device.
+
 -- the word of a bit of a port that both have names that bit
-pub names_bit : WordsNameBits → (L : LinkedView) (B : Device) → IsDescribed L B → (place : ℕ) (other : DevPort) (port : PortView) → IsSamePort L place other
-    → slice_get L.arena.lists.ports place ≡ Some port → (index : Option ℕ) → bit_place port.range index < width_of port.range → (word : List ℕ) → word ≡ bit_word other.name index
-    → (pin : PinBit) → Names L word pin → pin ≡ pin_at place (bit_place port.range index)
+pub names_bit : WordsNameBits → (L : LinkedView) (B : Device) → IsDescribed L B → (place : ℕ) (other : DevPort) (port : PortView) → IsSamePort L (place_there L place) other
+    → slice_get L.arena.lists.ports (place_there L place) ≡ Some port → (index : Option ℕ) → bit_place port.range index < width_of port.range → (word : List ℕ) → word ≡ bit_word other.name index
+    → (pin : PinBit) → Names L word pin → pin ≡ pin_at (place_there L place) (bit_place port.range index)
 names_bit law L B described place other port same there index within word is pin names =
-    let one : same.port ≡ port = some_same same.port port (slice_get L.arena.lists.ports place) same.there there in
-    law L.names L.arena.lists described.named described.plain place port other.name (record { there = there; named = subst (λ (p : PortView). name_bytes L.names p.name ≡ Some other.name) one same.name }) index within pin
+    let number = place_there L place in
+    let one : same.port ≡ port = some_same same.port port (slice_get L.arena.lists.ports number) same.there there in
+    let named : name_bytes L.names port.name ≡ Some other.name = subst (λ (p : PortView). name_bytes L.names p.name ≡ Some other.name) one same.name in
+    law L described.named described.plain described.open_names number port other.name (place_own L place) (record { there = there; named = named }) index within pin
     (subst (λ (w : List ℕ). Names L w pin) is names)
 
 scalar_range : (o : Option Range) → option_map port_range o ≡ None → o ≡ None
 scalar_range None e = refl
 scalar_range (Some r) e = absurd (cc)
 
--- a scalar port that both have
-pub record IsScalarPin (L : LinkedView) (place : ℕ) (side : PortMode) : Type 0 where
+-- a scalar port of the netlist
+pub record IsScalarPin (L : LinkedView) (number : ℕ) (side : PortMode) : Type 0 where
   pub port : PortView
-  pub there : slice_get L.arena.lists.ports place ≡ Some port
+  pub there : slice_get L.arena.lists.ports number ≡ Some port
   pub dir : side ≡ mode_of_side port.dir
   pub scalar : port.range ≡ None
 
-pub scalar_pin : (L : LinkedView) (B : Device) → IsDescribed L B → (place : ℕ) (side : PortMode) → side ≢ mode.Linkage → HasScalarPort B place side → IsScalarPin L place side
+pub scalar_pin : (L : LinkedView) (B : Device) → IsDescribed L B → (place : ℕ) (side : PortMode) → side ≢ mode.Linkage → HasScalarPort B place side → IsScalarPin L (place_there L place) side
 scalar_pin L B described place side inside has =
     let same = described.ports place has.port has.there (λ e. inside (sym has.mode_is ∙ e)) in
     record { port = same.port; there = same.there; dir = sym has.mode_is ∙ same.mode; scalar = scalar_range same.port.range (sym same.range ∙ has.scalar) }
 
 -- its word names its bit
 pub names_scalar : WordsNameBits → (L : LinkedView) (B : Device) → IsDescribed L B → (place : ℕ) (side : PortMode) → side ≢ mode.Linkage → HasScalarPort B place side
-    → (word : List ℕ) → word ≡ port_word B place → (pin : PinBit) → Names L word pin → pin ≡ pin_at place 0
+    → (word : List ℕ) → word ≡ port_word B place → (pin : PinBit) → Names L word pin → pin ≡ pin_at (place_there L place) 0
 names_scalar law L B described place side inside has word is pin names =
     let same = described.ports place has.port has.there (λ e. inside (sym has.mode_is ∙ e)) in
     let spelled : word ≡ bit_word has.port.name None = is ∙ ap (λ (o : Option DevPort). option_map_or (λ (p : DevPort). p.name) o []) has.there in
-    names_bit law L B described place has.port same.port same same.there None (none_within same.port.range) word spelled pin names ∙ ap (pin_at place) (place_none same.port.range)
+    names_bit law L B described place has.port same.port same same.there None (none_within same.port.range) word spelled pin names
+    ∙ ap (pin_at (place_there L place)) (place_none same.port.range)

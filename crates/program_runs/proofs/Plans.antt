@@ -1,11 +1,14 @@
 -- The device of a plan that fits stands around the netlist.
-use Rattle.std.proofs.Common.{◌≡◌, ◌⊎◌, ℕ, suc, Bool, true, false, List, [], ◌∷◌, slice_get, if◌then◌else◌, Option, Some, None, option_map, refl, sym, ap, ◌∙◌, subst, inl, inr, eqb-true}
+use Rattle.std.proofs.Common.{◌≡◌, ◌⊎◌, ℕ, suc, ◌<◌, ◌≤◌, Bool, true, false, List, [], ◌∷◌, slice_get, if◌then◌else◌, Option, Some, None, option_map, refl, sym, ap, ◌∙◌, subst, inl, inr, eqb-true}
 use Rattle.std.specs.Option.{option_map_or}
+use Rattle.std.proofs.lemmas.Bool.{cases_lt}
 use Rattle.std.proofs.lemmas.Option.{slice_get-map}
+use Rattle.list_laws.proofs.Options.{some_same}
 use Rattle.netlist_model.specs.declared.NetId.{NetId}
 use Rattle.netlist_model.specs.declared.PinBit.{PinBit}
 use Rattle.netlist_model.specs.Lists.{PortView, NetlistView}
 use Rattle.netlist_link.specs.Linked.{LinkedView}
+use Rattle.bsdl_device.specs.declared.values.DevBit.{DevBit}
 use Rattle.bsdl_device.specs.declared.values.DevPort.{DevPort}
 use Rattle.bsdl_device.specs.declared.values.CellRow.{CellRow}
 use Rattle.bsdl_device.specs.declared.values.Device.{Device}
@@ -21,7 +24,7 @@ use Rattle.plan_fitting.specs.Rows.{rows}
 use Rattle.plan_fitting.specs.Fits.{tap_lines}
 use Rattle.plan_fitting.specs.Devices.{mode_of_side, fitted_of, dev_bit, cell_row, device_of}
 use Rattle.plan_fitting.specs.FittingPlan.{IsFitting}
-use Rattle.plan_fitting.specs.DevicesLaws.{HasPorts, HasTapPlaces, DevicesHavePorts, RowsStandAtBits, IsBehindItsRow, ControlsFollowTheirRows, TapNamesAreNew}
+use Rattle.plan_fitting.specs.DevicesLaws.{HasPorts, HasTapPlaces, DevicesHavePorts, RowsStandAtBits, HiddenBitsHaveNone, IsBehindItsRow, ControlsFollowTheirRows, TapNamesAreNew}
 use Rattle.scan_programs.specs.Pins.{port_word}
 use Rattle.scan_programs.specs.Met.{input_place}
 use Rattle.program_runs.specs.Around.{StandsAtNet, StandsAtNone}
@@ -76,22 +79,42 @@ fit_row : (L : LinkedView) (p : Plan) (seen : List PinSeen) (number : ℕ) (row 
 fit_row L p seen number row None e h = absurd (cc)
 fit_row L p seen number row (Some r) e h = record { fit = r; there = e; is = cc }
 
+row_there : (L : LinkedView) (p : Plan) (seen : List PinSeen) (number : ℕ) (row : CellRow) → slice_get (device_of L p seen).cells number ≡ Some row → IsFitRow L p seen number row
+row_there L p seen number row there =
+    fit_row L p seen number row (slice_get (rows p seen) number) refl (sym (slice_get-map (cell_row (fitted_of L p seen)) (rows p seen) number) ∙ there)
+
 cells_stand : RowsStandAtBits → ControlsFollowTheirRows → (L : LinkedView) (p : Plan) (seen : List PinSeen) → IsFitting L p seen → (number : ℕ) (row : CellRow)
     → slice_get (device_of L p seen).cells number ≡ Some row → StandsAtNet (device_of L p seen) L.arena.lists number row ⊎ StandsAtNone row
 cells_stand stand follow L p seen fits number row there =
-    let fit = fit_row L p seen number row (slice_get (rows p seen) number) refl (sym (slice_get-map (cell_row (fitted_of L p seen)) (rows p seen) number) ∙ there) in
+    let fit = row_there L p seen number row there in
     subst (λ (c : CellRow). StandsAtNet (device_of L p seen) L.arena.lists number c ⊎ StandsAtNone c) fit.is (fit_stands stand follow L p seen fits number fit.fit fit.there)
 
 -- Ports.
 
-same_port : (q r : DevPort) (o : Option DevPort) → o ≡ Some q → o ≡ Some r → q ≡ r
-same_port q r o e f = cc
+-- a row's bit is none of a hidden port
+below_by : RowsStandAtBits → HiddenBitsHaveNone → (L : LinkedView) (p : Plan) (seen : List PinSeen) → IsFitting L p seen → (number : ℕ) (r : FitRow) → slice_get (rows p seen) number ≡ Some r
+    → (bit : DevBit) (o : Option PinBit) → r.pin ≡ o → option_map (dev_bit (fitted_of L p seen)) o ≡ Some bit → bit.port < L.straight.first
+below_by stand hidden L p seen fits number r there bit None e h = absurd (cc)
+below_by stand hidden L p seen fits number r there bit (Some pin) e h = subst (λ (n : ℕ). n < L.straight.first) port (by (cases_lt pin.port.0 L.straight.first))
+  where
+    port : pin.port.0 ≡ bit.port
+    port = ap (λ (b : DevBit). b.port) (some_same (dev_bit (fitted_of L p seen) pin) bit (Some (dev_bit (fitted_of L p seen) pin)) refl h)
 
-sides_agree : (L : LinkedView) (p : Plan) (d : Device) → HasPorts L p d → (place : ℕ) (port : PortView) (q : DevPort) → slice_get L.arena.lists.ports place ≡ Some port
-    → slice_get d.ports place ≡ Some q → q.mode ≡ mode_of_side port.dir
-sides_agree L p d ports place port q here there =
-    let own = ports.own place port here in
-    ap (λ (r : DevPort). r.mode) (same_port q own.q (slice_get d.ports place) there own.there) ∙ own.side
+    by : (pin.port.0 < L.straight.first) ⊎ (L.straight.first ≤ pin.port.0) → pin.port.0 < L.straight.first
+    by (inl low) = low
+    by (inr high) =
+        let row = stand L p seen fits number r pin there e in
+        let at : Numbered = record { number = number; row = cell_row (fitted_of L p seen) r } in
+        absurd (let no : None ≡ Some at = sym (hidden L p seen fits pin.port.0 pin.bit row.net high row.at) ∙ row.found in cc)
+
+sides_agree : RowsStandAtBits → HiddenBitsHaveNone → (L : LinkedView) (p : Plan) (seen : List PinSeen) → IsFitting L p seen → HasPorts L p (device_of L p seen) → (number : ℕ) (row : CellRow)
+    (bit : DevBit) (port : PortView) (q : DevPort) → slice_get (device_of L p seen).cells number ≡ Some row → row.pin ≡ Some bit → slice_get L.arena.lists.ports bit.port ≡ Some port
+    → slice_get (device_of L p seen).ports bit.port ≡ Some q → q.mode ≡ mode_of_side port.dir
+sides_agree stand hidden L p seen fits ports number row bit port q there pin here has =
+    let fit = row_there L p seen number row there in
+    let low = below_by stand hidden L p seen fits number fit.fit fit.there bit fit.fit.pin refl (ap (λ (r : CellRow). r.pin) fit.is ∙ pin) in
+    let own = ports.own bit.port port low here in
+    ap (λ (r : DevPort). r.mode) (some_same q own.q (slice_get (device_of L p seen).ports bit.port) has own.there) ∙ own.side
 
 -- The names of the test access port.
 
@@ -134,14 +157,14 @@ same_input Trst Tms e = absurd (cc)
 same_input Trst Tdi e = absurd (cc)
 same_input Trst Trst e = refl
 
-pub plans_stand_around : DevicesHavePorts → RowsStandAtBits → ControlsFollowTheirRows → TapNamesAreNew → PlansStandAround
-plans_stand_around have stand follow named L p seen fits =
+pub plans_stand_around : DevicesHavePorts → RowsStandAtBits → HiddenBitsHaveNone → ControlsFollowTheirRows → TapNamesAreNew → PlansStandAround
+plans_stand_around have stand hidden follow named L p seen fits =
     let d = device_of L p seen in
     let ports = (have L p seen fits).0 in
     let places = (have L p seen fits).1 in
     record {
       cells = cells_stand stand follow L p seen fits;
-      sides = sides_agree L p d ports;
+      sides = sides_agree stand hidden L p seen fits ports;
       names = λ input other same.
           same_input input other
           ((named L p seen fits).distinct (tap_place input) (tap_place other) (line_of p input) (line_of p other) (line_there p input) (line_there p other)

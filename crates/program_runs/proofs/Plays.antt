@@ -33,7 +33,7 @@ record Stands (B : Device) (N : NetlistView) : Type 0 where
   suits : Suits B N
   around : StandsAround B N
 
-captures : (B : Device) (N : NetlistView) (w : ChipMoment) → Stands B N → LeavesPins N w → CapturesSame B N w
+captures : (B : Device) (N : NetlistView) (w : ChipMoment) → Stands B N → LeavesPins B N w → CapturesSame B N w
 captures B N w is leaves number row there =
     elim (is.around.cells number row there) [
       | inl stands ↦ captured_at_bit B N w number row stands there (outside_is is.directed B N w is.formed is.suits leaves number row stands)
@@ -55,9 +55,9 @@ steps_from B N given events chip run t (event ∷ rest) there = (
   steps_from B N given events chip run (suc t) rest (λ k next at. ap (slice_get events) (let e : suc t + k ≡ t + suc k = omega arith in e) ∙ there (suc k) next at),
 )
 
-pins_stay : (B : Device) (N : NetlistView) (input : TapInput) (level : Bool) (w w' : ChipMoment) → IsChipStep B N (at_tap input level) w w' → LeavesPins N w → LeavesPins N w'
+pins_stay : (B : Device) (N : NetlistView) (input : TapInput) (level : Bool) (w w' : ChipMoment) → IsChipStep B N (at_tap input level) w w' → LeavesPins B N w → LeavesPins B N w'
 pins_stay B N input level w w' step leaves = record {
-  inputs = λ net side. step.pins net ∙ leaves.inputs net side;
+  inputs = λ net r side row. step.pins net ∙ leaves.inputs net r side row;
   inouts = λ net side. step.pins net ∙ leaves.inouts net side;
 }
 
@@ -69,7 +69,7 @@ levels_same levels Tms level = refl
 levels_same levels Tdi level = refl
 levels_same levels Trst level = refl
 
-step_is : (B : Device) (N : NetlistView) (input : TapInput) (level : Bool) (w w' : ChipMoment) → Stands B N → LeavesPins N w → IsChipStep B N (at_tap input level) w w'
+step_is : (B : Device) (N : NetlistView) (input : TapInput) (level : Bool) (w w' : ChipMoment) → Stands B N → LeavesPins B N w → IsChipStep B N (at_tap input level) w w'
     → IsStep B input level (moment_of B N w) (moment_of B N w')
 step_is B N input level w w' is leaves step = record {
   levels = step.levels ∙ levels_same w.levels input level;
@@ -83,7 +83,7 @@ level_same true false e = absurd (cc)
 level_same false true e = absurd (cc)
 level_same false false e = refl
 
-set_is : (B : Device) (N : NetlistView) (word : List ℕ) (value : PinSig) (input : TapInput) (level : Bool) (w w' : ChipMoment) → Stands B N → LeavesPins N w → IsTapSet B word value input level
+set_is : (B : Device) (N : NetlistView) (word : List ℕ) (value : PinSig) (input : TapInput) (level : Bool) (w w' : ChipMoment) → Stands B N → LeavesPins B N w → IsTapSet B word value input level
     → IsChipStep B N (at_tap input level) w w' → IsSet B word value (moment_of B N w) (moment_of B N w')
 set_is B N word value input level w w' is leaves set step other height named valued =
     let same : input ≡ other = is.around.names input other (sym set.word_is ∙ named) in
@@ -94,7 +94,7 @@ set_is B N word value input level w w' is leaves set step other height named val
 -- Lines.
 
 run_from : (B : Device) (N : NetlistView) (chip : ℕ → ChipMoment) → Stands B N → (lines : List Line) (rest : List ChipEvent) (t : ℕ) → AreSets B lines rest → StepsFrom B N chip t rest
-    → LeavesPins N (chip t) → IsRunFrom B (λ n. moment_of B N (chip n)) t lines
+    → LeavesPins B N (chip t) → IsRunFrom B (λ n. moment_of B N (chip n)) t lines
 run_from B N chip is [] rest t sets steps leaves = tt
 run_from B N chip is (Start word value ∷ lines) rest t sets steps leaves = run_from B N chip is lines rest t sets steps leaves
 run_from B N chip is (Expect word value ∷ lines) rest t sets steps leaves = run_from B N chip is lines rest t sets steps leaves
@@ -105,12 +105,12 @@ run_from B N chip is (Set word value ∷ lines) (at_tap input level ∷ rest) t 
   run_from B N chip is lines rest (suc t) sets.1 steps.1 (pins_stay B N input level (chip t) (chip (suc t)) steps.0 leaves),
 )
 
-one_reads : (B : Device) (N : NetlistView) (w : ChipMoment) (word : List ℕ) (value : PinSig) → Stands B N → LeavesPins N w → Reads B (moment_of B N w) word value → ChipReads B N w word value
+one_reads : (B : Device) (N : NetlistView) (w : ChipMoment) (word : List ℕ) (value : PinSig) → Stands B N → LeavesPins B N w → Reads B (moment_of B N w) word value → ChipReads B N w word value
 one_reads B N w word value is leaves (inl tdo) = inl (record { named = tdo.named; reads = tdo.reads })
 one_reads B N w word value is leaves (inr reads) = inr (bit_reads is.directed B N w word value is.formed is.suits is.around leaves reads)
 
 read_from : (B : Device) (N : NetlistView) (chip : ℕ → ChipMoment) → Stands B N → (lines : List Line) (rest : List ChipEvent) (t : ℕ) → AreSets B lines rest → StepsFrom B N chip t rest
-    → LeavesPins N (chip t) → AreMetFrom B (λ n. moment_of B N (chip n)) t lines → AreReadFrom (λ n. ChipReads B N (chip n)) t lines
+    → LeavesPins B N (chip t) → AreMetFrom B (λ n. moment_of B N (chip n)) t lines → AreReadFrom (λ n. ChipReads B N (chip n)) t lines
 read_from B N chip is [] rest t sets steps leaves met = tt
 read_from B N chip is (Start word value ∷ lines) rest t sets steps leaves met = read_from B N chip is lines rest t sets steps leaves met
 read_from B N chip is (Expect word value ∷ lines) rest t sets steps leaves met =
@@ -123,7 +123,7 @@ read_from B N chip is (Set word value ∷ lines) (at_tap input level ∷ rest) t
 pub chip_meets_program : ProgramsAreMet → BitHasDirection → ChipMeetsProgram
 chip_meets_program meets directed B N formed suits around given events chip plays =
     let is : Stands B N = record { directed = directed; formed = formed; suits = suits; around = around } in
-    let leaves : LeavesPins N (chip 0) = record { inputs = plays.start.inputs; inouts = plays.start.inouts } in
+    let leaves : LeavesPins B N (chip 0) = record { inputs = plays.start.inputs; inouts = plays.start.inouts } in
     let steps = steps_from B N given events chip plays.run 0 events (λ k event at. ap (slice_get events) (let e : 0 + k ≡ k = omega arith in e) ∙ at) in
     let start : IsStart B (moment_of B N (chip 0)) = record { levels = plays.start.levels; machine = plays.run.start.machine } in
     read_from B N chip is (program_of B) events 0 plays.sets steps leaves

@@ -1,22 +1,26 @@
--- What the word of a bit names, where no port has a bracket in its name.
-use Rattle.std.proofs.Common.{◌≡◌, ℕ, ◌+◌, ◌*◌, ◌-◌, ◌%◌, ◌/◌, ◌<◌, ◌^◌, List, [], ◌∷◌, ◌++◌, slice_get, Option, Some, None, refl, sym, ap, ◌∙◌, subst, arith}
-use Rattle.std.specs.Prelude.{◌==◌, IfSome}
+-- What the word of a bit names, where no own port has a bracket in its name.
+use Rattle.std.proofs.Common.{◌≡◌, ℕ, zero, suc, ◌+◌, ◌*◌, ◌-◌, ◌%◌, ◌/◌, ◌<◌, ◌^◌, ◌==◌, Bool, true, false, if◌then◌else◌, List, [], ◌∷◌, ◌++◌, slice_get, Option, Some, None, refl, sym, ap, ◌∙◌, subst, arith, lt-ltb}
+use Rattle.std.specs.Prelude.{IfSome}
 use Rattle.std.specs.Bool.{IsFalse}
-use Rattle.std.specs.Fmt.{decimal}
+use Rattle.std.specs.Fmt.{decimal, digits, digits_onto, digit_glyph}
 use Rattle.std.proofs.lemmas.Fmt.{decimal_by_steps}
 use Rattle.std.proofs.lemmas.List.{append_assoc, append_cancel_right}
+use Rattle.verilog_lexicon.specs.Bytes.{is_digit}
 use Rattle.verilog_lexicon.specs.Pieces.{value_from}
 use Rattle.netlist_model.specs.declared.Range.{Range}
 use Rattle.netlist_model.specs.Lists.{PortView, NetlistView}
 use Rattle.netlist_model.specs.Formed.{width_of}
-use Rattle.netlist_link.specs.PinWords.{HasPortName, IsIndexed, IsVectorBit, pin_at}
+use Rattle.netlist_link.specs.Linked.{LinkedView, is_straight}
+use Rattle.netlist_link.specs.PinWords.{HasPortName, IsIndexed, IsScalarWord, IsVectorBit, pin_at}
 use Rattle.netlist_link.specs.PinWords.IsPinWord.{scalar, vector}
 use Rattle.netlist_link.specs.WellNamed.{IsWellNamed, IsShortRange, index_from}
+use Rattle.netlist_link.proofs.Digits.{AreDigits, split_once}
 use Rattle.netlist_link.proofs.PinLaws.{one_port}
 use Rattle.wrapped_chip.specs.Cells.{bit_place}
+use Rattle.plan_fitting.specs.Names.{HasOpenNames}
 use Rattle.plan_fitting.proofs.Indices.{place_of_index}
 use Rattle.scan_programs.specs.Pins.{bit_word}
-use Rattle.program_runs.specs.ScriptsWords.{IsPlain, WordsNameBits}
+use Rattle.program_runs.specs.ScriptsWords.{IsPlain, ArePlain, WordsNameBits}
 
 -- Brackets.
 
@@ -24,18 +28,15 @@ pub not_plain : (front rest : List ℕ) → IsPlain (front ++ 91 ∷ rest) → �
 not_plain [] rest all = let no : IsFalse (91 == 91) = all.0 in cc
 not_plain (b ∷ front) rest all = not_plain front rest all.1
 
-bracket_first : (b : ℕ) → 91 ≡ b → IsFalse (b == 91) → ⊥
-bracket_first b e h = let no : IsFalse (91 == 91) = subst (λ (c : ℕ). IsFalse (c == 91)) (sym e) h in cc
-
--- bytes can be taken apart at the first bracket in one way
-split_plain : (name other one two : List ℕ) → IsPlain name → IsPlain other → name ++ 91 ∷ one ≡ other ++ 91 ∷ two → (name ≡ other) × (one ≡ two)
-split_plain [] [] one two a b e = (refl, let same : one ≡ two = cc in same)
-split_plain [] (y ∷ other) one two a b e = absurd (bracket_first y (let same : 91 ≡ y = cc in same) b.0)
-split_plain (x ∷ name) [] one two a b e = absurd (bracket_first x (let same : 91 ≡ x = cc in same) a.0)
-split_plain (x ∷ name) (y ∷ other) one two a b e =
-    let first : x ≡ y = cc in
-    let rest = split_plain name other one two a.1 b.1 (let more : name ++ 91 ∷ one ≡ other ++ 91 ∷ two = cc in more) in
-    (ap (λ (c : ℕ). c ∷ name) first ∙ ap (λ (cs : List ℕ). y ∷ cs) rest.0, rest.1)
+-- no scalar port is named so
+pub no_scalar : (L : LinkedView) → ArePlain L → HasOpenNames L → (name : List ℕ) (index other : ℕ) → IsScalarWord L.names L.arena.lists (bit_word name (Some index)) other → ⊥
+no_scalar L plain open_names name index other is = by (is_straight L other) refl
+  where
+    by : (b : Bool) → is_straight L other ≡ b → ⊥
+    by false e = not_plain name (decimal index ++ 93 ∷ []) (plain other is.port (bit_word name (Some index)) e is.named)
+    by true e =
+        open_names other is.port (name ++ 91 ∷ decimal index) e is.named.there
+        (is.named.named ∙ ap (λ (bytes : List ℕ). Some bytes) (sym (append_assoc name (91 ∷ decimal index) (93 ∷ []))))
 
 -- Digits.
 
@@ -49,6 +50,30 @@ value_last n value e = omega (arith, e)
 pub decimal_value : (n : ℕ) → n < 2 ^ 64 → value_from 0 (decimal n) ≡ n
 decimal_value = decimal_by_steps (λ n ds. value_from 0 ds ≡ n) (λ n h. omega arith)
     (λ n ds h e. value_push 0 ds (48 + n % 10) ∙ value_last n (value_from 0 ds) e)
+
+digit_byte : (d : ℕ) → d < 10 → is_digit (48 + d) ≡ true
+digit_byte d h = grind arith
+
+last_digit : (n : ℕ) → n % 10 < 10
+last_digit n = omega arith
+
+glyph_is : (n : ℕ) → is_digit (digit_glyph false (n % 10)) ≡ true
+glyph_is n =
+    ap (λ (b : Bool). is_digit (if b then 48 + n % 10 else 87 + n % 10)) (lt-ltb (n % 10) 10 (last_digit n))
+    ∙ digit_byte (n % 10) (last_digit n)
+
+digits_onto_are : (k n : ℕ) (after : List ℕ) → AreDigits after → AreDigits (digits_onto k 10 false n after)
+digits_onto_are zero n after all = all
+digits_onto_are (suc k) n after all =
+    let more = digits_onto_are k (n / 10) (digit_glyph false (n % 10) ∷ after) (glyph_is n, all) in
+    elim (n / 10 == 0) as (λ (b : Bool). AreDigits (if b then digit_glyph false (n % 10) ∷ after else digits_onto k 10 false (n / 10) (digit_glyph false (n % 10) ∷ after))) [
+      | true ↦ (glyph_is n, all)
+      | false ↦ more
+    ]
+
+pub digits_are : (n : ℕ) → AreDigits (decimal n)
+unfolding digits
+digits_are n = digits_onto_are 64 n [] tt
 
 -- Indices.
 
@@ -83,11 +108,12 @@ record IsCut (name other : List ℕ) (index at : ℕ) : Type 0 where
   name_is : other ≡ name
   value : at ≡ value_from 0 (decimal index)
 
-cut : (name other : List ℕ) (index at : ℕ) → IsPlain name → IsPlain other → IsIndexed (bit_word name (Some index)) other at → IsCut name other index at
-cut name other index at a b is =
-    let two = split_plain name other (decimal index ++ 93 ∷ []) (is.digits ++ 93 ∷ []) a b (is.spelled ∙ append_assoc other (91 ∷ is.digits) (93 ∷ [])) in
-    let digits : decimal index ≡ is.digits = append_cancel_right (decimal index) is.digits (93 ∷ []) two.1 in
-    record { name_is = sym two.0; value = is.value ∙ ap (value_from 0) (sym digits) }
+cut : (name other : List ℕ) (index at : ℕ) → IsIndexed (bit_word name (Some index)) other at → IsCut name other index at
+cut name other index at is =
+    let spelled : name ++ 91 ∷ decimal index ≡ other ++ 91 ∷ is.digits =
+    append_cancel_right (name ++ 91 ∷ decimal index) (other ++ 91 ∷ is.digits) (93 ∷ []) (append_assoc name (91 ∷ decimal index) (93 ∷ []) ∙ is.spelled) in
+    let two = split_once name (decimal index) other is.digits (digits_are index) is.number.2 spelled in
+    record { name_is = sym two.0; value = is.value ∙ ap (value_from 0) (sym two.1) }
 
 -- a vector's bit under the same number
 vector_bit : (N : NetlistView) (number index at bit : ℕ) (port : PortView) → slice_get N.ports number ≡ Some port → IsVectorBit N number at bit → index ≡ at
@@ -107,17 +133,17 @@ index_is table N number index at bit port well there is within value =
     sym (decimal_value index (short_index is.range index short low)) ∙ sym value
 
 pub words_name_bits : WordsNameBits
-words_name_bits table N well plain number port name named None within pin (scalar {number = other} is) =
-    let same : other ≡ number = one_port table N other number name well (record { port = is.port; named = is.named }) (record { port = port; named = named }) in
+words_name_bits L well plain open_names number port name own named None within pin (scalar {number = other} is) =
+    let same : other ≡ number = one_port L.names L.arena.lists other number name well (record { port = is.port; named = is.named }) (record { port = port; named = named }) in
     ap (λ (n : ℕ). pin_at n 0) same ∙ ap (pin_at number) (place_none port.range)
-words_name_bits table N well plain number port name named None within pin (vector {number = other} {bit = bit} none is) =
-    absurd (not_plain is.name (is.indexed.digits ++ 93 ∷ []) (subst IsPlain (is.indexed.spelled ∙ append_assoc is.name (91 ∷ is.indexed.digits) (93 ∷ [])) (plain number port name named)))
-words_name_bits table N well plain number port name named (Some index) within pin (scalar {number = other} is) =
-    absurd (not_plain name (decimal index ++ 93 ∷ []) (plain other is.port (bit_word name (Some index)) is.named))
-words_name_bits table N well plain number port name named (Some index) within pin (vector {number = other} {bit = bit} none is) =
-    let has = is.of.named in
-    let c = cut name is.name index is.index (plain number port name named) (plain other has.port is.name has.named) is.indexed in
-    let same : other ≡ number = one_port table N other number name well (subst (HasPortName table N other) c.name_is has) (record { port = port; named = named }) in
+words_name_bits L well plain open_names number port name own named None within pin (vector {number = other} {bit = bit} none is) =
+    absurd (not_plain is.name (is.indexed.digits ++ 93 ∷ [])
+    (subst IsPlain (is.indexed.spelled ∙ append_assoc is.name (91 ∷ is.indexed.digits) (93 ∷ [])) (plain number port name own named)))
+words_name_bits L well plain open_names number port name own named (Some index) within pin (scalar {number = other} is) = absurd (no_scalar L plain open_names name index other is)
+words_name_bits L well plain open_names number port name own named (Some index) within pin (vector {number = other} {bit = bit} none is) =
+    let N = L.arena.lists in
+    let c = cut name is.name index is.index is.indexed in
+    let same : other ≡ number = one_port L.names N other number name well (subst (HasPortName L.names N other) c.name_is is.of.named) (record { port = port; named = named }) in
     let at_number : IsVectorBit N number is.index bit = subst (λ (n : ℕ). IsVectorBit N n is.index bit) same is.of.indexed in
-    let e : index ≡ is.index = index_is table N number index is.index bit port well named.there at_number within c.value in
+    let e : index ≡ is.index = index_is L.names N number index is.index bit port well named.there at_number within c.value in
     ap (λ (n : ℕ). pin_at n bit) same ∙ ap (pin_at number) (vector_bit N number index is.index bit port named.there at_number e)

@@ -68,40 +68,40 @@ found_suits B N is_suitable number row stands has =
 
 function_suits : (B : Device) (N : NetlistView) → Suits B N → (number : ℕ) (row : CellRow) (stands : StandsAtNet B N number row) (d : Dir) → direction N.ports stands.net.0 ≡ Some d
     → is_of_side d row.function ≡ true
-function_suits B N suits number row stands Input e = found_suits B N is_input number row stands (suits.inputs stands.net.0 e)
-function_suits B N suits number row stands Output e = found_suits B N is_output number row stands (suits.outputs stands.net.0 e)
+function_suits B N suits number row stands Input e = suits.inputs stands.net.0 e (record { number = number; row = row }) stands.found
+function_suits B N suits number row stands Output e = suits.outputs stands.net.0 e (record { number = number; row = row }) stands.found
 function_suits B N suits number row stands Inout e = found_suits B N is_bidir number row stands (suits.inouts stands.net.0 e)
 
 -- What is outside.
 
--- inputs are at 0, and inouts are left alone
-pub record LeavesPins (N : NetlistView) (w : ChipMoment) : Type 0 where
-  pub inputs : (net : ℕ) → direction N.ports net ≡ Some Input → w.pins net ≡ pin.Zero
+-- inputs that have a cell are at 0, and inouts are left alone
+pub record LeavesPins (B : Device) (N : NetlistView) (w : ChipMoment) : Type 0 where
+  pub inputs : (net : ℕ) (r : Numbered) → direction N.ports net ≡ Some Input → row_of B N net ≡ Some r → w.pins net ≡ pin.Zero
   pub inouts : (net : ℕ) → direction N.ports net ≡ Some Inout → w.pins net ≡ pin.HighZ
 
-outside_by : (N : NetlistView) (w : ChipMoment) (net : ℕ) (d : Dir) (does : Function) → LeavesPins N w → direction N.ports net ≡ Some d → is_of_side d does ≡ true → takes_outside does ≡ true
-    → outside_at does ≡ w.pins net
-outside_by N w net Input function.Input leaves side suits takes = sym (leaves.inputs net side)
-outside_by N w net Input function.Clock leaves side suits takes = sym (leaves.inputs net side)
-outside_by N w net Input function.Bidir leaves side suits takes = absurd (cc)
-outside_by N w net Input function.Output2 leaves side suits takes = absurd (cc)
-outside_by N w net Input function.Output3 leaves side suits takes = absurd (cc)
-outside_by N w net Input function.Control leaves side suits takes = absurd (cc)
-outside_by N w net Output function.Input leaves side suits takes = absurd (cc)
-outside_by N w net Output function.Clock leaves side suits takes = absurd (cc)
-outside_by N w net Output function.Bidir leaves side suits takes = absurd (cc)
-outside_by N w net Output function.Output2 leaves side suits takes = absurd (cc)
-outside_by N w net Output function.Output3 leaves side suits takes = absurd (cc)
-outside_by N w net Output function.Control leaves side suits takes = absurd (cc)
-outside_by N w net Inout function.Bidir leaves side suits takes = sym (leaves.inouts net side)
-outside_by N w net Inout function.Input leaves side suits takes = absurd (cc)
-outside_by N w net Inout function.Clock leaves side suits takes = absurd (cc)
-outside_by N w net Inout function.Output2 leaves side suits takes = absurd (cc)
-outside_by N w net Inout function.Output3 leaves side suits takes = absurd (cc)
-outside_by N w net Inout function.Control leaves side suits takes = absurd (cc)
+outside_by : (B : Device) (N : NetlistView) (w : ChipMoment) (net : ℕ) (d : Dir) (does : Function) (r : Numbered) → LeavesPins B N w → direction N.ports net ≡ Some d → row_of B N net ≡ Some r
+    → is_of_side d does ≡ true → takes_outside does ≡ true → outside_at does ≡ w.pins net
+outside_by B N w net Input function.Input r leaves side found suits takes = sym (leaves.inputs net r side found)
+outside_by B N w net Input function.Clock r leaves side found suits takes = sym (leaves.inputs net r side found)
+outside_by B N w net Input function.Bidir r leaves side found suits takes = absurd (cc)
+outside_by B N w net Input function.Output2 r leaves side found suits takes = absurd (cc)
+outside_by B N w net Input function.Output3 r leaves side found suits takes = absurd (cc)
+outside_by B N w net Input function.Control r leaves side found suits takes = absurd (cc)
+outside_by B N w net Output function.Input r leaves side found suits takes = absurd (cc)
+outside_by B N w net Output function.Clock r leaves side found suits takes = absurd (cc)
+outside_by B N w net Output function.Bidir r leaves side found suits takes = absurd (cc)
+outside_by B N w net Output function.Output2 r leaves side found suits takes = absurd (cc)
+outside_by B N w net Output function.Output3 r leaves side found suits takes = absurd (cc)
+outside_by B N w net Output function.Control r leaves side found suits takes = absurd (cc)
+outside_by B N w net Inout function.Bidir r leaves side found suits takes = sym (leaves.inouts net side)
+outside_by B N w net Inout function.Input r leaves side found suits takes = absurd (cc)
+outside_by B N w net Inout function.Clock r leaves side found suits takes = absurd (cc)
+outside_by B N w net Inout function.Output2 r leaves side found suits takes = absurd (cc)
+outside_by B N w net Inout function.Output3 r leaves side found suits takes = absurd (cc)
+outside_by B N w net Inout function.Control r leaves side found suits takes = absurd (cc)
 
-pub outside_is : BitHasDirection → (B : Device) (N : NetlistView) (w : ChipMoment) → IsWellFormed N → Suits B N → LeavesPins N w → (number : ℕ) (row : CellRow)
+pub outside_is : BitHasDirection → (B : Device) (N : NetlistView) (w : ChipMoment) → IsWellFormed N → Suits B N → LeavesPins B N w → (number : ℕ) (row : CellRow)
     → (stands : StandsAtNet B N number row) → IsOutside w stands.net.0 row
 outside_is directed B N w formed suits leaves number row stands takes =
     let side = side_of directed N formed stands.net row.pin stands.at in
-    outside_by N w stands.net.0 side.dir row.function leaves side.side (function_suits B N suits number row stands side.dir side.side) takes
+    outside_by B N w stands.net.0 side.dir row.function (record { number = number; row = row }) leaves side.side stands.found (function_suits B N suits number row stands side.dir side.side) takes

@@ -1,10 +1,11 @@
 -- When a device's boundary cells and test access port stand around a netlist.
 -- IEEE Std 1149.1-2001: boundary-scan register; the annex on BSDL (logical port description, boundary register
--- description). That the device's first ports are the netlist's is own.
+-- description). That the device's first ports are the netlist's own is own.
 use Rattle.std.specs.Prelude.{◌≡◌, ◌⊎◌, ℕ, slice_get, Some, None}
 use Rattle.cell_library.specs.declared.codes.Function.TheVariants as function
 use Rattle.netlist_model.specs.declared.NetId.{NetId}
 use Rattle.netlist_model.specs.Lists.{PortView, NetlistView}
+use Rattle.bsdl_device.specs.declared.values.DevBit.{DevBit}
 use Rattle.bsdl_device.specs.declared.values.DevPort.{DevPort}
 use Rattle.bsdl_device.specs.declared.values.CellRow.{CellRow}
 use Rattle.bsdl_device.specs.declared.values.Device.{Device}
@@ -28,7 +29,8 @@ pub record StandsAtNone (row : CellRow) : Type 0 where
 pub record StandsAround (B : Device) (N : NetlistView) : Type 0 where
   -- each cell stands at a bit of the netlist, or is a control cell
   pub cells : (number : ℕ) (row : CellRow) → slice_get B.cells number ≡ Some row → StandsAtNet B N number row ⊎ StandsAtNone row
-  -- where the netlist has a port, the device has one of that direction, if any
-  pub sides : (place : ℕ) (port : PortView) (q : DevPort) → slice_get N.ports place ≡ Some port → slice_get B.ports place ≡ Some q → q.mode ≡ mode_of_side port.dir
+  -- where a cell stands at a port, netlist and device have one of the same direction there
+  pub sides : (number : ℕ) (row : CellRow) (bit : DevBit) (port : PortView) (q : DevPort) → slice_get B.cells number ≡ Some row → row.pin ≡ Some bit
+      → slice_get N.ports bit.port ≡ Some port → slice_get B.ports bit.port ≡ Some q → q.mode ≡ mode_of_side port.dir
   -- no two inputs of the test access port have one name
   pub names : (input other : TapInput) → port_word B (input_place B input) ≡ port_word B (input_place B other) → input ≡ other

@@ -9,6 +9,7 @@ use Rattle.netlist_model.specs.declared.Dir.TheVariants.{Input, Inout}
 use Rattle.netlist_model.specs.Lists.{NetlistView, direction}
 use Rattle.bsdl_device.specs.declared.values.Device.{Device}
 use Rattle.test_logic.specs.declared.TapInput.{TapInput}
+use Rattle.wrapped_chip.specs.Cells.{Numbered, row_of}
 use Rattle.wrapped_chip.specs.ChipRuns.{ChipMoment, ChipEvent, at_pin, at_tap, IsChipRun}
 use Rattle.scan_vectors.specs.declared.lines.Line.{Line}
 use Rattle.scan_vectors.specs.declared.lines.Line.TheVariants.{Start, Set, Expect}
@@ -16,10 +17,10 @@ use Rattle.scan_programs.specs.Pins.{port_word}
 use Rattle.scan_programs.specs.Program.{program_of}
 use Rattle.scan_programs.specs.Met.{input_place, first_levels}
 
--- inputs are at 0 and inouts are left alone, TMS is 1, and TCK, TDI and TRST are 0
-pub record IsProgramStart (N : NetlistView) (w : ChipMoment) : Type 0 where
+-- inputs that have a cell are at 0 and inouts are left alone, TMS is 1, and TCK, TDI and TRST are 0
+pub record IsProgramStart (B : Device) (N : NetlistView) (w : ChipMoment) : Type 0 where
   pub levels : w.levels ≡ first_levels
-  pub inputs : (net : ℕ) → direction N.ports net ≡ Some Input → w.pins net ≡ pin.Zero
+  pub inputs : (net : ℕ) (r : Numbered) → direction N.ports net ≡ Some Input → row_of B N net ≡ Some r → w.pins net ≡ pin.Zero
   pub inouts : (net : ℕ) → direction N.ports net ≡ Some Inout → w.pins net ≡ pin.HighZ
 
 -- the word and the value of a set are this input's and this level's
@@ -40,5 +41,5 @@ AreSets B [] (event ∷ events) = ⊥
 -- a run of the chip by the device's program
 pub record IsProgramRun (B : Device) (N : NetlistView) (given : ℕ → Sig) (events : List ChipEvent) (chip : ℕ → ChipMoment) : Type 0 where
   pub run : IsChipRun B N given events chip
-  pub start : IsProgramStart N (chip 0)
+  pub start : IsProgramStart B N (chip 0)
   pub sets : AreSets B (program_of B) events

@@ -9,10 +9,11 @@
 //   realises the chip; and in each run of that netlist by the program, whatever its flip-flops hold at the start.
 // - `program_names_pins`: each start of a program is of a bit of an input or inout, with the value that its port
 //   starts with, and each set of an input of the test access port.
-// - `some_program_run`, `some_run_beside_program`, `some_run_by_program`: there are such runs from any flip-flops.
+// - `some_program_run`, `some_run_beside_program`, `some_run_by_program`: there are such runs from any flip-flops,
+//   whatever is outside inputs without a cell (but 0 or 1 where they control flip-flops), of which a program says nothing.
 // - `plans_stand_around`: the device of a plan that fits a netlist stands around it: each cell but a control cell
-//   is the first at its bit, the ports that both have go the same way, and no two inputs of the test access port
-//   have one name.
+//   is the first at its bit, a port at which a cell stands goes the same way in both, and no two inputs of the test
+//   access port have one name.
 // - `fitting_plans_meet_programs`: so each netlist that realises the chip of a plan that fits meets the program,
 //   with no other premise.
 // - `scripts`: a law: the program of a device, resolved on a linked netlist that realises its chip, misses nothing.
@@ -23,10 +24,10 @@ ghost use Rattle.program_runs.specs.Laws.{ProgramNamesPins, ChipMeetsProgram, Re
 
 pub mod scripts;
 
-use netlist_model::laws::direction_of_a_bit;
+use netlist_model::laws::{bit_of_a_direction, direction_of_a_bit};
 use plan_fitting::devices::{
-    controls_follow_their_rows, devices_have_ports, plans_suit_netlists, rows_stand_at_bits,
-    tap_names_are_new,
+    controls_follow_their_rows, devices_have_ports, hidden_bits_have_none, plans_suit_netlists,
+    rows_stand_at_bits, tap_names_are_new,
 };
 use scan_programs::programs_are_met;
 use wrapped_chip::some_chip_run;
@@ -51,7 +52,8 @@ pub fn realising_meets_program()
     chip_meets_program();
 }
 
-/// From any flip-flops of the netlist there is a run of the chip by the program.
+/// From any flip-flops of the netlist, and whatever is outside inputs without a cell, there is a run of the chip by the
+/// program.
 pub fn some_program_run()
     ensures { ProgramRunExists }
 {
@@ -72,9 +74,10 @@ pub fn netlist_meets_program()
 {
     realising_meets_program();
     some_chip_run();
+    bit_of_a_direction();
 }
 
-/// There is such a run from any flip-flops.
+/// There is such a run from any flip-flops, whatever is outside inputs without a cell.
 pub fn some_run_by_program()
     ensures { ProgramRunThereExists }
 {
@@ -87,6 +90,7 @@ pub fn plans_stand_around()
 {
     devices_have_ports();
     rows_stand_at_bits();
+    hidden_bits_have_none();
     controls_follow_their_rows();
     tap_names_are_new();
 }

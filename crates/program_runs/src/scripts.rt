@@ -3,9 +3,10 @@
 // specs/ScriptsLaws.antt has the statements. Its functions are laws.
 // IEEE Std 1149.1-2001: test access port; programs and scripts are own.
 //
-// - `words_name_bits`: where no port's name has a bracket, the word of a bit names that bit alone.
-// - `programs_are_legal`: the lines of the program are legal for the netlist: each names a bit, none breaks a rule
-//   on events, and each input and inout bit has its start.
+// - `words_name_bits`: where no own port's name has a bracket and no hidden one's ends with one, the word of a bit of
+//   an own port names that bit alone.
+// - `programs_are_legal`: the lines of the program, behind starts of hidden bits, are legal for the netlist: each names
+//   a bit, none breaks a rule on events, and each input and inout bit has its start.
 // - `scripts_run_there`: where the netlist's ports are those of another and then a test access port, each run of
 //   the script that these lines come to, with every flip-flop unknown at the start, is a run by the program.
 // - `scripts_are_met`: so where it realises the chip that the device makes of the other, the verdict on the script

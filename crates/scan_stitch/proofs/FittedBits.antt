@@ -14,7 +14,7 @@ use Rattle.netlist_model.specs.declared.PinBit.{PinBit}
 use Rattle.netlist_model.specs.declared.Range.{Range}
 use Rattle.netlist_model.specs.Lists.{PortView}
 use Rattle.netlist_model.specs.Formed.{width_of, IsLaidOut}
-use Rattle.netlist_link.specs.Linked.{LinkedView}
+use Rattle.netlist_link.specs.Linked.{LinkedView, own_ports}
 use Rattle.plan_texts.specs.declared.plan.Plan.{Plan}
 use Rattle.plan_texts.specs.declared.plan.PinLine.{PinLine}
 use Rattle.plan_fitting.specs.declared.fitted.FitRow.{FitRow}
@@ -23,6 +23,7 @@ use Rattle.plan_fitting.specs.declared.fitted.Fitted.{Fitted}
 use Rattle.plan_fitting.specs.Pins.{PinSeen, IsSeen}
 use Rattle.plan_fitting.specs.Rows.{Driver, controls, input_row, two_state_row, data_row, control_row, controlled_by, output_rows, inout_rows, rows_at, rows_after, output_driver, three_state, has_highz}
 use Rattle.plan_fitting.specs.Devices.{fit_port, fitted_of, range_at}
+use Rattle.plan_fitting.proofs.OwnPorts.{own_from}
 use Rattle.stitched_netlist.specs.Sites.{pin_net}
 use Rattle.written_netlists.specs.core_sides.Pins.{ArePinsThere}
 use Rattle.scan_stitch.specs.Ready.{IsBitInRange, AreBitsInRange}
@@ -93,8 +94,8 @@ bit_seen : (L : LinkedView) (p : Plan) (seen : List PinSeen) → IsLaidOut L.are
     → IsBitInRange (range_at (fitted_of L p seen) one.pin) one.pin.bit
 bit_seen L p seen laid word one is =
     let port = is.port in
-    let here : slice_get (map (fit_port L p seen) (enumerate_from 0 L.arena.lists.ports)) one.pin.port.0 ≡ Some (fit_port L p seen (0 + one.pin.port.0, port))
-    = fit_port_at L p seen 0 L.arena.lists.ports one.pin.port.0 port is.there in
+    let here : slice_get (map (fit_port L p seen) (enumerate_from 0 (own_ports L))) one.pin.port.0 ≡ Some (fit_port L p seen (0 + one.pin.port.0, port))
+    = fit_port_at L p seen 0 (own_ports L) one.pin.port.0 port (own_from L one.pin.port.0 port is.named.1 is.there) in
     let range : range_at (fitted_of L p seen) one.pin ≡ port.range = ap (λ (o : Option FitPort). option_and_then (λ (q : FitPort). q.range) o) here in
     let below = slice_get_within port.nets one.pin.bit one.net is.net in
     let width = laid.widths one.pin.port.0 port is.there in

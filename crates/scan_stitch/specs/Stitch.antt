@@ -3,7 +3,7 @@
 use Rattle.std.specs.Prelude.{◌≡◌, None}
 use Rattle.netlist_model.specs.Contained.{IsDense}
 use Rattle.netlist_arena.specs.Room.{too_many}
-use Rattle.netlist_link.specs.Linked.{LinkedView, IsLinked}
+use Rattle.netlist_link.specs.Linked.{LinkedView, IsLinked, HasSameMarks}
 use Rattle.plan_texts.specs.declared.plan.Plan.{Plan}
 use Rattle.plan_fitting.specs.declared.fitted.Fitted.{Fitted}
 use Rattle.plan_fitting.specs.Devices.{IsFitted}
@@ -25,8 +25,8 @@ pub record CanStitch (linked : LinkedView) (f : Fitted) : Type 0 where
   pub small : IsSmall f
   pub few : too_many before.arena.lists (room_of f) (room_of f) (ports_of f) ≡ None
 
--- the netlist is that with the test logic built in, by the names that were entered, and it is linked; the names and the
--- module's name stay
+-- the netlist is that with the test logic built in, by the names that were entered, and it is linked; the names, the
+-- module's name and the hidden ports stay
 pub record IsStitched (before after : LinkedView) (f : Fitted) : Type 0 where
   pub tap : TapNames
   pub tap_is : AreTapNames before.names f tap
@@ -34,3 +34,4 @@ pub record IsStitched (before after : LinkedView) (f : Fitted) : Type 0 where
   pub linked : IsLinked after.arena.lists after.names after.order
   pub names : after.names ≡ before.names
   pub title : after.module_name ≡ before.module_name
+  pub marks : HasSameMarks after before

@@ -17,6 +17,7 @@ use Rattle.plan_fitting.specs.declared.fitted.Fitted.{Fitted}
 use Rattle.plan_fitting.specs.Pins.{PinSeen, AreSeen}
 use Rattle.plan_fitting.specs.Devices.{IsFitted, fitted_of, device_of}
 use Rattle.plan_fitting.specs.DevicesLaws.{FittedIsFitting}
+use Rattle.plan_fitting.proofs.NoneHidden.{none_straight, none_ends, none_open}
 use Rattle.stitched_netlist.specs.declared.model.TapNames.{TapNames}
 use Rattle.written_netlists.specs.InsertedLaws.{with_test_logic}
 use Rattle.written_netlists.specs.NamesLaws.{TapNamesAreEntered}
@@ -106,6 +107,9 @@ found_gives law text before after q p f d device tree inserted found made again 
       is = t.is;
       listed = t.listed;
       links = t.links;
+      straight = none_straight before t.hides;
+      ends = none_ends before t.hides;
+      open_names = none_open before t.hides;
       plan = (text, made.spells);
       at = given text before after p f d device tree inserted made again same_device same_tree;
     } in

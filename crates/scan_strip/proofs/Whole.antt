@@ -1,15 +1,18 @@
 -- What is answered, and what is refused.
-use Rattle.std.proofs.Common.{◌≡◌, List, sym, ◌∙◌, ap, subst, Option, Some, None, Result, Ok, Err, IfOk, IfErr, OnOk, option_map}
+use Rattle.std.proofs.Common.{◌≡◌, List, length, sym, ◌∙◌, ap, subst, Option, Some, None, Result, Ok, Err, IfOk, IfErr, OnOk, option_map}
 use Rattle.cell_library.specs.declared.listed.ListedCell.{ListedCell}
 use Rattle.cell_library.specs.Sound.{IsLibrary}
 use Rattle.verilog_tree.specs.declared.tree.Module.{Module}
 use Rattle.verilog_tree.specs.IsTree.{IsTree}
 use Rattle.bsdl_device.specs.declared.values.Device.{Device}
 use Rattle.link_model.specs.Late.{IsLinkable}
-use Rattle.netlist_link.specs.Linked.{LinkedView}
+use Rattle.netlist_model.specs.Lists.{PortView}
+use Rattle.netlist_link.specs.declared.straight.Straight.{Straight}
+use Rattle.netlist_link.specs.Linked.{LinkedView, HidesNone}
 use Rattle.netlist_link.specs.Links.{IsLinkOf}
 use Rattle.netlist_link.specs.ViewLaws.{IsSameView, LinkViewsAgree}
 use Rattle.plan_texts.specs.declared.plan.Plan.{Plan}
+use Rattle.plan_fitting.proofs.NoneHidden.{none_straight, none_ends, none_open}
 use Rattle.strip_model.specs.Recovered.{recovered}
 use Rattle.strip_model.specs.Gives.{Gives, GivesByTheView}
 use Rattle.strip_model.specs.Answer.{IsNotInserted, RefusedByAll}
@@ -29,7 +32,7 @@ none_some x e = cc
 
 -- nothing is recovered
 pub not_found : RefusedByAll → (library : List ListedCell) (inserted : Module) (d : Device) → IsTree inserted → None ≡ recovered inserted d → IsNotInserted library inserted d
-not_found refused library inserted d is none = refused library inserted d is (λ found L same rec gives. none_some found (none ∙ rec))
+not_found refused library inserted d is none = refused library inserted d is (λ found L same hides rec gives. none_some found (none ∙ rec))
 
 -- what is recovered is this alone
 recovered_gives : (core : Module) (q : Plan) (inserted : Module) (d : Device) → Some (core, q) ≡ recovered inserted d → (found : Module × Plan) (L : LinkedView) → recovered inserted d ≡ Some found
@@ -40,17 +43,24 @@ recovered_gives core q inserted d is found L rec gives =
 -- it can't be linked
 pub not_linked : RefusedByAll → (library : List ListedCell) (core : Module) (q : Plan) (inserted : Module) (d : Device) → IsTree inserted → Some (core, q) ≡ recovered inserted d
     → (IsLinkable library core → ⊥) → IsNotInserted library inserted d
-not_linked refused library core q inserted d is found cannot = refused library inserted d is (λ pair L same rec gives.
+not_linked refused library core q inserted d is found cannot = refused library inserted d is (λ pair L same hides rec gives.
     let g : Gives core L q inserted d = recovered_gives core q inserted d found pair L rec gives in
     cannot (subst (λ (l : List ListedCell). IsLinkable l core) same g.links.linkable))
 
+-- where neither hides anything, both hide the same
+same_marks : (one other : LinkedView) → IsSameView one other → HidesNone one → HidesNone other → one.straight ≡ other.straight
+same_marks one other same none never =
+    none.straight
+    ∙ ap (λ (ports : List PortView). let straight : Straight = record { first = length ports; count = 0 } in straight) same.ports
+    ∙ sym never.straight
+
 -- it doesn't give the two
 pub not_given : RefusedByAll → LinkViewsAgree → GivesByTheView → (library : List ListedCell) (core : Module) (q : Plan) (linked : LinkedView) (inserted : Module) (d : Device) → IsTree inserted
-    → Some (core, q) ≡ recovered inserted d → IsLinkOf core linked → linked.arena.lists.library ≡ library → (GivesBy linked q inserted d → ⊥) → IsNotInserted library inserted d
-not_given refused agree view library core q linked inserted d is found links library_is cannot = refused library inserted d is (λ pair L same rec gives.
+    → Some (core, q) ≡ recovered inserted d → IsLinkOf core linked → linked.arena.lists.library ≡ library → HidesNone linked → (GivesBy linked q inserted d → ⊥) → IsNotInserted library inserted d
+not_given refused agree view library core q linked inserted d is found links library_is none cannot = refused library inserted d is (λ pair L same hides rec gives.
     let g : Gives core L q inserted d = recovered_gives core q inserted d found pair L rec gives in
     let one : IsSameView L linked = agree core L linked (same ∙ sym library_is) g.links links in
-    cannot (record { plan = g.plan; at = view L linked q inserted d one g.at }))
+    cannot (record { plan = g.plan; at = view L linked q inserted d one (same_marks L linked one hides none) g.at }))
 
 pub ok_with : {T E : Type 0} (r : Result T E) (P Q : T → Type 0) → ((x : T) → P x → Q x) → IfOk r P → IfOk r Q
 ok_with (Ok x) P Q law is = law x is
@@ -60,9 +70,9 @@ ok_with (Err e) P Q law is = tt
 
 -- its netlist is one that a plan is to fit
 pub is_found : (library : List ListedCell) (core : Module) (q : Plan) (linked : LinkedView) (inserted : Module) (d : Device) → IsTree core → IsLibrary library → IsLinkOf core linked
-    → linked.arena.lists.library ≡ library → recovered inserted d ≡ Some (core, q) → IsFound linked q inserted d
-is_found library core q linked inserted d is listed links library_is found = record {
-  tree = record { tree = core; is = is; listed = subst IsLibrary (sym library_is) listed; links = links };
+    → linked.arena.lists.library ≡ library → HidesNone linked → recovered inserted d ≡ Some (core, q) → IsFound linked q inserted d
+is_found library core q linked inserted d is listed links library_is hides found = record {
+  tree = record { tree = core; is = is; listed = subst IsLibrary (sym library_is) listed; links = links; hides = hides };
   found = found;
 }
 
@@ -73,15 +83,15 @@ link_told refused library core q inserted d f is found cannot told = not_linked 
 
 -- and where it gives another module, or another device
 pub give_told : RefusedByAll → LinkViewsAgree → GivesByTheView → (library : List ListedCell) (core : Module) (q : Plan) (linked : LinkedView) (inserted : Module) (d : Device) (f : StripFault) → IsTree inserted
-    → recovered inserted d ≡ Some (core, q) → IsLinkOf core linked → linked.arena.lists.library ≡ library → (f ≡ NotInserted → GivesBy linked q inserted d → ⊥) → f ≡ NotInserted
-    → IsNotInserted library inserted d
-give_told refused agree view library core q linked inserted d f is found links library_is cannot told =
-    not_given refused agree view library core q linked inserted d is (sym found) links library_is (cannot told)
+    → recovered inserted d ≡ Some (core, q) → IsLinkOf core linked → linked.arena.lists.library ≡ library → HidesNone linked → (f ≡ NotInserted → GivesBy linked q inserted d → ⊥)
+    → f ≡ NotInserted → IsNotInserted library inserted d
+give_told refused agree view library core q linked inserted d f is found links library_is hides cannot told =
+    not_given refused agree view library core q linked inserted d is (sym found) links library_is hides (cannot told)
 
 pub given_by : (r : Result (Unit {0}) StripFault) (library : List ListedCell) (core : Module) (q : Plan) (linked : LinkedView) (inserted : Module) (d : Device) → IsLinkOf core linked
-    → linked.arena.lists.library ≡ library → OnOk r (GivesBy linked q inserted d) → OnOk r (IsGivenBy library core q inserted d)
-given_by (Ok done) library core q linked inserted d links library_is by = record { linked = linked; links = links; library_is = library_is; by = by }
-given_by (Err f) library core q linked inserted d links library_is by = tt
+    → linked.arena.lists.library ≡ library → HidesNone linked → OnOk r (GivesBy linked q inserted d) → OnOk r (IsGivenBy library core q inserted d)
+given_by (Ok done) library core q linked inserted d links library_is hides by = record { linked = linked; links = links; library_is = library_is; hides = hides; by = by }
+given_by (Err f) library core q linked inserted d links library_is hides by = tt
 
 pub told_by : (r : Result (Unit {0}) StripFault) (P Q : StripFault → Type 0) → ((f : StripFault) → P f → Q f) → IfErr r P → IfErr r Q
 told_by (Ok done) P Q law is = tt
@@ -95,6 +105,9 @@ stripped_tree law library core q inserted d is listed found g =
       is = is;
       listed = subst IsLibrary (sym g.library_is) listed;
       links = g.links;
+      straight = none_straight g.linked g.hides;
+      ends = none_ends g.linked g.hides;
+      open_names = none_open g.linked g.hides;
       plan = g.by.plan;
       at = g.by.at;
     } in
@@ -102,6 +115,7 @@ stripped_tree law library core q inserted d is listed found g =
       linked = g.linked;
       found = found;
       library_is = g.library_is;
+      hides = g.hides;
       gives = gives;
       written = ap (λ (pair : Module × Plan). pair.0) (inside (core, q) _ (sym found ∙ law core g.linked q inserted d gives));
     }
@@ -114,19 +128,24 @@ tree_links library core q inserted d s = subst (λ (l : List ListedCell). IsLink
 
 -- what is linked anew gives the two as well
 pub stripped : LinkViewsAgree → GivesByTheView → (library : List ListedCell) (core : Module) (q : Plan) (answer : LinkedView) (inserted : Module) (d : Device)
-    → IsStrippedTree library inserted d core q → IsLinkOf core answer → answer.arena.lists.library ≡ library → IsStripped library inserted d answer q
-stripped agree view library core q answer inserted d s answers answer_is =
+    → IsStrippedTree library inserted d core q → IsLinkOf core answer → answer.arena.lists.library ≡ library → HidesNone answer → IsStripped library inserted d answer q
+stripped agree view library core q answer inserted d s answers answer_is hides =
     let same = s.library_is ∙ sym answer_is in
+    let one : IsSameView s.linked answer = agree core s.linked answer same s.gives.links answers in
     record {
       tree = core;
       found = s.found;
       library_is = answer_is;
+      hides = hides;
       gives = record {
         is = s.gives.is;
         listed = subst IsLibrary same s.gives.listed;
         links = answers;
+        straight = none_straight answer hides;
+        ends = none_ends answer hides;
+        open_names = none_open answer hides;
         plan = s.gives.plan;
-        at = view s.linked answer q inserted d (agree core s.linked answer same s.gives.links answers) s.gives.at;
+        at = view s.linked answer q inserted d one (same_marks s.linked answer one s.hides hides) s.gives.at;
       };
     }
 

@@ -4,7 +4,7 @@ use Rattle.std.specs.Prelude.{◌≡◌, ℕ, List, Some}
 use Rattle.cell_library.specs.declared.listed.ListedCell.{ListedCell}
 use Rattle.verilog_tree.specs.declared.tree.Module.{Module}
 use Rattle.bsdl_device.specs.declared.values.Device.{Device}
-use Rattle.netlist_link.specs.Linked.{LinkedView}
+use Rattle.netlist_link.specs.Linked.{LinkedView, HidesNone}
 use Rattle.netlist_link.specs.Links.{IsLinkOf}
 use Rattle.netlist_unlink.specs.Trees.{tree_of}
 use Rattle.plan_texts.specs.declared.plan.Plan.{Plan}
@@ -18,19 +18,21 @@ use Rattle.strip_model.specs.Recovered.{recovered}
 use Rattle.strip_model.specs.Gives.{GivesAt, Gives}
 
 -- The module and the plan that are recovered give the module with test logic and the device; this is the plan, and the
--- netlist that the module denotes with this library.
+-- netlist that the module denotes with this library. It hides nothing.
 pub record IsStripped (library : List ListedCell) (inserted : Module) (d : Device) (L : LinkedView) (p : Plan) : Type 0 where
   pub tree : Module
   pub found : recovered inserted d ≡ Some (tree, p)
   pub library_is : L.arena.lists.library ≡ library
+  pub hides : HidesNone L
   pub gives : Gives tree L p inserted d
 
 -- The module and the plan that are recovered give the module with test logic and the device, by the netlist that the
--- module denotes with this library; and the module is the one that this netlist is written as.
+-- module denotes with this library, which hides nothing; and the module is the one that this netlist is written as.
 pub record IsStrippedTree (library : List ListedCell) (inserted : Module) (d : Device) (tree : Module) (p : Plan) : Type 0 where
   pub linked : LinkedView
   pub found : recovered inserted d ≡ Some (tree, p)
   pub library_is : linked.arena.lists.library ≡ library
+  pub hides : HidesNone linked
   pub gives : Gives tree linked p inserted d
   pub written : tree ≡ tree_of linked p.prefix
 
@@ -39,11 +41,12 @@ pub record GivesBy (L : LinkedView) (p : Plan) (inserted : Module) (d : Device) 
   pub plan : IsPlan p
   pub at : GivesAt L p inserted d
 
--- own: the netlist that the module denotes with this library, and the plan, give these
+-- own: the netlist that the module denotes with this library, and that hides nothing, and the plan give these
 pub record IsGivenBy (library : List ListedCell) (core : Module) (p : Plan) (inserted : Module) (d : Device) : Type 0 where
   pub linked : LinkedView
   pub links : IsLinkOf core linked
   pub library_is : linked.arena.lists.library ≡ library
+  pub hides : HidesNone linked
   pub by : GivesBy linked p inserted d
 
 -- own: the plan was recovered with a module whose netlist this is

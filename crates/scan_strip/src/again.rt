@@ -1,6 +1,6 @@
 // Inserting again what was recovered.
 ghost use Rattle.std.specs.Prelude.{◌≡◌, ℕ, List, IfErr, IfOk, OnOk};
-ghost use Rattle.netlist_link.specs.Linked.{LinkedView};
+ghost use Rattle.netlist_link.specs.Linked.{LinkedView, HidesNone};
 ghost use Rattle.plan_texts.specs.Canonical.{canonical_plan};
 ghost use Rattle.verilog_tree.specs.IsTree.{IsTree};
 ghost use Rattle.link_model.specs.Late.{IsLinkable};
@@ -36,6 +36,7 @@ pub fn link_core(alloc: Global, core: &Module, library: &Library) -> Result<Link
     requires { IsTree core.now }
     ensures linked { IfOk result (IsLinkOf core.now) }
     ensures library { IfOk result (λ linked. linked.arena.lists.library ≡ library.now) }
+    ensures hides { IfOk result HidesNone }
     ensures fault { IfErr result (λ fault. fault ≡ NotInserted → IsLinkable library.now core.now → ⊥) }
 {
     faults_forbid_links();

@@ -5,6 +5,7 @@ pub mod Firsts
 pub mod Fits
 pub mod Once
 pub mod PortNames
+pub mod Ports
 pub mod RegisterTextsWords
 pub mod Rows
 pub mod SetFlags

@@ -8,9 +8,10 @@
 // - It answers a fault only where that stands, and none before it (`IsFault`): a name that can't be a register's or an
 //   instruction's, a word that names no bit of a wire with a driver, an opcode that can't be its instruction's, each
 //   the first along all lines.
-// - Laws: in a well-named netlist a word names one net at most, and what is fitted or the first fault is one answer.
+// - Laws: in a well-named netlist a word names one net at most, and what is fitted or the first fault is one answer; in
+//   a well-formed one a word names no bit of a port, hidden or not.
 // - `register_texts`: data registers of a design's own, as texts, read.
-// By the contract of `fit_status` and its law function. What no clause says: wires are found by a table of names and
+// By the contract of `fit_status` and its law functions. What no clause says: wires are found by a table of names and
 // indexes, made in one pass over the nets; drivers are flagged in one pass over the cells; names and opcodes that were
 // given before are found by tables.
 #![tactic(auto)]
@@ -35,5 +36,5 @@ mod laws;
 mod status_fit;
 
 pub use fitted::{FittedRegister, FittedStatus};
-pub use laws::fitting_has_one_answer;
+pub use laws::{fitting_has_one_answer, words_name_no_ports};
 pub use status_fit::fit_status;

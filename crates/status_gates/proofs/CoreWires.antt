@@ -8,7 +8,6 @@ use Rattle.netlist_model.specs.Lists.{NetlistView}
 use Rattle.netlist_model.specs.Settled.{feed_values}
 use Rattle.surrounded_core.specs.Places.{Places}
 use Rattle.surrounded_core.specs.Laws.{core_value}
-use Rattle.surrounded_core.specs.Open.{SurroundedFollows}
 use Rattle.status_gates.specs.Wires.{net_feeds}
 use Rattle.status_gates.specs.Placed.{IsCoreWire}
 use Rattle.status_gates.specs.RunsLaws.{WiresCarry}
@@ -16,10 +15,8 @@ use Rattle.status_gates.specs.RunsLaws.{WiresCarry}
 core_is : (N : NetlistView) (S : Places) (v : ℕ → Sig) (net : ℕ) → IsCoreWire N S net → core_value N S v net ≡ v net
 core_is N S v net wire = rw (wire.inside, wire.driver, wire.plain) (ap v wire.stays)
 
-pub wires_carry : SurroundedFollows → WiresCarry
-wires_carry follows M N B S shown given events chip moment r net wire t below =
-    let holds = (follows M N B S shown r.around given events chip moment r.run r.beside).holds t below in
-    sym (core_is N S (moment t).value net wire) ∙ holds.core net
+pub wires_carry : WiresCarry
+wires_carry M N B S shown events chip moment r net wire t below = sym (core_is N S (moment t).value net wire) ∙ (r.follows.holds t below).core net
 
 -- what a register is fed
 pub fed : (N : NetlistView) (S : Places) (v w : ℕ → Sig) (nets : List NetId) → All (λ (net : NetId). IsCoreWire N S net.0) nets → ((net : ℕ) → IsCoreWire N S net → v net ≡ w net)

@@ -1,6 +1,7 @@
 pub mod Added
 pub mod Each
 pub mod Feeds
+pub mod Home
 pub mod Known
 pub mod PartsAdded
 pub mod PartsTold

@@ -6,76 +6,66 @@ use Rattle.signal_values.specs.Values.{bit}
 use Rattle.netlist_model.specs.declared.NetId.{NetId}
 use Rattle.netlist_model.specs.declared.Feed.TheVariants.{Net}
 use Rattle.netlist_model.specs.Settled.{feed_values}
-use Rattle.netlist_model.specs.LawsRuns.{RunHasMoments}
 use Rattle.test_logic.specs.declared.Levels.{Levels}
 use Rattle.test_logic.specs.Registers.{ident_after}
 use Rattle.test_logic.specs.Machine.{zeros}
 use Rattle.register_gates.specs.BitsLaws.{bit_after}
 use Rattle.wrapped_chip.specs.ChipRuns.{ChipMoment}
 use Rattle.surrounded_core.specs.Places.{controller_nets}
-use Rattle.surrounded_core.specs.Open.{HoldsAsChip, SurroundedFollows}
 use Rattle.register_gates.specs.Laws.{DataLaws, DataFollows}
-use Rattle.register_gates.specs.Registers.{data_values}
 use Rattle.status_gates.specs.Wires.{net_feeds}
-use Rattle.status_gates.specs.Extended.{StatusRegister, is_latched, wire_values, list_after, list_at}
+use Rattle.status_gates.specs.Extended.{StatusRegister, HeldRegister, is_latched, wire_values, list_after, list_from}
+use Rattle.status_gates.specs.Placed.{contents, held_at}
 use Rattle.status_gates.specs.RunsLaws.{WiresCarry, RegistersFollow}
 use Rattle.status_gates.proofs.CoreWires.{fed}
 
 pub record ListLaws : Type 0 where
-  pub follows : SurroundedFollows
   pub wires : WiresCarry
   pub gates : DataFollows
-  pub moments : RunHasMoments
 
 zeros_map : {A C : Type 0} (f : A → C) (xs : List A) → zeros (map f xs) ≡ zeros xs
 zeros_map f [] = refl
 zeros_map f (x ∷ xs) = ap (λ (zs : List Sig). Zero ∷ zs) (zeros_map f xs)
 
-blank : (r : StatusRegister) → zeros (net_feeds r.wires) ≡ zeros r.wires
+pub blank : (r : StatusRegister) → zeros (net_feeds r.wires) ≡ zeros r.wires
 blank r = zeros_map (λ (net : NetId). Net net) r.wires
 
-begins : (r : StatusRegister) (chip : ℕ → ChipMoment) → list_at r chip 0 ≡ zeros r.wires
-unfolding list_at
-begins r chip = refl
+begins : (h : HeldRegister) (chip : ℕ → ChipMoment) → list_from h chip 0 ≡ h.held
+unfolding list_from
+begins h chip = refl
 
-goes_on : (r : StatusRegister) (chip : ℕ → ChipMoment) (t : ℕ)
-    → list_at r chip (suc t) ≡ list_after r (chip t).levels (chip (suc t)).levels (chip t).value (chip t).machine (list_at r chip t)
-unfolding list_at
-goes_on r chip t = refl
+goes_on : (h : HeldRegister) (chip : ℕ → ChipMoment) (t : ℕ)
+    → list_from h chip (suc t) ≡ list_after h.register (chip t).levels (chip (suc t)).levels (chip t).value (chip t).machine (list_from h chip t)
+unfolding list_from
+goes_on h chip t = refl
 
 pub registers_follow : ListLaws → RegistersFollow
-registers_follow by M N B S shown given events chip moment r p placed on = along
+registers_follow by M N B S shown events chip moment r p placed on = along
   where
     laws : DataLaws p.first p.number (controller_nets S) p.on S.tdi (net_feeds p.register.wires)
     laws = by.gates p.first p.number (controller_nets S) p.on S.tdi (net_feeds p.register.wires)
 
-    holds : (t : ℕ) → t ≤ length events → HoldsAsChip M B N S (moment t) (chip t)
-    holds = (by.follows M N B S shown r.around given events chip moment r.run r.beside).holds
+    start : HeldRegister
+    start = held_at (moment 0) p
 
-    along : (t : ℕ) → t ≤ length events → data_values (moment t).value p.first (net_feeds p.register.wires) ≡ list_at p.register chip t
-    along zero below =
-        laws.start M r.beside.start (chip 0).levels (moment 0) r.around.formed placed.cells r.beside.run.start (holds 0 below).levels r.run.start.low
-        ∙ blank p.register ∙ sym (begins p.register chip)
+    along : (t : ℕ) → t ≤ length events → contents (moment t) p ≡ list_from start chip t
+    along zero below = sym (begins start chip)
     along (suc t) below =
         let before : t ≤ length events = omega arith in
-        let count : length r.beside.there ≡ length events = r.beside.same_events.count in
-        let there : t ≤ length r.beside.there = omega arith in
-        let more : suc t ≤ length r.beside.there = omega arith in
-        let now = by.moments M r.beside.start r.beside.there moment r.beside.run t there in
-        let event = now.step more in
-        let h = holds t before in
+        let event = r.steps t below in
+        let h = r.follows.holds t before in
         let on_now : Bool = is_latched p.register (chip t).machine in
         let ls : Levels = (chip t).levels in
         let ls' : Levels = (chip (suc t)).levels in
         let next : List Sig → List Sig → List Sig → List Sig
         = λ zs cs vs. bit_after ls ls' zs (ident_after on_now cs (chip t).machine.state (bit ls.tdi) vs) vs vs in
-        let vs : List Sig = data_values (moment t).value p.first (net_feeds p.register.wires) in
-        let e : data_values (moment (suc t)).value p.first (net_feeds p.register.wires) ≡ next (zeros (net_feeds p.register.wires)) (feed_values (moment t).value (net_feeds p.register.wires)) vs
-        = laws.step M event.0 (chip t).machine.state on_now ls ls' (moment t) (moment (suc t)) r.around.formed placed.cells now.settled event.2
-        (record { carries = h.levels; shows = h.shows; selection = on t before; data_in = h.data_in }) (holds (suc t) below).levels in
+        let vs : List Sig = contents (moment t) p in
+        let e : contents (moment (suc t)) p ≡ next (zeros (net_feeds p.register.wires)) (feed_values (moment t).value (net_feeds p.register.wires)) vs
+        = laws.step M event.0 (chip t).machine.state on_now ls ls' (moment t) (moment (suc t)) r.around.formed placed.cells (r.settled t before) event.1
+        (record { carries = h.levels; shows = h.shows; selection = on t before; data_in = h.data_in }) (r.follows.holds (suc t) below).levels in
         e
         ∙ ap (λ (zs : List Sig). next zs (feed_values (moment t).value (net_feeds p.register.wires)) vs) (blank p.register)
         ∙ ap (λ (cs : List Sig). next (zeros p.register.wires) cs vs)
-        (fed N S (moment t).value (chip t).value p.register.wires placed.wires (λ net wire. by.wires M N B S shown given events chip moment r net wire t before))
+        (fed N S (moment t).value (chip t).value p.register.wires placed.wires (λ net wire. by.wires M N B S shown events chip moment r net wire t before))
         ∙ ap (λ (xs : List Sig). next (zeros p.register.wires) (wire_values p.register (chip t).value) xs) (along t before)
-        ∙ sym (goes_on p.register chip t)
+        ∙ sym (goes_on start chip t)

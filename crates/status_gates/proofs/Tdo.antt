@@ -19,17 +19,16 @@ use Rattle.test_logic.specs.Machine.{TestLogic, Machine, in_effect, bit_of, test
 use Rattle.register_gates.specs.BitsLaws.{bit_after}
 use Rattle.wrapped_chip.specs.ChipRuns.{ChipMoment}
 use Rattle.surrounded_core.specs.Places.{Places, controller_nets, bypass_bit}
-use Rattle.surrounded_core.specs.Open.{shown_bit, tdo_step, FollowsChip, SurroundedFollows}
+use Rattle.surrounded_core.specs.Open.{shown_bit, tdo_step}
 use Rattle.register_gates.specs.Laws.{DataFollows}
 use Rattle.register_gates.specs.Registers.{data_last}
 use Rattle.status_gates.specs.Wires.{net_feeds}
 use Rattle.status_gates.proofs.Feeds.{net_feeds_length}
-use Rattle.status_gates.specs.Extended.{StatusRegister, is_latched, list_at, nearest_of, data_of, tdo_with, tdo_at}
-use Rattle.status_gates.specs.Placed.{Placed, IsPlaced, shown_by, IsFree}
+use Rattle.status_gates.specs.Extended.{HeldRegister, is_latched, list_from, nearest_of, data_of, tdo_with, tdo_from}
+use Rattle.status_gates.specs.Placed.{Placed, IsPlaced, held_at, shown_by, IsFree}
 use Rattle.status_gates.specs.RunsLaws.{RegistersFollow, ExtendedTdoFollows}
 
 pub record TdoLaws : Type 0 where
-  pub follows : SurroundedFollows
   pub registers : RegistersFollow
   pub gates : DataFollows
 
@@ -42,36 +41,39 @@ or_near : (b : Bool) (o : Option Sig) (near rest : Sig) → (if b then near else
 or_near true o near rest = refl
 or_near false o near rest = refl
 
--- what is known of a register at a moment
-record IsAt (S : Places) (lists : StatusRegister → List Sig) (machine : Machine) (m : Moment) (p : Placed) : Type 0 where
-  on : m.value p.on.0 ≡ bit (is_latched p.register machine)
-  near : m.value (data_last p.first S.tdi (net_feeds p.register.wires)).0 ≡ first_bit (lists p.register)
+-- what is known of a register at a moment, where its list was this at first
+record IsAt (S : Places) (m0 : Moment) (chip : ℕ → ChipMoment) (t : ℕ) (m : Moment) (p : Placed) : Type 0 where
+  on : m.value p.on.0 ≡ bit (is_latched p.register (chip t).machine)
+  near : m.value (data_last p.first S.tdi (net_feeds p.register.wires)).0 ≡ first_bit (list_from (held_at m0 p) chip t)
 
-shown_is : (S : Places) (lists : StatusRegister → List Sig) (machine : Machine) (m : Moment) → m.value (bypass_bit S).0 ≡ machine.bypass → (ps : List Placed) → All (IsAt S lists machine m) ps
-    → shown_by S ps m ≡ unwrap_or (nearest_of (map (λ (p : Placed). p.register) ps) lists machine) machine.bypass
-shown_is S lists machine m bypass [] all = bypass
-shown_is S lists machine m bypass (p ∷ ps) all =
-    let at = All-head (IsAt S lists machine m) p ps all in
-    let rest = shown_is S lists machine m bypass ps (All-tail (IsAt S lists machine m) p ps all) in
+shown_is : (S : Places) (m0 : Moment) (chip : ℕ → ChipMoment) (t : ℕ) (m : Moment) → m.value (bypass_bit S).0 ≡ (chip t).machine.bypass → (ps : List Placed)
+    → All (IsAt S m0 chip t m) ps → shown_by S ps m ≡ unwrap_or (nearest_of (map (held_at m0) ps) chip t) (chip t).machine.bypass
+shown_is S m0 chip t m bypass [] all = bypass
+shown_is S m0 chip t m bypass (p ∷ ps) all =
+    let at = All-head (IsAt S m0 chip t m) p ps all in
+    let rest = shown_is S m0 chip t m bypass ps (All-tail (IsAt S m0 chip t m) p ps all) in
+    let latched : Bool = is_latched p.register (chip t).machine in
+    let near : Sig = first_bit (list_from (held_at m0 p) chip t) in
+    let behind : Option Sig = nearest_of (map (held_at m0) ps) chip t in
     ap (λ (s : Sig). sig_mux s (shown_by S ps m) (m.value (data_last p.first S.tdi (net_feeds p.register.wires)).0)) at.on
-    ∙ ap (λ (x : Sig). sig_mux (bit (is_latched p.register machine)) (shown_by S ps m) x) at.near
-    ∙ ap (λ (x : Sig). sig_mux (bit (is_latched p.register machine)) x (first_bit (lists p.register))) rest
-    ∙ chosen (is_latched p.register machine) (unwrap_or (nearest_of (map (λ (q : Placed). q.register) ps) lists machine) machine.bypass) (first_bit (lists p.register))
-    ∙ or_near (is_latched p.register machine) (nearest_of (map (λ (q : Placed). q.register) ps) lists machine) (first_bit (lists p.register)) machine.bypass
+    ∙ ap (λ (x : Sig). sig_mux (bit latched) (shown_by S ps m) x) at.near
+    ∙ ap (λ (x : Sig). sig_mux (bit latched) x near) rest
+    ∙ chosen latched (unwrap_or behind (chip t).machine.bypass) near
+    ∙ or_near latched behind near (chip t).machine.bypass
 
 -- while a register is on, BYPASS is in effect in the base device
-free_bypass : (B : Device) (lists : StatusRegister → List Sig) (machine : Machine) (ps : List Placed) → All (λ (p : Placed). IsFree B p.register) ps → (near : Sig)
-    → nearest_of (map (λ (p : Placed). p.register) ps) lists machine ≡ Some near → in_effect (test_logic_of B) machine ≡ instr.Bypass
-free_bypass B lists machine [] all near e = absurd (cc)
-free_bypass B lists machine (p ∷ ps) all near e =
-    by (is_latched p.register machine) refl e (λ k. free_bypass B lists machine ps (All-tail (λ (q : Placed). IsFree B q.register) p ps all) near k)
+free_bypass : (B : Device) (m0 : Moment) (chip : ℕ → ChipMoment) (t : ℕ) (ps : List Placed) → All (λ (p : Placed). IsFree B p.register) ps → (near : Sig)
+    → nearest_of (map (held_at m0) ps) chip t ≡ Some near → in_effect (test_logic_of B) (chip t).machine ≡ instr.Bypass
+free_bypass B m0 chip t [] all near e = absurd (cc)
+free_bypass B m0 chip t (p ∷ ps) all near e =
+    by (is_latched p.register (chip t).machine) refl e (λ k. free_bypass B m0 chip t ps (All-tail (λ (q : Placed). IsFree B q.register) p ps all) near k)
   where
     rest : Option Sig
-    rest = nearest_of (map (λ (q : Placed). q.register) ps) lists machine
+    rest = nearest_of (map (held_at m0) ps) chip t
 
-    by : (b : Bool) → is_latched p.register machine ≡ b → (if b then Some (first_bit (lists p.register)) else rest) ≡ Some near
-        → (rest ≡ Some near → in_effect (test_logic_of B) machine ≡ instr.Bypass) → in_effect (test_logic_of B) machine ≡ instr.Bypass
-    by true is k more = All-head (λ (q : Placed). IsFree B q.register) p ps all machine.latched is
+    by : (b : Bool) → is_latched p.register (chip t).machine ≡ b → (if b then Some (first_bit (list_from (held_at m0 p) chip t)) else rest) ≡ Some near
+        → (rest ≡ Some near → in_effect (test_logic_of B) (chip t).machine ≡ instr.Bypass) → in_effect (test_logic_of B) (chip t).machine ≡ instr.Bypass
+    by true is k more = All-head (λ (q : Placed). IsFree B q.register) p ps all (chip t).machine.latched is
     by false is k more = more k
 
 plain_bit : (of : Register) (m : Machine) → shown_bit of m.bypass m ≡ bit_of of m
@@ -85,54 +87,52 @@ data_is : (L : TestLogic) (m : Machine) (near : Option Sig) → ((x : Sig) → n
 data_is L m None free = plain_bit (selected_register (in_effect L m)) m
 data_is L m (Some x) free = ap (λ (i : Instr). shown_bit (selected_register i) x m) (free x refl)
 
-begins : (rs : List StatusRegister) (B : Device) (chip : ℕ → ChipMoment) → tdo_at rs B chip 0 ≡ HighZ
-unfolding tdo_at
-begins rs B chip = refl
+begins : (hs : List HeldRegister) (B : Device) (chip : ℕ → ChipMoment) → tdo_from hs B chip 0 ≡ HighZ
+unfolding tdo_from
+begins hs B chip = refl
 
-goes_on : (rs : List StatusRegister) (B : Device) (chip : ℕ → ChipMoment) (t : ℕ)
-    → tdo_at rs B chip (suc t)
-    ≡ tdo_with (test_logic_of B) (chip t).levels (chip (suc t)).levels (chip t).machine (nearest_of rs (λ r. list_at r chip t) (chip t).machine) (tdo_at rs B chip t)
-unfolding tdo_at
-goes_on rs B chip t = refl
+goes_on : (hs : List HeldRegister) (B : Device) (chip : ℕ → ChipMoment) (t : ℕ)
+    → tdo_from hs B chip (suc t) ≡ tdo_with (test_logic_of B) (chip t).levels (chip (suc t)).levels (chip t).machine (nearest_of hs chip t) (tdo_from hs B chip t)
+unfolding tdo_from
+goes_on hs B chip t = refl
 
 pub extended_tdo_follows : TdoLaws → ExtendedTdoFollows
-extended_tdo_follows by M N B S shown given events chip moment r ps placed free on mux = along
+extended_tdo_follows by M N B S shown events chip moment r ps placed free on mux = along
   where
-    rs : List StatusRegister
-    rs = map (λ (p : Placed). p.register) ps
+    m0 : Moment
+    m0 = moment 0
 
-    follows : FollowsChip M B N S shown events chip moment
-    follows = by.follows M N B S shown r.around given events chip moment r.run r.beside
+    hs : List HeldRegister
+    hs = map (held_at m0) ps
 
     all_at : (t : ℕ) → t ≤ length events → (qs : List Placed) → All (IsPlaced M N S) qs
         → All (λ (p : Placed). (u : ℕ) → u ≤ length events → (moment u).value p.on.0 ≡ bit (is_latched p.register (chip u).machine)) qs
-        → All (IsAt S (λ q. list_at q chip t) (chip t).machine (moment t)) qs
-    all_at t below [] are ons = All-nil (IsAt S (λ q. list_at q chip t) (chip t).machine (moment t))
+        → All (IsAt S m0 chip t (moment t)) qs
+    all_at t below [] are ons = All-nil (IsAt S m0 chip t (moment t))
     all_at t below (p ∷ qs) are ons =
         let mine = All-head (IsPlaced M N S) p qs are in
         let mine_on = All-head (λ (q : Placed). (u : ℕ) → u ≤ length events → (moment u).value q.on.0 ≡ bit (is_latched q.register (chip u).machine)) p qs ons in
         let counted = net_feeds_length p.register.wires in
-        All-cons (IsAt S (λ q. list_at q chip t) (chip t).machine (moment t)) p qs
+        All-cons (IsAt S m0 chip t (moment t)) p qs
         (record {
           on = mine_on t below;
           near = (by.gates p.first p.number (controller_nets S) p.on S.tdi (net_feeds p.register.wires)).last (let some = mine.some in omega (arith, some, counted)) (moment t)
-              ∙ ap first_bit (by.registers M N B S shown given events chip moment r p mine mine_on t below);
+              ∙ ap first_bit (by.registers M N B S shown events chip moment r p mine mine_on t below);
         })
         (all_at t below qs (All-tail (IsPlaced M N S) p qs are)
         (All-tail (λ (q : Placed). (u : ℕ) → u ≤ length events → (moment u).value q.on.0 ≡ bit (is_latched q.register (chip u).machine)) p qs ons))
 
-    along : (t : ℕ) → t ≤ length events → reading_at M (moment t) S.tdo.0 ≡ tdo_at rs B chip t
-    along zero below = follows.off ∙ sym (begins rs B chip)
+    along : (t : ℕ) → t ≤ length events → reading_at M (moment t) S.tdo.0 ≡ tdo_from hs B chip t
+    along zero below = r.follows.off ∙ sym (begins hs B chip)
     along (suc t) below =
         let before : t ≤ length events = omega arith in
-        let lists : StatusRegister → List Sig = λ q. list_at q chip t in
         let machine : Machine = (chip t).machine in
-        let near : Option Sig = nearest_of rs lists machine in
+        let near : Option Sig = nearest_of hs chip t in
         let shows : (moment t).value shown.0 ≡ unwrap_or near machine.bypass
-        = mux t before ∙ shown_is S lists machine (moment t) (follows.holds t before).bypass ps (all_at t before ps placed on) in
-        follows.tdo t below
+        = mux t before ∙ shown_is S m0 chip t (moment t) (r.follows.holds t before).bypass ps (all_at t before ps placed on) in
+        r.follows.tdo t below
         ∙ ap (λ (x : Sig). tdo_step (test_logic_of B) (chip t).levels (chip (suc t)).levels machine x (reading_at M (moment t) S.tdo.0)) shows
         ∙ ap (λ (y : PinSig). tdo_step (test_logic_of B) (chip t).levels (chip (suc t)).levels machine (unwrap_or near machine.bypass) y) (along t before)
-        ∙ ap (λ (x : Sig). bit_after (chip t).levels (chip (suc t)).levels HighZ (tdo_at rs B chip t) (tdo_after machine.state x (first_bit machine.shift)) (tdo_at rs B chip t))
-        (data_is (test_logic_of B) machine near (λ x e. free_bypass B lists machine ps free x e))
-        ∙ sym (goes_on rs B chip t)
+        ∙ ap (λ (x : Sig). bit_after (chip t).levels (chip (suc t)).levels HighZ (tdo_from hs B chip t) (tdo_after machine.state x (first_bit machine.shift)) (tdo_from hs B chip t))
+        (data_is (test_logic_of B) machine near (λ x e. free_bypass B m0 chip t ps free x e))
+        ∙ sym (goes_on hs B chip t)

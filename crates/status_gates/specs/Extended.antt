@@ -1,5 +1,5 @@
 -- The test logic of a device with read-only data registers of the design's own: besides the base device's test logic a
--- list for each register, and TDO. In a list place 0 is nearest TDO.
+-- list for each register, and TDO, from whatever the lists hold at first. In a list place 0 is nearest TDO.
 -- IEEE Std 1149.1-2001: test data registers (design-specific), TAP controller; that the opcodes name nothing in the
 -- base device is own.
 use Rattle.std.specs.Prelude.{ℕ, zero, suc, Bool, List, [], ◌∷◌, map, Option, Some, None, if◌then◌else◌}
@@ -37,15 +37,20 @@ abbrev pub list_after : StatusRegister → Levels → Levels → (ℕ → Sig) �
 list_after r before after value m kept =
     bit_after before after (zeros r.wires) (ident_after (is_latched r m) (wire_values r value) m.state (bit before.tdi) kept) kept kept
 
+-- a register, and what its list holds at the first moment of a run
+pub record HeldRegister : Type 0 where
+  pub register : StatusRegister
+  pub held : List Sig
+
 -- its list at each moment of a run of the chip
-unfoldable pub list_at : StatusRegister → (ℕ → ChipMoment) → ℕ → List Sig
-list_at r chip zero = zeros r.wires
-list_at r chip (suc t) = list_after r (chip t).levels (chip (suc t)).levels (chip t).value (chip t).machine (list_at r chip t)
+unfoldable pub list_from : HeldRegister → (ℕ → ChipMoment) → ℕ → List Sig
+list_from h chip zero = h.held
+list_from h chip (suc t) = list_after h.register (chip t).levels (chip (suc t)).levels (chip t).value (chip t).machine (list_from h chip t)
 
 -- the first of the registers whose opcode is latched, by the bit of its list nearest TDO
-abbrev pub nearest_of : List StatusRegister → (StatusRegister → List Sig) → Machine → Option Sig
-nearest_of [] lists m = None
-nearest_of (r ∷ rs) lists m = if is_latched r m then Some (first_bit (lists r)) else nearest_of rs lists m
+abbrev pub nearest_of : List HeldRegister → (ℕ → ChipMoment) → ℕ → Option Sig
+nearest_of [] chip t = None
+nearest_of (h ∷ hs) chip t = if is_latched h.register (chip t).machine then Some (first_bit (list_from h chip t)) else nearest_of hs chip t
 
 -- the bit that a falling edge gives TDO in Shift-DR: that of the register whose opcode is latched, else that of the
 -- base device
@@ -57,8 +62,15 @@ data_of None L m = bit_of (selected_register (in_effect L m)) m
 abbrev pub tdo_with : TestLogic → Levels → Levels → Machine → Option Sig → PinSig → PinSig
 tdo_with L before after m near tdo = bit_after before after HighZ tdo (tdo_after m.state (data_of near L m) (first_bit m.shift)) tdo
 
--- TDO at each moment of a run of the chip
-unfoldable pub tdo_at : List StatusRegister → Device → (ℕ → ChipMoment) → ℕ → PinSig
-tdo_at rs B chip zero = HighZ
-tdo_at rs B chip (suc t) =
-    tdo_with (test_logic_of B) (chip t).levels (chip (suc t)).levels (chip t).machine (nearest_of rs (λ r. list_at r chip t) (chip t).machine) (tdo_at rs B chip t)
+-- TDO at each moment of a run of the chip that begins with TDO let go
+unfoldable pub tdo_from : List HeldRegister → Device → (ℕ → ChipMoment) → ℕ → PinSig
+tdo_from hs B chip zero = HighZ
+tdo_from hs B chip (suc t) = tdo_with (test_logic_of B) (chip t).levels (chip (suc t)).levels (chip t).machine (nearest_of hs chip t) (tdo_from hs B chip t)
+
+-- in reset each bit of its list is 0
+abbrev pub in_reset : StatusRegister → HeldRegister
+in_reset r = record { register = r; held = zeros r.wires }
+
+-- and TDO at each moment of a run from reset
+abbrev pub tdo_at : List StatusRegister → Device → (ℕ → ChipMoment) → ℕ → PinSig
+tdo_at rs B chip t = tdo_from (map in_reset rs) B chip t

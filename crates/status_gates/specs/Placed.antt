@@ -13,9 +13,9 @@ use Rattle.netlist_model.specs.Runs.{Moment}
 use Rattle.bsdl_device.specs.declared.values.Device.{Device}
 use Rattle.test_logic.specs.Instructions.{pattern, is_pattern, instruction_of}
 use Rattle.surrounded_core.specs.Places.{Places, controller_nets, bypass_bit}
-use Rattle.register_gates.specs.Registers.{data_cells, data_last}
+use Rattle.register_gates.specs.Registers.{data_cells, data_last, data_values}
 use Rattle.status_gates.specs.Wires.{net_feeds}
-use Rattle.status_gates.specs.Extended.{StatusRegister}
+use Rattle.status_gates.specs.Extended.{StatusRegister, HeldRegister}
 
 -- own: a register, its first net, the number of its first cell, and the net that tells whether its opcode is latched
 pub record Placed : Type 0 where
@@ -37,6 +37,13 @@ pub record IsPlaced (M N : NetlistView) (S : Places) (p : Placed) : Type 0 where
   pub some : 0 < length p.register.wires
   pub wires : All (λ (net : NetId). IsCoreWire N S net.0) p.register.wires
   pub cells : HasCells M (data_cells p.first p.number (controller_nets S) p.on S.tdi (net_feeds p.register.wires))
+
+-- own: what its bits hold at a moment, whatever it is
+abbrev pub contents : Moment → Placed → List Sig
+contents m p = data_values m.value p.first (net_feeds p.register.wires)
+
+abbrev pub held_at : Moment → Placed → HeldRegister
+held_at m p = record { register = p.register; held = contents m p }
 
 -- own: what is shown: the bit of the first register that is on, else the bypass bit
 abbrev pub shown_by : Places → List Placed → Moment → Sig

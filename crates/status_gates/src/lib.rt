@@ -10,7 +10,7 @@
 //   what stands behind it (`shown_tells`).
 // - `parts`: the gates of all registers as one call.
 // - `runs`: laws: the test logic with registers that capture the core's wires, and that gates do as it says.
-// - `surrounded`: laws: a core with test logic and such registers around it realises the chip with them.
+// - `surrounded`: laws: a core with test logic and such registers around it realises the chip with them, and finds home.
 // By the contract of the four calls and three law functions.
 #![tactic(auto)]
 

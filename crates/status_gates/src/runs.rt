@@ -1,29 +1,23 @@
 // Read-only data registers of the design's own beside a core with a device's test logic around it: specs/Extended.antt
-// has the test logic with them, specs/Placed.antt their gates, specs/RunsLaws.antt that the gates do as it says, where nets
-// tell whose opcode is latched. Laws only.
+// has the test logic with them, specs/Placed.antt their gates, specs/RunsLaws.antt that the gates do as it says from
+// whatever they hold, where nets tell whose opcode is latched. Laws only.
 // IEEE Std 1149.1-2001: test data registers (design-specific); the laws are own.
 
 ghost use Rattle.status_gates.specs.RunsLaws.{WiresCarry, RegistersFollow, ExtendedTdoFollows};
 
-use netlist_model::laws::moments_of_a_run;
 use register_gates::data_registers_follow;
-use surrounded_core::surrounded_core_follows;
 
 /// A captured wire carries the core's value.
 pub fn wires_carry()
     ensures { WiresCarry }
-{
-    surrounded_core_follows();
-}
+{}
 
 /// Each register's bits are its list at every moment, where a net tells whether its opcode is latched.
 pub fn registers_follow()
     ensures { RegistersFollow }
 {
-    surrounded_core_follows();
     wires_carry();
     data_registers_follow();
-    moments_of_a_run();
 }
 
 /// And TDO reads as the extended test logic, where it takes the bit of the first register that is on in the place of
@@ -31,7 +25,6 @@ pub fn registers_follow()
 pub fn extended_tdo_follows()
     ensures { ExtendedTdoFollows }
 {
-    surrounded_core_follows();
     registers_follow();
     data_registers_follow();
 }

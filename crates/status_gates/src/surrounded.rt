@@ -6,16 +6,19 @@
 // - Where the gates of registers are there whose opcodes name nothing in the base device, and what they show goes to
 //   TDO in the place of the bypass bit, each run beside the chip's reads as the chip at every output and inout bit, and
 //   at TDO as the test logic with these registers; and there is such a run.
-// By the contract of its law function.
+// - From whatever the test logic and the registers hold it finds home, and from there on reads so
+//   (`surrounded_status_finds_home`).
+// By the contract of its law functions.
 
-ghost use Rattle.status_gates.specs.SurroundedLaws.{SurroundedStatusRealises};
+ghost use Rattle.status_gates.specs.SurroundedLaws.{SurroundedStatusFindsHome, SurroundedStatusRealises};
 
 use crate::inverses_tell;
 use crate::parts::registers_tell;
 use crate::runs::extended_tdo_follows;
+use instruction_gates::register::instructions_stay_legible;
 use netlist_model::laws::moments_of_a_run;
-use register_gates::steps_by_register;
-use surrounded_core::surrounded_core_follows;
+use register_gates::data_registers_follow;
+use surrounded_core::{surrounded_core_follows, surrounded_core_follows_from_home};
 use wrapped_chip::some_run_beside;
 
 /// Such a netlist realises the chip with these registers.
@@ -26,7 +29,20 @@ pub fn surrounded_status_realises()
     extended_tdo_follows();
     inverses_tell();
     registers_tell();
-    steps_by_register();
+    data_registers_follow();
+    instructions_stay_legible();
     moments_of_a_run();
     some_run_beside();
+}
+
+/// And it finds home from whatever its test logic and the registers hold.
+pub fn surrounded_status_finds_home()
+    ensures { SurroundedStatusFindsHome }
+{
+    surrounded_core_follows_from_home();
+    extended_tdo_follows();
+    inverses_tell();
+    registers_tell();
+    instructions_stay_legible();
+    moments_of_a_run();
 }

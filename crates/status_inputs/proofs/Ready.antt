@@ -4,7 +4,7 @@ use Rattle.std.specs.Prelude.{MatchOption, IsOkUnless, OnOk}
 use Rattle.netlist_arena.specs.Arena.{bit_count}
 use Rattle.netlist_arena.specs.declared.room.ReserveFault.{ReserveFault}
 use Rattle.netlist_arena.specs.declared.room.ReserveFault.TheVariants as reserve
-use Rattle.netlist_link.specs.Linked.{LinkedView}
+use Rattle.netlist_link.specs.Linked.{LinkedView, own_ports}
 use Rattle.plan_texts.specs.declared.plan.Plan.{Plan}
 use Rattle.plan_texts.specs.Canonical.{IsPlan}
 use Rattle.plan_fitting.specs.declared.fitted.Fitted.{Fitted}
@@ -15,6 +15,7 @@ use Rattle.status_fitting.specs.declared.fitted.FittedStatus.{FittedStatus}
 use Rattle.written_netlists.specs.Prepared.{ports_of}
 use Rattle.plan_fitting.specs.FittingPlan.{IsFitting, HasRoom}
 use Rattle.plan_fitting.specs.DevicesLaws.{FittedIsFitting}
+use Rattle.plan_fitting.proofs.OwnPorts.{own_bits_few}
 use Rattle.status_register.specs.Devices.{extended_of}
 use Rattle.status_register.specs.Laws.{RegistersMakeDevices}
 use Rattle.status_register.specs.status_room.Ready.{whole_room}
@@ -31,6 +32,7 @@ device_there : FittedIsFitting → RegistersMakeDevices → (L : LinkedView) (p 
 device_there fitting make L p f s linked plan is are room =
     let bits : bit_count L.arena.lists.ports + ports_of f ≤ 4096 = few_bits L.arena.lists (whole_room f s.registers) (whole_room f s.registers) (ports_of f) room in
     let lines : length f.linkage ≡ length p.linkage = ap (λ (g : Fitted). length g.linkage) is.is in
+    let own : bit_count (own_ports L) ≤ bit_count L.arena.lists.ports = own_bits_few L in
     let limit : HasRoom L p = omega arith in
     make L p is.seen s (fitting_of fitting L p f linked plan is) limit are
 

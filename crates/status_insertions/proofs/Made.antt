@@ -33,7 +33,7 @@ use Rattle.status_inputs.specs.status_register.Devices.{extended_of}
 use Rattle.status_inputs.specs.status_register.Stitch.{HasRoomFor}
 use Rattle.status_inputs.specs.status_room.Prepared.{prepared_status}
 use Rattle.status_inputs.specs.status_stitch.Stitch.{CanStitchStatus, IsStitchedStatus}
-use Rattle.status_inputs.specs.status_register.WrittenLaws.{IsStitchedOf, IsStitching, StatusCanBeWritten, StatusIsWritten, WrittenStatusRealises, WrittenStatusIsAlone, WrittenStatusHasControls}
+use Rattle.status_inputs.specs.status_register.WrittenLaws.{IsStitchedOf, IsStitching, StatusCanBeWritten, StatusIsWritten, WrittenStatusRealises, WrittenStatusIsAlone, WrittenStatusHasControls, WrittenStatusFindsHome, WrittenStatusIsAloneFromHome}
 use Rattle.insertions.specs.declared.written_texts.Inserted.{Inserted}
 use Rattle.status_insertions.specs.Reports.{extended_report}
 use Rattle.status_insertions.specs.Insertions.{IsExtendedText, IsStatusInsertion}
@@ -119,6 +119,8 @@ pub record Laws : Type 0 where
   pub realise : WrittenStatusRealises
   pub single : WrittenStatusIsAlone
   pub steer : WrittenStatusHasControls
+  pub find : WrittenStatusFindsHome
+  pub stay : WrittenStatusIsAloneFromHome
 
 insertion_made : Laws → (library : List ListedCell) (net text lines verilog bsdl report : List ℕ) (before readied after : LinkedView) (p : Plan) (f : Fitted) (s : FittedStatus) (e : Extended)
     → (is : IsNetlistOf library net before) → IsLaidOut before.arena.lists → IsLaidOut after.arena.lists → (made : IsFittingAs text lines before p f s e readied) → IsStitchedStatus readied after f s.registers
@@ -170,6 +172,8 @@ insertion_made laws library net text lines verilog bsdl report before readied af
       realises = laws.realise is.tree before p f s after st laid_after out.tree out.writes written same links;
       alone = laws.single is.tree before p f s after st laid_after out.tree out.writes written same links;
       controls = laws.steer is.tree before p f s after st laid_after out.tree out.writes written same links;
+      finds_home = laws.find is.tree before p f s after st laid_after out.tree out.writes written same links;
+      alone_from_home = laws.stay is.tree before p f s after st written;
     }
 
 -- so it is of whatever was written, where memory lasted

@@ -33,4 +33,4 @@ pub listed_of : (library : List ListedCell) (net : List ℕ) (L : LinkedView) �
 listed_of library net L is = subst IsLibrary (sym is.library_is) is.listed
 
 pub linked_tree : (library : List ListedCell) (net : List ℕ) (L : LinkedView) → IsNetlistOf library net L → IsLinkedTree L
-linked_tree library net L is = record { tree = is.tree; is = is.is; listed = listed_of library net L is; links = is.links }
+linked_tree library net L is = record { tree = is.tree; is = is.is; listed = listed_of library net L is; links = is.links; hides = is.hides }

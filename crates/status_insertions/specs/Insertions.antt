@@ -32,7 +32,7 @@ use Rattle.status_fitting.specs.Faults.{HasNoFault}
 use Rattle.status_fitting.specs.Fitted.{IsFitted as AreFitted}
 use Rattle.status_inputs.specs.status_register.Devices.{extended_of}
 use Rattle.status_inputs.specs.status_register.Stitch.{HasRoomFor}
-use Rattle.status_gates.specs.Realises.{RealisesStatus}
+use Rattle.status_gates.specs.Realises.{RealisesStatus, FindsHomeWithRegisters, AloneFromHomeWithRegisters}
 use Rattle.insertions.specs.insertion_inputs.Inputs.{IsNetlistOf}
 use Rattle.status_inputs.specs.Inputs.{IsFittingAs}
 use Rattle.status_insertions.specs.Reports.{extended_report}
@@ -92,6 +92,13 @@ pub record IsStatusInsertion (library : List ListedCell) (net plan lines verilog
   -- and it takes events where the netlist and the test access port do; what clocks, clears or presets in it are the
   -- netlist's own control ports, TCK and TRST
   pub controls : HasControls written.arena.lists linked.arena.lists
+  -- and from whatever its test logic and the registers hold, each added flip-flop 0 or 1, it finds home, with TRST at
+  -- any level: once TCK has risen five times with TMS at 1 and falls, every output and inout bit reads as the netlist's
+  -- wrapped in the base device's test logic, from Test-Logic-Reset on with what its registers then hold, and TDO as
+  -- that of the test logic with the registers, from what their lists then hold; and as the netlist's alone while the
+  -- instruction in effect is transparent, where that of a register counts as BYPASS
+  pub finds_home : FindsHomeWithRegisters written.arena.lists (device_of linked wanted fits.seen) linked.arena.lists registers.registers
+  pub alone_from_home : AloneFromHomeWithRegisters written.arena.lists (device_of linked wanted fits.seen) linked.arena.lists registers.registers
 
 -- What is stitched.
 

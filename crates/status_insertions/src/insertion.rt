@@ -17,8 +17,9 @@ use plan_fitting::devices::fitted_is_fitting;
 use plan_texts::texts_of_plans_are_spelled_or_at_fault;
 use status_fitting::register_texts::texts_of_registers_are_spelled_or_at_fault;
 use status_inputs::lower_status_register::{
-    status_can_be_written, status_is_written, stitch_status, written_status_has_controls,
-    written_status_is_alone, written_status_realises,
+    status_can_be_written, status_is_written, stitch_status, written_status_finds_home,
+    written_status_has_controls, written_status_is_alone, written_status_is_alone_from_home,
+    written_status_realises,
 };
 use status_inputs::{StatusFitting, StatusInsertFault, fit_texts};
 use std::alloc::Global;
@@ -46,6 +47,8 @@ fn write_stitched(
     written_status_realises();
     written_status_is_alone();
     written_status_has_controls();
+    written_status_finds_home();
+    written_status_is_alone_from_home();
     stitch_status(linked, &fitting.fitted, &fitting.registers);
     linked.netlist().is_laid_out();
     write_texts(alloc, linked, fitting)

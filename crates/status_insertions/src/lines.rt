@@ -47,6 +47,7 @@ pub fn report_all(
     fitted: &Fitted,
     extended: &Extended,
 ) -> Result<Text, OutOfMemory>
+    requires { linked.now.straight.count ≡ 0 }
     ensures { IfOk result (λ text. text ≡ extended_report
         (bit_count linked.now.arena.lists.ports) fitted.now.kept extended.now) }
 {

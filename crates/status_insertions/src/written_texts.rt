@@ -37,6 +37,7 @@ pub fn write_texts(
 ) -> Result<Inserted, OutOfMemory>
     requires prefix { IsFreePrefix linked.now fitting.now.plan.prefix }
     requires extended { IsExtended fitting.now.extended }
+    requires open { linked.now.straight.count ≡ 0 }
     ensures netlist { IfOk result (λ made. IsNetlistText linked.now fitting.now.plan.prefix
         made.verilog) }
     ensures bsdl { IfOk result (λ made. IsExtendedText fitting.now.extended made.bsdl) }

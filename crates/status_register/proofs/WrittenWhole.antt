@@ -13,7 +13,7 @@ use Rattle.link_model.specs.Faults.{text_fault}
 use Rattle.link_model.specs.Late.{IsLinkable}
 use Rattle.link_model.specs.Denoted.{AreAll, IsPort, AreCells, denoted}
 use Rattle.netlist_model.specs.declared.Name.TheVariants.{Original}
-use Rattle.netlist_model.specs.Lists.{PortView, NetlistView, cell_at}
+use Rattle.netlist_model.specs.Lists.{CellView, PortView, NetlistView, cell_at}
 use Rattle.netlist_model.specs.Contained.{IsDense}
 use Rattle.netlist_model.specs.Formed.{IsLaidOut}
 use Rattle.netlist_model.specs.Renumbered.{IsRenumbering}
@@ -25,7 +25,7 @@ use Rattle.netlist_unlink.specs.Trees.{Naming, naming_of}
 use Rattle.netlist_unlink.specs.Renumbered.{net_order, new_port, IsWrittenAs}
 use Rattle.register_gates.specs.Constants.{ConstantsAreBits}
 use Rattle.wrapped_chip.specs.Realises.{Keeps}
-use Rattle.wrapped_chip.specs.CopiesLaws.{KeepsNumbers, RenumberedRealisesBy, RenumberedAlone, RenumberedControls}
+use Rattle.wrapped_chip.specs.CopiesLaws.{KeepsNumbers, HasNumbers, RenumberedRealisesBy, RenumberedAlone, RenumberedFindsHomeBy, RenumberedControls}
 use Rattle.netlist_unlink.specs.ImagesLaws.{new_number, new_place, WrittenIsRenumbered, DenseKeepsPlaces}
 use Rattle.plan_texts.specs.declared.plan.Plan.{Plan}
 use Rattle.plan_fitting.specs.declared.fitted.Fitted.{Fitted}
@@ -50,13 +50,14 @@ use Rattle.status_fitting.specs.declared.fitted.FittedStatus.{FittedStatus}
 use Rattle.status_stitch.specs.status_build.FormedLaws.{RegistersAreNamed}
 use Rattle.status_stitch.specs.status_room.Needed.{AreBuildable}
 use Rattle.status_stitch.specs.status_room.ReadyLaws.{FittedCanBeBuilt}
-use Rattle.status_gates.specs.Realises.{status_tdo}
+use Rattle.status_gates.specs.Realises.{status_tdo, register_lengths, status_home_tdo}
 use Rattle.status_stitch.specs.Built.{IsBuilt}
-use Rattle.status_stitch.specs.BuiltLaws.{BuiltHasStatus, BuiltStatusRealises, BuiltStatusIsAlone, IsWholeStatus}
+use Rattle.status_stitch.specs.BuiltLaws.{BuiltHasStatus, BuiltStatusRealises, BuiltStatusIsAlone, BuiltStatusFindsHome, IsWholeStatus}
+use Rattle.status_stitch.specs.RealisedLaws.{StatusIsAloneFromHome}
 use Rattle.status_stitch.specs.Stitched.{stitched_status}
 use Rattle.status_register.specs.Stitch.{HasRoomFor}
 use Rattle.status_register.proofs.Built.{built_of}
-use Rattle.status_register.specs.WrittenLaws.{IsStitchedOf, IsStitching, StatusCanBeWritten, StatusKeepsLimits, StatusIsWritten, WrittenStatusRealises, WrittenStatusIsAlone, WrittenStatusHasControls}
+use Rattle.status_register.specs.WrittenLaws.{IsStitchedOf, IsStitching, StatusCanBeWritten, StatusKeepsLimits, StatusIsWritten, WrittenStatusRealises, WrittenStatusIsAlone, WrittenStatusFindsHome, WrittenStatusIsAloneFromHome, WrittenStatusHasControls}
 use Rattle.status_register.proofs.WrittenCells.{used_before, used_same, dense_after, core_after}
 use Rattle.status_register.proofs.Limits.{status_fits}
 
@@ -184,6 +185,7 @@ record Told (L : LinkedView) (p : Plan) (seen : List PinSeen) (s : FittedStatus)
   at : ℕ → ℕ
   anew : IsRenumbering A M to at
   stay : KeepsNumbers L.arena.lists at
+  has : HasNumbers A L.arena.lists
 
 told_by : RunLaws → (m : Module) (L : LinkedView) (p : Plan) (f : Fitted) (s : FittedStatus) (after : LinkedView) (c : IsStitching m L p f s after) → IsLaidOut after.arena.lists
     → (tree : Module) → IsWrittenAs after p.prefix tree → (written : LinkedView) → written.arena.lists.library ≡ L.arena.lists.library → IsLinkOf tree written
@@ -193,6 +195,7 @@ told_by laws m L p f s after c laid tree writes written listed link =
     let A : NetlistView = after.arena.lists in
     let g : Fitted = fitted_of L p c.fits.seen in
     let is = stitched_here m L p f s after c in
+    let there = λ (i : ℕ) (cell : CellView) (live : cell_at N i ≡ Some cell). core_after A N is.names g s.registers is.same c.linked.dense i cell live in
     record {
       fits = fits_of laws.fitting m L p f s after c;
       names = is.names;
@@ -201,7 +204,8 @@ told_by laws m L p f s after c laid tree writes written listed link =
       at = new_place A.cells;
       anew = laws.renumbered after written p.prefix tree laid writes (listed ∙ sym is.same.library) link;
       stay = λ i cell live. laws.places A (dense_after A N is.names g s.registers is.same) i
-          (is_there (cell_at A i) (core_cell (boundary_at N g) cell) (core_after A N is.names g s.registers is.same c.linked.dense i cell live));
+          (is_there (cell_at A i) (core_cell (boundary_at N g) cell) (there i cell live));
+      has = λ i cell live. (core_cell (boundary_at N g) cell, there i cell live);
     }
 
 whole_of : (m : Module) (L : LinkedView) (p : Plan) (f : Fitted) (s : FittedStatus) (after : LinkedView) (c : IsStitching m L p f s after) (M : NetlistView) (told : Told L p c.fits.seen s after.arena.lists M)
@@ -230,6 +234,17 @@ is_alone laws built copies m L p f s after c laid tree writes written listed lin
     let B = device_of L p c.fits.seen in
     let t = told_by laws m L p f s after c laid tree writes written listed link in
     copies A written.arena.lists L.arena.lists B t.to t.at t.anew t.built.formed t.stay (built L p c.fits.seen t.names c.registers.asked s A (whole_of m L p f s after c written.arena.lists t))
+
+pub finds_home : RunLaws → BuiltStatusFindsHome → RenumberedFindsHomeBy → WrittenStatusFindsHome
+finds_home laws built copies m L p f s after c laid tree writes written listed link =
+    let A : NetlistView = after.arena.lists in
+    let B = device_of L p c.fits.seen in
+    let t = told_by laws m L p f s after c laid tree writes written listed link in
+    copies A written.arena.lists L.arena.lists B (register_lengths s.registers) (status_home_tdo s.registers B) t.to t.at t.anew t.built.formed t.has t.stay
+    (built L p c.fits.seen t.names c.registers.asked s A (whole_of m L p f s after c written.arena.lists t))
+
+pub is_alone_from_home : FittedIsFitting → StatusIsAloneFromHome → WrittenStatusIsAloneFromHome
+is_alone_from_home fitting alone m L p f s after c written = alone L p c.fits.seen written.arena.lists s.registers (fits_of fitting m L p f s after c)
 
 pub has_controls : RunLaws → BuiltHasStatus → RenumberedControls → WrittenStatusHasControls
 has_controls laws built copies m L p f s after c laid tree writes written listed link =

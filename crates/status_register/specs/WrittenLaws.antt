@@ -24,7 +24,7 @@ use Rattle.written_netlists.specs.Written.{WritesStitched}
 use Rattle.status_fitting.specs.declared.fitted.FittedStatus.{FittedStatus}
 use Rattle.status_stitch.specs.Stitched.{stitched_status}
 use Rattle.status_register.specs.Stitch.{AreRegisters, HasRoomFor}
-use Rattle.status_gates.specs.Realises.{RealisesStatus}
+use Rattle.status_gates.specs.Realises.{RealisesStatus, FindsHomeWithRegisters, AloneFromHomeWithRegisters}
 
 -- own: the table of names and the netlist are those of this one with the test logic and the registers built in; it is
 -- well formed
@@ -74,6 +74,17 @@ abbrev pub WrittenStatusIsAlone : Type 0
 WrittenStatusIsAlone = (m : Module) (L : LinkedView) (p : Plan) (f : Fitted) (s : FittedStatus) (after : LinkedView) (is : IsStitching m L p f s after) → IsLaidOut after.arena.lists
     → (tree : Module) → IsWrittenAs after p.prefix tree → (written : LinkedView) → written.arena.lists.library ≡ L.arena.lists.library → IsLinkOf tree written
     → Alone written.arena.lists (device_of L p is.fits.seen) L.arena.lists
+
+-- from whatever its test logic and the registers hold it finds home
+abbrev pub WrittenStatusFindsHome : Type 0
+WrittenStatusFindsHome = (m : Module) (L : LinkedView) (p : Plan) (f : Fitted) (s : FittedStatus) (after : LinkedView) (is : IsStitching m L p f s after) → IsLaidOut after.arena.lists
+    → (tree : Module) → IsWrittenAs after p.prefix tree → (written : LinkedView) → written.arena.lists.library ≡ L.arena.lists.library → IsLinkOf tree written
+    → FindsHomeWithRegisters written.arena.lists (device_of L p is.fits.seen) L.arena.lists s.registers
+
+-- and reads as the netlist alone from there on while the instruction in effect is transparent
+abbrev pub WrittenStatusIsAloneFromHome : Type 0
+WrittenStatusIsAloneFromHome = (m : Module) (L : LinkedView) (p : Plan) (f : Fitted) (s : FittedStatus) (after : LinkedView) (is : IsStitching m L p f s after) → (written : LinkedView)
+    → AloneFromHomeWithRegisters written.arena.lists (device_of L p is.fits.seen) L.arena.lists s.registers
 
 -- the control ports are the netlist's, TCK and TRST
 abbrev pub WrittenStatusHasControls : Type 0

@@ -10,24 +10,32 @@
 // - In each netlist that the text tells, through any legal events every pin but TDO reads as the first netlist's
 //   wrapped in the test logic of the plan's device, TDO as that of the test logic with the registers, and the core's
 //   flip-flops hold what they hold there (`written_status_realises`); while the instruction in effect is transparent
-//   every pin reads as the first netlist's alone (`written_status_is_alone`). Its control ports are the first
-//   netlist's, TCK and TRST (`written_status_has_controls`).
+//   every pin reads as the first netlist's alone (`written_status_is_alone`). From whatever its test logic and the
+//   registers hold it finds home (`written_status_finds_home`), and is the first netlist alone from there on
+//   (`written_status_is_alone_from_home`). Its control ports are the first netlist's, TCK and TRST
+//   (`written_status_has_controls`).
 // By the contract of its law functions.
 
 ghost use Rattle.status_register.specs.WrittenLaws.{StatusCanBeWritten, StatusIsWritten, StatusKeepsLimits};
 ghost use Rattle.status_register.specs.WrittenLaws.{WrittenStatusHasControls, WrittenStatusIsAlone, WrittenStatusRealises};
+ghost use Rattle.status_register.specs.WrittenLaws.{WrittenStatusFindsHome, WrittenStatusIsAloneFromHome};
 
 use netlist_link::{link_views_agree, some_link_view};
 use netlist_unlink::images::{dense_keeps_places, written_is_renumbered};
 use plan_fitting::devices::fitted_is_fitting;
 use register_gates::constants_are_bits;
-use status_stitch::built::{built_has_status, built_status_is_alone, built_status_realises};
+use status_stitch::built::{
+    built_has_status, built_status_finds_home, built_status_is_alone, built_status_realises,
+};
 use status_stitch::lower_status_build::registers_are_named;
 use status_stitch::lower_status_room::fitted_registers_can_be_built;
+use status_stitch::realised::status_is_alone_from_home;
 use stitched_netlist::cells::stitched_has_counts;
 use verilog_texts::bytes_spell_one_tree;
 use verilog_texts::printing::canonical_texts_spell_their_trees;
-use wrapped_chip::copies::{renumbered_has_controls, renumbered_is_alone, renumbered_realises_by};
+use wrapped_chip::copies::{
+    renumbered_finds_home_by, renumbered_has_controls, renumbered_is_alone, renumbered_realises_by,
+};
 use written_netlists::names::{stitched_has_free_prefix, tap_names_are_entered};
 
 /// No original name begins with the plan's prefix.
@@ -84,6 +92,25 @@ pub fn written_status_is_alone()
     dense_keeps_places();
     built_status_is_alone();
     renumbered_is_alone();
+}
+
+/// From whatever its test logic and the registers hold it finds home.
+pub fn written_status_finds_home()
+    ensures { WrittenStatusFindsHome }
+{
+    fitted_is_fitting();
+    written_is_renumbered();
+    dense_keeps_places();
+    built_status_finds_home();
+    renumbered_finds_home_by();
+}
+
+/// And it is the first netlist alone from there on while the instruction in effect is transparent.
+pub fn written_status_is_alone_from_home()
+    ensures { WrittenStatusIsAloneFromHome }
+{
+    fitted_is_fitting();
+    status_is_alone_from_home();
 }
 
 /// Its control ports are the first netlist's, TCK and TRST.

@@ -16,7 +16,7 @@ use Rattle.status_fitting.specs.declared.fitted.FittedRegister.{FittedRegister}
 use Rattle.status_fitting.specs.declared.fitted.FittedStatus.{FittedStatus}
 use Rattle.status_fitting.specs.Faults.{HasNoFault, IsSpelled}
 use Rattle.status_fitting.specs.Fitted.{IsFitted}
-use Rattle.status_gates.specs.Realises.{RealisesStatus}
+use Rattle.status_gates.specs.Realises.{RealisesStatus, FindsHomeWithRegisters}
 use Rattle.status_stitch.specs.Stands.{HasStatus}
 use Rattle.status_stitch.specs.Built.{IsBuilt}
 
@@ -44,3 +44,8 @@ BuiltStatusRealises = (L : LinkedView) (p : Plan) (seen : List PinSeen) (names :
 abbrev pub BuiltStatusIsAlone : Type 0
 BuiltStatusIsAlone = (L : LinkedView) (p : Plan) (seen : List PinSeen) (names : TapNames) (plan : StatusPlan) (fitted : FittedStatus) (M : NetlistView)
     → IsWholeStatus L p seen names plan fitted M → Alone M (device_of L p seen) L.arena.lists
+
+-- and from whatever the test logic and the registers hold it finds home
+abbrev pub BuiltStatusFindsHome : Type 0
+BuiltStatusFindsHome = (L : LinkedView) (p : Plan) (seen : List PinSeen) (names : TapNames) (plan : StatusPlan) (fitted : FittedStatus) (M : NetlistView)
+    → IsWholeStatus L p seen names plan fitted M → FindsHomeWithRegisters M (device_of L p seen) L.arena.lists fitted.registers

@@ -21,7 +21,7 @@ use Rattle.status_fitting.specs.Faults.{HasNoFault, IsSpelled}
 use Rattle.status_fitting.specs.Fitted.{IsFitted}
 use Rattle.status_gates.specs.Extended.{is_latched}
 use Rattle.status_gates.specs.PartsLaws.{status_of}
-use Rattle.status_gates.specs.Realises.{RealisesStatus}
+use Rattle.status_gates.specs.Realises.{RealisesStatus, FindsHomeWithRegisters, AloneFromHomeWithRegisters}
 use Rattle.status_stitch.specs.Stands.{IsOwn, HasStatus}
 
 -- what was fitted to a netlist and a plan, and without a fault, may stand beside the plan's device
@@ -46,3 +46,15 @@ abbrev pub StatusIsAlone : Type 0
 StatusIsAlone = (L : LinkedView) (p : Plan) (seen : List PinSeen) (names : TapNames) (M : NetlistView) (registers : List FittedRegister) → IsFitting L p seen → IsLaidOut L.arena.lists
     → IsDense L.arena.lists → All (IsOwn L.arena.lists (device_of L p seen)) registers → HasStatus L p seen names M registers
     → Alone M (device_of L p seen) L.arena.lists
+
+-- from whatever the test logic and the registers hold it finds home, and reads as the chip with the registers from there
+-- on
+abbrev pub StatusFindsHome : Type 0
+StatusFindsHome = (L : LinkedView) (p : Plan) (seen : List PinSeen) (names : TapNames) (M : NetlistView) (registers : List FittedRegister) → IsFitting L p seen → IsLaidOut L.arena.lists
+    → IsDense L.arena.lists → All (IsOwn L.arena.lists (device_of L p seen)) registers → HasStatus L p seen names M registers
+    → FindsHomeWithRegisters M (device_of L p seen) L.arena.lists registers
+
+-- and as the netlist alone while the instruction in effect is transparent
+abbrev pub StatusIsAloneFromHome : Type 0
+StatusIsAloneFromHome = (L : LinkedView) (p : Plan) (seen : List PinSeen) (M : NetlistView) (registers : List FittedRegister) → IsFitting L p seen
+    → AloneFromHomeWithRegisters M (device_of L p seen) L.arena.lists registers

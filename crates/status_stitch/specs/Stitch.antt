@@ -3,7 +3,7 @@
 use Rattle.std.specs.Prelude.{◌≡◌, List, None}
 use Rattle.netlist_model.specs.Contained.{IsDense}
 use Rattle.netlist_arena.specs.Room.{too_many}
-use Rattle.netlist_link.specs.Linked.{LinkedView, IsLinked}
+use Rattle.netlist_link.specs.Linked.{LinkedView, IsLinked, HasSameMarks}
 use Rattle.plan_texts.specs.declared.plan.Plan.{Plan}
 use Rattle.plan_fitting.specs.declared.fitted.Fitted.{Fitted}
 use Rattle.plan_fitting.specs.Devices.{IsFitted}
@@ -37,7 +37,7 @@ pub record CanStitchStatus (linked : LinkedView) (f : Fitted) (rs : List FittedR
   pub few : too_many before.arena.lists (whole_room f rs) (whole_room f rs) (ports_of f) ≡ None
 
 -- the netlist is that with the test logic and the registers built in, by the names that were entered, and it is linked;
--- the names and the module's name stay
+-- the names, the module's name and the hidden ports stay
 pub record IsStitchedStatus (before after : LinkedView) (f : Fitted) (rs : List FittedRegister) : Type 0 where
   pub tap : TapNames
   pub tap_is : AreTapNames before.names f tap
@@ -45,3 +45,4 @@ pub record IsStitchedStatus (before after : LinkedView) (f : Fitted) (rs : List 
   pub linked : IsLinked after.arena.lists after.names after.order
   pub names : after.names ≡ before.names
   pub title : after.module_name ≡ before.module_name
+  pub marks : HasSameMarks after before

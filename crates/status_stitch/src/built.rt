@@ -6,12 +6,14 @@
 //   TRST (`built_has_status`).
 // - So it realises the wrapped chip with the registers, and is the original alone while the instruction in effect is
 //   transparent, for each plan and registers that fit a netlist without gaps, with no other premise than that it is well
-//   formed (`built_status_realises`, `built_status_is_alone`).
+//   formed (`built_status_realises`, `built_status_is_alone`); and it finds home (`built_status_finds_home`).
 // By the contract of its law functions.
 
-ghost use Rattle.status_stitch.specs.BuiltLaws.{BuiltHasStatus, BuiltStatusRealises, BuiltStatusIsAlone};
+ghost use Rattle.status_stitch.specs.BuiltLaws.{BuiltHasStatus, BuiltStatusFindsHome, BuiltStatusIsAlone, BuiltStatusRealises};
 
-use crate::realised::{fitted_registers_are_own, status_is_alone, status_realises};
+use crate::realised::{
+    fitted_registers_are_own, status_finds_home, status_is_alone, status_realises,
+};
 use gate_parts::contained_part_has_flops;
 use netlist_model::laws::{contained_parts, driven_net_follows_no_pin, driver_is_found};
 use open_stitch::runs::{driven_wires_stay, pins_are_by_ports};
@@ -59,4 +61,13 @@ pub fn built_status_is_alone()
     built_has_status();
     fitted_registers_are_own();
     status_is_alone();
+}
+
+/// And from whatever its test logic and the registers hold it finds home.
+pub fn built_status_finds_home()
+    ensures { BuiltStatusFindsHome }
+{
+    built_has_status();
+    fitted_registers_are_own();
+    status_finds_home();
 }

@@ -5,8 +5,8 @@
 // - `stitch_status` leaves a linked netlist with the ports, the nets and the live cells of `stitched_status`; names and
 //   the module's name stay. It can't refuse after `prepare_status` of status_room, and takes no memory.
 // - `realised`, `built`: laws: what was fitted may stand beside the device, and every netlist that is open to registers
-//   and has their gates realises the chip with them, and is the core alone; so does the netlist with both built in, cell
-//   by cell.
+//   and has their gates realises the chip with them, is the core alone, and finds home; so does the netlist with both
+//   built in, cell by cell.
 // By the contract of `status_netlist` and `stitch_status`.
 #![tactic(auto)]
 

@@ -32,7 +32,7 @@ use Rattle.plan_fitting.specs.Rows.{rows}
 use Rattle.plan_fitting.specs.Devices.{fitted_of, disable_by, cell_row, device_of}
 use Rattle.plan_fitting.specs.Laws.{ControlCellsAreThere}
 use Rattle.plan_fitting.specs.FittingPlan.{IsFitting}
-use Rattle.plan_fitting.specs.DevicesLaws.{fed, RowsTakeTheCore, ControlsTakeTheCore, ControlsFollowTheirRows, RowsStandAtBits, BitsHaveRows}
+use Rattle.plan_fitting.specs.DevicesLaws.{fed, RowsTakeTheCore, ControlsTakeTheCore, ControlsFollowTheirRows, RowsStandAtBits, BitsHaveRows, HiddenBitsHaveNone}
 use Rattle.plan_fitting.proofs.DeviceRows.{mapped_at}
 use Rattle.stitched_netlist.specs.declared.model.Site.TheVariants as site
 use Rattle.stitched_netlist.specs.Sites.{Boundary, pin_net, row_net, site_of, side_at}
@@ -56,6 +56,7 @@ pub record FitLaws : Type 0 where
   pub follow : ControlsFollowTheirRows
   pub stand : RowsStandAtBits
   pub bits : BitsHaveRows
+  pub hidden : HiddenBitsHaveNone
 
 -- Operands by other nets.
 

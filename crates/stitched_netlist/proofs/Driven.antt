@@ -24,7 +24,7 @@ use Rattle.stitched_netlist.specs.ModelRows.{row_nets, net_at}
 use Rattle.stitched_netlist.specs.ModelLogic.{instruction_from, bypass_from, ident_from, code_size, logic_size, tap_at, instruction_at, bypass_at, ident_at, controller_part, instruction_part, bypass_part, ident_part}
 use Rattle.stitched_netlist.specs.Stitched.{boundary_at, first_net, boundary_last, tdo_part, stitched}
 use Rattle.stitched_netlist.specs.PlacesLaws.{port_of, instruction_number, bypass_number, ident_number, tdo_number, register_net, row_first, row_side, row_number}
-use Rattle.stitched_netlist.specs.RowsLaws.{StandsAt, at_observed, at_input, at_output, at_added, at_driver, at_inout, at_control}
+use Rattle.stitched_netlist.specs.RowsLaws.{StandsAt, at_observed, at_input, at_output, at_added, at_driver, at_inout, at_control, IsStraightNet}
 use Rattle.stitched_netlist.specs.CellsLaws.{gates_of_row, driver_number, drivers_of_row, CellOf, of_core, of_controller, of_instruction, of_bypass, of_ident, of_row, of_driver, of_tdo}
 use Rattle.stitched_netlist.specs.Sizes.{choice_count, driver_count}
 use Rattle.stitched_netlist.specs.CellsLogic.{into_at}
@@ -33,7 +33,7 @@ use Rattle.stitched_netlist.proofs.Sizes.{logic_lengths, row_lengths}
 use Rattle.stitched_netlist.proofs.Tables.{turn_at}
 use Rattle.stitched_netlist.proofs.CellsParts.{logic_turns, tdo_turn}
 use Rattle.stitched_netlist.proofs.RowGates.{rows_drive}
-use Rattle.stitched_netlist.proofs.FormedContext.{FitsWell, net_number, stays_at, goes_at}
+use Rattle.stitched_netlist.proofs.FormedContext.{FitsWell, net_number, straight_stays, stays_at, goes_at}
 use Rattle.stitched_netlist.proofs.Ranges.{tdo_net, net_count, is_side, is_row_net}
 use Rattle.stitched_netlist.proofs.FormedPlaces.{net_at_is}
 
@@ -244,3 +244,8 @@ pin_driven N names f well k row net there on read (at_driver pin at side here op
 pin_driven N names f well k row net there on read (at_inout pin at side here operand gate control) =
     moved_driven N names f _ _ (stays_at N f well k row net there on (ap is_moved here)) (core_driven N names f well net (driven_in N f well net read))
 pin_driven N names f well k row net there on read (at_control none here operand core is) = absurd (let no : None ≡ wrap net = sym none ∙ on in cc)
+
+-- and one without a row, which keeps its driver
+pub straight_driven : (N : NetlistView) (names : TapNames) (f : Fitted) → FitsWell N f → (net : ℕ) → IsStraightNet N f net
+    → (direction N.ports net ≡ Some Output) ⊎ (direction N.ports net ≡ Some Inout) → IsDriven (stitched N names f) net
+straight_driven N names f well net straight read = moved_driven N names f _ _ (straight_stays N f net straight) (core_driven N names f well net (driven_in N f well net read))

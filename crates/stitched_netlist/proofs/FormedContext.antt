@@ -23,7 +23,7 @@ use Rattle.stitched_netlist.specs.Sides.{is_moved, moves, core_side}
 use Rattle.stitched_netlist.specs.Stitched.{boundary_at}
 use Rattle.stitched_netlist.proofs.ModelMoves.{output_is}
 use Rattle.stitched_netlist.specs.PlacesLaws.{row_side}
-use Rattle.stitched_netlist.specs.RowsLaws.{StandsAt, HasRowAt, RowsStandSomewhere, RowsStandOnce, NetsHaveRows}
+use Rattle.stitched_netlist.specs.RowsLaws.{StandsAt, HasRowAt, IsStraightNet, RowsStandSomewhere, RowsStandOnce, NetsHaveRows}
 use Rattle.stitched_netlist.proofs.Moved.{moved_or_stays}
 
 pub record FitsWell (N : NetlistView) (f : Fitted) : Type 0 where
@@ -33,7 +33,7 @@ pub record FitsWell (N : NetlistView) (f : Fitted) : Type 0 where
   pub stand : (k : ℕ) (row : FitRow) → slice_get f.rows k ≡ Some row → StandsAt N f row
   pub once : (j k : ℕ) (one other : FitRow) (net : NetId) → slice_get f.rows j ≡ Some one → slice_get f.rows k ≡ Some other → row_net N.ports one ≡ Some net
       → row_net N.ports other ≡ Some net → j ≡ k
-  pub has : (net : ℕ) (dir : Dir) → direction N.ports net ≡ Some dir → HasRowAt N f net
+  pub has : (net : ℕ) (dir : Dir) → direction N.ports net ≡ Some dir → HasRowAt N f net ⊎ IsStraightNet N f net
   pub inside : (net : ℕ) (dir : Dir) → direction N.ports net ≡ Some dir → net < length N.nets
 
 pub fits_well : RowsStandSomewhere → RowsStandOnce → NetsHaveRows → DirectionHasBit → (L : LinkedView) (p : Plan) (seen : List PinSeen) → IsFitting L p seen → IsLaidOut L.arena.lists
@@ -44,7 +44,10 @@ fits_well stand once has law L p seen fits laid dense = record {
   dense = dense;
   stand = λ k row there. stand L p seen fits k row there;
   once = λ j k one other net a b c d. once L p seen fits j k one other net a b c d;
-  has = λ net dir e. has L p seen fits net dir e;
+  has = λ net dir e. elim (has L p seen fits net dir e) [
+    | inl row ↦ inl row
+    | inr hidden ↦ inr hidden.straight
+  ];
   inside = λ net dir e.
       let b = law L.arena.lists dir (record { 0 = net }) e in
       let at : bit_net L.arena.lists b.number b.bit ≡ Some (record { 0 = net }) = ap (option_and_then (λ (q : PortView). slice_get q.nets b.bit)) b.stands ∙ b.has in
@@ -92,6 +95,13 @@ side_of N f net = elim (moved_or_stays N.ports net (boundary_at N f).first f.row
   })
   | inr m ↦ (let how = moves_is N net m.row m.moved in
       inr (record { k = m.k; row = m.row; there = m.there; moved = how.moved; on = how.on; is = m.is }))
+]
+
+-- a net without a row stays
+pub straight_stays : (N : NetlistView) (f : Fitted) (net : ℕ) → IsStraightNet N f net → core_side (boundary_at N f) net ≡ net
+straight_stays N f net straight = elim (side_of N f net) [
+  | inl s ↦ s.is
+  | inr g ↦ absurd (straight.none g.k g.row g.there g.on)
 ]
 
 -- at a row that moves nothing the net stays

@@ -1,11 +1,13 @@
 -- The stitched netlist has the device's test logic around the core.
-use Rattle.std.proofs.Common.{◌≡◌, ◌++◌, ℕ, suc, ◌+◌, ◌<◌, ◌||◌, not, Bool, true, false, List, [], ◌∷◌, length, drop, refl, ap, sym, ◌∙◌, subst, Option, Some, None, arith}
+use Rattle.std.proofs.Common.{◌≡◌, ◌++◌, ℕ, suc, ◌+◌, ◌<◌, ◌≤◌, ◌||◌, not, Bool, true, false, List, [], ◌∷◌, length, drop, refl, ap, sym, ◌∙◌, subst, inl, inr, Option, Some, None, arith, leb-true}
 use Rattle.std.specs.Prelude.{slice_get, option_and_then, find, is_some}
 use Rattle.std.specs.List.{list_any}
 use Rattle.std.specs.Option.{option_map}
 use Rattle.std.proofs.lemmas.Option.{slice_get-map, slice_get_within}
 use Rattle.list_laws.proofs.Lists.{slice_get_there, slice_get-append_left, slice_get-append_right}
 use Rattle.list_laws.proofs.Options.{some_same}
+use Rattle.list_laws.proofs.Tests.{and_left}
+use Rattle.cell_library.specs.Gates.{is_three_state}
 use Rattle.cell_library.specs.declared.codes.Bits.{Bits}
 use Rattle.cell_library.specs.declared.codes.Instr.{Instr}
 use Rattle.cell_library.specs.declared.codes.Instr.TheVariants as instr
@@ -13,13 +15,15 @@ use Rattle.cell_library.specs.declared.codes.Opcode.{Opcode}
 use Rattle.netlist_model.specs.declared.NetId.{NetId}
 use Rattle.netlist_model.specs.declared.Dir.{Dir}
 use Rattle.netlist_model.specs.declared.Dir.TheVariants as dir
-use Rattle.netlist_model.specs.Lists.{PortView, NetlistView, bit_net, direction}
+use Rattle.netlist_model.specs.Lists.{PortView, CellView, NetlistView, cell_at, bit_net, direction, Drives}
+use Rattle.netlist_model.specs.Settled.{follows_pin, driver_of}
 use Rattle.netlist_model.specs.Formed.{width_of, IsWellFormed}
 use Rattle.netlist_model.specs.Contained.{HasCells}
 use Rattle.netlist_model.specs.LawsContained.{ContainedParts}
+use Rattle.netlist_model.specs.Drivers.{IsDriverOf, DriverDrives}
+use Rattle.netlist_model.specs.Nested.{renamed_net}
 use Rattle.netlist_model.specs.Ports.{BitHasDirection}
-use Rattle.plan_fitting.specs.netlist_link.Linked.{LinkedView}
-use Rattle.plan_fitting.specs.netlist_link.PinWords.{pin_at}
+use Rattle.plan_fitting.specs.netlist_link.Linked.{LinkedView, own_ports}
 use Rattle.bsdl_device.specs.declared.values.CellRow.{CellRow}
 use Rattle.bsdl_device.specs.declared.entries.Register.TheVariants as register
 use Rattle.bsdl_device.specs.Instructions.{instruction_word, names_instruction, is_instruction, selected_register}
@@ -31,11 +35,11 @@ use Rattle.test_logic.specs.declared.TapInput.TheVariants.{Tck, Tms, Tdi, Trst}
 use Rattle.test_logic.specs.Instructions.{opcode_of}
 use Rattle.surrounded_core.specs.instruction_gates.RegisterLaws.{RegistersFit}
 use Rattle.surrounded_core.specs.Rows.{BoundaryRow, row_cells}
-use Rattle.wrapped_chip.specs.Cells.{net_of_row, row_of}
+use Rattle.wrapped_chip.specs.Cells.{net_of_row}
 use Rattle.wrapped_chip.specs.Realises.{IsTapNet, tap_place}
 use Rattle.surrounded_core.proofs.instruction_gates.Rules.{last_there}
 use Rattle.surrounded_core.specs.Places.{Places, input_net}
-use Rattle.surrounded_core.specs.Sites.{StandsAround, HasRowAt, IsDrivenBy}
+use Rattle.surrounded_core.specs.Sites.{StandsAround, HasRowAt, IsStraight, IsDrivenBy}
 use Rattle.surrounded_core.specs.Surrounds.{HasPorts, HasCodes, HasRows}
 use Rattle.plan_texts.specs.declared.plan.Plan.{Plan}
 use Rattle.plan_fitting.specs.declared.fitted.FitRow.{FitRow}
@@ -52,8 +56,12 @@ use Rattle.plan_fitting.proofs.PlanClock.{plans_have_registers}
 use Rattle.plan_fitting.proofs.PlanBits.{plans_have_bits}
 use Rattle.plan_fitting.proofs.PlanCodes.{plans_have_codes}
 use Rattle.plan_fitting.proofs.DeviceIs.{some_width}
+use Rattle.plan_fitting.proofs.OwnPorts.{own_there, own_below}
 use Rattle.stitched_netlist.specs.declared.model.TapNames.{TapNames}
-use Rattle.stitched_netlist.specs.Sites.{pin_net, row_net}
+use Rattle.stitched_netlist.specs.Sites.{Boundary, pin_net, row_net}
+use Rattle.stitched_netlist.specs.Sides.{core_side, core_cell}
+use Rattle.stitched_netlist.specs.RowsLaws.{HasRowAt as HasFitRow, IsStraightNet, IsHiddenNet}
+use Rattle.stitched_netlist.specs.Inner.{is_given, inner_net}
 use Rattle.stitched_netlist.specs.ModelRows.{nets_of_rows, last_bit}
 use Rattle.stitched_netlist.specs.Stitched.{scalar, tap_ports, boundary_at, first_net, stitched}
 use Rattle.stitched_netlist.specs.ModelLogic.{bypass_at}
@@ -63,6 +71,9 @@ use Rattle.stitched_netlist.specs.InsidePlaces.{gates_of, places_in}
 use Rattle.stitched_netlist.specs.InsideLaws.{BuiltInNests, BuiltInSurrounds, StitchedSurrounds}
 use Rattle.stitched_netlist.proofs.InsideCases.{RowCase, observed_case, input_case, plain_case, added_case, driver_case, inout_case, control_case, cases_of}
 use Rattle.stitched_netlist.proofs.Cores.{FitLaws}
+use Rattle.stitched_netlist.proofs.FormedContext.{straight_stays}
+use Rattle.stitched_netlist.proofs.Nests.{inner_given, given_by_pin, given_driven}
+use Rattle.stitched_netlist.proofs.Once.{found_at, each_has}
 use Rattle.stitched_netlist.proofs.Around.{row_is}
 use Rattle.stitched_netlist.proofs.Drivers.{Stitch, driven_bits, seen_bits}
 
@@ -211,16 +222,16 @@ first_there : {A : Type 0} (xs : List A) (k : ℕ) (x : A) → slice_get xs k �
 first_there [] k x at = absurd (cc)
 first_there (y ∷ ys) k x at = (y, refl)
 
--- a linked netlist has a port, so there is a row
+-- a linked netlist has a port of its own, so there is a row
 first_row : FitLaws → (L : LinkedView) (p : Plan) (seen : List PinSeen) → IsFitting L p seen → (row : FitRow) × (slice_get (rows p seen) 0 ≡ Some row)
 first_row by L p seen fits =
-    let N = L.arena.lists in
     let facts = facts_of by.has by.found L p seen fits in
-    let port = slice_get_there N.ports 0 facts.lined.some in
-    let wide : length port.0.nets ≡ width_of port.0.range = fits.wide 0 port.0 port.1 in
+    let port = slice_get_there (own_ports L) 0 facts.lined.some in
+    let there = own_there L 0 port.0 port.1 in
+    let wide : length port.0.nets ≡ width_of port.0.range = fits.wide 0 port.0 there in
     let most : 0 < width_of port.0.range = some_width port.0.range in
     let net = some_net port.0.nets (omega arith) in
-    let row = by.bits L p seen fits 0 0 net.0 (ap (option_and_then (λ (q : PortView). slice_get q.nets 0)) port.1 ∙ net.1) in
+    let row = by.bits L p seen fits 0 0 net.0 (own_below L 0 port.0 port.1) (ap (option_and_then (λ (q : PortView). slice_get q.nets 0)) there ∙ net.1) in
     first_there (rows p seen) row.number row.row row.there
 
 nearest_is : (ports : List PortView) (first : ℕ) (tdi : NetId) (rs : List FitRow) (row : FitRow) → slice_get rs 0 ≡ Some row
@@ -243,30 +254,73 @@ net_of_case L p seen row (inout_case n core at does cell core_is named d s) net 
 net_of_case L p seen row (control_case core pin does cell core_is none s) net here =
     absurd (let bad : None ≡ Some net = sym (ap (option_and_then (pin_net L.arena.lists.ports)) pin) ∙ here in cc)
 
--- each bit has its row
-row_of_bit : FitLaws → (L : LinkedView) (p : Plan) (seen : List PinSeen) → IsFitting L p seen → (net : ℕ) (side : Dir) → direction L.arena.lists.ports net ≡ Some side
-    → HasRowAt (device_of L p seen) L.arena.lists net
-row_of_bit by L p seen fits net side e =
-    let N = L.arena.lists in
+-- a bit's row
+row_of_bit : FitLaws → (L : LinkedView) (p : Plan) (seen : List PinSeen) → IsFitting L p seen → (net : NetId) → HasFitRow L.arena.lists (fitted_of L p seen) net.0
+    → HasRowAt (device_of L p seen) L.arena.lists net.0
+row_of_bit by L p seen fits net row =
     let f = fitted_of L p seen in
-    let id : NetId = record { 0 = net } in
-    let bit = by.back N side id e in
-    let at : bit_net N bit.number bit.bit ≡ Some id = ap (option_and_then (λ (q : PortView). slice_get q.nets bit.bit)) bit.stands ∙ bit.has in
-    let row = by.bits L p seen fits bit.number bit.bit id at in
-    let is = by.stand L p seen fits row.number row.row (pin_at bit.number bit.bit) row.there row.at in
-    let same : is.net ≡ id = some_same is.net id (bit_net N bit.number bit.bit) is.at at in
-    let here : row_net N.ports row.row ≡ Some id = ap (option_and_then (pin_net N.ports)) row.at ∙ at in
     record {
       place = row.number;
       row = cell_row f row.row;
       there = slice_get-map (cell_row f) (rows p seen) row.number ∙ ap (option_map (cell_row f)) row.there;
-      at = net_of_case L p seen row.row (cases_of by.has by.found by.there L p seen fits row.number row.row row.there) id here;
-      found = subst (λ (n : NetId). row_of (device_of L p seen) N n.0 ≡ Some (record { number = row.number; row = cell_row f row.row })) same is.found;
+      at = net_of_case L p seen row.row (cases_of by.has by.found by.there L p seen fits row.number row.row row.there) net row.at;
+      found = found_at by.stand L p seen fits row.number row.row net row.there row.at;
     }
 
-has_rows : FitLaws → (L : LinkedView) (p : Plan) (seen : List PinSeen) (M : NetlistView) → Stitch L p seen M
+-- a straight bit's net stays
+same_net : FitLaws → (L : LinkedView) (p : Plan) (seen : List PinSeen) (M : NetlistView) → IsFitting L p seen → (net : ℕ) (side : Dir) → direction L.arena.lists.ports net ≡ Some side
+    → IsStraightNet L.arena.lists (fitted_of L p seen) net → inner_net L.arena.lists M (boundary_at L.arena.lists (fitted_of L p seen)) net ≡ net
+same_net by L p seen M fits net side e straight =
+    inner_given L.arena.lists M (boundary_at L.arena.lists (fitted_of L p seen)) net (given side e) ∙ straight_stays L.arena.lists (fitted_of L p seen) net straight
+  where
+    given : (d : Dir) → direction L.arena.lists.ports net ≡ Some d → is_given L.arena.lists net ≡ true
+    given dir.Input h = given_by_pin L.arena.lists net (ap follows_pin h)
+    given dir.Output h = given_driven by.found L.arena.lists fits.formed net (fits.formed.outputs_driven net h)
+    given dir.Inout h = absurd (straight.way h)
+
+-- and no three-state gate drives it in M
+plain_there : FitLaws → (L : LinkedView) (p : Plan) (seen : List PinSeen) (M : NetlistView) → Stitch L p seen M → HasPorts M L.arena.lists (places_in M L.arena.lists (fitted_of L p seen))
+    → (net : ℕ) (side : Dir) → direction L.arena.lists.ports net ≡ Some side → IsStraightNet L.arena.lists (fitted_of L p seen) net → (i : ℕ) (cell : CellView) → Drives M i cell net
+    → is_three_state cell.kind ≡ false
+plain_there by L p seen M known ports net dir.Input e straight i cell drives =
+    let id : NetId = record { 0 = net } in
+    let bit = by.back L.arena.lists dir.Input id e in
+    let there = by.has M known.formed dir.Input id
+    (record { number = bit.number; port = bit.port; bit = bit.bit; stands = ports.kept bit.number bit.port bit.stands; has = bit.has; same = bit.same }) in
+    absurd (known.formed.inputs_free i cell net drives there)
+plain_there by L p seen M known ports net dir.Inout e straight i cell drives = absurd (straight.way e)
+plain_there by L p seen M known ports net dir.Output e straight i cell drives =
+    let B : Boundary = boundary_at L.arena.lists (fitted_of L p seen) in
+    let old = known.fits.formed.outputs_driven net e in
+    let out : (core_cell B old.cell).output ≡ Some (record { 0 = net })
+    = ap (option_map (renamed_net (core_side B))) old.drives.output
+    ∙ ap (λ (n : ℕ). Some (let id : NetId = record { 0 = n } in id)) (straight_stays L.arena.lists (fitted_of L p seen) net straight) in
+    let live : cell_at M old.number ≡ Some (core_cell B old.cell) = known.inside.stands old.number old.cell old.drives.live in
+    let same : i ≡ old.number = known.formed.one_driver i old.number cell (core_cell B old.cell) net drives (record { live = live; output = out }) in
+    let is : cell ≡ core_cell B old.cell = some_same cell (core_cell B old.cell) (cell_at M i) drives.live (ap (cell_at M) same ∙ live) in
+    ap (λ (c : CellView). is_three_state c.kind) is ∙ straight.plain old.number old.cell old.drives
+
+driver_there : DriverDrives → (N : NetlistView) (net : ℕ) (cell : CellView) → driver_of N.cells net ≡ Some cell → (i : ℕ) × Drives N i cell net
+driver_there law N net cell e = subst (IsDriverOf N net) e (law N net)
+
+-- so a hidden port's bit goes straight through
+straight_bit : FitLaws → (L : LinkedView) (p : Plan) (seen : List PinSeen) (M : NetlistView) → Stitch L p seen M → HasPorts M L.arena.lists (places_in M L.arena.lists (fitted_of L p seen))
+    → (net : ℕ) (side : Dir) → direction L.arena.lists.ports net ≡ Some side → IsHiddenNet L (fitted_of L p seen) net
+    → IsStraight M L.arena.lists (device_of L p seen) (places_in M L.arena.lists (fitted_of L p seen)) net
+straight_bit by L p seen M known ports net side e hidden =
+    let N = L.arena.lists in
+    let past : L.straight.first ≤ hidden.number = leb-true _ _ (and_left _ _ hidden.hidden) in
+    record {
+      none = by.hidden L p seen known.fits hidden.number hidden.bit (record { 0 = net }) past hidden.at;
+      same = same_net by L p seen M known.fits net side e hidden.straight;
+      way = hidden.straight.way;
+      plain = λ cell found. let d = driver_there by.drives N net cell found in hidden.straight.plain d.0 cell d.1;
+      stays_plain = λ cell found. let d = driver_there by.drives M net cell found in plain_there by L p seen M known ports net side e hidden.straight d.0 cell d.1;
+    }
+
+has_rows : FitLaws → (L : LinkedView) (p : Plan) (seen : List PinSeen) (M : NetlistView) → Stitch L p seen M → HasPorts M L.arena.lists (places_in M L.arena.lists (fitted_of L p seen))
     → HasRows M L.arena.lists (device_of L p seen) (places_in M L.arena.lists (fitted_of L p seen))
-has_rows by L p seen M known = record {
+has_rows by L p seen M known ports = record {
   some = let at = slice_get_within (device_of L p seen).cells 0 (cell_row f first.0) (slice_get-map (cell_row f) (rows p seen) 0 ∙ ap (option_map (cell_row f)) first.1) in at;
   cells = λ place r there.
       let m = mapped_at (cell_row f) (rows p seen) place r there in
@@ -281,7 +335,10 @@ has_rows by L p seen M known = record {
   inner = λ place r there.
       let m = mapped_at (cell_row f) (rows p seen) (suc place) r there in known.parts.next place m.0 m.1;
   last = λ place none. known.parts.last place (none_mapped (cell_row f) (slice_get (rows p seen) (suc place)) (sym (slice_get-map (cell_row f) (rows p seen) (suc place)) ∙ none));
-  bits = λ net side e. row_of_bit by L p seen known.fits net side e;
+  bits = λ net side e. elim (each_has by.back by.found by.stand by.bits by.hidden L p seen known.fits net side e) [
+    | inl row ↦ inl (row_of_bit by L p seen known.fits (record { 0 = net }) row)
+    | inr hidden ↦ inr (straight_bit by L p seen M known ports net side e hidden)
+  ];
   driven = λ place r net there at read.
       let m = mapped_at (cell_row f) (rows p seen) place r there in
       subst (λ (x : CellRow). IsDrivenBy M N (device_of L p seen) S net.0 place x) m.2 (driven_bits by known place m.0 net m.1 (ap (net_of_row N) m.2 ∙ at) read);
@@ -327,15 +384,16 @@ surrounds by L p seen names M shown fits laid built formed pins =
       suits = by.suits L p seen fits;
       contained = by.contained;
     } in
+    let ports = has_ports by.fit.has M N names f built.ports formed in
     record {
       formed = formed;
       core_formed = fits.formed;
       pins = pins;
-      ports = has_ports by.fit.has M N names f built.ports formed;
+      ports = ports;
       core = by.nests L p seen names M shown fits laid built;
       codes = has_codes by.rules by.codes by.registers L p seen M fits;
       registers = record { controller = parts.controller; instruction = parts.instruction; bypass = parts.bypass; ident = parts.ident; tdo = parts.tdo };
-      rows = has_rows by.fit L p seen M known;
+      rows = has_rows by.fit L p seen M known ports;
     }
 
 -- so it is of the stitched netlist

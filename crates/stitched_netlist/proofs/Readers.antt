@@ -17,7 +17,7 @@ use Rattle.stitched_netlist.specs.Stitched.{boundary_at, stitched}
 use Rattle.stitched_netlist.proofs.ModelMoves.{moved_counts}
 use Rattle.stitched_netlist.proofs.FormedContext.{FitsWell, Stays, side_of}
 use Rattle.stitched_netlist.proofs.Ranges.{net_count, side_range}
-use Rattle.stitched_netlist.proofs.Driven.{added_driven, tdo_pin_driven, core_driven, pin_driven}
+use Rattle.stitched_netlist.proofs.Driven.{added_driven, tdo_pin_driven, core_driven, pin_driven, straight_driven}
 use Rattle.stitched_netlist.proofs.Operands.{IsTapInput, OperandOf, core_read, added_read, tap_read, pin_read}
 use Rattle.stitched_netlist.proofs.Laid.{operand_in}
 use Rattle.stitched_netlist.proofs.Bufifs.{dirs, none_is, bool_both, BufifOn, on_core, on_moved, on_tdo, bufif_on}
@@ -170,7 +170,10 @@ with_side law N names f well dir net e = elim (cases_lt net (length N.nets)) [
 core_pin_driven : (N : NetlistView) (names : TapNames) (f : Fitted) → FitsWell N f → (net : ℕ) → (direction N.ports net ≡ Some Output) ⊎ (direction N.ports net ≡ Some Inout) → (dir : Dir) → direction N.ports net ≡ Some dir
     → IsDriven (stitched N names f) net
 core_pin_driven N names f well net read dir e =
-    let row = well.has net dir e in pin_driven N names f well row.number row.row net row.there row.at read (well.stand row.number row.row row.there)
+    elim (well.has net dir e) [
+      | inl row ↦ pin_driven N names f well row.number row.row net row.there row.at read (well.stand row.number row.row row.there)
+      | inr straight ↦ straight_driven N names f well net straight read
+    ]
 
 outputs_by : (N : NetlistView) (names : TapNames) (f : Fitted) → FitsWell N f → (net : ℕ) → WithSide N Output net → IsDriven (stitched N names f) net
 outputs_by N names f well net (side_core low e) = core_pin_driven N names f well net (inl e) Output e

@@ -1,14 +1,14 @@
 -- What stands at each row of the boundary register of a plan that fits.
 -- IEEE Std 1149.1-2001: boundary-scan register (provision of cells, control cells).
-use Rattle.std.specs.Prelude.{◌≡◌, ℕ, Bool, true, false, List, [], ◌∷◌, slice_get, Option, Some, None}
+use Rattle.std.specs.Prelude.{◌≡◌, ◌≢◌, ◌⊎◌, ℕ, Bool, true, false, List, [], ◌∷◌, slice_get, Option, Some, None}
 use Rattle.cell_library.specs.Gates.{is_three_state}
 use Rattle.netlist_model.specs.declared.Dir.{Dir}
 use Rattle.netlist_model.specs.declared.Dir.TheVariants.{Input, Output, Inout}
 use Rattle.netlist_model.specs.declared.NetId.{NetId}
 use Rattle.netlist_model.specs.declared.Feed.{Feed}
 use Rattle.netlist_model.specs.declared.Feed.TheVariants.{Net, Const}
-use Rattle.netlist_model.specs.Lists.{CellView, NetlistView, direction, Drives, Reads}
-use Rattle.plan_fitting.specs.netlist_link.Linked.{LinkedView}
+use Rattle.netlist_model.specs.Lists.{CellView, NetlistView, bit_net, direction, Drives, Reads}
+use Rattle.plan_fitting.specs.netlist_link.Linked.{LinkedView, is_straight}
 use Rattle.plan_texts.specs.declared.plan.Plan.{Plan}
 use Rattle.plan_fitting.specs.declared.fitted.FitRow.{FitRow}
 use Rattle.plan_fitting.specs.declared.fitted.Fitted.{Fitted}
@@ -83,7 +83,21 @@ pub record HasRowAt (N : NetlistView) (f : Fitted) (net : ℕ) : Type 0 where
   pub there : slice_get f.rows number ≡ Some row
   pub at : row_net N.ports row ≡ Some (record { 0 = net })
 
--- each net of a port bit has one
+-- own: the net has no row; it is no inout's, and each cell that drives it always does
+pub record IsStraightNet (N : NetlistView) (f : Fitted) (net : ℕ) : Type 0 where
+  pub none : (k : ℕ) (row : FitRow) → slice_get f.rows k ≡ Some row → row_net N.ports row ≢ Some (record { 0 = net })
+  pub way : direction N.ports net ≢ Some Inout
+  pub plain : IsTwoState N net
+
+-- own: the net is that of a hidden port's bit, and straight
+pub record IsHiddenNet (L : LinkedView) (f : Fitted) (net : ℕ) : Type 0 where
+  pub number : ℕ
+  pub bit : ℕ
+  pub hidden : is_straight L number ≡ true
+  pub at : bit_net L.arena.lists number bit ≡ Some (record { 0 = net })
+  pub straight : IsStraightNet L.arena.lists f net
+
+-- each net of a port bit has one, unless the port is hidden
 abbrev pub NetsHaveRows : Type 0
 NetsHaveRows = (L : LinkedView) (p : Plan) (seen : List PinSeen) → IsFitting L p seen → (net : ℕ) (dir : Dir) → direction L.arena.lists.ports net ≡ Some dir
-    → HasRowAt L.arena.lists (fitted_of L p seen) net
+    → HasRowAt L.arena.lists (fitted_of L p seen) net ⊎ IsHiddenNet L (fitted_of L p seen) net

@@ -7,8 +7,8 @@
 // - The core nests in it with its drivers behind boundary cells; a net to which nothing gives a value, and which
 //   nothing reads, stands past all nets (`built_in_nests`, `stitched_nests`).
 // - The device's test logic stands around the core: ports, codes, controller, registers, and for each row of the
-//   plan what its cell takes from the core and gives to the pin or the core, whatever its kind
-//   (`built_in_surrounds`, `stitched_surrounds`).
+//   plan what its cell takes from the core and gives to the pin or the core, whatever its kind; a hidden port's bit
+//   goes straight through (`built_in_surrounds`, `stitched_surrounds`).
 // By the contract of its law functions.
 
 ghost use Rattle.stitched_netlist.specs.InsideLaws.{BuiltInNests, BuiltInSurrounds, StitchedNests, StitchedSurrounds};
@@ -18,8 +18,8 @@ use netlist_model::laws::{
     bit_of_a_direction, contained_parts, direction_of_a_bit, driver_is_found, found_driver_drives,
 };
 use plan_fitting::devices::{
-    bits_have_rows, controls_follow_their_rows, controls_take_the_core, plans_suit_netlists,
-    rows_stand_at_bits, rows_take_the_core,
+    bits_have_rows, controls_follow_their_rows, controls_take_the_core, hidden_bits_have_none,
+    plans_suit_netlists, rows_stand_at_bits, rows_take_the_core,
 };
 use plan_fitting::{codes_are_the_devices, control_cells_are_there, opcodes_keep_the_rules};
 use surrounded_core::lower_instruction_gates::registers_fit;
@@ -54,6 +54,7 @@ pub fn built_in_surrounds()
     controls_follow_their_rows();
     rows_stand_at_bits();
     bits_have_rows();
+    hidden_bits_have_none();
     plans_suit_netlists();
 }
 

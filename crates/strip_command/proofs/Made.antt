@@ -67,7 +67,7 @@ texts_made library net text tree d core p outputs put end read can device s are 
       tells = told library net text tree d read can device;
       linked = s.linked;
       plan = p;
-      stripped = record { tree = core; found = s.found; library_is = s.library_is; gives = s.gives };
+      stripped = record { tree = core; found = s.found; library_is = s.library_is; hides = s.hides; gives = s.gives };
       net_is = ap canonical s.written;
       plan_is = refl;
     } in

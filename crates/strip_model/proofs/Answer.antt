@@ -27,12 +27,15 @@ gives strips netlist linked core m L p inserted d is g =
         is = core inserted r.tree d r.plan is r.found;
         listed = r.gives.listed;
         links = linked m r.tree L g.links r.same title;
+        straight = r.gives.straight;
+        ends = r.gives.ends;
+        open_names = r.gives.open_names;
         plan = r.gives.plan;
         at = r.gives.at;
       };
     }
 
 pub refused : RecoveredGives → RefusedByAll
-refused answers library inserted d is none m L p same g =
+refused answers library inserted d is none m L p same hides g =
     let a : IsAnswer m L inserted d = answers m L p inserted d is g in
-    none (a.tree, a.plan) L same a.found a.gives
+    none (a.tree, a.plan) L same hides a.found a.gives

@@ -14,7 +14,7 @@ use Rattle.netlist_model.specs.Lists.{PortView, CellView, NetlistView, cell_at, 
 use Rattle.netlist_model.specs.Formed.{width_of}
 use Rattle.link_model.specs.Nets.{NetDeclaration, bits_in, counted_from, declared_nets, nets_in, port_nets, width}
 use Rattle.link_model.specs.Cells.{NamedCell}
-use Rattle.link_model.specs.Denoted.{AreAll, IsCell, IsNet, IsPort, denoted, net_id, ports_from, range_of}
+use Rattle.link_model.specs.Denoted.{AreAll, IsCell, IsNet, IsPort, net_id, ports_from, range_of}
 use Rattle.link_model.specs.Faults.{cells_in, driver_fault, text_fault}
 use Rattle.link_model.specs.Fits.{CellsBelow, IsCellBelow}
 use Rattle.link_names.proofs.Modules.{cells_fit}

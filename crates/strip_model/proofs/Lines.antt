@@ -37,7 +37,7 @@ use Rattle.plan_fitting.specs.Pins.{PinSeen, same_bit}
 use Rattle.plan_fitting.specs.Rows.{Driver, controls, three_state, output_driver, controlled_by, output_rows, inout_rows, rows_at, rows_after}
 use Rattle.plan_fitting.specs.Devices.{pin_for, pins_of_port, fitted_of, dev_port, port_range, scalar_port, tap_ports, dev_ports, dev_bit, cell_row, device_of}
 use Rattle.plan_fitting.specs.FittingPlan.{HasWidths}
-use Rattle.plan_fitting.proofs.Indices.{place_of_index, dev_port_at, IsBit, range_there}
+use Rattle.plan_fitting.proofs.Indices.{place_of_index, dev_port_at, IsBit, bit_there, range_there}
 use Rattle.plan_fitting.proofs.DeviceTap.{behind_own}
 use Rattle.plan_fitting.proofs.RowCounts.{makes_row}
 use Rattle.strip_model.specs.Prefix.{before_end}
@@ -99,7 +99,7 @@ line_told L p seen wide line one is =
     let b : IsBit L one.pin = is.bit in
     let f : Fitted = fitted_of L p seen in
     let number : ℕ = one.pin.port.0 in
-    let port = dev_port_at L p seen number b.port b.there in
+    let port = dev_port_at L p seen number b.port (bit_there L one.pin b) in
     let range = range_there L p seen one.pin b in
     let width = wide number b.port b.there in
     let place = same_place b.port.range one.pin.bit b.within in

@@ -1,5 +1,5 @@
 -- The whole module, told.
-use Rattle.std.proofs.Common.{◌≡◌, ℕ, suc, zero, ◌+◌, ◌-◌, ◌<◌, ◌≤◌, ◌⊎◌, inl, inr, List, [], ◌∷◌, ◌++◌, length, refl, sym, ◌∙◌, ap, Option, Some, None, slice_get, arith}
+use Rattle.std.proofs.Common.{◌≡◌, ℕ, suc, zero, ◌+◌, ◌<◌, ◌≤◌, ◌⊎◌, inl, inr, List, [], ◌∷◌, ◌++◌, length, refl, sym, ◌∙◌, ap, Option, Some, None, slice_get, arith}
 use Rattle.std.proofs.lemmas.Option.{slice_get_within}
 use Rattle.list_laws.proofs.Lists.{slice_get-append_left, slice_get-append_right, slice_get_there}
 use Rattle.gate_parts.specs.Parts.{added_nets}
@@ -12,7 +12,6 @@ use Rattle.netlist_model.specs.Lists.{NetView, NetlistView}
 use Rattle.netlist_link.specs.Linked.{LinkedView}
 use Rattle.plan_fitting.specs.declared.fitted.FitRow.{FitRow}
 use Rattle.plan_fitting.specs.declared.fitted.Fitted.{Fitted}
-use Rattle.netlist_unlink.specs.Rows.{rows}
 use Rattle.netlist_unlink.specs.Trees.{original}
 use Rattle.stitched_netlist.specs.declared.model.TapNames.{TapNames}
 use Rattle.stitched_netlist.specs.Sites.{Boundary, site_of, side_count, row_sides, sides_of}

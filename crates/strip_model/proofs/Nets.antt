@@ -1,5 +1,5 @@
 -- The nets of the netlist with test logic: those of the core keep their bits, and those between are added ones.
-use Rattle.std.proofs.Common.{◌≡◌, ◌≢◌, ℕ, suc, zero, ◌+◌, ◌<◌, ◌^◌, ◌-◌, Bool, true, false, List, [], ◌∷◌, map, length, refl, sym, ◌∙◌, ap, Option, Some, None, slice_get, arith, eq-eqb, eqb-true, ne_eqb, ◌⊎◌, inl, inr, ◌==◌}
+use Rattle.std.proofs.Common.{◌≡◌, ◌≢◌, ℕ, suc, zero, ◌+◌, ◌<◌, ◌^◌, Bool, true, false, List, [], ◌∷◌, map, length, refl, sym, ◌∙◌, ap, Option, Some, None, slice_get, arith, eq-eqb, eqb-true, ne_eqb, ◌⊎◌, inl, inr, ◌==◌}
 use Rattle.std.specs.Option.{unwrap_or, option_map}
 use Rattle.std.specs.Str.{bytes_eq}
 use Rattle.std.specs.Fmt.{decimal}
@@ -12,7 +12,6 @@ use Rattle.netlist_model.specs.declared.Name.TheVariants.{Original, Added}
 use Rattle.netlist_model.specs.declared.Feed.{Feed}
 use Rattle.netlist_model.specs.declared.Feed.TheVariants.{Net, Const}
 use Rattle.netlist_model.specs.Lists.{NetView}
-use Rattle.verilog_tree.specs.declared.tree.Bit.{Bit}
 use Rattle.verilog_tree.specs.declared.tree.Operand.TheVariants as operand
 use Rattle.gate_parts.specs.Parts.{added_nets}
 use Rattle.netlist_unlink.specs.Trees.{Naming, original, added, operand_of}

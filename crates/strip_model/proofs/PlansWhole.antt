@@ -1,5 +1,5 @@
 -- The whole plan, told; and what it comes to.
-use Rattle.std.proofs.Common.{◌≡◌, ℕ, suc, ◌+◌, inl, inr, Bool, true, false, List, [], ◌∷◌, ◌++◌, map, length, drop, refl, sym, ◌∙◌, ap, Option, Some, None, option_map, slice_get}
+use Rattle.std.proofs.Common.{◌≡◌, ℕ, suc, inl, inr, Bool, true, false, List, [], ◌∷◌, ◌++◌, map, length, drop, refl, sym, ◌∙◌, ap, Option, Some, None, option_map, slice_get}
 use Rattle.std.specs.Prelude.{option_and_then, codes}
 use Rattle.std.specs.List.{list_any, enumerate_from}
 use Rattle.list_laws.proofs.Tests.{true_or_false}
@@ -14,7 +14,7 @@ use Rattle.netlist_model.specs.Lists.{PortView, cell_count}
 use Rattle.netlist_model.specs.Drivers.{DriverIsFound}
 use Rattle.netlist_model.specs.Ports.{BitHasDirection}
 use Rattle.link_model.specs.Nets.{counted_from}
-use Rattle.netlist_link.specs.Linked.{LinkedView}
+use Rattle.netlist_link.specs.Linked.{LinkedView, own_ports}
 use Rattle.netlist_link.specs.PinWords.{pin_at}
 use Rattle.bsdl_device.specs.RowRules.{is_function}
 use Rattle.bsdl_device.specs.declared.values.Device.{Device}
@@ -124,5 +124,5 @@ fitted_by L p cells ports = record {
 pub fitted_same : BitHasDirection → DriverIsFound → SameIsFitted
 fitted_same has found L p seen fits =
     let facts = facts_of has found L p seen fits in
-    ap (λ (cells : List FitRow). fitted_by L p cells (map (fit_port L (told_plan L p seen) seen) (enumerate_from 0 L.arena.lists.ports))) (rows_same L p seen facts)
-    ∙ ap (fitted_by L p (rows p seen)) (map_same (fit_port L (told_plan L p seen) seen) (fit_port L p seen) (enumerate_from 0 L.arena.lists.ports) (λ k port at. port_same L p seen port))
+    ap (λ (cells : List FitRow). fitted_by L p cells (map (fit_port L (told_plan L p seen) seen) (enumerate_from 0 (own_ports L)))) (rows_same L p seen facts)
+    ∙ ap (fitted_by L p (rows p seen)) (map_same (fit_port L (told_plan L p seen) seen) (fit_port L p seen) (enumerate_from 0 (own_ports L)) (λ k port at. port_same L p seen port))

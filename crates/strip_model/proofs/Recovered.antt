@@ -26,7 +26,7 @@ use Rattle.strip_model.specs.RecoveryLaw.{FittedCanBeTold, RecoveredIsTheNetlist
 
 pub fitting : FittedIsFitting → (m : Module) (L : LinkedView) (p : Plan) (inserted : Module) (d : Device) → (g : Gives m L p inserted d) → IsFitting L p g.at.fits.seen
 fitting law m L p inserted d g =
-    law m L p (fitted_of L p g.at.fits.seen) g.is g.listed g.links g.plan (record { seen = g.at.fits.seen; are_seen = g.at.fits.are_seen; faultless = g.at.fits.faultless; is = refl })
+    law m L p (fitted_of L p g.at.fits.seen) g.is g.listed g.links g.plan (record { seen = g.at.fits.seen; are_seen = g.at.fits.are_seen; faultless = g.at.fits.faultless; is = refl; straight = g.straight; ends = g.ends })
 
 pub recovered_is : FittedIsFitting → FittedCanBeTold → CoreIsTold → PlanIsTold → StitchedFitsRoom → LinkViewIsLaidOut → RecoveredIsTheNetlist
 recovered_is fits_law can_law core_law plan_law room_law laid_law m L p inserted d g =

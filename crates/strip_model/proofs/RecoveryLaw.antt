@@ -28,7 +28,7 @@ law fits_law found_law again_law spell_law same_law free_law formed_law named_la
     let f : Fitted = fitted_of L p seen in
     let q : Plan = told_plan L p seen in
     let fits = fitting fits_law m L p inserted d g in
-    let again = again_law L p seen fits in
+    let again = again_law L p seen fits g.open_names in
     let same : f ≡ fitted_of L q seen = sym (same_law L p seen fits) in
     let room = few_nets L.arena.lists (room_of f) (room_of f) (ports_of f) g.at.room in
     record {
@@ -42,6 +42,9 @@ law fits_law found_law again_law spell_law same_law free_law formed_law named_la
         is = g.is;
         listed = g.listed;
         links = g.links;
+        straight = g.straight;
+        ends = g.ends;
+        open_names = g.open_names;
         plan = spell_law L p seen fits;
         at = record {
           fits = record { seen = seen; are_seen = again.are_seen; faultless = again.faultless };

@@ -1,5 +1,5 @@
 -- The rows of a plan don't depend on the words of its lines, nor on the kind of control cells where it has none.
-use Rattle.std.proofs.Common.{◌≡◌, ℕ, suc, ◌+◌, Bool, true, false, ◌||◌, List, [], ◌∷◌, ◌++◌, map, position, refl, sym, ◌∙◌, ap, Option, Some, None, slice_get, append_assoc}
+use Rattle.std.proofs.Common.{◌≡◌, ℕ, suc, Bool, true, false, ◌||◌, List, [], ◌∷◌, ◌++◌, map, position, refl, sym, ◌∙◌, ap, Option, Some, None, slice_get, append_assoc}
 use Rattle.std.specs.List.{list_any}
 use Rattle.std.proofs.lemmas.List.{append-nil}
 use Rattle.list_laws.proofs.Tests.{or_first, or_second}

@@ -1,5 +1,5 @@
 -- The word of a bit names the bit.
-use Rattle.std.proofs.Common.{◌≡◌, ℕ, suc, zero, ◌+◌, ◌-◌, ◌*◌, ◌/◌, ◌%◌, ◌<◌, ◌≤◌, ◌^◌, ◌==◌, Bool, true, false, List, [], ◌∷◌, ◌++◌, length, filter_map, refl, sym, ◌∙◌, ap, subst, Option, Some, None, slice_get, arith, if◌then◌else◌, leb-true, IsTrue}
+use Rattle.std.proofs.Common.{◌≡◌, inl, inr, ℕ, suc, zero, ◌+◌, ◌-◌, ◌*◌, ◌/◌, ◌%◌, ◌<◌, ◌≤◌, ◌^◌, ◌==◌, Bool, true, false, List, [], ◌∷◌, ◌++◌, length, filter_map, refl, sym, ◌∙◌, ap, subst, Option, Some, None, slice_get, arith, if◌then◌else◌, leb-true, IsTrue}
 use Rattle.std.specs.Prelude.{nat_le, IfSome}
 use Rattle.std.specs.Option.{unwrap_or, option_map_or}
 use Rattle.std.specs.List.{AllByRecursion}
@@ -17,16 +17,18 @@ use Rattle.netlist_model.specs.declared.Range.{Range}
 use Rattle.netlist_model.specs.Lists.{PortView}
 use Rattle.netlist_model.specs.Formed.{width_of}
 use Rattle.link_model.specs.Denoted.{name_bytes}
-use Rattle.netlist_link.specs.Linked.{LinkedView}
+use Rattle.netlist_link.specs.Hidden.{EndsHidden}
+use Rattle.netlist_link.specs.Linked.{LinkedView, own_ports}
 use Rattle.netlist_link.specs.PinWords.{IsIndexed, IsPortNamed, IsScalarWord, IsBitWord, IsPinWord, pin_at}
 use Rattle.netlist_link.specs.PinWords.IsPinWord.{scalar, vector}
 use Rattle.netlist_link.specs.WellNamed.{IsWellNamed, IsShortRange, index_from}
 use Rattle.plan_texts.specs.declared.plan.Plan.{Plan}
 use Rattle.plan_texts.specs.declared.plan.PinLine.{PinLine}
-use Rattle.plan_fitting.specs.Names.{port_names, port_name, index_word}
+use Rattle.plan_fitting.specs.Names.{HasOpenNames, port_name, index_word}
 use Rattle.plan_fitting.specs.Pins.{PinSeen, IsSeen, AreSeen}
 use Rattle.plan_fitting.specs.FittingPlan.{IsFitting}
-use Rattle.plan_fitting.proofs.Indices.{IsBit}
+use Rattle.plan_fitting.proofs.Indices.{IsBit, bit_there}
+use Rattle.plan_fitting.proofs.OwnPorts.{own_there, own_from, own_or_hidden}
 use Rattle.plan_fitting.proofs.DevicesNames.{NamesFit}
 use Rattle.plan_fitting.proofs.DevicesFacts.{Facts}
 use Rattle.plan_fitting.proofs.DeviceRows.{lined_bit}
@@ -117,12 +119,12 @@ filtered_at P g (z ∷ xs) (suc k) x y all at e = by (g z) refl (λ rest. filter
     by None h go = let rest : AllByRecursion P (filter_map g xs) = rw h at all in go rest
     by (Some w) h go = let rest : AllByRecursion P (w ∷ filter_map g xs) = rw h at all in go rest.1
 
-named_port : (L : LinkedView) (p : Plan) → IsWellNamed L.names L.arena.lists → NamesFit L p → (k : ℕ) (port : PortView) → slice_get L.arena.lists.ports k ≡ Some port → IsNamedPort L port
+named_port : (L : LinkedView) (p : Plan) → IsWellNamed L.names L.arena.lists → NamesFit L p → (k : ℕ) (port : PortView) → slice_get (own_ports L) k ≡ Some port → IsNamedPort L port
 named_port L p well fit k port at =
-    let has = well.port_names k port at in
+    let has = well.port_names k port (own_there L k port at) in
     let there = slice_get_there L.names has.0 has.2 in
     let is : name_bytes L.names port.name ≡ Some there.0 = ap (name_bytes L.names) has.1 ∙ there.1 in
-    let good = filtered_at IsDeviceName (λ (q : PortView). name_bytes L.names q.name) L.arena.lists.ports k port there.0 fit.unit.1.1 at is in
+    let good = filtered_at IsDeviceName (λ (q : PortView). name_bytes L.names q.name) (own_ports L) k port there.0 fit.unit.1.1 at is in
     record { bytes = there.0; is = is; plain = identifier_plain there.0 good.identifier }
 
 -- an index of a short range is short
@@ -143,9 +145,10 @@ short_index r bit index short low e = by (nat_le r.left r.right) refl
 
 -- The word of a bit.
 
-word_names : (L : LinkedView) (p : Plan) → IsWellNamed L.names L.arena.lists → NamesFit L p → (pin : PinBit) → (b : IsBit L pin) → IsPinWord L.names L.arena.lists (word_at L pin) pin
-word_names L p well fit pin b =
-    let port = named_port L p well fit pin.port.0 b.port b.there in
+word_names : (L : LinkedView) (p : Plan) → IsWellNamed L.names L.arena.lists → NamesFit L p → EndsHidden L → HasOpenNames L → (pin : PinBit) → (b : IsBit L pin)
+    → IsPinWord L.names L.arena.lists (word_at L pin) pin
+word_names L p well fit ends open_names pin b =
+    let port = named_port L p well fit pin.port.0 b.port (bit_there L pin b) in
     let name : port_name L b.port ≡ port.bytes = ap (λ (o : Option (List ℕ)). unwrap_or o []) port.is in
     let word : word_at L pin ≡ port.bytes ++ index_word (index_from b.port.range pin.bit) =
     ap (λ (o : Option PortView). option_map_or (λ (q : PortView). port_name L q ++ index_word (index_from q.range pin.bit)) o []) b.there
@@ -156,11 +159,15 @@ word_names L p well fit pin b =
     of bytes is = record { there = b.there; named = is }
 
     none : (name : List ℕ) (index : ℕ) (other : ℕ) → IsScalarWord L.names L.arena.lists (name ++ index_word (Some index)) other → ⊥
-    none name index other is =
-        let q = named_port L p well fit other is.port is.named.there in
-        let same : q.bytes ≡ name ++ index_word (Some index) = some_bytes q.bytes (name ++ index_word (Some index)) (sym q.is ∙ is.named.named) in
-        let plain : IsPlain (name ++ index_word (Some index)) = subst IsPlain same q.plain in
-        not_plain name (decimal index ++ 93 ∷ []) plain
+    none name index other is = elim (own_or_hidden L ends other is.port is.named.there) [
+      | inl own ↦ (let q = named_port L p well fit other is.port (own_from L other is.port own is.named.there) in
+          let same : q.bytes ≡ name ++ index_word (Some index) = some_bytes q.bytes (name ++ index_word (Some index)) (sym q.is ∙ is.named.named) in
+          let plain : IsPlain (name ++ index_word (Some index)) = subst IsPlain same q.plain in
+          not_plain name (decimal index ++ 93 ∷ []) plain)
+      | inr hidden ↦
+          (let last : name ++ index_word (Some index) ≡ (name ++ 91 ∷ decimal index) ++ 93 ∷ [] = sym (append_assoc name (91 ∷ decimal index) (93 ∷ [])) in
+          open_names other is.port (name ++ 91 ∷ decimal index) hidden is.named.there (is.named.named ∙ ap (λ (w : List ℕ). Some w) last))
+    ]
       where
         some_bytes : (a b : List ℕ) → ◌≡◌ {A = Option (List ℕ)} (Some a) (Some b) → a ≡ b
         some_bytes a b e = cc
@@ -217,20 +224,20 @@ told_count L [] seen many = many
 told_count L (line ∷ lines) [] many = refl
 told_count L (line ∷ lines) (one ∷ seen) many = ap suc (told_count L lines seen (omega arith))
 
-pub told_seen : (L : LinkedView) (p : Plan) (seen : List PinSeen) → IsFitting L p seen → Facts L p seen → AreSeen L (told_lines L p.pins seen) seen
-told_seen L p seen fits facts = record {
+pub told_seen : (L : LinkedView) (p : Plan) (seen : List PinSeen) → IsFitting L p seen → HasOpenNames L → Facts L p seen → AreSeen L (told_lines L p.pins seen) seen
+told_seen L p seen fits open_names facts = record {
   count = told_count L p.pins seen fits.are_seen.count;
   each = λ place line one at there.
       let old = told_line_at L p.pins seen place line one at there in
       let was = facts.lines place old.0 one old.1 there in
       let bit = lined_bit L fits.wide old.0 one was in
-      let named = word_names L p fits.named facts.names one.pin bit in
+      let named = word_names L p fits.named facts.names fits.ends open_names one.pin bit in
       again line one old.0 old.2 was.seen named;
 }
   where
     again : (line : PinLine) (one : PinSeen) (old : PinLine) → line.port ≡ word_at L one.pin → IsSeen L old.port one → IsPinWord L.names L.arena.lists (word_at L one.pin) one.pin → IsSeen L line.port one
     again line one old same seen named = record {
-      named = subst (λ (w : List ℕ). IsPinWord L.names L.arena.lists w one.pin) (sym same) named;
+      named = (subst (λ (w : List ℕ). IsPinWord L.names L.arena.lists w one.pin) (sym same) named, seen.named.1);
       port = seen.port;
       there = seen.there;
       side = seen.side;

@@ -65,7 +65,7 @@ seen_by pin net side clock control driver = record { pin = pin; net = net; side 
 one_seen : (L : LinkedView) → IsWellNamed L.names L.arena.lists → (word : List ℕ) (one other : PinSeen) → IsSeen L word one → IsSeen L word other → one ≡ other
 one_seen L well word one other is there =
     let N : NetlistView = L.arena.lists in
-    let pin : one.pin ≡ other.pin = pin_once L.names N well word one.pin other.pin is.named there.named in
+    let pin : one.pin ≡ other.pin = pin_once L.names N well word one.pin other.pin is.named.0 there.named.0 in
     let port : is.port ≡ there.port =
     same_some is.port there.port (sym is.there ∙ ap (λ (p : PinBit). slice_get N.ports p.port.0) pin ∙ there.there) in
     let net : one.net ≡ other.net =

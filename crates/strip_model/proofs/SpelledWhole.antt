@@ -14,7 +14,7 @@ use Rattle.netlist_model.specs.Formed.{width_of}
 use Rattle.netlist_model.specs.Drivers.{DriverIsFound}
 use Rattle.netlist_model.specs.Ports.{BitHasDirection}
 use Rattle.link_model.specs.Denoted.{name_bytes}
-use Rattle.netlist_link.specs.Linked.{LinkedView}
+use Rattle.netlist_link.specs.Linked.{LinkedView, own_ports}
 use Rattle.netlist_link.specs.WellNamed.{IsWellNamed, IsShortRange, index_from}
 use Rattle.word_cutter.specs.Rows.{IsWord}
 use Rattle.plan_texts.specs.declared.plan.Plan.{Plan}
@@ -28,7 +28,7 @@ use Rattle.plan_fitting.specs.declared.fitted.FitRow.{FitRow}
 use Rattle.plan_fitting.specs.declared.fitted.Fitted.{Fitted}
 use Rattle.plan_fitting.specs.Rows.{rows}
 use Rattle.plan_fitting.specs.Devices.{cell_row, fitted_of}
-use Rattle.plan_fitting.proofs.Indices.{IsBit}
+use Rattle.plan_fitting.proofs.Indices.{IsBit, bit_there}
 use Rattle.plan_fitting.proofs.DevicesNames.{NamesFit}
 use Rattle.plan_fitting.proofs.DevicesFacts.{Facts, facts_of}
 use Rattle.plan_fitting.proofs.DeviceRows.{lined_bit}
@@ -63,7 +63,7 @@ bit_word L p well fit pin b =
     let has = well.port_names pin.port.0 b.port b.there in
     let there = slice_get_there L.names has.0 has.2 in
     let is : name_bytes L.names b.port.name ≡ Some there.0 = ap (name_bytes L.names) has.1 ∙ there.1 in
-    let good = filtered_at IsDeviceName (λ (q : PortView). name_bytes L.names q.name) L.arena.lists.ports pin.port.0 b.port there.0 fit.unit.1.1 b.there is in
+    let good = filtered_at IsDeviceName (λ (q : PortView). name_bytes L.names q.name) (own_ports L) pin.port.0 b.port there.0 fit.unit.1.1 (bit_there L pin b) is in
     let name : port_name L b.port ≡ there.0 = ap (λ (o : Option (List ℕ)). unwrap_or o []) is in
     let word : word_at L pin ≡ there.0 ++ index_word (index_from b.port.range pin.bit) =
     ap (λ (o : Option PortView). option_map_or (λ (q : PortView). port_name L q ++ index_word (index_from q.range pin.bit)) o []) b.there

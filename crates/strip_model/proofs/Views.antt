@@ -1,8 +1,9 @@
 -- Fitting, and what is given, by another view of the same netlist.
-use Rattle.std.proofs.Common.{◌≡◌, ℕ, ◌+◌, List, [], ◌∷◌, ◌++◌, map, length, filter_map, refl, sym, ◌∙◌, ap, subst, Option, Some, None, slice_get}
+use Rattle.std.proofs.Common.{◌≡◌, ℕ, ◌+◌, ◌<◌, nat_eq, if◌then◌else◌, List, [], ◌∷◌, ◌++◌, map, length, take, drop, filter_map, refl, sym, ◌∙◌, ap, subst, Option, Some, None, slice_get}
 use Rattle.std.specs.Option.{option_or, unwrap_or}
-use Rattle.std.specs.List.{enumerate_from, flat_map}
+use Rattle.std.specs.List.{enumerate_from, flat_map, list_any}
 use Rattle.cell_library.specs.declared.listed.ListedCell.{ListedCell}
+use Rattle.netlist_model.specs.declared.NetId.{NetId}
 use Rattle.netlist_model.specs.declared.PinBit.{PinBit}
 use Rattle.netlist_model.specs.Lists.{PortView, NetView, CellView, NetlistView, cell_count}
 use Rattle.verilog_tree.specs.declared.tree.Module.{Module}
@@ -15,7 +16,8 @@ use Rattle.gate_parts.specs.Parts.{added_nets}
 use Rattle.link_model.specs.Denoted.{name_bytes}
 use Rattle.link_model.specs.Nets.{counted_from}
 use Rattle.netlist_link.specs.WellNamed.{index_from}
-use Rattle.netlist_link.specs.Linked.{LinkedView}
+use Rattle.netlist_link.specs.declared.straight.Straight.{Straight}
+use Rattle.netlist_link.specs.Linked.{LinkedView, own_ports, hidden_nets}
 use Rattle.netlist_link.specs.ViewLaws.{IsSameView}
 use Rattle.netlist_link.specs.PinWords.{pin_at, IsPinWord, scalar, vector, IsScalarWord, IsBitWord, IsPortNamed}
 use Rattle.netlist_unlink.specs.Rows.{rows}
@@ -25,7 +27,8 @@ use Rattle.plan_texts.specs.declared.plan.PinLine.{PinLine}
 use Rattle.plan_fitting.specs.declared.fault.FitFault.{FitFault}
 use Rattle.plan_fitting.specs.declared.fitted.Fitted.{Fitted}
 use Rattle.plan_fitting.specs.Pins.{PinSeen, IsSeen, AreSeen}
-use Rattle.plan_fitting.specs.Names.{port_names, net_names, name_of_cell, cell_names, index_word, NamedBit, port_bits}
+use Rattle.plan_fitting.specs.Names.{port_names, net_names, hidden_names, name_of_cell, cell_names, index_word, NamedBit, port_bits}
+use Rattle.plan_fitting.proofs.PortBits.{missing_is}
 use Rattle.plan_fitting.specs.Fits.{missing_fault, bit_fault, twice_fault, cell_fault, barred_after, tap_lines, names_of, begun_fault, fault_with}
 use Rattle.texts.specs.First.{or_else, first_in}
 use Rattle.plan_fitting.specs.Devices.{fitted_of, device_of_fitted}
@@ -73,12 +76,15 @@ pin_word table one other same word pin (vector {number} {bit} none is) =
 
 -- What is seen.
 
-seen_same : (one other : LinkedView) → IsSameView one other → (word : List ℕ) (seen : PinSeen) → IsSeen one word seen → IsSeen other word seen
-seen_same one other same word seen is =
+seen_same : (one other : LinkedView) → IsSameView one other → one.straight ≡ other.straight → (word : List ℕ) (seen : PinSeen) → IsSeen one word seen → IsSeen other word seen
+seen_same one other same marks word seen is =
     let lists = lists_same one other same in
     let back = turned one.arena.lists other.arena.lists lists in
     record {
-      named = subst (λ (table : List (List ℕ)). IsPinWord table other.arena.lists word seen.pin) same.names (pin_word one.names one.arena.lists other.arena.lists same.ports word seen.pin is.named);
+      named = (
+        subst (λ (table : List (List ℕ)). IsPinWord table other.arena.lists word seen.pin) same.names (pin_word one.names one.arena.lists other.arena.lists same.ports word seen.pin is.named.0),
+        subst (λ (straight : Straight). seen.pin.port.0 < straight.first) marks is.named.1,
+      );
       port = is.port;
       there = ap (λ (ports : List PortView). slice_get ports seen.pin.port.0) (sym same.ports) ∙ is.there;
       side = is.side;
@@ -88,10 +94,10 @@ seen_same one other same word seen is =
       driver = is.driver ∙ drivers_same seen.net.0 one.arena.lists.cells other.arena.lists.cells same.cells;
     }
 
-are_seen_same : (one other : LinkedView) → IsSameView one other → (lines : List PinLine) (seen : List PinSeen) → AreSeen one lines seen → AreSeen other lines seen
-are_seen_same one other same lines seen are = record {
+are_seen_same : (one other : LinkedView) → IsSameView one other → one.straight ≡ other.straight → (lines : List PinLine) (seen : List PinSeen) → AreSeen one lines seen → AreSeen other lines seen
+are_seen_same one other same marks lines seen are = record {
   count = are.count;
-  each = λ place line here at there. seen_same one other same line.port here (are.each place line here at there);
+  each = λ place line here at there. seen_same one other same marks line.port here (are.each place line here at there);
 }
 
 -- The rest depends on the lists' parts alone.
@@ -110,71 +116,102 @@ names_same one other same =
 count_same : (one other : LinkedView) → IsSameView one other → cell_count one.arena.lists ≡ cell_count other.arena.lists
 count_same one other same = counted one.arena.lists.cells other.arena.lists.cells same.cells
 
+-- the own ports, and the nets of hidden ones
+own_same : (one other : LinkedView) → IsSameView one other → one.straight ≡ other.straight → own_ports one ≡ own_ports other
+own_same one other same marks =
+    ap (λ (straight : Straight). take straight.first one.arena.lists.ports) marks ∙ ap (take other.straight.first) same.ports
+
+abbrev nets_in : Straight → List PortView → List ℕ
+nets_in straight ports = flat_map (λ (port : PortView). map (λ (net : NetId). net.0) port.nets) (take straight.count (drop straight.first ports))
+
+hidden_same : (one other : LinkedView) → IsSameView one other → one.straight ≡ other.straight → hidden_nets one ≡ hidden_nets other
+hidden_same one other same marks = ap (λ (straight : Straight). nets_in straight one.arena.lists.ports) marks ∙ ap (nets_in other.straight) same.ports
+
 -- bits of ports by a table of names
 abbrev bits_by : List (List ℕ) → List (ℕ × PortView) → List NamedBit
 bits_by table ports = flat_map (λ (port : ℕ × PortView). map (λ (bit : ℕ). record { pin = pin_at port.0 bit; word = unwrap_or (name_bytes table port.1.name) [] ++ index_word (index_from port.1.range bit) })
     (counted_from 0 (length port.1.nets))) ports
 
-bits_same : (one other : LinkedView) → IsSameView one other → port_bits one ≡ port_bits other
-bits_same one other same =
-    ap (λ (table : List (List ℕ)). bits_by table (enumerate_from 0 one.arena.lists.ports)) same.names
-    ∙ ap (λ (ports : List PortView). bits_by other.names (enumerate_from 0 ports)) same.ports
+bits_same : (one other : LinkedView) → IsSameView one other → one.straight ≡ other.straight → port_bits one ≡ port_bits other
+bits_same one other same marks =
+    ap (λ (table : List (List ℕ)). bits_by table (enumerate_from 0 (own_ports one))) same.names
+    ∙ ap (λ (ports : List PortView). bits_by other.names (enumerate_from 0 ports)) (own_same one other same marks)
 
-missing_same : (one other : LinkedView) → IsSameView one other → (seen : List PinSeen) → missing_fault one seen ≡ missing_fault other seen
-missing_same one other same seen = by one.arena.lists.ports refl (sym same.ports)
+missing_same : (one other : LinkedView) → IsSameView one other → one.straight ≡ other.straight → (seen : List PinSeen) → missing_fault one seen ≡ missing_fault other seen
+missing_same one other same marks seen = by (own_ports one) refl (sym (own_same one other same marks))
   where
-    by : (ports : List PortView) → one.arena.lists.ports ≡ ports → other.arena.lists.ports ≡ one.arena.lists.ports → missing_fault one seen ≡ missing_fault other seen
-    by [] e f = let g : other.arena.lists.ports ≡ [] = f ∙ e in rw (e, g) refl
+    by : (ports : List PortView) → own_ports one ≡ ports → own_ports other ≡ own_ports one → missing_fault one seen ≡ missing_fault other seen
+    by [] e f = let g : own_ports other ≡ [] = f ∙ e in rw (e, g) refl
     by (port ∷ ports) e f =
-        let g : other.arena.lists.ports ≡ port ∷ ports = f ∙ e in
-        let bits = bits_same one other same in
-        let a : missing_fault one seen ≡ first_in (bit_fault seen) (port_bits one) = some one port ports e in
-        let b : missing_fault other seen ≡ first_in (bit_fault seen) (port_bits other) = some other port ports g in
-        a ∙ ap (first_in (bit_fault seen)) bits ∙ sym b
-      where
-        some : (L : LinkedView) (port : PortView) (ports : List PortView) → L.arena.lists.ports ≡ port ∷ ports → missing_fault L seen ≡ first_in (bit_fault seen) (port_bits L)
-        some L port ports e = rw e refl
+        let g : own_ports other ≡ port ∷ ports = f ∙ e in
+        let bits = bits_same one other same marks in
+        missing_is one seen port ports e ∙ ap (first_in (bit_fault seen)) bits ∙ sym (missing_is other seen port ports g)
 
 -- names by their lists
 abbrev ports_by : List (List ℕ) → List PortView → List (List ℕ)
 ports_by table ports = filter_map (λ (p : PortView). name_bytes table p.name) ports
 
-abbrev nets_by : List (List ℕ) → List NetView → List (List ℕ)
-nets_by table nets = filter_map (λ (n : NetView). name_bytes table n.name) nets
+abbrev nets_by : List (List ℕ) → List ℕ → List NetView → List (List ℕ)
+nets_by table hidden nets = filter_map (λ (n : ℕ × NetView). if list_any (nat_eq n.0) hidden then None else name_bytes table n.1.name) (enumerate_from 0 nets)
 
-port_names_same : (one other : LinkedView) → IsSameView one other → port_names one ≡ port_names other
-port_names_same one other same =
-    ap (λ (table : List (List ℕ)). ports_by table one.arena.lists.ports) same.names ∙ ap (ports_by other.names) same.ports
+abbrev hidden_by : List (List ℕ) → List ℕ → List NetView → List (List ℕ)
+hidden_by table hidden nets = filter_map (λ (n : ℕ × NetView). if list_any (nat_eq n.0) hidden then name_bytes table n.1.name else None) (enumerate_from 0 nets)
 
-net_names_same : (one other : LinkedView) → IsSameView one other → net_names one ≡ net_names other
-net_names_same one other same =
-    ap (λ (table : List (List ℕ)). nets_by table one.arena.lists.nets) same.names ∙ ap (nets_by other.names) same.nets
+port_names_same : (one other : LinkedView) → IsSameView one other → one.straight ≡ other.straight → port_names one ≡ port_names other
+port_names_same one other same marks =
+    ap (λ (table : List (List ℕ)). ports_by table (own_ports one)) same.names ∙ ap (ports_by other.names) (own_same one other same marks)
+
+net_names_same : (one other : LinkedView) → IsSameView one other → one.straight ≡ other.straight → net_names one ≡ net_names other
+net_names_same one other same marks =
+    ap (λ (table : List (List ℕ)). nets_by table (hidden_nets one) one.arena.lists.nets) same.names
+    ∙ ap (λ (hidden : List ℕ). nets_by other.names hidden one.arena.lists.nets) (hidden_same one other same marks)
+    ∙ ap (nets_by other.names (hidden_nets other)) same.nets
+
+hidden_names_same : (one other : LinkedView) → IsSameView one other → one.straight ≡ other.straight → hidden_names one ≡ hidden_names other
+hidden_names_same one other same marks =
+    ap (λ (table : List (List ℕ)). hidden_by table (hidden_nets one) one.arena.lists.nets) same.names
+    ∙ ap (λ (hidden : List ℕ). hidden_by other.names hidden one.arena.lists.nets) (hidden_same one other same marks)
+    ∙ ap (hidden_by other.names (hidden_nets other)) same.nets
 
 -- faults by the lists of names
-abbrev names_by : Plan → List (List ℕ) → List (List ℕ) → List (List ℕ) → Option FitFault
-names_by p ports nets cells =
-    or_else (barred_after [] [] (p.entity ∷ p.«package» ∷ ports))
-    (or_else (barred_after (nets ++ cells) (p.entity ∷ p.«package» ∷ ports) (names_of (tap_lines p)))
-    (barred_after [] ((p.entity ∷ p.«package» ∷ ports) ++ names_of (tap_lines p)) (names_of p.linkage)))
+record Names : Type 0 where
+  ports : List (List ℕ)
+  nets : List (List ℕ)
+  cells : List (List ℕ)
+  hidden : List (List ℕ)
 
-abbrev prefix_by : Plan → List (List ℕ) → List (List ℕ) → List (List ℕ) → Option FitFault
-prefix_by p ports nets cells = first_in (begun_fault p.prefix) (ports ++ (nets ++ (cells ++ names_of (tap_lines p))))
+abbrev names_of_view : LinkedView → Names
+names_of_view L = record { ports = port_names L; nets = net_names L; cells = cell_names L; hidden = hidden_names L }
 
-abbrev later_by : Plan → List PinSeen → Option FitFault → List (List ℕ) → List (List ℕ) → List (List ℕ) → Option FitFault
-later_by p seen missing ports nets cells =
-    or_else missing (or_else (twice_fault p seen) (or_else (cell_fault p.pins seen) (or_else (names_by p ports nets cells) (prefix_by p ports nets cells))))
+all_names_same : (one other : LinkedView) → IsSameView one other → one.straight ≡ other.straight → names_of_view one ≡ names_of_view other
+all_names_same one other same marks =
+    ap (λ (names : List (List ℕ)). record { ports = names; nets = net_names one; cells = cell_names one; hidden = hidden_names one }) (port_names_same one other same marks)
+    ∙ ap (λ (names : List (List ℕ)). record { ports = port_names other; nets = names; cells = cell_names one; hidden = hidden_names one }) (net_names_same one other same marks)
+    ∙ ap (λ (names : List (List ℕ)). record { ports = port_names other; nets = net_names other; cells = names; hidden = hidden_names one }) (names_same one other same)
+    ∙ ap (λ (names : List (List ℕ)). record { ports = port_names other; nets = net_names other; cells = cell_names other; hidden = names }) (hidden_names_same one other same marks)
 
-fault_same : (one other : LinkedView) → IsSameView one other → (p : Plan) (seen : List PinSeen) → fault_with one p seen ≡ fault_with other p seen
-fault_same one other same p seen =
-    ap (λ (missing : Option FitFault). later_by p seen missing (port_names one) (net_names one) (cell_names one)) (missing_same one other same seen)
-    ∙ ap (λ (names : List (List ℕ)). later_by p seen (missing_fault other seen) names (net_names one) (cell_names one)) (port_names_same one other same)
-    ∙ ap (λ (names : List (List ℕ)). later_by p seen (missing_fault other seen) (port_names other) names (cell_names one)) (net_names_same one other same)
-    ∙ ap (later_by p seen (missing_fault other seen) (port_names other) (net_names other)) (names_same one other same)
+abbrev names_by : Plan → Names → Option FitFault
+names_by p n =
+    or_else (barred_after [] [] (p.entity ∷ p.«package» ∷ n.ports))
+    (or_else (barred_after (n.nets ++ (n.cells ++ n.hidden)) (p.entity ∷ p.«package» ∷ n.ports) (names_of (tap_lines p)))
+    (barred_after [] ((p.entity ∷ p.«package» ∷ n.ports) ++ names_of (tap_lines p)) (names_of p.linkage)))
 
-pub fitted_same : (one other : LinkedView) → IsSameView one other → (p : Plan) (seen : List PinSeen) → fitted_of one p seen ≡ fitted_of other p seen
-fitted_same one other same p seen =
+abbrev prefix_by : Plan → Names → Option FitFault
+prefix_by p n = first_in (begun_fault p.prefix) (n.ports ++ (n.nets ++ (n.cells ++ (n.hidden ++ names_of (tap_lines p)))))
+
+abbrev later_by : Plan → List PinSeen → Option FitFault → Names → Option FitFault
+later_by p seen missing names = or_else missing (or_else (twice_fault p seen) (or_else (cell_fault p.pins seen) (or_else (names_by p names) (prefix_by p names))))
+
+fault_same : (one other : LinkedView) → IsSameView one other → one.straight ≡ other.straight → (p : Plan) (seen : List PinSeen) → fault_with one p seen ≡ fault_with other p seen
+fault_same one other same marks p seen =
+    ap (λ (missing : Option FitFault). later_by p seen missing (names_of_view one)) (missing_same one other same marks seen)
+    ∙ ap (later_by p seen (missing_fault other seen)) (all_names_same one other same marks)
+
+pub fitted_same : (one other : LinkedView) → IsSameView one other → one.straight ≡ other.straight → (p : Plan) (seen : List PinSeen) → fitted_of one p seen ≡ fitted_of other p seen
+fitted_same one other same marks p seen =
     let count = count_same one other same in
-    rw (same.names, same.ports, count) refl
+    let own = own_same one other same marks in
+    rw (own, same.names, count) refl
 
 -- the netlist with test logic by the parts of the core's
 abbrev boundary_by : List PortView → List NetView → Fitted → Boundary
@@ -232,17 +269,21 @@ room_same one other same cells nets bits =
 abbrev room_for : LinkedView → Fitted → Option ReserveFault
 room_for L f = too_many L.arena.lists (room_of f) (room_of f) (ports_of f)
 
-pub gives_same : (one other : LinkedView) (p : Plan) (inserted : Module) (d : Device) → IsSameView one other → GivesAt one p inserted d → GivesAt other p inserted d
-gives_same one other p inserted d same g =
+pub gives_same : (one other : LinkedView) (p : Plan) (inserted : Module) (d : Device) → IsSameView one other → one.straight ≡ other.straight → GivesAt one p inserted d → GivesAt other p inserted d
+gives_same one other p inserted d same marks g =
     let seen : List PinSeen = g.fits.seen in
-    let fitted = fitted_same one other same p seen in
+    let fitted = fitted_same one other same marks p seen in
     let room : room_for other (fitted_of other p seen) ≡ None =
     ap (room_for other) (sym fitted) ∙ sym (room_same one other same (room_of (fitted_of one p seen)) (room_of (fitted_of one p seen)) (ports_of (fitted_of one p seen))) ∙ g.room in
     let taps : AreTapNames (with_tap_names (fitted_of other p seen) other.names) (fitted_of other p seen) g.names =
     subst (λ (f : Fitted). AreTapNames (with_tap_names f other.names) f g.names) fitted
     (subst (λ (table : List (List ℕ)). AreTapNames (with_tap_names (fitted_of one p seen) table) (fitted_of one p seen) g.names) same.names g.names_are) in
     record {
-      fits = record { seen = seen; are_seen = are_seen_same one other same p.pins seen g.fits.are_seen; faultless = sym (fault_same one other same p seen) ∙ g.fits.faultless };
+      fits = record {
+        seen = seen;
+        are_seen = are_seen_same one other same marks p.pins seen g.fits.are_seen;
+        faultless = sym (fault_same one other same marks p seen) ∙ g.fits.faultless;
+      };
       room = room;
       names = g.names;
       names_are = taps;

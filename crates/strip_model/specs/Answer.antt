@@ -5,7 +5,7 @@ use Rattle.verilog_tree.specs.declared.tree.Module.{Module}
 use Rattle.verilog_tree.specs.IsTree.{IsTree}
 use Rattle.cell_library.specs.declared.listed.ListedCell.{ListedCell}
 use Rattle.bsdl_device.specs.declared.values.Device.{Device}
-use Rattle.netlist_link.specs.Linked.{LinkedView}
+use Rattle.netlist_link.specs.Linked.{LinkedView, HidesNone}
 use Rattle.netlist_unlink.specs.Renumbered.{DenotesSame}
 use Rattle.plan_texts.specs.declared.plan.Plan.{Plan}
 use Rattle.strip_model.specs.Recovered.{recovered}
@@ -23,14 +23,14 @@ pub record IsAnswer (m : Module) (L : LinkedView) (inserted : Module) (d : Devic
 abbrev pub RecoveredGives : Type 0
 RecoveredGives = (m : Module) (L : LinkedView) (p : Plan) (inserted : Module) (d : Device) → IsTree inserted → Gives m L p inserted d → IsAnswer m L inserted d
 
--- own: what is recovered doesn't give them by any netlist with this library
+-- own: what is recovered doesn't give them by any netlist with this library and without hidden ports
 abbrev pub IsRefused : List ListedCell → Module → Device → Type 0
 IsRefused library inserted d =
-    (found : Module × Plan) (L : LinkedView) → L.arena.lists.library ≡ library → recovered inserted d ≡ Some found → Gives found.0 L found.1 inserted d → ⊥
+    (found : Module × Plan) (L : LinkedView) → L.arena.lists.library ≡ library → HidesNone L → recovered inserted d ≡ Some found → Gives found.0 L found.1 inserted d → ⊥
 
--- own: nothing gives them by a netlist with this library
+-- own: nothing gives them by such a netlist
 abbrev pub IsNotInserted : List ListedCell → Module → Device → Type 0
-IsNotInserted library inserted d = (m : Module) (L : LinkedView) (p : Plan) → L.arena.lists.library ≡ library → Gives m L p inserted d → ⊥
+IsNotInserted library inserted d = (m : Module) (L : LinkedView) (p : Plan) → L.arena.lists.library ≡ library → HidesNone L → Gives m L p inserted d → ⊥
 
 -- own: where what is recovered doesn't give them, nothing does
 abbrev pub RefusedByAll : Type 0

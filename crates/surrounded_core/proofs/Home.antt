@@ -12,6 +12,7 @@ use Rattle.signal_values.specs.declared.PinSig.TheVariants.{HighZ}
 use Rattle.signal_values.specs.Values.{bit}
 use Rattle.cell_library.specs.declared.Edge.TheVariants.{Fall}
 use Rattle.netlist_model.specs.declared.Feed.{Feed}
+use Rattle.netlist_model.specs.declared.NetId.{NetId}
 use Rattle.netlist_model.specs.Lists.{NetlistView}
 use Rattle.netlist_model.specs.Settled.{IsSettled}
 use Rattle.netlist_model.specs.Runs.{Moment, PinEvent, IsStep, FlopsStart}
@@ -42,11 +43,12 @@ use Rattle.wrapped_chip.specs.ChipRuns.{ChipMoment, ChipEvent}
 use Rattle.wrapped_chip.specs.Home.{IsOutside, OutsideGoesOn, IsRunFromBits, FallsHome, IsHome}
 use Rattle.wrapped_chip.specs.Realises.{SameOutside, SameEvents}
 use Rattle.surrounded_core.specs.Places.{Places, controller_nets, selection_nets, bypass_bit, code_values, ident_bit}
-use Rattle.surrounded_core.specs.Surrounds.{Surrounds}
-use Rattle.surrounded_core.specs.Home.{IsControllerAdded, SurroundedFindsHome}
+use Rattle.surrounded_core.specs.Open.{HoldsAsChip}
+use Rattle.surrounded_core.specs.Surrounds.{SurroundsBy}
+use Rattle.surrounded_core.specs.Home.{IsControllerAdded, SurroundedFindsHome, SurroundedFollowsFromHome}
 use Rattle.surrounded_core.proofs.Outside.{outside_always}
-use Rattle.surrounded_core.proofs.Parts.{RunLaws, HoldsMachine, Scene, Levelled, levelled_by, carried_by, moded_by, bypass_held}
-use Rattle.surrounded_core.proofs.Along.{seen_at, is_chip_run, reads_then}
+use Rattle.surrounded_core.proofs.Parts.{RunLaws, HoldsMachine, Scene, Levelled, levelled_by, levelled, carried_by, carried, moded_by, state_shown, instruction_followed, bypass_held}
+use Rattle.surrounded_core.proofs.Along.{seen_at, is_chip_run, tdo_begins, tdo_moves, bit_read, reads_then}
 
 -- the laws that it stands on
 pub record HomeLaws : Type 0 where
@@ -119,7 +121,7 @@ shift_long constants value first codes fit =
     chain_long value (first + 1) (pattern_bits codes codes.capture) ∙ (constants codes.length codes.capture.value).counted ∙ sym fit.capture
     ∙ sym (bits_long codes.capture.len codes.capture.value)
 
-machine_is_home : HomeLaws → (M N : NetlistView) (B : Device) (S : Places) → Surrounds M N B S → (m : Moment) → IsHome (test_logic_of B) (read_machine B S m)
+machine_is_home : HomeLaws → (M N : NetlistView) (B : Device) (S : Places) {shown : NetId} → SurroundsBy M N B S shown → (m : Moment) → IsHome (test_logic_of B) (read_machine B S m)
 machine_is_home laws M N B S around m = record {
   state = refl;
   latched = refl;
@@ -149,8 +151,8 @@ no_rise false false e = refl
 
 -- A run from bits, up to the falling edge and past it.
 
-record Fallen (M N : NetlistView) (B : Device) (S : Places) (events : List ChipEvent) (outside : ℕ → ChipMoment) (moment : ℕ → Moment) (t : ℕ) : Type 0 where
-  around : Surrounds M N B S
+record Fallen (M N : NetlistView) (B : Device) (S : Places) (shown : NetId) (events : List ChipEvent) (outside : ℕ → ChipMoment) (moment : ℕ → Moment) (t : ℕ) : Type 0 where
+  around : SurroundsBy M N B S shown
   added : IsControllerAdded M N S
   is_outside : IsOutside N events outside
   from : IsRunFromBits M N events outside moment
@@ -174,9 +176,9 @@ settled_in : (M : NetlistView) (there : List PinEvent) (moment : ℕ → Moment)
 settled_in M there moment course zero h = course.settled
 settled_in M there moment course (suc u) h = let other = slice_get_there there u (omega arith) in (course.steps u other.0 other.1).settled
 
-at_moment : (M N : NetlistView) (B : Device) (S : Places) (events : List ChipEvent) (outside : ℕ → ChipMoment) (moment : ℕ → Moment) (t : ℕ) → Fallen M N B S events outside moment t
+at_moment : (M N : NetlistView) (B : Device) (S : Places) (shown : NetId) (events : List ChipEvent) (outside : ℕ → ChipMoment) (moment : ℕ → Moment) (t : ℕ) → Fallen M N B S shown events outside moment t
     → (u : ℕ) → u ≤ length events → AtMoment M N S outside moment u
-at_moment M N B S events outside moment t f u h =
+at_moment M N B S shown events outside moment t f u h =
     let from = f.from in
     let course = course_of M N events outside moment from in
     let settled = settled_in M from.there moment course u (there_within M N events outside moment from u h) in
@@ -184,12 +186,12 @@ at_moment M N B S events outside moment t f u h =
     record { settled = settled; same = same; levelled = levelled_by M N B S f.around (outside u) (moment u) settled same }
 
 -- in Test-Logic-Reset after five rising edges
-in_reset : HomeLaws → (M N : NetlistView) (B : Device) (S : Places) (events : List ChipEvent) (outside : ℕ → ChipMoment) (moment : ℕ → Moment) (t : ℕ) → Fallen M N B S events outside moment t
+in_reset : HomeLaws → (M N : NetlistView) (B : Device) (S : Places) (shown : NetId) (events : List ChipEvent) (outside : ℕ → ChipMoment) (moment : ℕ → Moment) (t : ℕ) → Fallen M N B S shown events outside moment t
     → (u : ℕ) → u ≤ length events → RisesWithOnes (λ v. (outside v).levels) u → 5 ≤ rises (λ v. (outside v).levels) u → HoldsState S.controller TestLogicReset (moment u)
-in_reset laws M N B S events outside moment t f u h ones five =
+in_reset laws M N B S shown events outside moment t f u h ones five =
     let from = f.from in
     let home = laws.home S.controller S.controller_number S.tck S.tms S.trst in
-    let moded = λ (v : ℕ) (g : v ≤ length events). moded_by S (outside v).levels (moment v) (at_moment M N B S events outside moment t f v g).levelled in
+    let moded = λ (v : ℕ) (g : v ≤ length events). moded_by S (outside v).levels (moment v) (at_moment M N B S shown events outside moment t f v g).levelled in
     let bits : HoldsBits S.controller (moment 0)
     = home.starts M from.start (outside 0).levels (moment 0) f.around.formed f.around.registers.controller from.run.start (moded 0 (omega arith))
     (λ s i cell kind live flop out. from.bits i cell kind live flop (f.added s i cell live out)) in
@@ -210,9 +212,9 @@ past_fall levels t f =
     )
 
 -- the parts hold the machine that is read from them
-holds_home : HomeLaws → (M N : NetlistView) (B : Device) (S : Places) (events : List ChipEvent) (outside : ℕ → ChipMoment) (moment : ℕ → Moment) (t : ℕ) → Fallen M N B S events outside moment t
+holds_home : HomeLaws → (M N : NetlistView) (B : Device) (S : Places) (shown : NetId) (events : List ChipEvent) (outside : ℕ → ChipMoment) (moment : ℕ → Moment) (t : ℕ) → Fallen M N B S shown events outside moment t
     → HoldsMachine B S (read_machine B S (moment (suc t))) (moment (suc t))
-holds_home laws M N B S events outside moment t f =
+holds_home laws M N B S shown events outside moment t f =
     let by = laws.by in
     let around = f.around in
     let L : TestLogic = test_logic_of B in
@@ -220,8 +222,8 @@ holds_home laws M N B S events outside moment t f =
     let within : suc t ≤ length events = f.within in
     let before : t ≤ length events = omega arith in
     let there : suc t ≤ length f.from.there = there_within M N events outside moment f.from (suc t) within in
-    let now = at_moment M N B S events outside moment t f t before in
-    let next_moment = at_moment M N B S events outside moment t f (suc t) within in
+    let now = at_moment M N B S shown events outside moment t f t before in
+    let next_moment = at_moment M N B S shown events outside moment t f (suc t) within in
     let m : Moment = moment t in
     let m' : Moment = moment (suc t) in
     let event = slice_get_there f.from.there t (omega arith) in
@@ -229,19 +231,19 @@ holds_home laws M N B S events outside moment t f =
     let carries = carried_by S (levels t) m now.levelled in
     let carries' = carried_by S (levels (suc t)) m' next_moment.levelled in
     let tap = by.tap S.controller S.controller_number S.tck S.tms S.trst in
-    let shows = tap.shows TestLogicReset m (in_reset laws M N B S events outside moment t f t before f.falls.ones f.falls.five) in
+    let shows = tap.shows TestLogicReset m (in_reset laws M N B S shown events outside moment t f t before f.falls.ones f.falls.five) in
     let past = past_fall levels t f.falls in
     let machine : Machine = record (reset L) { shift = held_shift m.value S.instruction S.codes; latched = held_opcode m.value S.instruction S.codes } in
     let held : HoldsStages S.instruction S.codes machine m = record { shift = refl; latched = refl } in
     let next = (by.instruction S.instruction S.instruction_number (controller_nets S) S.tdi S.codes M L around.formed around.registers.instruction around.codes.codes around.codes.fit).step event.0
     (levels t) (levels (suc t)) [] machine m m' now.settled step (record { carries = carries; shows = shows; data_in = now.levelled.tdi }) carries' held in
     record {
-      controller = in_reset laws M N B S events outside moment t f (suc t) within past.0 past.1;
+      controller = in_reset laws M N B S shown events outside moment t f (suc t) within past.0 past.1;
       stages = record { shift = refl; latched = next.latched ∙ latches_home L (levels t) (levels (suc t)) [] machine refl f.falls.falls };
       legible = (by.legible S.codes L around.codes.codes).reset (read_machine B S m') refl refl;
       bypass = refl;
       ident = λ code e. sym (ap (λ (o : Option ℕ). option_map_or (code_values S m'.value) o []) e);
-      tdo = laws.lets_go S.driver S.driver_number (controller_nets S) (selection_nets S) (bypass_bit S) (ident_bit S) S.nearest S.tdo M event.0 (levels t) (levels (suc t)) m m' around.formed
+      tdo = laws.lets_go S.driver S.driver_number (controller_nets S) (selection_nets S) shown (ident_bit S) S.nearest S.tdo M event.0 (levels t) (levels (suc t)) m m' around.formed
           around.registers.tdo now.settled step carries carries' shows f.falls.falls;
       rows = λ place row there_row. record {
         shift = sym (bit_from (λ p. m'.value (S.row p)) B.cells place 0 row there_row ∙ ap (λ (p : ℕ). m'.value (S.row p)) (let z : 0 + place ≡ place = omega arith in z));
@@ -277,9 +279,9 @@ events_from M N events there first same = record {
   each = λ t event other here at. same.each (first + t) event other (sym (drop_get events first t) ∙ here) (sym (drop_get there first t) ∙ at);
 }
 
-home_scene : HomeLaws → (M N : NetlistView) (B : Device) (S : Places) (events : List ChipEvent) (outside : ℕ → ChipMoment) (moment : ℕ → Moment) (t : ℕ) → Fallen M N B S events outside moment t
+home_scene : HomeLaws → (M N : NetlistView) (B : Device) (S : Places) (shown : NetId) (events : List ChipEvent) (outside : ℕ → ChipMoment) (moment : ℕ → Moment) (t : ℕ) → Fallen M N B S shown events outside moment t
     → Scene
-home_scene laws M N B S events outside moment t f =
+home_scene laws M N B S shown events outside moment t f =
     let home : ℕ = suc t in
     let from = f.from in
     let there : home ≤ length from.there = there_within M N events outside moment from home f.within in
@@ -289,7 +291,7 @@ home_scene laws M N B S events outside moment t f =
       inner = N;
       device = B;
       places = S;
-      shown = bypass_bit S;
+      shown = shown;
       around = f.around;
       events = drop home events;
       outside = λ u. outside (home + u);
@@ -297,24 +299,60 @@ home_scene laws M N B S events outside moment t f =
       there = drop home from.there;
       same_events = events_from M N events from.there home from.same_events;
       moment = λ u. moment (home + u);
-      same_pins = subst (λ (u : ℕ). SameOutside M N (outside u) (moment u).pins) e (at_moment M N B S events outside moment t f home f.within).same;
+      same_pins = subst (λ (u : ℕ). SameOutside M N (outside u) (moment u).pins) e (at_moment M N B S shown events outside moment t f home f.within).same;
       course = course_from M from.there moment home there (course_of M N events outside moment from);
       given = (moment home).state;
       rests = subst (λ (u : ℕ). FlopsStart M (moment home).state (moment u).value (moment u).state) e rest;
       begun = read_machine B S (moment home);
-      holds = subst (λ (u : ℕ). HoldsMachine B S (read_machine B S (moment home)) (moment u)) e (holds_home laws M N B S events outside moment t f);
+      holds = subst (λ (u : ℕ). HoldsMachine B S (read_machine B S (moment home)) (moment u)) e (holds_home laws M N B S shown events outside moment t f);
     }
 
 pub finds_home : HomeLaws → SurroundedFindsHome
 unfolding home_scene
 finds_home laws = λ M N B S around added events outside moment is from t within falls.
-    let f : Fallen M N B S events outside moment t = record { around = around; added = added; is_outside = is; from = from; within = within; falls = falls } in
-    let r : Scene = home_scene laws M N B S events outside moment t f in record {
+    let shown : NetId = bypass_bit S in
+    let f : Fallen M N B S shown events outside moment t = record { around = around; added = added; is_outside = is; from = from; within = within; falls = falls } in
+    let r : Scene = home_scene laws M N B S shown events outside moment t f in record {
+      machine = read_machine B S (moment (suc t));
+      is_home = machine_is_home laws M N B S around (moment (suc t));
+      held = [];
+      long = refl;
+      chip = seen_at r;
+      run = is_chip_run laws.by r;
+      levels = λ u. refl;
+      pins = λ u net. refl;
+      reads = λ u h. reads_then laws.by r (λ v g. bypass_held laws.by r v g) u h;
+    }
+
+-- Whatever is shown in the place of the bypass bit.
+
+seen_holds : RunLaws → (r : Scene) (t : ℕ) → t ≤ length r.events → HoldsAsChip r.outer r.device r.inner r.places (r.moment t) (seen_at r t)
+seen_holds by r t below = record {
+  bits = λ net read. bit_read by r t below net read;
+  kept = λ i cell kind live flop. refl;
+  core = λ net. refl;
+  levels = carried r t below;
+  data_in = (levelled r t below).tdi;
+  shows = state_shown by r t below;
+  instruction = instruction_followed by r t below;
+  bypass = bypass_held by r t below;
+}
+
+pub follows_from_home : HomeLaws → SurroundedFollowsFromHome
+unfolding home_scene
+follows_from_home laws = λ M N B S shown around added events outside moment is from t within falls.
+    let f : Fallen M N B S shown events outside moment t = record { around = around; added = added; is_outside = is; from = from; within = within; falls = falls } in
+    let r : Scene = home_scene laws M N B S shown events outside moment t f in record {
       machine = read_machine B S (moment (suc t));
       is_home = machine_is_home laws M N B S around (moment (suc t));
       chip = seen_at r;
       run = is_chip_run laws.by r;
       levels = λ u. refl;
       pins = λ u net. refl;
-      reads = λ u h. reads_then laws.by r (λ v g. bypass_held laws.by r v g) u h;
+      follows = record {
+        holds = λ u h. seen_holds laws.by r u h;
+        tap = around.ports.tdo;
+        off = tdo_begins laws.by r;
+        tdo = λ u h. tdo_moves laws.by r u h;
+      };
     }

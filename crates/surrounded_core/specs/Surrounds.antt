@@ -1,6 +1,6 @@
 -- A core with a device's test logic around it, in a netlist.
 -- IEEE Std 1149.1-2001: test logic architecture, boundary-scan register; the record is own.
-use Rattle.std.specs.Prelude.{◌≡◌, ◌<◌, ℕ, suc, true, length, slice_get, Some, None}
+use Rattle.std.specs.Prelude.{◌≡◌, ◌⊎◌, ◌<◌, ℕ, suc, true, length, slice_get, Some, None}
 use Rattle.cell_library.specs.declared.codes.Instr.{Instr}
 use Rattle.netlist_model.specs.declared.NetId.{NetId}
 use Rattle.netlist_model.specs.declared.Dir.{Dir}
@@ -24,7 +24,7 @@ use Rattle.wrapped_chip.specs.Beside.{HasPins}
 use Rattle.wrapped_chip.specs.Suits.{IsRead}
 use Rattle.surrounded_core.specs.Rows.{row_cells, row_kind}
 use Rattle.surrounded_core.specs.Places.{Places, input_net, selection_nets, HasRegistersBy, bypass_bit}
-use Rattle.surrounded_core.specs.Sites.{StandsAround, HasRowAt, IsDrivenBy, IsSeenOn}
+use Rattle.surrounded_core.specs.Sites.{StandsAround, HasRowAt, IsStraight, IsDrivenBy, IsSeenOn}
 
 -- own: M's ports begin with N's, and the test access port is on these nets
 pub record HasPorts (M N : NetlistView) (S : Places) : Type 0 where
@@ -53,8 +53,8 @@ pub record HasRows (M N : NetlistView) (B : Device) (S : Places) : Type 0 where
   pub inner : (place : ℕ) (r : CellRow) → slice_get B.cells (suc place) ≡ Some r → S.next place ≡ record { 0 = S.row (suc place) }
   pub last : (place : ℕ) → slice_get B.cells (suc place) ≡ None → S.next place ≡ S.tdi
   -- each bit has its row, which drives it where it is an output or an inout, and through which the core sees it where
-  -- it is an input or an inout
-  pub bits : (net : ℕ) (dir : Dir) → direction N.ports net ≡ Some dir → HasRowAt B N net
+  -- it is an input or an inout; or it is straight
+  pub bits : (net : ℕ) (dir : Dir) → direction N.ports net ≡ Some dir → HasRowAt B N net ⊎ IsStraight M N B S net
   pub driven : (place : ℕ) (r : CellRow) (net : NetId) → slice_get B.cells place ≡ Some r → net_of_row N r ≡ Some net → IsRead N net.0 → IsDrivenBy M N B S net.0 place r
   pub seen : (place : ℕ) (r : CellRow) (net : NetId) → slice_get B.cells place ≡ Some r → net_of_row N r ≡ Some net → follows_pin (direction N.ports net.0) ≡ true
       → IsSeenOn (S.gates place) net.0 (S.to net.0)

@@ -16,14 +16,14 @@
 // - With the bypass bit it realises the chip (`surrounded_core_realises`).
 // - Its proofs run from any moment at which the parts hold a machine: a power-up is one such moment
 //   (`surrounded_core_follows`, `surrounded_core_reads`), and the falling edge after five ones another
-//   (`surrounded_core_finds_home`).
+//   (`surrounded_core_finds_home`; whatever TDO takes, `surrounded_core_follows_from_home`).
 // - `levels`: numbers of the parts' nets, of which the order of a whole chip is made. Laws.
 // - `rows`: rows of the boundary register as gates, over whole runs. Laws.
 // By the contract of its law functions.
 #![tactic(auto)]
 
 ghost use Rattle.surrounded_core.specs.Laws.{SurroundedStands, SurroundedReads, SurroundedRealises};
-ghost use Rattle.surrounded_core.specs.Home.{SurroundedFindsHome};
+ghost use Rattle.surrounded_core.specs.Home.{SurroundedFindsHome, SurroundedFollowsFromHome};
 ghost use Rattle.surrounded_core.specs.Open.{SurroundedFollows};
 
 pub mod levels;
@@ -118,6 +118,33 @@ pub fn surrounded_core_realises()
 /// And it finds home from whatever its test logic holds.
 pub fn surrounded_core_finds_home()
     ensures { SurroundedFindsHome }
+{
+    surrounded_core_stands();
+    rows_follow();
+    rows_step_as_bits();
+    chip_rows();
+    lengths_stay();
+    selected_steers();
+    tap_follows();
+    step_is_the_machines();
+    tap_finds_home();
+    instruction_steps();
+    instructions_stay_legible();
+    steps_by_register();
+    constants_are_bits();
+    bypass_follows();
+    ident_follows();
+    tdo_follows();
+    tdo_lets_go();
+    nested_behind_starts();
+    nested_behind_steps();
+    bit_of_a_direction();
+    outside_goes_on();
+}
+
+/// So it follows the chip from home, whatever is shown in the place of the bypass bit.
+pub fn surrounded_core_follows_from_home()
+    ensures { SurroundedFollowsFromHome }
 {
     surrounded_core_stands();
     rows_follow();

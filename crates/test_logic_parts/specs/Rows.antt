@@ -1,10 +1,13 @@
 -- What the boundary register needs of a netlist, and the nets that its cells give their values.
 -- IEEE Std 1149.1-2001: boundary-scan register; the order of the nets is own.
 use Rattle.std.specs.Prelude.{◌≡◌, ◌≢◌, ℕ, ◌+◌, ◌*◌, ◌^◌, ◌<◌, ◌≤◌, List, [], ◌∷◌, ◌++◌, All, length, ⊤, MatchOption, IsSome}
+use Rattle.netlist_model.specs.declared.NetId.{NetId}
 use Rattle.netlist_model.specs.Lists.{NetlistView}
 use Rattle.netlist_model.specs.Below.{IsFeedBelow}
 use Rattle.netlist_arena.specs.Arena.{ArenaView}
 use Rattle.netlist_arena.specs.Adds.{IsFree}
+use Rattle.test_logic.specs.declared.ScanNets.{ScanNets}
+use Rattle.boundary_cells.specs.Cells.{AreScanNetsBelow}
 use Rattle.plan_fitting.specs.declared.fitted.FitRow.{FitRow}
 use Rattle.core_sides.specs.stitched_netlist.declared.model.Site.{Site}
 use Rattle.core_sides.specs.stitched_netlist.declared.model.Site.TheVariants as site
@@ -48,6 +51,15 @@ abbrev pub AreFree : NetlistView → List ℕ → Type 0
 AreFree N [] = ⊤
 AreFree N (net ∷ nets) = (net < length N.nets) × IsFree N net × AreFree N nets
 
+-- own: nothing drives these nets, which are there, and none stands twice
+pub record CanBeDriven (N : NetlistView) (into : List ℕ) : Type 0 where
+  pub free : AreFree N into
+  pub apart : AreApart into
+
+-- own: a net that nothing drove, and that is none of these, stays so
+abbrev pub KeepsFree : NetlistView → NetlistView → List ℕ → Type 0
+KeepsFree old new into = (net : ℕ) → IsApart into net → net < length old.nets → IsFree old net → IsFree new net
+
 -- What the rows need.
 
 -- own: each row's bit is one of the ports, and the numbers of the nets between fit
@@ -65,6 +77,14 @@ pub record IsReady (B : Boundary) (nets : ℕ) (row : FitRow) : Type 0 where
   pub level : site_of B.ports row ≡ site.AddedDriver → (level_net B row).0 < nets
   pub control : MatchOption row.control ⊤ (λ number. number < length B.rows)
   pub inout : site_of B.ports row ≡ site.Inout → IsSome row.control
+
+-- own: what the cell of a row is joined to is there: the net of its bit, and the next bit towards TDI
+pub record IsJoined (B : Boundary) (scan : ScanNets) (nets : ℕ) (row : FitRow) (net next : NetId) : Type 0 where
+  pub steered : AreScanNetsBelow nets scan
+  pub boundary : IsBoundary B
+  pub ready : IsReady B nets row
+  pub net_is : net ≡ net_at B row
+  pub next_there : next.0 < nets
 
 -- own: the rows of a boundary can be added to a netlist: at most seven nets and eight cells for each
 pub record CanTakeRows (arena : ArenaView) (B : Boundary) : Type 0 where

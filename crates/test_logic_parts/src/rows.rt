@@ -11,7 +11,7 @@ ghost use Rattle.core_sides.specs.stitched_netlist.Sites as sites;
 ghost use Rattle.core_sides.specs.stitched_netlist.Sides as sides;
 ghost use Rattle.core_sides.specs.stitched_netlist.ModelRows as model;
 ghost use Rattle.core_sides.specs.Pins.{IsPinThere, between};
-ghost use Rattle.test_logic_parts.specs.Rows.{into_at, into_of, into_from, IsApart, AreApart, AreFree, IsBoundary, IsReady, CanTakeRows};
+ghost use Rattle.test_logic_parts.specs.Rows.{into_at, into_of, into_from, AreFree, CanBeDriven, CanTakeRows, IsJoined, KeepsFree};
 
 use boundary_cells::{
     add_bidir_cell, add_control_cell, add_input_cell, add_observe_cell, add_output_cell,
@@ -57,28 +57,20 @@ fn add_driven_output(
     requires dense { IsDense netlist.old.lists }
     requires nets { 6 ≤ netlist.old.spare.nets }
     requires cells { 8 ≤ netlist.old.spare.cells }
-    requires scan { AreScanNetsBelow (length netlist.old.lists.nets) scan.now }
-    requires boundary { IsBoundary (between netlist.old.lists.ports rows.now first) }
-    requires ready { IsReady (between netlist.old.lists.ports rows.now first)
-        (length netlist.old.lists.nets) row.now }
+    requires joined { IsJoined (between netlist.old.lists.ports rows.now first) scan.now
+        (length netlist.old.lists.nets) row.now at.net at.next }
     requires level { (sides.level_net (between netlist.old.lists.ports rows.now first) row.now).0 < length
         netlist.old.lists.nets }
-    requires net { at.net ≡ model.net_at (between netlist.old.lists.ports rows.now first) row.now }
     requires side { at.side.0 + 1 < 2 ^ 32 }
-    requires next { at.next.0 < length netlist.old.lists.nets }
-    requires free { AreFree netlist.old.lists
+    requires into { CanBeDriven netlist.old.lists
         (into_at (between netlist.old.lists.ports rows.now first) at.side.0 row.now places.AddedDriver) }
-    requires apart { AreApart (into_at (between netlist.old.lists.ports rows.now first) at.side.0 row.now
-        places.AddedDriver) }
     ensures shift { result.0 ≡ length netlist.old.lists.nets }
     ensures added { Appended netlist.old netlist.new (stage_count row.now.cell)
         (model.site_cells (between netlist.old.lists.ports rows.now first) scan.now (length netlist.old.lists.nets)
         (cell_count netlist.old.lists) at.side.0 row.now at.next places.AddedDriver) }
     ensures dense { IsDense netlist.new.lists }
-    ensures free { (net : ℕ) → IsApart (into_at
-        (between netlist.old.lists.ports rows.now first) at.side.0 row.now places.AddedDriver) net
-        → net < length netlist.old.lists.nets → IsFree netlist.old.lists net
-        → IsFree netlist.new.lists net }
+    ensures free { KeepsFree netlist.old.lists netlist.new.lists
+        (into_at (between netlist.old.lists.ports rows.now first) at.side.0 row.now places.AddedDriver) }
 {
     let into = NetId(at.side.0 + 1);
     let level = level_net(netlist, rows, first, row);
@@ -101,13 +93,9 @@ fn add_inout(
     requires dense { IsDense netlist.old.lists }
     requires nets { 7 ≤ netlist.old.spare.nets }
     requires cells { 8 ≤ netlist.old.spare.cells }
-    requires scan { AreScanNetsBelow (length netlist.old.lists.nets) scan.now }
-    requires boundary { IsBoundary (between netlist.old.lists.ports rows.now first) }
-    requires ready { IsReady (between netlist.old.lists.ports rows.now first)
-        (length netlist.old.lists.nets) row.now }
+    requires joined { IsJoined (between netlist.old.lists.ports rows.now first) scan.now
+        (length netlist.old.lists.nets) row.now at.net at.next }
     requires control { IsSome row.now.control }
-    requires net { at.net ≡ model.net_at (between netlist.old.lists.ports rows.now first) row.now }
-    requires next { at.next.0 < length netlist.old.lists.nets }
     requires free { AreFree netlist.old.lists
         (into_at (between netlist.old.lists.ports rows.now first) at.side.0 row.now places.Inout) }
     ensures shift { result.0 ≡ length netlist.old.lists.nets }
@@ -149,29 +137,21 @@ fn add_row(
     requires dense { IsDense netlist.old.lists }
     requires nets { 7 ≤ netlist.old.spare.nets }
     requires cells { 8 ≤ netlist.old.spare.cells }
-    requires scan { AreScanNetsBelow (length netlist.old.lists.nets) scan.now }
-    requires boundary { IsBoundary (between netlist.old.lists.ports rows.now first) }
+    requires joined { IsJoined (between netlist.old.lists.ports rows.now first) scan.now
+        (length netlist.old.lists.nets) row.now at.net at.next }
     requires pin { IsPinThere netlist.old.lists.ports row.now }
-    requires ready { IsReady (between netlist.old.lists.ports rows.now first)
-        (length netlist.old.lists.nets) row.now }
-    requires net { at.net ≡ model.net_at (between netlist.old.lists.ports rows.now first) row.now }
     requires side { at.side.0 + sites.row_sides netlist.old.lists.ports row.now ≤ length
         netlist.old.lists.nets }
-    requires next { at.next.0 < length netlist.old.lists.nets }
-    requires free { AreFree netlist.old.lists
+    requires into { CanBeDriven netlist.old.lists
         (into_of (between netlist.old.lists.ports rows.now first) at.side.0 row.now) }
-    requires apart { AreApart (into_of (between netlist.old.lists.ports rows.now first) at.side.0
-        row.now) }
     requires fits { at.side.0 + 1 < 2 ^ 32 }
     ensures shift { result.0 ≡ length netlist.old.lists.nets }
     ensures added { Appended netlist.old netlist.new (model.row_nets netlist.old.lists.ports row.now)
         (model.row_cells (between netlist.old.lists.ports rows.now first) scan.now (length netlist.old.lists.nets)
         (cell_count netlist.old.lists) at.side.0 row.now at.next) }
     ensures dense { IsDense netlist.new.lists }
-    ensures free { (net : ℕ) → IsApart (into_of
-        (between netlist.old.lists.ports rows.now first) at.side.0 row.now) net
-        → net < length netlist.old.lists.nets → IsFree netlist.old.lists net
-        → IsFree netlist.new.lists net }
+    ensures free { KeepsFree netlist.old.lists netlist.new.lists
+        (into_of (between netlist.old.lists.ports rows.now first) at.side.0 row.now) }
 {
     let Place { net, side, next } = at;
     match site_of(netlist, row) {
@@ -213,10 +193,8 @@ pub fn add_rows(
         (model.rows_cells (between netlist.old.lists.ports rows.now first) scan.now (length netlist.old.lists.nets)
         (cell_count netlist.old.lists) tdi first.0 rows.now) }
     ensures dense { IsDense netlist.new.lists }
-    ensures free { (net : ℕ) → IsApart (into_from
-        (between netlist.old.lists.ports rows.now first) first.0 rows.now) net
-        → net < length netlist.old.lists.nets → IsFree netlist.old.lists net
-        → IsFree netlist.new.lists net }
+    ensures free { KeepsFree netlist.old.lists netlist.new.lists
+        (into_from (between netlist.old.lists.ports rows.now first) first.0 rows.now) }
 {
     appended_none();
     appended_count();

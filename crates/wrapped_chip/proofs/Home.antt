@@ -13,7 +13,7 @@ use Rattle.test_logic.specs.bsdl_device.declared.values.Device.{Device}
 use Rattle.test_logic.specs.Machine.{Machine}
 use Rattle.wrapped_chip.specs.ChipRuns.{ChipMoment, ChipEvent}
 use Rattle.wrapped_chip.specs.Home.{AreBits, IsRunFromBits, IsChipRunFrom}
-use Rattle.wrapped_chip.specs.CopiesLaws.{HasNumbers, KeepsNumbers, RenumberedFindsHome}
+use Rattle.wrapped_chip.specs.CopiesLaws.{HasNumbers, KeepsNumbers, RenumberedFindsHomeBy}
 use Rattle.wrapped_chip.proofs.Pins.{CopyLaws, same_events, events_back, reads_bit, reads_tdo}
 use Rattle.wrapped_chip.proofs.CopiesBeside.{pins_seen, flops_back}
 
@@ -62,12 +62,14 @@ chip_from begun B N given other events chip same run = record {
   steps = run.steps;
 }
 
-pub home_there : CopyLaws → RenumberedFindsHome
-home_there laws M M' N B to at r formed has stay finds events outside moment is from t within falls =
+pub home_there : CopyLaws → RenumberedFindsHomeBy
+home_there laws M M' N B lengths tdo to at r formed has stay finds events outside moment is from t within falls =
     let home : ℕ = suc t in
     let old = finds events outside (λ u. seen_moment to at (moment u)) is (from_seen laws M M' N to at r formed has stay events outside moment from) t within falls in record {
       machine = old.machine;
       is_home = old.is_home;
+      held = old.held;
+      long = old.long;
       chip = old.chip;
       run = chip_from old.machine B N (λ i. (moment home).state (at i)) (moment home).state (drop home events) old.chip
           (λ i cell live. ap (moment home).state (stay i cell live)) old.run;

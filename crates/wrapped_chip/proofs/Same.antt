@@ -6,7 +6,7 @@ use Rattle.netlist_model.specs.declared.Feed.TheVariants.{Net, Const}
 use Rattle.netlist_model.specs.Lists.{PortView, CellView, NetlistView, cell_at}
 use Rattle.netlist_model.specs.Nested.{renamed_net, renamed_feed, renamed_cell}
 use Rattle.netlist_model.specs.Renumbered.{ArePortImages, IsCopied, IsRenumbering}
-use Rattle.wrapped_chip.specs.CopiesLaws.{RenumberedRealisesBy, RenumberedAlone, RenumberedFindsHome, SameRealisesBy, SameAlone, SameFindsHome}
+use Rattle.wrapped_chip.specs.CopiesLaws.{RenumberedRealisesBy, RenumberedAlone, RenumberedFindsHomeBy, SameRealisesBy, SameAlone, SameFindsHomeBy}
 
 -- the same number
 abbrev itself : ℕ → ℕ
@@ -63,5 +63,5 @@ same_realises copies M M' N B tdo library ports cells formed realises = copies M
 pub same_is_alone : RenumberedAlone → SameAlone
 same_is_alone copies M M' N B library ports cells formed alone = copies M M' N B itself itself (numbered_anew M M' library ports cells) formed (λ i cell live. refl) alone
 
-pub same_finds_home : RenumberedFindsHome → SameFindsHome
-same_finds_home copies M M' N B library ports cells formed has finds = copies M M' N B itself itself (numbered_anew M M' library ports cells) formed has (λ i cell live. refl) finds
+pub same_finds_home : RenumberedFindsHomeBy → SameFindsHomeBy
+same_finds_home copies M M' N B lengths tdo library ports cells formed has finds = copies M M' N B lengths tdo itself itself (numbered_anew M M' library ports cells) formed has (λ i cell live. refl) finds

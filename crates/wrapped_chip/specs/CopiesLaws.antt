@@ -1,7 +1,7 @@
 -- A netlist that behaves as a wrapped chip does so with its nets and cells numbered anew, and has the control
 -- ports that it had.
 -- Own. For IEEE Std 1149.1-2001 see wrapped_chip.
-use Rattle.std.specs.Prelude.{◌≡◌, ℕ, Some}
+use Rattle.std.specs.Prelude.{◌≡◌, ℕ, List, Some}
 use Rattle.signal_values.specs.declared.PinSig.{PinSig}
 use Rattle.netlist_model.specs.Lists.{CellView, NetlistView, cell_at}
 use Rattle.netlist_model.specs.Formed.{IsWellFormed}
@@ -10,7 +10,7 @@ use Rattle.test_logic.specs.bsdl_device.declared.values.Device.{Device}
 use Rattle.wrapped_chip.specs.ChipRuns.{ChipMoment}
 use Rattle.wrapped_chip.specs.Realises.{RealisesBy, Realises, Alone}
 use Rattle.wrapped_chip.specs.Legal.{HasControls}
-use Rattle.wrapped_chip.specs.Home.{FindsHome}
+use Rattle.wrapped_chip.specs.Home.{HeldTdo, FindsHomeBy, FindsHome}
 
 -- own: the numbers of the chip's cells stay
 abbrev pub KeepsNumbers : NetlistView → (ℕ → ℕ) → Type 0
@@ -51,12 +51,22 @@ SameAlone = (M M' N : NetlistView) (B : Device) → M.library ≡ M'.library →
 abbrev pub HasNumbers : NetlistView → NetlistView → Type 0
 HasNumbers M N = (i : ℕ) (cell : CellView) → cell_at N i ≡ Some cell → (other : CellView) × (cell_at M i ≡ Some other)
 
--- own: it finds home where the other does
+-- own: it finds home where the other does, whatever TDO is to read
+abbrev pub RenumberedFindsHomeBy : Type 0
+RenumberedFindsHomeBy = (M M' N : NetlistView) (B : Device) (lengths : List ℕ) (tdo : HeldTdo) (to at : ℕ → ℕ) → IsRenumbering M M' to at → IsWellFormed M → HasNumbers M N → KeepsNumbers N at
+    → FindsHomeBy M B N lengths tdo → FindsHomeBy M' B N lengths tdo
+
+-- own: with TDO as the chip's
 abbrev pub RenumberedFindsHome : Type 0
 RenumberedFindsHome = (M M' N : NetlistView) (B : Device) (to at : ℕ → ℕ) → IsRenumbering M M' to at → IsWellFormed M → HasNumbers M N → KeepsNumbers N at
     → FindsHome M B N → FindsHome M' B N
 
 -- own: so does one with the same library, ports and cells
+abbrev pub SameFindsHomeBy : Type 0
+SameFindsHomeBy = (M M' N : NetlistView) (B : Device) (lengths : List ℕ) (tdo : HeldTdo) → M.library ≡ M'.library → M.ports ≡ M'.ports → ((i : ℕ) → cell_at M i ≡ cell_at M' i) → IsWellFormed M
+    → HasNumbers M N → FindsHomeBy M B N lengths tdo → FindsHomeBy M' B N lengths tdo
+
+-- own: with TDO as the chip's
 abbrev pub SameFindsHome : Type 0
 SameFindsHome = (M M' N : NetlistView) (B : Device) → M.library ≡ M'.library → M.ports ≡ M'.ports → ((i : ℕ) → cell_at M i ≡ cell_at M' i) → IsWellFormed M → HasNumbers M N
     → FindsHome M B N → FindsHome M' B N

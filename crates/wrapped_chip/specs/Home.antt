@@ -1,8 +1,9 @@
 -- A netlist that comes to a run of the wrapped chip by itself, whatever its test logic held: by five rising edges of
 -- TCK with TMS at 1, and then a falling edge.
 -- IEEE Std 1149.1-2001: TAP controller, test access port; what holds of the pins from there on is own.
-use Rattle.std.specs.Prelude.{◌≡◌, ◌≤◌, ℕ, suc, ◌+◌, true, List, length, drop, slice_get, Some, None}
+use Rattle.std.specs.Prelude.{◌≡◌, ◌≤◌, ℕ, suc, ◌+◌, true, List, [], map, length, drop, slice_get, Some, None}
 use Rattle.signal_values.specs.declared.Sig.{Sig}
+use Rattle.signal_values.specs.declared.PinSig.{PinSig}
 use Rattle.signal_values.specs.declared.PinSig.TheVariants.{HighZ}
 use Rattle.cell_library.specs.declared.Edge.TheVariants.{Fall}
 use Rattle.cell_library.specs.declared.FlopKind.{FlopKind}
@@ -20,7 +21,7 @@ use Rattle.test_logic.specs.Machine.{TestLogic, Machine, reset, edge_of, in_effe
 use Rattle.test_logic.specs.bsdl_device.declared.values.Device.{Device}
 use Rattle.wrapped_chip.specs.ChipRuns.{ChipMoment, ChipEvent, IsChipLegal, IsChipSettled, IsChipStep, IsChipRun, chip_pins_after, levels_after}
 use Rattle.wrapped_chip.specs.Suits.{Suits, IsRead}
-use Rattle.wrapped_chip.specs.Realises.{SameOutside, SameEvents, ReadsAsChip, ReadsBit, core_events, IsAlone}
+use Rattle.wrapped_chip.specs.Realises.{SameOutside, SameEvents, ReadsAsChipBy, ReadsAsChip, ReadsBit, core_events, IsAlone}
 
 -- Runs from any machine.
 
@@ -100,26 +101,50 @@ pub record IsHome (L : TestLogic) (machine : Machine) : Type 0 where
   pub boundary : length machine.boundary ≡ length L.kinds
   pub update : length machine.update ≡ length L.kinds
 
+-- what TDO is to read at each moment of a run of the chip, by what registers beside the chip's hold at the first
+abbrev pub HeldTdo : Type 0
+HeldTdo = List (List Sig) → (ℕ → ChipMoment) → ℕ → PinSig
+
+-- what the chip's TDO reads, whatever they hold
+abbrev pub home_tdo : HeldTdo
+home_tdo held chip t = (chip t).machine.tdo
+
 -- from this moment on M reads as the chip does in a run from such a machine, by the events that are left and with
--- what is then outside
-pub record ReadsFromHome (M : NetlistView) (B : Device) (N : NetlistView) (events : List ChipEvent) (outside : ℕ → ChipMoment) (moment : ℕ → Moment) (home : ℕ) : Type 0 where
+-- what is then outside; and at TDO as this says by what registers of these lengths then hold, whatever it is
+pub record ReadsFromHomeBy (M : NetlistView) (B : Device) (N : NetlistView) (lengths : List ℕ) (tdo : HeldTdo) (events : List ChipEvent) (outside : ℕ → ChipMoment)
+    (moment : ℕ → Moment) (home : ℕ) : Type 0 where
   pub machine : Machine
   pub is_home : IsHome (test_logic_of B) machine
+  pub held : List (List Sig)
+  pub long : map (λ (xs : List Sig). length xs) held ≡ lengths
   pub chip : ℕ → ChipMoment
   pub run : IsChipRunFrom machine B N (moment home).state (drop home events) chip
   pub levels : (t : ℕ) → (chip t).levels ≡ (outside (home + t)).levels
   pub pins : (t net : ℕ) → (chip t).pins net ≡ (outside (home + t)).pins net
-  pub reads : (t : ℕ) → t ≤ length (drop home events) → ReadsAsChip M B N (moment (home + t)) (chip t)
+  pub reads : (t : ℕ) → t ≤ length (drop home events) → ReadsAsChipBy M B N (moment (home + t)) (chip t) (tdo held chip t)
+
+-- without such registers it reads as the chip at TDO too
+abbrev pub ReadsFromHome : NetlistView → Device → NetlistView → List ChipEvent → (ℕ → ChipMoment) → (ℕ → Moment) → ℕ → Type 0
+ReadsFromHome M B N events outside moment home = ReadsFromHomeBy M B N [] home_tdo events outside moment home
 
 -- M finds home: in each such run, at the falling edge after five rising edges with TMS at 1
+abbrev pub FindsHomeBy : NetlistView → Device → NetlistView → List ℕ → HeldTdo → Type 0
+FindsHomeBy M B N lengths tdo = (events : List ChipEvent) (outside : ℕ → ChipMoment) (moment : ℕ → Moment) → IsOutside N events outside → IsRunFromBits M N events outside moment
+    → (t : ℕ) → suc t ≤ length events → FallsHome (λ u. (outside u).levels) t → ReadsFromHomeBy M B N lengths tdo events outside moment (suc t)
+
 abbrev pub FindsHome : NetlistView → Device → NetlistView → Type 0
-FindsHome M B N = (events : List ChipEvent) (outside : ℕ → ChipMoment) (moment : ℕ → Moment) → IsOutside N events outside → IsRunFromBits M N events outside moment
-    → (t : ℕ) → suc t ≤ length events → FallsHome (λ u. (outside u).levels) t → ReadsFromHome M B N events outside moment (suc t)
+FindsHome M B N = FindsHomeBy M B N [] home_tdo
 
 -- and from there on it reads as N alone while a transparent instruction is in effect
+abbrev pub AloneFromHomeBy : NetlistView → Device → NetlistView → List ℕ → HeldTdo → Type 0
+AloneFromHomeBy M B N lengths tdo = (events : List ChipEvent) (outside : ℕ → ChipMoment) (moment : ℕ → Moment) (home : ℕ)
+    (from : ReadsFromHomeBy M B N lengths tdo events outside moment home) → StretchesAreAlone M B N (drop home events) from.chip (λ t. moment (home + t))
+
 abbrev pub AloneFromHome : NetlistView → Device → NetlistView → Type 0
-AloneFromHome M B N = (events : List ChipEvent) (outside : ℕ → ChipMoment) (moment : ℕ → Moment) (home : ℕ) (from : ReadsFromHome M B N events outside moment home)
-    → StretchesAreAlone M B N (drop home events) from.chip (λ t. moment (home + t))
+AloneFromHome M B N = AloneFromHomeBy M B N [] home_tdo
+
+abbrev pub HomeIsAloneBy : Type 0
+HomeIsAloneBy = (M : NetlistView) (B : Device) (N : NetlistView) (lengths : List ℕ) (tdo : HeldTdo) → IsWellFormed N → Suits B N → AloneFromHomeBy M B N lengths tdo
 
 abbrev pub HomeIsAlone : Type 0
 HomeIsAlone = (M : NetlistView) (B : Device) (N : NetlistView) → IsWellFormed N → Suits B N → AloneFromHome M B N

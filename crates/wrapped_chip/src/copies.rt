@@ -7,12 +7,13 @@
 //   (`renumbered_has_controls`).
 // - So does a netlist with the same ports and, by their numbers, the same live cells (`same_realises`, `same_is_alone`,
 //   `same_finds_home`).
-// - Both hold whatever TDO is to read (`renumbered_realises_by`, `same_realises_by`).
+// - Both hold whatever TDO is to read (`renumbered_realises_by`, `same_realises_by`, `renumbered_finds_home_by`,
+//   `same_finds_home_by`).
 // By the contract of its law functions.
 
 ghost use Rattle.wrapped_chip.specs.CopiesLaws.{RenumberedRealises, RenumberedAlone, RenumberedControls, SameRealises, SameAlone};
 ghost use Rattle.wrapped_chip.specs.CopiesLaws.{RenumberedRealisesBy, SameRealisesBy};
-ghost use Rattle.wrapped_chip.specs.CopiesLaws.{RenumberedFindsHome, SameFindsHome};
+ghost use Rattle.wrapped_chip.specs.CopiesLaws.{RenumberedFindsHome, RenumberedFindsHomeBy, SameFindsHome, SameFindsHomeBy};
 
 use netlist_model::images::{
     renumbered_bits, renumbered_directions, renumbered_ports, renumbered_reads, renumbered_runs,
@@ -82,9 +83,9 @@ pub fn same_is_alone()
     renumbered_is_alone();
 }
 
-/// It finds home where the netlist itself does.
-pub fn renumbered_finds_home()
-    ensures { RenumberedFindsHome }
+/// It finds home where the netlist itself does, whatever TDO is to read.
+pub fn renumbered_finds_home_by()
+    ensures { RenumberedFindsHomeBy }
 {
     direction_of_a_bit();
     renumbering_turns();
@@ -94,9 +95,23 @@ pub fn renumbered_finds_home()
     runs_have_images();
 }
 
-/// So does one with the same ports and live cells.
+/// With TDO as the chip's.
+pub fn renumbered_finds_home()
+    ensures { RenumberedFindsHome }
+{
+    renumbered_finds_home_by();
+}
+
+/// So does one with the same ports and live cells, whatever TDO is to read.
+pub fn same_finds_home_by()
+    ensures { SameFindsHomeBy }
+{
+    renumbered_finds_home_by();
+}
+
+/// With TDO as the chip's.
 pub fn same_finds_home()
     ensures { SameFindsHome }
 {
-    renumbered_finds_home();
+    same_finds_home_by();
 }

@@ -4,7 +4,7 @@ use Rattle.std.specs.Prelude.{◌+◌, ◌*◌, ◌^◌, ◌<◌, ◌≤◌, Lis
 use Rattle.netlist_model.specs.Lists.{NetView}
 use Rattle.netlist_model.specs.Formed.{IsLaidOut}
 use Rattle.netlist_arena.specs.Arena.{bit_count}
-use Rattle.netlist_link.specs.Linked.{LinkedView}
+use Rattle.netlist_link.specs.Linked.{LinkedView, own_ports}
 use Rattle.plan_texts.specs.declared.plan.Plan.{Plan}
 use Rattle.core_sides.specs.plan_fitting.Pins.{PinSeen}
 use Rattle.core_sides.specs.plan_fitting.Rows.{rows}
@@ -14,9 +14,9 @@ use Rattle.core_sides.specs.stitched_netlist.Stitched.{with_nets}
 use Rattle.core_sides.specs.Pins.{AreFew}
 use Rattle.core_sides.specs.Ready.{CanStandBehind}
 
--- a data cell for each bit at most, and a control cell for each of these
+-- a data cell for each bit that isn't hidden at most, and a control cell for each of these
 abbrev pub FittedAreFew : Type 0
-FittedAreFew = (L : LinkedView) (p : Plan) (seen : List PinSeen) → IsFitting L p seen → bit_count L.arena.lists.ports ≤ 4096 → AreFew (rows p seen)
+FittedAreFew = (L : LinkedView) (p : Plan) (seen : List PinSeen) → IsFitting L p seen → bit_count (own_ports L) ≤ 4096 → AreFew (rows p seen)
 
 -- with the five nets of the test access port and those between the core and its boundary cells, its core can stand
 -- behind these cells, if there are few and the nets can be counted

@@ -2,18 +2,18 @@
 ghost use Rattle.std.specs.Prelude.{◌≤◌, length};
 ghost use Rattle.bsdl_device.specs.Runs.{content_words};
 ghost use Rattle.bsdl_contents.specs.Reader.{list_at};
-ghost use Rattle.bsdl_contents.specs.EntriesOutcomes.{Gives, Tells};
+ghost use Rattle.bsdl_contents.specs.Outcomes.{Gives, Tells};
 ghost use Rattle.bsdl_contents.specs.EntriesReader as reading;
 
-use crate::entries::part_fault::PartFault;
-use crate::entries::reader::EntryReader;
+use crate::fault::PartFault;
+use crate::reader::ContentReader;
 use bsdl_device::registers::RegisterEntry;
 use std::alloc::Global;
 use texts::{Row, Text};
 
 // `NAME [`
 #[tactic(auto, unfolding(crate::specs::EntriesReader::head_at))]
-fn head(alloc: Global, reader: &mut EntryReader) -> Result<Text, PartFault>
+fn head(alloc: Global, reader: &mut ContentReader) -> Result<Text, PartFault>
     ensures gives { Gives result reader.new (reading.head_at reader.old) }
     ensures within { length reader.new ≤ length reader.old }
 {
@@ -24,7 +24,7 @@ fn head(alloc: Global, reader: &mut EntryReader) -> Result<Text, PartFault>
 
 // `length ] (`
 #[tactic(auto, unfolding(crate::specs::EntriesReader::length_at))]
-fn length(reader: &mut EntryReader) -> Result<u32, PartFault>
+fn length(reader: &mut ContentReader) -> Result<u32, PartFault>
     ensures gives { Gives result reader.new (reading.length_at reader.old) }
     ensures within { length reader.new ≤ length reader.old }
 {
@@ -36,7 +36,7 @@ fn length(reader: &mut EntryReader) -> Result<u32, PartFault>
 
 // `INSTRUCTION )`
 #[tactic(auto, unfolding(crate::specs::EntriesReader::instruction_at))]
-fn instruction(alloc: Global, reader: &mut EntryReader) -> Result<Text, PartFault>
+fn instruction(alloc: Global, reader: &mut ContentReader) -> Result<Text, PartFault>
     ensures gives { Gives result reader.new (reading.instruction_at reader.old) }
     ensures within { length reader.new ≤ length reader.old }
 {
@@ -47,7 +47,7 @@ fn instruction(alloc: Global, reader: &mut EntryReader) -> Result<Text, PartFaul
 
 // `NAME [length] (INSTRUCTION)`
 #[tactic(auto, unfolding(crate::specs::EntriesReader::entry_at))]
-fn entry(alloc: Global, reader: &mut EntryReader) -> Result<RegisterEntry, PartFault>
+fn entry(alloc: Global, reader: &mut ContentReader) -> Result<RegisterEntry, PartFault>
     ensures gives { Gives result reader.new (reading.entry_at reader.old) }
     ensures within { length reader.new ≤ length reader.old }
 {
@@ -61,7 +61,7 @@ fn entry(alloc: Global, reader: &mut EntryReader) -> Result<RegisterEntry, PartF
     })
 }
 
-fn list(alloc: Global, reader: &mut EntryReader) -> Result<Row<RegisterEntry>, PartFault>
+fn list(alloc: Global, reader: &mut ContentReader) -> Result<Row<RegisterEntry>, PartFault>
     ensures gives { Gives result reader.new (list_at reading.entry_at reader.old) }
     ensures within { length reader.new ≤ length reader.old }
 {
@@ -77,7 +77,7 @@ fn list(alloc: Global, reader: &mut EntryReader) -> Result<Row<RegisterEntry>, P
 pub fn entries(alloc: Global, bytes: &[u8]) -> Result<Row<RegisterEntry>, PartFault>
     ensures { Tells result (reading.entries_in (content_words bytes.now)) }
 {
-    let mut reader = EntryReader::new(bytes);
+    let mut reader = ContentReader::new(bytes);
     let entries = list(alloc, &mut reader)?;
     reader.end()?;
     Ok(entries)

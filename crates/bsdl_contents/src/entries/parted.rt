@@ -8,7 +8,8 @@ ghost use Rattle.bsdl_contents.specs.BaseFile as parting;
 
 use crate::entries::entries::entries;
 use crate::entries::own_place::own_place;
-use crate::entries::part_fault::PartFault;
+use crate::fault::PartFault;
+use crate::sections::joined;
 use bsdl_device::File;
 use bsdl_device::registers::RegisterEntry;
 use std::alloc::Global;
@@ -26,18 +27,6 @@ pub struct Parted {
 pub struct OwnEntries {
     pub place: usize,
     pub entries: Row<RegisterEntry>,
-}
-
-// The strings' bytes without anything between.
-#[tactic(auto, using(crate::proofs::JoinedStrings::joined_more, crate::proofs::JoinedStrings::joined_past))]
-fn joined(alloc: Global, strings: &[Text]) -> Result<Text, OutOfMemory>
-    ensures { IfOk result (λ bytes. bytes ≡ shape.joined strings.now) }
-{
-    let mut bytes = Text::new(alloc);
-    for string in strings {
-        bytes.append(string.as_bytes())?;
-    }
-    Ok(bytes)
 }
 
 // The entries that the bytes hold, or none.

@@ -1,4 +1,4 @@
-ghost use Rattle.plan_fitting.specs.DevicesLaws.{PlansMakeDevices, PlansSuitNetlists, PrefixesAreFree, TapNamesAreNew, DevicesHavePorts, RowsStandAtBits, BitsHaveRows, RowsTakeTheCore, ControlsTakeTheCore, ControlsFollowTheirRows, FittedIsFitting};
+ghost use Rattle.plan_fitting.specs.DevicesLaws.{PlansMakeDevices, PlansSuitNetlists, PrefixesAreFree, TapNamesAreNew, DevicesHavePorts, RowsStandAtBits, BitsHaveRows, HiddenBitsHaveNone, RowsTakeTheCore, ControlsTakeTheCore, ControlsFollowTheirRows, FittedIsFitting};
 
 use crate::{control_cells_are_there, drivers_agree, highz_disables_all, opcodes_keep_the_rules};
 use netlist_model::laws::{
@@ -38,7 +38,7 @@ pub fn tap_names_are_new()
     ensures { TapNamesAreNew }
 {}
 
-/// A law: its ports are the netlist's, the test access port's and linkage, each in their order.
+/// A law: its ports are the netlist's own, the test access port's and linkage, each in their order.
 pub fn devices_have_ports()
     ensures { DevicesHavePorts }
 {}
@@ -51,9 +51,17 @@ pub fn rows_stand_at_bits()
     driver_is_found();
 }
 
-/// A law: each bit of the netlist's ports has such a row.
+/// A law: each bit of the netlist's own ports has such a row.
 pub fn bits_have_rows()
     ensures { BitsHaveRows }
+{
+    direction_of_a_bit();
+    driver_is_found();
+}
+
+/// A law: no bit of a hidden port has one.
+pub fn hidden_bits_have_none()
+    ensures { HiddenBitsHaveNone }
 {
     direction_of_a_bit();
     driver_is_found();

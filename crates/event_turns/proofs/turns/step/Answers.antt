@@ -5,7 +5,7 @@ use Rattle.event_turns.proofs.turns.step.Goals as goal
 
 pub step_from-requires-clause-given : goal.step_from-requires-clause-given
 step_from-requires-clause-given g c =
-    c.given_at-given.ensures ∙ given_is _ (record { net = c.args.net.0; value = c.args.value }) c.args.pins.now c.args.drives.now c.args.values.now c.args.state.now c.are_tables.ensures.formed c.requires.legal c.requires.rest
+    c.given_at-given.ensures ∙ given_is _ (record { net = c.args.net.0; value = c.args.value }) c.args.pins.now c.args.drives.now c.args.values.now c.args.state.now c.are_tables.ensures.formed c.requires.legal c.requires.awaits.rest
 
 pub step_from-requires-clause-frontier : goal.step_from-requires-clause-frontier
 step_from-requires-clause-frontier g c =

@@ -1,8 +1,12 @@
 use Rattle.std.proofs.Common.{subst, arith}
 use Rattle.netlist_arena.specs.Arena.{ArenaView}
 use Rattle.netlist_model.specs.Formed.{IsLaidOut}
+use Rattle.plan_fitting.proofs.NoneHidden.{none_straight}
 use Rattle.insertion_inputs.proofs.Ready.{ready}
 use Rattle.insertion_inputs.proofs.plan.fit_plan.Goals as goal
+
+pub fit-requires-clause-straight : goal.fit-requires-clause-straight
+fit-requires-clause-straight c = none_straight c.args.linked.now c.requires.linked.hides
 
 pub returns-clause-ready : goal.returns-clause-ready
 returns-clause-ready c =

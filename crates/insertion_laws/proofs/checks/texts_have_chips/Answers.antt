@@ -2,4 +2,4 @@ use Rattle.insertion_laws.proofs.Chips.{texts_have_chips as lemma}
 use Rattle.insertion_laws.proofs.checks.texts_have_chips.Goals as goal
 
 pub returns : goal.returns
-returns c = lemma c.spelled_trees_keep_the_conditions.ensures c.spelled_devices_keep_the_conditions.ensures c.bytes_spell_one_tree.ensures c.spells_one_device.ensures c.link_views_agree.ensures c.link_view_is_named.ensures c.link_view_is_formed.ensures c.plans_suit_netlists.ensures c.devices_have_ports.ensures c.plans_stand_around.ensures c.same_realises.ensures
+returns c = lemma c.direction_of_a_bit.ensures c.spelled_trees_keep_the_conditions.ensures c.spelled_devices_keep_the_conditions.ensures c.bytes_spell_one_tree.ensures c.spells_one_device.ensures c.link_views_agree.ensures c.link_view_is_named.ensures c.link_view_is_formed.ensures c.plans_suit_netlists.ensures c.devices_have_ports.ensures c.hidden_bits_have_none.ensures c.plans_stand_around.ensures c.same_realises.ensures

@@ -1,6 +1,8 @@
-use Rattle.std.proofs.Common.{subst}
+use Rattle.std.proofs.Common.{subst, ap, ◌∙◌}
 use Rattle.netlist_model.specs.Formed.{IsLaidOut}
 use Rattle.netlist_arena.specs.Arena.{ArenaView}
+use Rattle.netlist_link.specs.declared.straight.Straight.{Straight}
+use Rattle.netlist_link.specs.Linked.{LinkedView}
 use Rattle.insertions.proofs.Made.{can_stitch, free_prefix, device_kept, insertions_made}
 use Rattle.insertions.proofs.insertion.write_stitched.Goals as goal
 
@@ -21,6 +23,12 @@ write_texts-requires-clause-device c =
     let r = c.requires in
     let made = c.args.fitting.now in
     device_kept r.text r.before c.args.linked.now made.plan made.fitted made.device r.fitting
+
+pub write_texts-requires-clause-open : goal.write_texts-requires-clause-open
+write_texts-requires-clause-open c =
+    let r = c.requires in
+    ap (λ (s : Straight). s.count)
+    (c.stitch.ensures.stitched.marks.straight ∙ ap (λ (L : LinkedView). L.straight) r.fitting.prepares.after_is ∙ r.netlist.hides.straight)
 
 pub returns : goal.returns
 returns c = λ library net text before is laid fitting.

@@ -31,4 +31,4 @@ returns-clause-stripped c =
     let same = c.library-library.ensures ∙ ap (λ (a : ArenaView). a.lists.library) c.netlist.ensures.netlist in
     subst (λ (library : List ListedCell). IsStripped library c.args.inserted.now c.args.device.now c.in_ok-core.core found.plan) same
     (stripped c.link_views_agree.ensures c.gives_by_the_view.ensures _ found.module found.plan c.in_ok-core.core c.args.inserted.now c.args.device.now c.in_ok-stripped.ensures.stripped
-    c.in_ok-core.ensures.linked c.in_ok-core.ensures.library)
+    c.in_ok-core.ensures.linked c.in_ok-core.ensures.library c.in_ok-core.ensures.hides)

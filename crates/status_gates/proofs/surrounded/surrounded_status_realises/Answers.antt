@@ -5,9 +5,12 @@ pub returns : goal.returns
 returns c = realises_status
     (record {
       follows = c.surrounded_core_follows.ensures;
-      tdo = c.extended_tdo_follows.ensures;
-      stand = record { inverses = c.inverses_tell.ensures; registers = c.registers_tell.ensures };
-      steps = c.steps_by_register.ensures;
+      reading = record {
+        tdo = c.extended_tdo_follows.ensures;
+        stand = record { inverses = c.inverses_tell.ensures; registers = c.registers_tell.ensures };
+      };
+      gates = c.data_registers_follow.ensures;
+      legible = c.instructions_stay_legible.ensures;
       moments = c.moments_of_a_run.ensures;
       exists = c.some_run_beside.ensures;
     })

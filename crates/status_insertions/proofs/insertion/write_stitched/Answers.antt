@@ -1,6 +1,8 @@
-use Rattle.std.proofs.Common.{subst}
+use Rattle.std.proofs.Common.{subst, ap, ◌∙◌}
 use Rattle.netlist_model.specs.Formed.{IsLaidOut}
 use Rattle.netlist_arena.specs.Arena.{ArenaView}
+use Rattle.netlist_link.specs.declared.straight.Straight.{Straight}
+use Rattle.netlist_link.specs.Linked.{LinkedView}
 use Rattle.status_insertions.proofs.Made.{Laws, can_stitch, free_prefix, extended_kept, insertions_made}
 use Rattle.status_insertions.proofs.insertion.write_stitched.Goals as goal
 
@@ -23,6 +25,12 @@ write_texts-requires-clause-extended c =
     let made = c.args.fitting.now in
     extended_kept r.text r.lines r.before c.args.linked.now made.plan made.fitted made.registers made.extended r.fitting
 
+pub write_texts-requires-clause-open : goal.write_texts-requires-clause-open
+write_texts-requires-clause-open c =
+    let r = c.requires in
+    ap (λ (s : Straight). s.count)
+    (c.stitch_status.ensures.stitched.marks.straight ∙ ap (λ (L : LinkedView). L.straight) r.fitting.prepares.after_is ∙ r.netlist.hides.straight)
+
 pub returns : goal.returns
 returns c = λ library net plan lines before is laid fitting.
     let made = c.args.fitting.now in
@@ -34,6 +42,8 @@ returns c = λ library net plan lines before is laid fitting.
       realise = c.written_status_realises.ensures;
       single = c.written_status_is_alone.ensures;
       steer = c.written_status_has_controls.ensures;
+      find = c.written_status_finds_home.ensures;
+      stay = c.written_status_is_alone_from_home.ensures;
     } in
     insertions_made laws library net plan lines c.write_texts.result before c.args.linked.now c.stitch_status.new.linked made.plan made.fitted made.registers made.extended is laid laid_after fitting
     c.stitch_status.ensures.stitched c.write_texts.ensures.netlist c.write_texts.ensures.bsdl c.write_texts.ensures.report

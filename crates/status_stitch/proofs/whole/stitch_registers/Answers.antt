@@ -76,4 +76,9 @@ returns c =
       linked = c.close.ensures.linked;
       names = c.close.ensures.names ∙ c.begin_draft-draft.ensures.names;
       title = c.close.ensures.module_name ∙ c.begin_draft-draft.ensures.module_name;
+      marks = record {
+        straight = c.close.ensures.marks.straight ∙ c.begin_draft-draft.ensures.marks.straight;
+        inner = c.close.ensures.marks.inner ∙ c.begin_draft-draft.ensures.marks.inner;
+        rails = c.close.ensures.marks.rails ∙ c.begin_draft-draft.ensures.marks.rails;
+      };
     }

@@ -15,6 +15,7 @@ returns c =
         follow = c.controls_follow_their_rows.ensures;
         stand = c.rows_stand_at_bits.ensures;
         bits = c.bits_have_rows.ensures;
+        hidden = c.hidden_bits_have_none.ensures;
       };
       nests = c.built_in_nests.ensures;
       suits = c.plans_suit_netlists.ensures;

@@ -4,7 +4,7 @@ use Rattle.strip_model.proofs.SameFaults.{still_faultless}
 use Rattle.strip_model.proofs.SameWords.{told_seen}
 
 pub returns : goal.returns
-returns c L p seen fits = record {
-  are_seen = told_seen L p seen fits (facts_of c.direction_of_a_bit.ensures c.driver_is_found.ensures L p seen fits);
+returns c L p seen fits open_names = record {
+  are_seen = told_seen L p seen fits open_names (facts_of c.direction_of_a_bit.ensures c.driver_is_found.ensures L p seen fits);
   faultless = still_faultless L p seen (no_fault L p seen fits);
 }

@@ -1,4 +1,4 @@
-use Rattle.std.proofs.Common.{◌≡◌, ℕ, ◌-◌, List, drop, get_or, sym, ◌∙◌, ap, arith}
+use Rattle.std.proofs.Common.{◌≡◌, ℕ, ◌-◌, List, drop, get_or, sym, ◌∙◌, ap, arith, rules}
 use Rattle.std.proofs.lemmas.Option.{slice_get-get_or}
 use Rattle.netlist_model.specs.Lists.{PortView}
 use Rattle.plan_fitting.specs.declared.fitted.FitRow.{FitRow}
@@ -37,12 +37,18 @@ add_row-last-requires-clause-nets c = nets_left c.args.netlist.now c.loop-place.
 pub add_row-last-requires-clause-cells : goal.add_row-last-requires-clause-cells
 add_row-last-requires-clause-cells c = cells_left c.args.netlist.now c.loop-place.netlist (between c.args.netlist.now.lists.ports c.args.rows.now c.args.first) c.args.scan.now c.args.tdi c.loop-place.last c.loop-place.side c.args.rows.now c.loop-place.place (omega (arith, c.loop-place-test.true)) (omega (arith, c.loop-place.auto.place)) c.loop-place.invariant.added c.requires.rows.cells
 
-pub add_row-last-requires-clause-next : goal.add_row-last-requires-clause-next
-add_row-last-requires-clause-next c = next_there c.appended_count.ensures c.args.netlist.now c.loop-place.netlist (between c.args.netlist.now.lists.ports c.args.rows.now c.args.first) c.args.scan.now c.args.tdi c.loop-place.last c.loop-place.side
-    (drop c.loop-place.place c.args.rows.now) c.loop-place.invariant.added c.requires.tdi
+pub add_row-last-requires-clause-joined : goal.add_row-last-requires-clause-joined
+add_row-last-requires-clause-joined c = record {
+  steered = search rules;
+  boundary = search rules;
+  ready = search rules;
+  net_is = search rules;
+  next_there = next_there c.appended_count.ensures c.args.netlist.now c.loop-place.netlist (between c.args.netlist.now.lists.ports c.args.rows.now c.args.first) c.args.scan.now c.args.tdi c.loop-place.last c.loop-place.side
+      (drop c.loop-place.place c.args.rows.now) c.loop-place.invariant.added c.requires.tdi;
+}
 
-pub add_row-last-requires-clause-free : goal.add_row-last-requires-clause-free
-add_row-last-requires-clause-free c =
+pub add_row-last-requires-clause-into : goal.add_row-last-requires-clause-into
+add_row-last-requires-clause-into c =
     let row : FitRow = get_or c.args.rows.now (c.loop-place.place - 1) blank_row in
     let same = c.loop-place.invariant.added.added.ports in
     let here : RowHere c.args.netlist.now c.loop-place.netlist (between c.args.netlist.now.lists.ports c.args.rows.now c.args.first) c.args.scan.now c.args.tdi c.loop-place.last
@@ -56,24 +62,10 @@ add_row-last-requires-clause-free c =
       counted = c.side_count-side.ensures.value ∙ ap side_count c.site_of.ensures ∙ ap (λ (ps : List PortView). row_sides ps row) same;
       can = c.requires.rows;
     } in
-    free_here c.appended_count.ensures c.args.netlist.now c.loop-place.netlist (between c.args.netlist.now.lists.ports c.args.rows.now c.args.first) c.args.scan.now c.args.tdi c.loop-place.last c.loop-place.side c.side_count-side.result row c.loop-place.place c.loop-place.netlist.lists.ports here same
-
-pub add_row-last-requires-clause-apart : goal.add_row-last-requires-clause-apart
-add_row-last-requires-clause-apart c =
-    let row : FitRow = get_or c.args.rows.now (c.loop-place.place - 1) blank_row in
-    let same = c.loop-place.invariant.added.added.ports in
-    let here : RowHere c.args.netlist.now c.loop-place.netlist (between c.args.netlist.now.lists.ports c.args.rows.now c.args.first) c.args.scan.now c.args.tdi c.loop-place.last
-    c.loop-place.side c.side_count-side.result row c.loop-place.place
-    = record {
-      low = omega (arith, c.loop-place-test.true);
-      high = omega (arith, c.loop-place.auto.place);
-      at = slice_get-get_or c.args.rows.now (c.loop-place.place - 1) blank_row (omega (arith, c.loop-place-test.true, c.loop-place.auto.place));
-      added = c.loop-place.invariant.added;
-      left = c.loop-place.invariant.left ∙ c.requires.end;
-      counted = c.side_count-side.ensures.value ∙ ap side_count c.site_of.ensures ∙ ap (λ (ps : List PortView). row_sides ps row) same;
-      can = c.requires.rows;
-    } in
-    apart_here c.args.netlist.now c.loop-place.netlist (between c.args.netlist.now.lists.ports c.args.rows.now c.args.first) c.args.scan.now c.args.tdi c.loop-place.last c.loop-place.side c.side_count-side.result row c.loop-place.place c.loop-place.netlist.lists.ports here same
+    record {
+      free = free_here c.appended_count.ensures c.args.netlist.now c.loop-place.netlist (between c.args.netlist.now.lists.ports c.args.rows.now c.args.first) c.args.scan.now c.args.tdi c.loop-place.last c.loop-place.side c.side_count-side.result row c.loop-place.place c.loop-place.netlist.lists.ports here same;
+      apart = apart_here c.args.netlist.now c.loop-place.netlist (between c.args.netlist.now.lists.ports c.args.rows.now c.args.first) c.args.scan.now c.args.tdi c.loop-place.last c.loop-place.side c.side_count-side.result row c.loop-place.place c.loop-place.netlist.lists.ports here same;
+    }
 
 pub add_row-last-requires-clause-fits : goal.add_row-last-requires-clause-fits
 add_row-last-requires-clause-fits c =

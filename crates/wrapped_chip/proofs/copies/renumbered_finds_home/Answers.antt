@@ -1,13 +1,6 @@
-use Rattle.wrapped_chip.proofs.Home.{home_there as lemma}
+use Rattle.std.proofs.Common.{[]}
+use Rattle.wrapped_chip.specs.Home.{home_tdo}
 use Rattle.wrapped_chip.proofs.copies.renumbered_finds_home.Goals as goal
 
 pub returns : goal.returns
-returns c = lemma
-    (record {
-      ways = c.direction_of_a_bit.ensures;
-      turns = c.renumbering_turns.ensures;
-      bits = c.renumbered_bits.ensures;
-      reads = c.renumbered_reads.ensures;
-      runs = c.renumbered_runs.ensures;
-      images = c.runs_have_images.ensures;
-    })
+returns c = λ M M' N B to at r formed has stay finds. c.renumbered_finds_home_by.ensures M M' N B [] home_tdo to at r formed has stay finds

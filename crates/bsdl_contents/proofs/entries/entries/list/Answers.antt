@@ -1,8 +1,7 @@
 use Rattle.std.proofs.Common.{◌∙◌, sym, ap, arith, [], ◌∷◌, ◌++◌}
 use Rattle.bsdl_contents.specs.Reader.{list_at}
 use Rattle.bsdl_contents.specs.EntriesReader.{entry_at}
-use Rattle.bsdl_contents.proofs.ListLoops.{starts, goes_on, ends}
-use Rattle.bsdl_contents.proofs.EntriesEntryLaws.{faults}
+use Rattle.bsdl_contents.proofs.ListLoops.{starts, goes_on, faults, ends}
 use Rattle.bsdl_contents.proofs.entries.entries.list.Goals as goal
 
 pub loop-alloc-init : goal.loop-alloc-init

@@ -1,0 +1,10 @@
+pub mod BoxLines
+pub mod KeptRows
+pub mod Keyed
+pub mod Named
+pub mod PortLoops
+pub mod PortTexts
+pub mod ReadsBack
+pub mod Sorting
+pub mod Spelled
+pub mod Written

@@ -1,0 +1,10 @@
+pub mod Boxes
+pub mod Canonical
+pub mod Faults
+pub mod Forms
+pub mod Grammar
+pub mod Laws
+pub mod Ports
+pub mod Reader
+pub mod Rules
+pub mod Sound
