@@ -89,6 +89,25 @@ class Device:
         return {BOUNDARY: len(self.rows), BYPASS: 1, DEVICE_ID: 32}[register]
 
 
+def spans(numbers):
+    """Numbers as `4, 6-12`."""
+    runs = []
+    for number in sorted(numbers):
+        if runs and number == runs[-1][1] + 1:
+            runs[-1][1] = number
+        else:
+            runs.append([number, number])
+    return ", ".join(str(first) if first == last else f"{first}-{last}" for first, last in runs)
+
+
+def never_off(device):
+    """A warning of the outputs that no row turns off, where there are any."""
+    always = [row for row in device.rows if row.function == "output2"]
+    if always:
+        cells = f"cell{'s' * (len(always) > 1)} {spans(row.number for row in always)}"
+        yield f"WARNING: no row turns these outputs off, which under EXTEST and CLAMP drive their bits: {cells}"
+
+
 class Words:
     """The words of a BSDL file, which are taken one after another."""
 

@@ -68,7 +68,9 @@ def add_program(words):
 def said(program, *words):
     """What the program prints; where it refuses, a Refusal has its last line."""
     try:
-        done = subprocess.run([program, *words], stdin=subprocess.DEVNULL, stdout=subprocess.PIPE, text=True, encoding="latin-1")
+        # (where a fault is in files that a script has written helps nobody)
+        quiet = {**os.environ, "LAVKHIND_PLACES": "no"}
+        done = subprocess.run([program, *words], stdin=subprocess.DEVNULL, stdout=subprocess.PIPE, text=True, encoding="latin-1", env=quiet)
     except OSError as error:
         raise Fault(f"{program}: can't be run ({error.strerror})") from None
     if done.returncode not in (0, 6):

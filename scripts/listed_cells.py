@@ -1,7 +1,7 @@
 """Libraries of cells, as the commands read them: their lines, the rules on them, and models of their cells."""
 import re
-from dataclasses import dataclass
-from typing import List
+from dataclasses import dataclass, field
+from typing import List, Tuple
 
 from command import Fault, text_of
 from netlist_words import is_simple
@@ -11,7 +11,11 @@ FLOPS = dict(DFF=("D", "CK"), DFFN=("D", "CK"), DFFR=("D", "CK", "RN"), DFFNR=("
 KNOWN = ("MUX2", *FLOPS)
 # How many values a step takes.
 STEPS = {"not": 1, "and": 2, "or": 2, "xor": 2, "mux": 3}
-MOST_INPUTS, MOST_STEPS, MOST_VALUES, LONGEST = 16, 64, 16, 255
+MOST_INPUTS, MOST_STEPS, MOST_VALUES, MOST_PORTS, LONGEST = 16, 64, 16, 1024, 255
+# A port of a box that has a range.
+BOX_PORT = re.compile(r"(.+)\[(\d{1,9}):(\d{1,9})\]", re.ASCII)
+# The kinds of pads, and what the ports behind the kind are: what it drives, what lets it, and what it reads.
+PADS = {"in": "C", "out": "I", "tri1": "IE", "tri0": "IE", "bidi1": "IEC", "bidi0": "IEC"}
 
 
 class Broken(Fault):
@@ -66,12 +70,7 @@ class Cell:
             raise Broken(f"{self.name} is no simple name of Verilog, or a key word")
         if self.name in KNOWN:
             raise Broken(f"{self.name} is one of the seven known cells")
-        ports = [self.out, *self.inputs]
-        for place, port in enumerate(ports):
-            if not is_name(port) or port == "mux":
-                raise Broken(f"its port {port} is no simple name of Verilog, or a key word, or `mux`")
-            if port in ports[:place]:
-                raise Broken(f"its port {port} stands twice")
+        check_ports([self.out, *self.inputs])
         if self.steps is not None:
             self.check_steps()
 
@@ -121,26 +120,154 @@ def lines_of(text):
             yield number, words
 
 
-def read_cells(path):
-    """The cells of a library; a Fault names the first line that breaks a rule."""
-    cells, names, is_begun = [], set(), False
-    for number, words in lines_of(text_of(path)):
-        if not is_begun:
-            if words != ["cells", "1"]:
-                raise Fault(f"{path}: line {number} isn't `cells 1`, with which a library begins")
-            is_begun = True
-            continue
-        cell = cell_of(number, words)
-        if cell is None:
-            raise Fault(f"{path}: line {number} is none of `gate NAME OUT {{IN}} : STEP {{STEP}}` and `flop NAME KIND Q D CK [R]`")
+@dataclass
+class BoxPort:
+    """A port of a cell of which nothing else is known."""
+
+    name: str
+    direction: str
+    range: Tuple[int, int] = None
+
+
+@dataclass
+class Box:
+    """A cell of which its ports are known alone; of a pad, at a pin of the chip, `bond` is the pin's."""
+
+    name: str
+    ports: List[BoxPort]
+    bond: str = None
+
+    def check(self):
+        """The rules on a box by itself."""
+        if not is_name(self.name):
+            raise Broken(f"{self.name} is no simple name of Verilog, or a key word")
+        if self.name in KNOWN:
+            raise Broken(f"{self.name} is one of the seven known cells")
+        check_ports([port.name for port in self.ports])
+
+
+def check_ports(ports):
+    for place, port in enumerate(ports):
+        if not is_name(port) or port == "mux":
+            raise Broken(f"its port {port} is no simple name of Verilog, or a key word, or `mux`")
+        if port in ports[:place]:
+            raise Broken(f"its port {port} stands twice")
+
+
+def box_ports(words, direction, may_be_wide=True):
+    for word in words:
+        found = BOX_PORT.fullmatch(word) if may_be_wide else None
+        yield BoxPort(found[1], direction, (int(found[2]), int(found[3]))) if found else BoxPort(word, direction)
+
+
+def groups_of(words):
+    """The words between colons."""
+    groups = [[]]
+    for word in words:
+        if word == ":":
+            groups.append([])
+        else:
+            groups[-1].append(word)
+    return groups
+
+
+def box_of(words):
+    """The box or the pad of a line; None where its form is none of one."""
+    front, *groups = groups_of(words)
+    if words[0] == "box":
+        if len(front) < 2 or len(groups) not in (1, 2):
+            return None
+        name, bond, own, groups = words[1], None, [], [front[2:], *groups]
+    else:
+        roles = PADS.get(front[3]) if len(front) > 3 else None
+        if roles is None or len(front) != 4 + len(roles) or len(groups) not in (0, 2, 3):
+            return None
+        name, bond = front[1:3]
+        own = [BoxPort(bond, "inout"), *(BoxPort(port, "output" if role == "C" else "input") for port, role in zip(front[4:], roles))]
+    if sum(map(len, groups)) > MOST_PORTS:
+        return None
+    # Rails are linked to supplies, which nothing drives.
+    facing = [list(box_ports(group, direction, place < 2)) for place, (group, direction) in enumerate(zip(groups, ("output", "input", "input")))]
+    return Box(name, [*own, *(port for group in facing for port in group)], bond)
+
+
+@dataclass
+class Library:
+    """What a library lists, each in its order; `cuts` are names of instances."""
+
+    cells: List[Cell] = field(default_factory=list)
+    boxes: List[Box] = field(default_factory=list)
+    cuts: List[str] = field(default_factory=list)
+
+
+# The kinds of lines of a text that begins with `boxes 1`, in the order in which they stand.
+KINDS = ("gate", "flop", "box", "pad", "cut")
+FORMS = {
+    "cells": "`gate NAME OUT {IN} : STEP {STEP}` and `flop NAME KIND Q D CK [R]`",
+    "boxes": "`gate NAME OUT {IN} : STEP {STEP}`, `flop NAME KIND Q D CK [R]`, `box NAME {OUT} : {IN}`, `pad NAME BOND KIND ..` and `cut INSTANCE`",
+}
+
+
+class LibraryReader:
+    """Takes the lines of a library behind its first, which is `KIND 1`."""
+
+    def __init__(self, kind):
+        self.kind, self.library, self.names, self.reached = kind, Library(), set(), 0
+
+    def take(self, where, number, words):
+        """Takes a line; a Fault says that it is none, or which rule it breaks."""
+        stage = max(1, KINDS.index(words[0])) if words[0] in KINDS else 0
+        found = self.listed(number, words)
+        if found is None or (stage > 1 and self.kind == "cells"):
+            raise Fault(f"{where} is none of {FORMS[self.kind]}")
+        if stage < self.reached:
+            raise Fault(f"{where} stands too late; the order is {', '.join(KINDS)}")
+        self.reached = stage
+        if isinstance(found, str):
+            self.cut(where, found)
+        else:
+            self.add(where, found)
+
+    @staticmethod
+    def listed(number, words):
+        if words[0] in ("box", "pad"):
+            return box_of(words)
+        if words[0] == "cut":
+            return words[1] if len(words) == 2 else None
+        return cell_of(number, words)
+
+    def cut(self, where, name):
+        if not re.fullmatch(rf"[!-~]{{1,{LONGEST}}}", name) or name in self.library.cuts:
+            raise Fault(f"{where}: {name} is no instance's name, or stands twice")
+        self.library.cuts.append(name)
+
+    def add(self, where, cell):
         try:
             cell.check()
         except Broken as broken:
-            raise Fault(f"{path}: line {number}: {broken}") from None
-        if cell.name in names:
-            raise Fault(f"{path}: line {number}: the cell {cell.name} stands twice")
-        names.add(cell.name)
-        cells.append(cell)
-    if not is_begun:
-        raise Fault(f"{path}: there is no line `cells 1`")
-    return cells
+            raise Fault(f"{where}: {broken}") from None
+        if cell.name in self.names:
+            raise Fault(f"{where}: the cell {cell.name} stands twice")
+        self.names.add(cell.name)
+        (self.library.boxes if isinstance(cell, Box) else self.library.cells).append(cell)
+
+
+def read_library(path):
+    """What a library lists; a Fault names the first line that breaks a rule."""
+    reader = None
+    for number, words in lines_of(text_of(path)):
+        where = f"{path}: line {number}"
+        if reader is not None:
+            reader.take(where, number, words)
+        elif words in (["cells", "1"], ["boxes", "1"]):
+            reader = LibraryReader(words[0])
+        else:
+            raise Fault(f"{where} is neither `cells 1` nor `boxes 1`, with which a library begins")
+    if reader is None:
+        raise Fault(f"{path}: there is no line `cells 1` or `boxes 1`")
+    return reader.library
+
+
+def read_cells(path):
+    """The gates and the flip-flops of a library."""
+    return read_library(path).cells

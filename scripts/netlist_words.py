@@ -5,10 +5,11 @@ from typing import List
 
 from command import Fault
 
-# A run that is dropped, or a word; (* and /* aren't closed by their own *.
+# Runs that are dropped; (* and /* aren't closed by their own *.
+DROPPED = r"[ \t\n\r\f]+|//[^\n]*|/\*[\s\S]*?\*/|\(\*[\s\S]*?\*\)|`(?:timescale|default_nettype)(?![\w$])[^\n]*|`(?:end)?celldefine(?![\w$])"
+# Such a run, or a word.
 WORD = re.compile(
-    r"(?P<dropped>[ \t\n\r\f]+|//[^\n]*|/\*[\s\S]*?\*/|\(\*[\s\S]*?\*\)|`(?:timescale|default_nettype)\b[^\n]*|`(?:end)?celldefine\b)"
-    r"|\\[!-~]+[ \t\n\r\f]|1'[bBoOdDhH][01]|[A-Za-z_][\w$]*|\d+|[()\[\],;:.=]",
+    rf"(?P<dropped>{DROPPED})" r"|\\[!-~]+[ \t\n\r\f]|1'[bBoOdDhH][01]|[A-Za-z_][\w$]*|\d+|[()\[\],;:.=]",
     re.ASCII,
 )
 SIMPLE = re.compile(r"[A-Za-z_][\w$]*", re.ASCII)

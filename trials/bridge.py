@@ -4,10 +4,11 @@ import os, socket, subprocess
 from chips import CELLS, keep, run, spelled
 
 
-def bench(module, tap, values, beside=()):
+def bench(module, tap, values, beside=(), unknown=0):
     """A bench that does what remote_bitbang asks for on its standard input, with these values at the inputs; it ends
     with the readings. Lines that stand beside the chip have three tasks: `asking` before a letter is followed,
-    `answered` behind it, and `pulsed` for a pulse of the system's reset, which is no pin of the chip."""
+    `answered` behind it, and `pulsed` for a pulse of the system's reset, which is no pin of the chip. Where TDO isn't
+    known it reads as `unknown`."""
     inputs = [(number, port) for number, port in enumerate(module.ports) if port.direction == "input"]
     names = {port.name: f"p{number}" for number, port in enumerate(module.ports)}
     clock, mode, data, out, reset = (names[tap[name]] for name in ("CLOCK", "MODE", "IN", "OUT", "RESET"))
@@ -24,7 +25,7 @@ def bench(module, tap, values, beside=()):
     yield f'      if (asked >= "0" && asked <= "7") {{{clock}, {mode}, {data}}} = asked - "0";'
     yield f'      else if (asked == "r" || asked == "s") {reset} = 1;'
     yield f'      else if (asked == "t" || asked == "u") {reset} = 0;'
-    yield f"""      else if (asked == "R") begin $write("%b", {out} === 1'b1); $fflush(32'h8000_0001); end"""
+    yield f"""      else if (asked == "R") begin $write("%b", {out} {"!== 1'b0" if unknown else "=== 1'b1"}); $fflush(32'h8000_0001); end"""
     yield from ("      #10;", *(["      answered;", '      if (asked == "s") pulsed;'] if beside else []))
     yield from ("      asked = $fgetc(32'h8000_0000);", "    end")
     yield from (f'    $display("\\n{port.name} %b", p{number});' for number, port in enumerate(module.ports) if port.direction != "input")

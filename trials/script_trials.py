@@ -1,5 +1,5 @@
 """What the trials of the scripts share: runs of a script, what it refuses, and chips to try it on."""
-import os, subprocess, sys
+import os, shutil, subprocess, sys
 
 from chips import HERE, TOP, inserted, keep, run, text_of
 
@@ -28,6 +28,20 @@ def refusals(name, cases):
     if "usage:" not in shown:
         sys.exit(f"{name} --help shows no usage")
     return f"{len(cases)} wrong inputs are refused"
+
+
+def clone_of(program, folder):
+    """A folder in which the script `lavkhind` runs the program as the proved one, but for what else it has."""
+    os.makedirs(os.path.join(folder, "crates/lavkhind/out"))
+    shutil.copy(os.path.join(TOP, "lavkhind"), folder)
+    os.symlink(program, os.path.join(folder, "crates/lavkhind/out/lavkhind"))
+    is_proved(folder, True)
+    return folder
+
+
+def is_proved(folder, it_is):
+    """Whether the script takes the program in such a folder for the proved one."""
+    os.chmod(keep(os.path.join(folder, "prove"), f"#!/bin/sh\nexit {0 if it_is else 1}\n"), 0o755)
 
 
 def small_chips(program, room):

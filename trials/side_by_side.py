@@ -275,9 +275,10 @@ def events_of(path):
             yield words
 
 
-def missed(netlist, path):
-    """Plays the program, and gives after each expectation the copies that miss it."""
+def missed(netlist, path, found=0):
+    """Plays the program, and gives after each expectation the copies that miss it, but for those found before."""
     netlist.begin()
+    netlist.forget(found)
     for act, pin, letter in events_of(path):
         if act == "start":
             netlist.start(pin, letter)
@@ -290,10 +291,9 @@ def missed(netlist, path):
             yield netlist.misses(pin, letter)
 
 
-def played(netlist, path):
-    """The copies that miss an expectation of the program."""
-    found = 0
-    for number, copies in enumerate(missed(netlist, path), 1):
+def played(netlist, path, found=0):
+    """The copies that miss an expectation of the program, and those that another one found, which is in it."""
+    for number, copies in enumerate(missed(netlist, path, found), 1):
         found |= copies
         if number % FORGET == 0:
             netlist.forget(found)

@@ -127,7 +127,12 @@ def small_designs(program, room):
     status, said, netlist = synthesised(program, room, "module t (input in, output out); assign out = ~in; endmodule", "--port", "in=a", "--port", "out=y")
     if status or not re.search(r"not g\d+ \(y, a\);", netlist):
         sys.exit(f"ports with other names: {said}{netlist}")
-    return f"{len(TAKEN) + 1} small designs are taken, and {len(REFUSED)} refused with the names of their RTL"
+    for name, why in (("in_", "no name of VHDL"), ("bus", "a reserved word of VHDL")):
+        # (before yosys sees that this is no Verilog)
+        status, said, _ = synthesised(program, room, "module t (", "--port", f"in={name}")
+        if status != 1 or not said.startswith(f"from_rtl: --port in={name}: {name} is {why}"):
+            sys.exit(f"--port in={name}: status {status}, {said}")
+    return f"{len(TAKEN) + 1} small designs are taken, and {len(REFUSED)} refused with the names of their RTL; a port's name that BSDL can't have at once"
 
 
 def with_buses(room):

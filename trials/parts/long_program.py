@@ -2,11 +2,13 @@
 exchanged."""
 import itertools, os, re, sys
 
-from chips import keep, run, text_of
+from chips import TOP, keep, run, text_of
 from script_trials import demo, most_rows, refusals, script, small_chips, with_own_register
 from side_by_side import SideBySide, missed
 
 NEEDS = ()
+# Lines that cut the groups that look at what the core gives.
+CUT = (62000, 68000, 76000, 83000)
 ROW = re.compile(r'^    "(\d+) \((.*)\)(,?"[;]?(?: &)?)$', re.M)
 
 
@@ -31,12 +33,16 @@ def exchanged(text, one, other):
 
 
 def by_check(program, room):
-    """Each small chip and ten demonstration chips meet their programs, by `check`."""
+    """Each small chip, ten demonstration chips and one of a library's cells meet their programs, by `check`."""
     chips = list(small_chips(program, room)) + [(f"demo {number}", *demo(program, room, number)) for number in range(10)]
-    for name, netlist, bsdl in chips:
+    netlist, bsdl, lib = (os.path.join(TOP, "examples/synthesis", name) for name in ("pulse.chip.v", "pulse.bsd", "small.cells"))
+    for name, netlist, bsdl, *lib in [*chips, ("pulse", netlist, bsdl, lib)]:
         events = os.path.join(room, "long.events")
-        lines = script("long_program", bsdl, events).split()[0]
-        yield f"{name}: {lines} lines, `check` says {run([program, 'check', netlist, bsdl, events]).strip()}"
+        core = ["--net", netlist, "--program", program, *(["--lib", *lib] if lib else [])]
+        for more in ([], core):
+            lines = script("long_program", bsdl, events, *more).split()[0]
+            said = run([program, "check", netlist, bsdl, events, *lib]).strip()
+            yield f"{name}{', --net' if more else ''}: {lines} lines, `check` says {said}"
 
 
 def by_most(program, room):
@@ -49,6 +55,12 @@ def by_most(program, room):
         if said[0] != f"{lines} event lines" or lines > most or (len(said) > 2) != (most < 10**6) or misses(netlist, events):
             sys.exit(f"--most {most}: {lines} lines, {said}")
         told.append(f"{lines} of {most}")
+    for most in CUT:
+        said = script("long_program", "--most", str(most), bsdl, events, "--net", netlist, "--program", program).split("\n")
+        lines = int(said[0].split()[0])
+        if lines > most or len(said) < 3 or "done" not in run([program, "check", netlist, bsdl, events]):
+            sys.exit(f"--most {most} --net: {said}")
+        told.append(f"{lines} of {most} with --net")
     return f"with --most: {', '.join(told)} lines, which the counter meets"
 
 
@@ -113,9 +125,9 @@ def transitions(events, tap):
 
 def tried(program, room):
     yield from by_check(program, room)
-    _, _, bsdl = next(small_chips(program, room))
+    _, _, counter = next(small_chips(program, room))
     events = os.path.join(room, "long.events")
-    script("long_program", bsdl, events)
+    script("long_program", counter, events)
     seen = transitions(events, {name: name for name in ("TCK", "TMS", "TRST")})
     if len(seen) != 32:
         sys.exit(f"of 32 transitions the counter's program makes {len(seen)}")
@@ -131,6 +143,8 @@ def tried(program, room):
     missing = os.path.join(room, "missing")
     wrong = {"no file": [missing, events], "a netlist": [net, events], "a folder to write to": [bsdl, room], "no word": []}
     wrong["room for nothing"] = ["--most", "20", bsdl, events]
+    wrong["a library without a netlist"] = [bsdl, events, "--lib", net]
+    wrong["another chip's netlist"] = [counter, events, "--net", net, "--program", program]
     wrong["a row less"] = [keep(os.path.join(room, "less.bsd"), text_of(bsdl).replace('    "7 (BC_1, a(7), input, X)," &\n', "")), events]
     wrong["a register of the design's own"] = [with_own_register(room), events]
     yield refusals("long_program", wrong)

@@ -5,11 +5,12 @@ from dataclasses import dataclass, field
 from typing import List
 
 from chips import TOP, keep, text_of
+from script_trials import clone_of
 
 NEEDS = ("yosys", "iverilog", "vvp", "sta")
 COPIED = ("docs", "examples", "models", "scripts")
-# What isn't run: it wants a screen, or many minutes.
-SKIPPED = re.compile(r"gtkwave|broadwayd|picture|trials/")
+# What isn't run: it wants a screen, a board, or many minutes.
+SKIPPED = re.compile(r"gtkwave|broadwayd|picture|openocd -f|trials/")
 # A library that the way on to layout takes.
 OSU = "/usr/share/qflow/tech/osu035/osu035_stdcells.lib"
 BLOCK = re.compile(r"(?m)(?:^ {4}.*\n|^\n(?= {4}))+")
@@ -61,7 +62,7 @@ def copied(program, room):
     clone = os.path.join(room, "clone")
     for name in COPIED:
         shutil.copytree(os.path.join(TOP, name), os.path.join(clone, name))
-    os.chmod(keep(os.path.join(clone, "lavkhind"), f'#!/bin/sh\nexec "{program}" "$@"\n'), 0o755)
+    clone_of(program, clone)
     counter = text_of(os.path.join(TOP, "examples/counter8.bsd"))
     for name, text in (("loop.v", LOOP), ("e.events", EVENTS), ("wrong.bsd", counter.replace(*OTHER_ROW))):
         keep(os.path.join(clone, name), text)
@@ -92,6 +93,9 @@ def tried(program, room):
         for command in commands:
             if SKIPPED.search(command.words):
                 counts["skipped"] += 1
+                kept = re.search(r"\| tee /tmp/(\S+)$", command.words)
+                if kept:
+                    keep(os.path.join(room, kept[1]), "\n".join(command.shown) + "\n")
                 continue
             if command.words.startswith("cd "):
                 folder = os.path.join(clone, command.words[3:])
@@ -100,4 +104,4 @@ def tried(program, room):
             if not command.is_met(said):
                 sys.exit(f"docs/MANUAL.md, line {command.line}: {command.words}\nprints\n{said}and there stands\n" + "\n".join(command.shown))
             counts["run"] += 1
-    yield f"{counts['run']} commands print what stands under them; {counts['skipped']} weren't run, which want a screen, or many minutes"
+    yield f"{counts['run']} commands print what stands under them; {counts['skipped']} weren't run, which want a screen, a board, or many minutes"

@@ -1,10 +1,11 @@
 """OpenOCD plays the SVF of scripts/svf on the written netlist, which Icarus simulates: without a mismatch, and with one
-where the BSDL file says something else."""
+where the BSDL file says something else. A player of this folder plays what has PIO, which OpenOCD refuses."""
 import os, re, sys
 
 from bridge import bench, bridged, simulated
-from chips import Module, keep, text_of
+from chips import Module, keep, run, text_of
 from script_trials import demo, most_rows, refusals, script, small_chips, with_own_register
+from svf_player import events_of_svf
 
 NEEDS = ("openocd", "iverilog", "vvp")
 TAP = {"CLOCK": "TCK", "MODE": "TMS", "IN": "TDI", "OUT": "TDO", "RESET": "TRST"}
@@ -62,6 +63,9 @@ def with_code(text):
 
 # The chips whose files are changed.
 SPOILED = {"counter8": spoiled, "two_codes": spoiled_usercode, "both_ways": spoiled_without_code}
+
+# Those of which the longer program is played.
+LONGER = ("counter8", "both_ways", "gates", "two_codes")
 
 
 PAIR = """module pair (input TCK, input TMS, input TDI, output TDO, input TRST);
@@ -149,11 +153,60 @@ def spoiled_files(program, room, name, netlist, bsdl):
     return f"{name} with one thing changed in its file: a mismatch each time ({'; '.join(told)})"
 
 
+def meets(program, room, netlist, bsdl, svf):
+    """Whether the netlist misses nothing of the file, by the player of this folder and `check`."""
+    tap, _ = tap_of(text_of(bsdl))
+    events = keep(os.path.join(room, "svf.events"), events_of_svf(Module(text_of(netlist)), tap, text_of(svf)))
+    return "missed" not in run([program, "check", netlist, bsdl, events], (0, 6))
+
+
+def exchanged_pins(text):
+    """The counter's file with the cells of two outputs exchanged, and those of two inputs."""
+    for one, other in (("q(0)", "q(2)"), ("en", "oe")):
+        yield f"{one} and {other}", text.replace(f"1, {one},", "@").replace(f"1, {other},", f"1, {one},").replace("@", f"1, {other},")
+
+
+def longer(program, room, chips):
+    """The longer program, by OpenOCD and with other pins by the player of this folder."""
+    svf, with_pins = (os.path.join(room, name) for name in ("long.svf", "pins.svf"))
+    for name, netlist, bsdl in chips:
+        counts = script("svf", "--long", bsdl, svf).split("\n")[0]
+        told = script("svf", "--long", "--pins", bsdl, with_pins).split("\n")[0]
+        tap, length = tap_of(text_of(bsdl))
+        if not plays(room, Module(text_of(netlist)), tap, [netlist], svf, (length,)):
+            sys.exit(f"{name}, the longer program: a mismatch")
+        if not all(meets(program, room, netlist, bsdl, path) for path in (svf, with_pins)):
+            sys.exit(f"{name}, the longer program: the player of this folder finds a mismatch")
+        yield f"{name}, the longer program: OpenOCD finds no mismatch ({counts}), and none comes with --pins ({told})"
+    _, netlist, bsdl = chips[0]
+    for what, text in exchanged_pins(text_of(bsdl)):
+        changed = keep(os.path.join(room, "changed.bsd"), text)
+        script("svf", "--long", changed, svf)
+        script("svf", "--long", "--pins", changed, with_pins)
+        if text == text_of(bsdl) or [meets(program, room, netlist, bsdl, path) for path in (svf, with_pins)] != [True, False]:
+            sys.exit(f"the cells of {what} exchanged: --pins doesn't find it, or more does")
+    yield "cells of two outputs and of two inputs exchanged in the counter's file: a mismatch with --pins, and none without"
+
+
+def warned(program, room, chips):
+    """Outputs that no row turns off are told in the file and by the script, and no others."""
+    svf, count = os.path.join(room, "chip.svf"), 0
+    for name, _, bsdl in chips:
+        always = re.findall(r'^    "(\d+) \(BC_\d, [^,]+, output2,', text_of(bsdl), re.M)
+        said = script("svf", bsdl, svf, "--program", program)
+        told = [re.findall(r"no row turns these outputs off, .*: cells? (.*)$", text, re.M) for text in (said, text_of(svf))]
+        numbers = [str(number) for part in ", ".join(told[0]).split(", ") if part for first, _, last in [part.partition("-")] for number in range(int(first), int(last or first) + 1)]
+        if told[0] != told[1] or sorted(numbers) != sorted(always):
+            sys.exit(f"{name}: cells {always} are always on, and told are {told}")
+        count += bool(always)
+    return f"outputs that no row turns off: told of {count} of {len(chips)} chips, each of their cells"
+
+
 def tried(program, room):
     chips = list(small_chips(program, room))
     svf = os.path.join(room, "chip.svf")
     for name, netlist, bsdl in chips:
-        counts = script("svf", bsdl, svf, "--program", program).strip()
+        counts = script("svf", bsdl, svf, "--program", program).split("\n")[0]
         tap, length = tap_of(text_of(bsdl))
         if not plays(room, Module(text_of(netlist)), tap, [netlist], svf, (length,)):
             sys.exit(f"{name}: a mismatch")
@@ -166,13 +219,17 @@ def tried(program, room):
     yield chain(program, room, chips)
     yield net_test(room, chips)
     netlist, demo_bsdl = demo(program, room, 999)
-    yield f"demo 999: {script('svf', demo_bsdl, svf, '--mask-inputs', '--program', program).strip()}"
+    yield f"demo 999: {script('svf', demo_bsdl, svf, '--mask-inputs', '--program', program).split(chr(10))[0]}"
     most = most_rows(room)
-    yield f"4,091 rows: {script('svf', most, svf, '--program', program).strip()}"
+    yield f"4,091 rows: {script('svf', most, svf, '--program', program).split(chr(10))[0]}"
+    yield from longer(program, room, [chip for chip in chips if chip[0] in LONGER])
+    yield warned(program, room, chips)
     events = keep(os.path.join(room, "pins.events"), "events 1\nstart TCK 0\nstart TRST 0\nstart en 0\nset en 1\n")
     wrong = {"no file": [os.path.join(room, "missing"), svf], "a netlist": [netlist, svf], "a folder to write to": [bsdl, room, "--program", program]}
     wrong["no events"] = [bsdl, svf, "--events", bsdl]
     wrong["events that set other pins"] = [bsdl, svf, "--events", events]
+    wrong["--long in a chain"] = [bsdl, svf, "--long", "--ir-before", "3", "--chips-before", "1"]
+    wrong["--long with --events"] = [bsdl, svf, "--long", "--events", events]
     wrong["a chip without an instruction register"] = [bsdl, svf, "--chips-before", "1"]
     wrong["no program"] = [bsdl, svf, "--program", os.path.join(room, "missing")]
     wrong["a register of the design's own"] = [with_own_register(room), svf, "--program", program]

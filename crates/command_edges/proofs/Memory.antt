@@ -2,6 +2,8 @@
 use Rattle.std.proofs.Common.{◌≡◌, ℕ, List, [], ◌∷◌, sym, ◌∙◌, subst, refl}
 use Rattle.list_laws.proofs.Options.{none_some}
 use Rattle.cell_text.specs.Laws as libraries
+use Rattle.box_model.specs.declared.boxes.BoxLibrary.{BoxLibrary}
+use Rattle.box_texts.specs.Laws as boxes
 use Rattle.cell_text.specs.declared.fault.LibFault.TheVariants as lib
 use Rattle.verilog_lexicon.specs.declared.word.Spanned.{Spanned}
 use Rattle.verilog_tree.specs.declared.tree.Module.{Module}
@@ -18,7 +20,7 @@ use Rattle.command_faults.specs.declared.status.Status.TheVariants as status
 use Rattle.command_faults.specs.declared.fault.Fault.{Fault}
 use Rattle.command_faults.specs.declared.fault.Fault.TheVariants as fault
 use Rattle.command_faults.specs.Statuses.{text_status, link_status, status_of}
-use Rattle.command_edges.specs.Libraries.{IsLibraryOf, StandsInLibrary}
+use Rattle.command_edges.specs.Libraries.{IsBoxLibraryOf, IsLibraryOf, StandsInBoxLibrary, StandsInLibrary}
 
 pub text_memory : (bytes : List ℕ) (tree : Module) (f : TextFault) → SpellsText bytes tree → IsTextFault bytes f → text_status f ≡ status.Memory
 text_memory bytes tree (text.BadWord place) spells bad = absurd (bad.none spells.words spells.cut)
@@ -48,3 +50,18 @@ library_memory law (text ∷ more) library f is bad = absurd bad
 pub one_library : libraries.SpelledOnce → (more : List (List ℕ)) (one other : List ListedCell) → IsLibraryOf more one → IsLibraryOf more other → one ≡ other
 one_library law [] one other a b = a ∙ sym b
 one_library law (text ∷ more) one other a b = law text one other a b
+
+-- A library's text, which may have boxes.
+
+pub box_library_memory : boxes.SpelledIsFaultless → (more : List (List ℕ)) (library : BoxLibrary) (f : Fault) → IsBoxLibraryOf more library → StandsInBoxLibrary more f → status_of f ≡ status.Memory
+box_library_memory law [] library f is bad = absurd bad
+box_library_memory law (text ∷ more) library (fault.Library (lib.LibLine line)) is bad = none_some (sym (law text library is) ∙ bad)
+box_library_memory law (text ∷ more) library (fault.Library (lib.TooMany count)) is bad = none_some (sym (law text library is) ∙ bad)
+box_library_memory law (text ∷ more) library (fault.Library (lib.LibName name)) is bad = none_some (sym (law text library is) ∙ bad)
+box_library_memory law (text ∷ more) library (fault.Library (lib.LibBody name)) is bad = none_some (sym (law text library is) ∙ bad)
+box_library_memory law (text ∷ more) library (fault.Library lib.OutOfMemory) is bad = refl
+box_library_memory law (text ∷ more) library f is bad = absurd bad
+
+pub one_box_library : boxes.SpelledOnce → (more : List (List ℕ)) (one other : BoxLibrary) → IsBoxLibraryOf more one → IsBoxLibraryOf more other → one ≡ other
+one_box_library law [] one other a b = a ∙ sym b
+one_box_library law (text ∷ more) one other a b = law text one other a b

@@ -11,7 +11,7 @@
 //   what stays whatever comes of it.
 // - `read_all`, `write_all`: all texts of a list of names, in order, up to the first that can't be read or
 //   written; `put_text` puts one.
-// - `library_of` reads the library that a command may take as its last text.
+// - `library_of` reads the library that a command may take as its last text, `boxes_of` one that may have boxes.
 // - `run_task` runs whatever makes texts of texts (a `TextCommand`) and meets its task.
 // By the contract of these calls.
 #![tactic(auto)]
@@ -22,8 +22,8 @@ mod reads;
 mod tasks;
 mod writes;
 
-pub use inputs::{take_first, take_one, take_three, take_two};
-pub use libraries::library_of;
+pub use inputs::{take_first, take_one, take_three, take_three_boxed, take_two, take_two_boxed};
+pub use libraries::{boxes_of, library_of};
 pub use reads::{read_all, read_text};
 pub use tasks::{Made, TextCommand, run_task};
 pub use writes::{put_text, write_all, write_text};

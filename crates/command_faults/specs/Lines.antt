@@ -4,6 +4,8 @@ use Rattle.std.specs.Fmt.{decimal}
 use Rattle.link_model.specs.declared.fault.BitName.{BitName}
 use Rattle.link_model.specs.declared.fault.LinkFault.{LinkFault}
 use Rattle.link_model.specs.declared.fault.LinkFault.TheVariants as link
+use Rattle.box_model.specs.declared.fault.BoxFault.{BoxFault}
+use Rattle.box_model.specs.declared.fault.BoxFault.TheVariants as box
 use Rattle.hier_model.specs.declared.fault.HierFault.{HierFault}
 use Rattle.hier_model.specs.declared.fault.HierFault.TheVariants as hier
 use Rattle.verilog_texts.specs.declared.fault.TextFault.{TextFault}
@@ -90,6 +92,13 @@ link_line (link.DerivedClock flop net) = words_line (codes "DerivedClock") (flop
 link_line (link.TooMany what count limit) = many_line (what_word what) count limit
 link_line link.OutOfMemory = memory_line
 
+abbrev pub box_line : BoxFault → List ℕ
+box_line (box.BoxUnknown instance) = named_line (codes "BoxUnknown") instance
+box_line (box.BoxLink instance port) = port_line (codes "BoxLink") instance port
+box_line (box.BoxName name) = named_line (codes "BoxName") name
+box_line (box.BoxTristate bit) = bit_line (codes "BoxTristate") bit
+box_line box.OutOfMemory = memory_line
+
 abbrev pub library_line : LibFault → List ℕ
 library_line (library.LibLine line) = place_line (codes "LibLine") line
 library_line (library.TooMany count) = words_line (codes "TooMany") (codes "listed" ∷ decimal count ∷ decimal 4096 ∷ [])
@@ -151,6 +160,7 @@ line_of (fault.ReadFault name) = named_line (codes "ReadFault") name.now
 line_of (fault.TooLong name) = named_line (codes "TooLong") name.now
 line_of (fault.Netlist f) = text_line f
 line_of (fault.Hier f) = hier_line f
+line_of (fault.Boxes f) = box_line f
 line_of (fault.Link f) = link_line f
 line_of (fault.Library f) = library_line f
 line_of (fault.Events f) = event_line f

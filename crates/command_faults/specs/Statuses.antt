@@ -8,6 +8,8 @@ use Rattle.verilog_texts.specs.declared.fault.TextFault.{TextFault}
 use Rattle.verilog_texts.specs.declared.fault.TextFault.TheVariants as text
 use Rattle.hier_model.specs.declared.fault.HierFault.{HierFault}
 use Rattle.hier_model.specs.declared.fault.HierFault.TheVariants as hier
+use Rattle.box_model.specs.declared.fault.BoxFault.{BoxFault}
+use Rattle.box_model.specs.declared.fault.BoxFault.TheVariants as box
 use Rattle.link_model.specs.declared.fault.LinkFault.{LinkFault}
 use Rattle.link_model.specs.declared.fault.LinkFault.TheVariants as link
 use Rattle.cell_text.specs.declared.fault.LibFault.{LibFault}
@@ -34,6 +36,10 @@ text_status f = status.Refused
 abbrev pub hier_status : HierFault → Status
 hier_status hier.OutOfMemory = status.Memory
 hier_status f = status.Refused
+
+abbrev pub box_status : BoxFault → Status
+box_status box.OutOfMemory = status.Memory
+box_status f = status.Refused
 
 abbrev pub link_status : LinkFault → Status
 link_status link.OutOfMemory = status.Memory
@@ -78,6 +84,7 @@ status_of (fault.ReadFault name) = status.ReadFault
 status_of (fault.TooLong name) = status.Refused
 status_of (fault.Netlist f) = text_status f
 status_of (fault.Hier f) = hier_status f
+status_of (fault.Boxes f) = box_status f
 status_of (fault.Link f) = link_status f
 status_of (fault.Library f) = library_status f
 status_of (fault.Events f) = event_status f

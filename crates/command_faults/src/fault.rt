@@ -3,6 +3,7 @@ ghost use Rattle.command_faults.specs.Statuses as statuses;
 ghost use Rattle.command_faults.specs.declared.fault.Fault.TheVariants as made;
 
 use crate::status::Status;
+use box_model::BoxFault;
 use bsdl_device::DeviceTextFault;
 use bsdl_values::register_texts::ExtendedTextFault;
 use cell_text::LibFault;
@@ -34,6 +35,8 @@ pub enum Fault<'a> {
     Netlist(TextFault),
     #[error("modules can't be made flat")]
     Hier(HierFault),
+    #[error("the boxes of a module can't be opened")]
+    Boxes(BoxFault),
     #[error("a module is no netlist")]
     Link(LinkFault),
     #[error("a text is no library of cells")]
@@ -82,6 +85,14 @@ impl From<HierFault> for Fault<'_> {
 
     fn from(fault: HierFault) -> Self {
         Fault::Hier(fault)
+    }
+}
+
+impl From<BoxFault> for Fault<'_> {
+    ghost from_gives = { λ fault given. given ≡ made.Boxes fault };
+
+    fn from(fault: BoxFault) -> Self {
+        Fault::Boxes(fault)
     }
 }
 
@@ -152,6 +163,7 @@ impl Fault<'_> {
             Fault::TooLong { .. } => Status::Refused,
             Fault::Netlist(TextFault::OutOfMemory)
             | Fault::Hier(HierFault::OutOfMemory)
+            | Fault::Boxes(BoxFault::OutOfMemory)
             | Fault::Link(LinkFault::OutOfMemory)
             | Fault::Library(LibFault::OutOfMemory)
             | Fault::Events(EventFault::OutOfMemory)
@@ -164,6 +176,7 @@ impl Fault<'_> {
             | Fault::OutOfMemory => Status::Memory,
             Fault::Netlist(_)
             | Fault::Hier(_)
+            | Fault::Boxes(_)
             | Fault::Link(_)
             | Fault::Library(_)
             | Fault::Events(_)

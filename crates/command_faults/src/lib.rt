@@ -11,6 +11,7 @@
 // By the contract of `put_fault`, `Fault::status`, `Status::exit_number` and the conversions.
 #![tactic(auto)]
 
+mod box_lines;
 mod fault;
 mod hier_lines;
 mod library_lines;

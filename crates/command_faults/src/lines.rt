@@ -1,6 +1,7 @@
 ghost use Rattle.output_lines.specs.Puts.{Puts};
 ghost use Rattle.command_faults.specs.Lines.{line_of};
 
+use crate::box_lines::put_box_fault;
 use crate::fault::Fault;
 use crate::hier_lines::put_hier_fault;
 use crate::library_lines::put_library_fault;
@@ -26,6 +27,7 @@ pub fn put_fault<O: Sink>(out: &mut O, fault: &Fault) -> Result<(), WriteFault>
         Fault::TooLong { name } => put_named(out, b"TooLong", name.as_bytes()),
         Fault::Netlist(fault) => put_text_fault(out, fault),
         Fault::Hier(fault) => put_hier_fault(out, fault),
+        Fault::Boxes(fault) => put_box_fault(out, fault),
         Fault::Link(fault) => put_link_fault(out, fault),
         Fault::Library(fault) => put_library_fault(out, fault),
         Fault::Events(fault) => put_event_fault(out, fault),

@@ -19,8 +19,8 @@ pub fn put_named<O: Sink>(out: &mut O, fault: &[u8], name: &[u8]) -> Result<(), 
     put_line(out, &Field::Word(fault), &[Field::Word(name)])
 }
 
-// The line of a fault at a bit.
-fn put_bit<O: Sink>(out: &mut O, fault: &[u8], bit: &BitName) -> Result<(), WriteFault>
+/// Puts the line of a fault at a bit.
+pub fn put_bit<O: Sink>(out: &mut O, fault: &[u8], bit: &BitName) -> Result<(), WriteFault>
     ensures { Puts O.given O.faults out.old out.new (lines.bit_line fault.now bit.now) result }
 {
     let field = Field::of_bit(bit.name.as_bytes(), bit.index);

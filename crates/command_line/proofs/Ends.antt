@@ -3,11 +3,13 @@ use Rattle.std.proofs.Common.{inl, inr}
 use Rattle.command_faults.specs.declared.fault.Fault.{Fault}
 use Rattle.command_faults.specs.declared.fault.Fault.TheVariants as fault
 use Rattle.command_faults.specs.declared.status.Status.TheVariants as status
-use Rattle.command_faults.specs.Statuses.{status_of, text_status, hier_status, link_status, library_status, event_status, script_status, device_status, extended_status, plan_status, fit_status, registers_status}
+use Rattle.command_faults.specs.Statuses.{status_of, text_status, hier_status, box_status, link_status, library_status, event_status, script_status, device_status, extended_status, plan_status, fit_status, registers_status}
 use Rattle.verilog_texts.specs.declared.fault.TextFault.{TextFault}
 use Rattle.verilog_texts.specs.declared.fault.TextFault.TheVariants as text
 use Rattle.hier_model.specs.declared.fault.HierFault.{HierFault}
 use Rattle.hier_model.specs.declared.fault.HierFault.TheVariants as hier
+use Rattle.box_model.specs.declared.fault.BoxFault.{BoxFault}
+use Rattle.box_model.specs.declared.fault.BoxFault.TheVariants as box
 use Rattle.link_model.specs.declared.fault.LinkFault.{LinkFault}
 use Rattle.link_model.specs.declared.fault.LinkFault.TheVariants as link
 use Rattle.cell_text.specs.declared.fault.LibFault.{LibFault}
@@ -56,6 +58,10 @@ hier_apart : (f : HierFault) → IsEnd (hier_status f) → ⊥
 hier_apart hier.OutOfMemory end = memory_apart end
 hier_apart f end = refused_apart end
 
+box_apart : (f : BoxFault) → IsEnd (box_status f) → ⊥
+box_apart box.OutOfMemory end = memory_apart end
+box_apart f end = refused_apart end
+
 link_apart : (f : LinkFault) → IsEnd (link_status f) → ⊥
 link_apart link.OutOfMemory end = memory_apart end
 link_apart f end = refused_apart end
@@ -99,6 +105,7 @@ fault_apart (fault.ReadFault name) end = read_apart end
 fault_apart (fault.TooLong name) end = refused_apart end
 fault_apart (fault.Netlist f) end = text_apart f end
 fault_apart (fault.Hier f) end = hier_apart f end
+fault_apart (fault.Boxes f) end = box_apart f end
 fault_apart (fault.Link f) end = link_apart f end
 fault_apart (fault.Library f) end = library_apart f end
 fault_apart (fault.Events f) end = event_apart f end

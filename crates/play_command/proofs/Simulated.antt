@@ -15,7 +15,7 @@ use Rattle.command_edges.specs.Ends.{run_status}
 use Rattle.command_edges.specs.Seen.{ShelfSeen, SinkSeen}
 use Rattle.command_edges.specs.Spelled.{StandsInNetlist}
 use Rattle.command_edges.specs.Texts.{AreRead}
-use Rattle.command_edges.specs.Libraries.{IsLibraryOf, StandsBehindTwo}
+use Rattle.command_edges.specs.Libraries.{IsLibraryOf, StandsInLibrary, StandsBehindTwo}
 use Rattle.command_edges.specs.Tasks.{Finishes, Stands, Completes}
 use Rattle.command_edges.proofs.Outcome.{refusal_completes, giving_completes}
 use Rattle.play_command.specs.Simulations.{IsSimulation}
@@ -77,7 +77,7 @@ played_fault (Err f) library net events more tree linked sink given is read list
 
 -- From a library behind two texts.
 
-pub library_fails : (texts : List (List ℕ)) (sink : SinkSeen) (f : Fault) (given : Option (List ℕ)) → StandsBehindTwo texts f → given ≡ sink.given → FailsToPlay texts sink f given
+pub library_fails : (texts : List (List ℕ)) (sink : SinkSeen) (f : Fault) (given : Option (List ℕ)) → StandsBehindTwo StandsInLibrary texts f → given ≡ sink.given → FailsToPlay texts sink f given
 library_fails texts sink f given bad same = inl (subst (λ (ts : List (List ℕ)). HaveFault ts f) (sym bad.are) (inl bad.stands), same)
 
 -- From texts that were read to the task.

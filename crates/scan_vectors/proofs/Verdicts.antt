@@ -16,13 +16,13 @@ use Rattle.scan_vectors.specs.Pins.{Names, HasStart}
 use Rattle.scan_vectors.specs.Rules.{BreaksRule, IsBroken, IsUnbroken, IsFirstBroken, AreIllegalAt, AreLegal}
 use Rattle.scan_vectors.specs.Rules.BreaksRule.{output, input, again, late}
 use Rattle.scan_vectors.specs.Rules.AreIllegalAt.{broken, unstarted}
-use Rattle.scan_vectors.specs.Scripts.{IsFound, IsScriptOf, IsStartAt, IsPlayable, IsResolved, IsSpelled}
+use Rattle.scan_vectors.specs.Scripts.{IsFound, IsScriptOf, IsStartAt, IsPlayable, IsResolved, IsSpelled, HaveNumbers}
 use Rattle.scan_vectors.specs.Starts.{IsAfter, IsWaiting, IsComplete, IsTaken, TakesLine}
 use Rattle.scan_vectors.proofs.Flags.{get_push, take_push}
 use Rattle.scan_vectors.proofs.ScriptsSteps.{all_started, start_lacks}
 
 -- there are as many numbers as lines
-pub spelled_lengths : (lines : Lines) → IsSpelled lines → length lines.numbers ≡ length lines.list
+pub spelled_lengths : (lines : Lines) → IsSpelled lines → HaveNumbers lines
 spelled_lengths lines is =
     let spells = is.spells in
     ap length spells.numbers_are ∙ length-map spells.written (λ w. w.number) ∙ sym (length-map spells.written (λ w. w.line)) ∙ sym (ap length spells.list_is)
@@ -35,10 +35,10 @@ line_there lines items place line same less read =
     let there = slice_get_read items (length items) place line refl less read in
     rw same at there
 
-pub number_there : (lines : Lines) (items : List Line) (numbers : List ℕ) (place : ℕ) → IsSpelled lines → items ≡ lines.list → numbers ≡ lines.numbers → place < length items
+pub number_there : (lines : Lines) (items : List Line) (numbers : List ℕ) (place : ℕ) → HaveNumbers lines → items ≡ lines.list → numbers ≡ lines.numbers → place < length items
     → slice_get lines.numbers place ≡ Some (get_or numbers place 0)
-number_there lines items numbers place spelled same same_numbers less =
-    let counts : length numbers ≡ length items = ap length same_numbers ∙ spelled_lengths lines spelled ∙ sym (ap length same) in
+number_there lines items numbers place counted same same_numbers less =
+    let counts : length numbers ≡ length items = ap length same_numbers ∙ counted ∙ sym (ap length same) in
     ap (λ ns. slice_get ns place) (sym same_numbers) ∙ slice_get-get_or numbers place 0 (omega arith)
 
 -- the line of a place in the script

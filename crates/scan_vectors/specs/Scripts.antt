@@ -21,6 +21,10 @@ pub record IsSpelled (lines : Lines) : Type 0 where
   pub bytes : List ℕ
   pub spells : SpellsLines bytes lines
 
+-- own: each line has a number
+abbrev pub HaveNumbers : Lines → Type 0
+HaveNumbers lines = length lines.numbers ≡ length lines.list
+
 -- own: this is the line with its pin found, and its number
 pub record IsFound (L : LinkedView) (line : Line) (number : ℕ) (found : ScriptLine) : Type 0 where
   pub act : found.act ≡ act_of line

@@ -2,7 +2,8 @@
 use Rattle.std.proofs.Common.{◌≡◌, ℕ, List, [], ◌∷◌, None, inl, inr, refl, sym, subst, ◌∙◌}
 use Rattle.list_laws.proofs.Options.{none_some}
 use Rattle.cell_library.specs.declared.listed.ListedCell.{ListedCell}
-use Rattle.cell_text.specs.Laws as libraries
+use Rattle.box_model.specs.declared.boxes.BoxLibrary.{BoxLibrary}
+use Rattle.box_texts.specs.Laws as libraries
 use Rattle.verilog_lexicon.specs.declared.word.Spanned.{Spanned}
 use Rattle.verilog_tree.specs.declared.tree.Module.{Module}
 use Rattle.verilog_modules.specs.Texts.{SpellsModules}
@@ -17,7 +18,7 @@ use Rattle.command_faults.specs.declared.fault.Fault.{Fault}
 use Rattle.command_faults.specs.declared.fault.Fault.TheVariants as fault
 use Rattle.command_faults.specs.declared.status.Status.TheVariants as status
 use Rattle.command_faults.specs.Statuses.{status_of, text_status, hier_status}
-use Rattle.command_edges.proofs.Memory.{library_memory, one_library}
+use Rattle.command_edges.proofs.Memory.{box_library_memory, one_box_library}
 use Rattle.text_command.specs.FlatTexts.{CanBeFlat, StandsInModules}
 use Rattle.text_command.specs.FlattenTasks.{HaveFault, AreFlattenable}
 
@@ -45,8 +46,8 @@ flat_memory library top bytes f ok bad = absurd bad
 
 -- with the library behind the modules
 pub all_memory : Laws → (top : List ℕ) (f : Fault) (texts : List (List ℕ)) → AreFlattenable top texts → HaveFault top texts f → status_of f ≡ status.Memory
-all_memory laws top f (bytes ∷ more) ok (inl bad) = library_memory laws.no_library_fault more ok.0 f ok.1.0 bad
+all_memory laws top f (bytes ∷ more) ok (inl bad) = box_library_memory laws.no_library_fault more ok.0 f ok.1.0 bad
 all_memory laws top f (bytes ∷ more) ok (inr (library, (is, stands))) =
-    let same : library ≡ ok.0 = one_library laws.one_library more library ok.0 is ok.1.0 in
-    flat_memory ok.0 top bytes f ok.1.1 (subst (λ (l : List ListedCell). StandsInModules l top bytes f) same stands)
+    let same : library ≡ ok.0 = one_box_library laws.one_library more library ok.0 is ok.1.0 in
+    flat_memory ok.0.cells top bytes f ok.1.1 (subst (λ (l : BoxLibrary). StandsInModules l.cells top bytes f) same stands)
 all_memory laws top f [] ok stands = absurd stands

@@ -13,6 +13,7 @@ use std::alloc::Global;
 
 /// The script of event lines that are legal for a netlist and keep the rule of a device's test access port, or the
 /// first line that is illegal.
+#[tactic(auto, using(scan_vectors::proofs::Verdicts::spelled_lengths))]
 pub fn resolve_both(
     alloc: Global,
     linked: &Linked,

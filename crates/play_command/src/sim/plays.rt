@@ -44,6 +44,7 @@ fn linked_of<'a>(alloc: Global, net: Text, library: Library) -> Result<Linked, F
 }
 
 // Plays the events that a text spells on a netlist.
+#[tactic(auto, using(scan_vectors::proofs::Verdicts::spelled_lengths))]
 fn play_on<'a, O: Sink>(
     alloc: Global,
     linked: &Linked,

@@ -1,7 +1,7 @@
 ghost use Rattle.std.specs.Prelude.{◌≡◌, length, List, IfErr, IfOk, MatchOption};
 ghost use Rattle.scan_vectors.specs.declared.lines.Line.{Line};
 ghost use Rattle.scan_vectors.specs.Rules.{BreaksRule};
-ghost use Rattle.scan_vectors.specs.Scripts.{IsScriptFault, IsResolved, IsSpelled};
+ghost use Rattle.scan_vectors.specs.Scripts.{HaveNumbers, IsScriptFault, IsResolved};
 ghost use Rattle.scan_vectors.specs.Starts.{IsAfter, TakesLine};
 
 use crate::scripts::bits::{find_bit, suits};
@@ -16,7 +16,7 @@ use texts::Row;
 
 /// The script of event lines for a linked netlist, or the first line that is illegal. Time is linear in lines and nets.
 pub fn resolve(alloc: Global, lines: &Lines, linked: &Linked) -> Result<Script, ScriptFault>
-    requires { IsSpelled lines.now }
+    requires { HaveNumbers lines.now }
     ensures ok { IfOk result (λ script. IsResolved linked.now lines.now script.list) }
     ensures fault { IfErr result (IsScriptFault linked.now lines.now) }
 {

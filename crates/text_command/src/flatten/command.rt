@@ -2,7 +2,7 @@ ghost use Rattle.command_edges.specs.Libraries.{name_of};
 ghost use Rattle.text_command.specs.FlattenTasks.{flatten_task};
 
 use crate::flatten::flat_texts::flattened;
-use cell_text::texts_of_libraries_are_spelled_or_at_fault;
+use box_texts::texts_of_boxes_are_spelled_or_at_fault;
 use command_edges::{Made, TextCommand, take_first};
 use command_faults::{Fault, Status};
 use std::alloc::Global;
@@ -23,9 +23,9 @@ impl TextCommand for Flatten<'_> {
 
     fn make<'a>(self, alloc: Global, texts: &mut [Text]) -> Result<Made, Fault<'a>> {
         // A law that the proof uses.
-        texts_of_libraries_are_spelled_or_at_fault();
+        texts_of_boxes_are_spelled_or_at_fault();
         let (text, library) = take_first(alloc, texts)?;
-        let printed = flattened(alloc, text, self.top, &library)?;
+        let printed = flattened(alloc, text, self.top, &library.cells)?;
         let mut outputs = Row::new(alloc);
         outputs.push(printed)?;
         Ok(Made {

@@ -17,8 +17,8 @@ pub returns-in_err-text-clause-free : goal.returns-in_err-text-clause-free
 returns-in_err-text-clause-free c =
     let bad = c.in_err-text.ensures.fault in
     let laws : Laws = record {
-      one_library = c.texts_of_libraries_are_spelled_or_at_fault.ensures.once;
-      no_library_fault = c.texts_of_libraries_are_spelled_or_at_fault.ensures.faultless;
+      one_library = c.texts_of_boxes_are_spelled_or_at_fault.ensures.once;
+      no_library_fault = c.texts_of_boxes_are_spelled_or_at_fault.ensures.faultless;
     } in
     err_is c.from_residual.result c.in_err-text.field-0.0 (λ f. AreFlattenable c.args.self.top.now c.args.texts.now → status_of f ≡ status.Memory) c.from_residual.ensures.1
     (λ free. all_memory laws c.args.self.top.now c.in_err-text.field-0.0 c.args.texts.now free
@@ -35,8 +35,8 @@ pub returns-in_err-printed-clause-free : goal.returns-in_err-printed-clause-free
 returns-in_err-printed-clause-free c =
     let taken = c.in_ok-text.ensures.taken in
     let laws : Laws = record {
-      one_library = c.texts_of_libraries_are_spelled_or_at_fault.ensures.once;
-      no_library_fault = c.texts_of_libraries_are_spelled_or_at_fault.ensures.faultless;
+      one_library = c.texts_of_boxes_are_spelled_or_at_fault.ensures.once;
+      no_library_fault = c.texts_of_boxes_are_spelled_or_at_fault.ensures.faultless;
     } in
     err_is c.from_residual-in_err-printed.result c.in_err-printed.field-0.0 (λ f. AreFlattenable c.args.self.top.now c.args.texts.now → status_of f ≡ status.Memory) c.from_residual-in_err-printed.ensures.1
     (λ free. all_memory laws c.args.self.top.now c.in_err-printed.field-0.0 c.args.texts.now free

@@ -1,0 +1,7 @@
+use Rattle.std.proofs.Common.{◌≡◌, ◌++◌, take}
+use Rattle.texts.specs.Repeated.{texts}
+use Rattle.box_tables.specs.Nets.{port_names, wire_names}
+use Rattle.box_tables.proofs.declarations.names_of_all.Given as goal
+
+abbrev pub invariant-loop-wire : goal.invariant-loop-wire
+invariant-loop-wire l = texts l.names.items ≡ port_names l.ports ++ wire_names (take l.wire-index l.wires)

@@ -1,0 +1,4 @@
+pub mod CutPorts
+pub mod Links
+pub mod Names
+pub mod Nets

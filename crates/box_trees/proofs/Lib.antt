@@ -1,0 +1,12 @@
+pub mod Assigned
+pub mod CutFlops
+pub mod Excess
+pub mod FirstClash
+pub mod FitLinks
+pub mod HiddenParts
+pub mod Indexes
+pub mod Items
+pub mod Parts
+pub mod Ranges
+pub mod Taken
+pub mod WordParts

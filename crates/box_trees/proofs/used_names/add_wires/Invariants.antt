@@ -1,0 +1,7 @@
+use Rattle.std.proofs.Common.{◌≡◌, ◌++◌, take}
+use Rattle.texts.specs.Repeated.{texts}
+use Rattle.box_tables.specs.Nets.{wire_names}
+use Rattle.box_trees.proofs.used_names.add_wires.Given as goal
+
+abbrev pub invariant-loop-wire : goal.invariant-loop-wire
+invariant-loop-wire l = texts l.names.items ≡ texts l.initial.names.items ++ wire_names (take l.wire-index l.wires)

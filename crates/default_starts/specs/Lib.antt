@@ -1,0 +1,5 @@
+pub mod Found
+pub mod Laws
+pub mod OwnRules
+pub mod Starts
+pub mod Words
