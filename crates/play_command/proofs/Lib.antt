@@ -1,3 +1,4 @@
+pub mod BoxNetlists
 mod CheckComplete
 mod CheckMade
 mod DeviceKinds

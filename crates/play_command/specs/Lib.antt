@@ -1,3 +1,4 @@
+pub mod BoxNetlists
 pub mod CheckFaults
 pub mod CheckTasks
 pub mod Checks

@@ -9,7 +9,9 @@ use Rattle.scan_vectors.specs.declared.lines.Lines.{Lines}
 use Rattle.scan_vectors.specs.Grammar.{SpellsLines}
 use Rattle.scan_vectors.specs.Faults.{IsFault}
 use Rattle.scan_vectors.specs.declared.scripts.script.ScriptLine.{ScriptLine}
+use Rattle.scan_vectors.specs.declared.scripts.fault.ScriptFault.{ScriptFault}
 use Rattle.scan_vectors.specs.Scripts.{IsResolved, IsScriptFault}
+use Rattle.default_starts.specs.Starts.{IsWithStarts}
 use Rattle.sim_runs.specs.Outputs.{IsOutput}
 use Rattle.command_edges.specs.Ends.{run_status}
 use Rattle.command_edges.specs.Seen.{SinkSeen}
@@ -37,13 +39,15 @@ FailsToPlay texts sink f given = (HaveFault texts f × (given ≡ sink.given)) �
 
 -- Of a netlist and the text of events.
 
--- the text is that of the run of the lines that the bytes spell
+-- the text is that of the run of the lines that the bytes spell, with the starts that hidden bits have by default
 pub record IsRunOn (linked : LinkedView) (events text : List ℕ) (missed : ℕ) : Type 0 where
   pub lines : Lines
   pub spells_lines : SpellsLines events lines
+  pub started : Lines
+  pub are_started : IsWithStarts linked lines started
   pub script : List ScriptLine
-  pub resolved : IsResolved linked lines script
-  pub output : IsOutput linked lines.list script text missed
+  pub resolved : IsResolved linked started script
+  pub output : IsOutput linked started.list script text missed
 
 -- it was given
 pub record IsPlayedOn (linked : LinkedView) (events : List ℕ) (sink : SinkSeen) (end : Status) : Type 0 where
@@ -60,10 +64,18 @@ pub record IsCutShortOn (linked : LinkedView) (events : List ℕ) (sink : SinkSe
   pub run : IsRunOn linked events text missed
   pub put : StandsInPut true text sink f given
 
+-- the lines that the bytes spell, with the starts that hidden bits have by default, have this fault
+pub record HaveScriptFault (linked : LinkedView) (events : List ℕ) (f : ScriptFault) : Type 0 where
+  pub lines : Lines
+  pub spells_lines : SpellsLines events lines
+  pub started : Lines
+  pub are_started : IsWithStarts linked lines started
+  pub fault : IsScriptFault linked started f
+
 -- the fault stands in the lines of events at this netlist
 abbrev pub StandsInEvents : LinkedView → List ℕ → Fault → Type 0
 StandsInEvents linked events (fault.Events f) = IsFault events f
-StandsInEvents linked events (fault.Script f) = (lines : Lines) × (SpellsLines events lines × IsScriptFault linked lines f)
+StandsInEvents linked events (fault.Script f) = HaveScriptFault linked events f
 StandsInEvents linked events fault.OutOfMemory = Unit {0}
 StandsInEvents linked events f = ⊥
 

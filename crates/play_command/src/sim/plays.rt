@@ -1,19 +1,20 @@
 // From texts that were read to the text that is put.
 ghost use Rattle.std.specs.Prelude.{◌≡◌, ◌≤◌, ℕ, List, ◌∷◌, length, IfOk, IfErr};
-ghost use Rattle.verilog_tree.specs.declared.tree.Module.{Module};
-ghost use Rattle.verilog_texts.specs.TextOutcome.{IsReadAs};
-ghost use Rattle.netlist_link.specs.Links.{IsLinkOf};
+ghost use Rattle.box_model.specs.Sound.{IsSoundLibrary};
 ghost use Rattle.command_edges.specs.Ends.{IsEnd, run_status};
-ghost use Rattle.command_edges.specs.Libraries.{IsLibraryOf};
+ghost use Rattle.command_edges.specs.Libraries.{IsBoxLibraryOf};
 ghost use Rattle.command_edges.specs.Seen.{sink_seen};
-ghost use Rattle.command_edges.specs.Spelled.{StandsInNetlist};
+ghost use Rattle.play_command.specs.BoxNetlists.{at_end, SpellsBoxLinked, StandsInBoxNetlist};
 ghost use Rattle.play_command.specs.Played.{FailsToPlay, FailsToPlayOn, IsPlayed, IsPlayedOn};
 
-use cell_library::Library;
-use command_edges::take_two;
+use crate::box_netlists::link_behind;
+use box_links::box_faults_forbid_box_links;
+use box_model::BoxLibrary;
+use command_edges::take_two_boxed;
 use command_faults::{Fault, Status};
+use default_starts::with_starts;
 use edge_io::sink::Sink;
-use netlist_link::{Linked, link};
+use netlist_link::Linked;
 use scan_vectors::read_events;
 use scan_vectors::scripts::resolve;
 use sim_runs::{PlayFault, play};
@@ -34,17 +35,19 @@ fn status_after(missed: u64) -> Status
 }
 
 // The netlist that a text spells, with this library.
-fn linked_of<'a>(alloc: Global, net: Text, library: Library) -> Result<Linked, Fault<'a>>
-    ensures linked { IfOk result (λ linked. (tree : Module) × IsReadAs net tree
-        × (linked.arena.lists.library ≡ library) × IsLinkOf tree linked) }
-    ensures fault { IfErr result (StandsInNetlist library net) }
+#[tactic(auto, using(crate::proofs::BoxNetlists::linked_made, crate::proofs::BoxNetlists::fault_made))]
+fn linked_of<'a>(alloc: Global, net: Text, library: &BoxLibrary) -> Result<Linked, Fault<'a>>
+    requires { IsSoundLibrary library.now }
+    ensures linked { IfOk result (SpellsBoxLinked at_end library.now net) }
+    ensures fault { IfErr result (StandsInBoxNetlist at_end library.now net) }
 {
     let tree = read_module(alloc, net)?;
-    Ok(link(alloc, &tree, library)?)
+    let first = tree.ports.len();
+    link_behind(alloc, library, first, tree)
 }
 
 // Plays the events that a text spells on a netlist.
-#[tactic(auto, using(scan_vectors::proofs::Verdicts::spelled_lengths))]
+#[tactic(auto, using(crate::proofs::BoxNetlists::started_numbers))]
 fn play_on<'a, O: Sink>(
     alloc: Global,
     linked: &Linked,
@@ -59,6 +62,7 @@ fn play_on<'a, O: Sink>(
     ensures later { O.faults out.old ≤ O.faults out.new }
 {
     let lines = read_events(alloc, events)?;
+    let lines = with_starts(alloc, linked, lines)?;
     let script = resolve(alloc, &lines, linked)?;
     match play(alloc, linked, &lines, &script, out) {
         Ok(missed) => Ok(status_after(missed)),
@@ -74,19 +78,22 @@ fn play_texts<'a, O: Sink>(
     alloc: Global,
     net: Text,
     events: Text,
-    library: Library,
+    library: BoxLibrary,
     out: &mut O,
 ) -> Result<Status, Fault<'a>>
-    ensures done { (more : List (List ℕ)) → IsLibraryOf more library
+    requires { IsSoundLibrary library }
+    ensures done { (more : List (List ℕ)) → IsBoxLibraryOf more library
         → IfOk result (IsPlayed (net ∷ events ∷ more)
         (sink_seen O.given O.faults out.old out.new)) }
-    ensures fault { (more : List (List ℕ)) → IsLibraryOf more library
+    ensures fault { (more : List (List ℕ)) → IsBoxLibraryOf more library
         → IfErr result (λ fault. FailsToPlay (net ∷ events ∷ more)
         (sink_seen O.given O.faults out.old out.new) fault (O.given out.new)) }
     ensures ended { IfOk result IsEnd }
     ensures later { O.faults out.old ≤ O.faults out.new }
 {
-    let linked = linked_of(alloc, net, library)?;
+    // A law that the proof uses.
+    box_faults_forbid_box_links();
+    let linked = linked_of(alloc, net, &library)?;
     play_on(alloc, &linked, events.as_bytes(), out)
 }
 
@@ -104,6 +111,6 @@ pub fn play_all<'a, O: Sink>(
     ensures later { O.faults out.old ≤ O.faults out.new }
 {
     let mut texts = texts.into_vec();
-    let (net, events, library) = take_two(alloc, texts.as_mut_slice())?;
+    let (net, events, library) = take_two_boxed(alloc, texts.as_mut_slice())?;
     play_texts(alloc, net, events, library, out)
 }

@@ -1,6 +1,6 @@
 use Rattle.std.proofs.Common.{◌≡◌, ◌∙◌, IfErr, IfOk, List, ℕ, refl, sym, subst}
 use Rattle.list_laws.proofs.Options.{err_is}
-use Rattle.command_edges.specs.Libraries.{StandsInLibrary, StandsBehindTwo}
+use Rattle.command_edges.specs.Libraries.{StandsInBoxLibrary, StandsBehindTwo}
 use Rattle.command_edges.specs.Seen.{SinkSeen, sink_seen}
 use Rattle.play_command.specs.Played.{FailsToPlay, IsPlayed}
 use Rattle.play_command.proofs.Simulated.{library_fails}
@@ -24,6 +24,6 @@ pub returns-in_err-net-clause-fault : goal.returns-in_err-net-clause-fault
 returns-in_err-net-clause-fault g c =
     let sink : SinkSeen = sink_seen g.O.Sink.given g.O.Sink.faults c.args.out.now c.args.out.now in
     let same : c.as_mut_slice.result.now ≡ c.args.texts = c.as_mut_slice.ensures.value ∙ c.into_vec-texts.ensures in
-    let stands = subst (λ (ts : List (List ℕ)). StandsBehindTwo StandsInLibrary ts c.in_err-net.field-0.0) same c.in_err-net.ensures.fault in
+    let stands = subst (λ (ts : List (List ℕ)). StandsBehindTwo StandsInBoxLibrary ts c.in_err-net.field-0.0) same c.in_err-net.ensures.fault in
     err_is c.from_residual.result c.in_err-net.field-0.0 (λ f. FailsToPlay c.args.texts sink f sink.given_after) c.from_residual.ensures.1
     (library_fails c.args.texts sink c.in_err-net.field-0.0 sink.given_after stands refl)

@@ -8,15 +8,13 @@ use Rattle.play_command.proofs.sim.plays.play_texts.Goals as goal
 pub returns-clause-done : goal.returns-clause-done
 returns-clause-done g c = λ more is.
     let sink : SinkSeen = sink_seen g.O.Sink.given g.O.Sink.faults c.args.out.now c.play_on.new.out in
-    let linked = c.in_ok-linked.ensures.linked in
-    played_done c.play_on.result c.args.library c.args.net c.args.events more linked.0 c.in_ok-linked.linked sink is linked.1 linked.2 linked.3
+    played_done c.play_on.result c.args.library c.args.net c.args.events more c.in_ok-linked.linked sink is c.in_ok-linked.ensures.linked
     (subst (λ (bytes : List ℕ). IfOk c.play_on.result (IsPlayedOn c.in_ok-linked.linked bytes sink)) c.as_bytes.ensures c.play_on.ensures.done)
 
 pub returns-clause-fault : goal.returns-clause-fault
 returns-clause-fault g c = λ more is.
     let sink : SinkSeen = sink_seen g.O.Sink.given g.O.Sink.faults c.args.out.now c.play_on.new.out in
-    let linked = c.in_ok-linked.ensures.linked in
-    played_fault c.play_on.result c.args.library c.args.net c.args.events more linked.0 c.in_ok-linked.linked sink sink.given_after is linked.1 linked.2 linked.3
+    played_fault c.box_faults_forbid_box_links.ensures c.play_on.result c.args.library c.args.net c.args.events more c.in_ok-linked.linked sink sink.given_after is c.requires c.in_ok-linked.ensures.linked
     (subst (λ (bytes : List ℕ). IfErr c.play_on.result (λ f. FailsToPlayOn c.in_ok-linked.linked bytes sink f sink.given_after)) c.as_bytes.ensures c.play_on.ensures.fault)
 
 pub returns-in_err-linked-clause-fault : goal.returns-in_err-linked-clause-fault

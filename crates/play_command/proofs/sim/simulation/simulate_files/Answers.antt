@@ -19,6 +19,7 @@ returns-clause-complete g c =
     let sink : SinkSeen = sink_seen g.O.Sink.given g.O.Sink.faults c.args.out.now c.play_all.new.out in
     let laws : Laws = record {
       links = c.simulation_faults_stand_apart.ensures.links;
+      box_links = c.simulation_faults_stand_apart.ensures.box_links;
       once = c.simulation_faults_stand_apart.ensures.once;
       faultless = c.simulation_faults_stand_apart.ensures.faultless;
       legal = c.simulation_faults_stand_apart.ensures.legal;

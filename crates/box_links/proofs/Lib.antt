@@ -1,0 +1,11 @@
+pub mod Boxless
+pub mod Counts
+pub mod Excluded
+pub mod Faults
+pub mod Firsts
+pub mod Gates
+pub mod HiddenPorts
+pub mod Marked
+pub mod Named
+pub mod OutputBits
+pub mod Plain
